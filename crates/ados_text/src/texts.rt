@@ -1,0 +1,133 @@
+ghost use Rattle.std.specs.Prelude.{◌≡◌, ◌<◌, ◌≤◌, ◌-◌, ◌++◌, take, drop, ◌↔◌, List, length, map, position, IsTrue, IfOk, IfNone, IsOkUnless, MatchOption};
+ghost use Rattle.ados_text.specs.Text.{fold_of, folded, is_past_ascii, to_ascii, IsText};
+
+use crate::errors::{NoMemory, TextFault};
+use std::alloc::Global;
+use std::marker::Model;
+
+/// ASCII text: bytes below 128.
+#[derive(Clone, Debug, Drop)]
+pub struct Text {
+    bytes: Vec<u8>,
+}
+
+impl Model for Text {
+    ghost use Rattle.std.specs.Prelude.{List, ℕ};
+    ghost use Rattle.ados_text.specs.Text.{IsText};
+
+    ghost Value = { List ℕ };
+
+    ghost view = { λ t. t.bytes.items };
+
+    ghost invariant = { λ t. IsText t.bytes.items };
+}
+
+impl Text {
+    /// The bytes as a text, where each is ASCII.
+    ///
+    /// `NotAscii` names the first place, from 0, whose byte is past ASCII, and comes before
+    /// `NoMemory`.
+    pub fn of(alloc: Global, bytes: &[u8]) -> Result<Text, TextFault>
+        ensures text { IfOk result (λ t. t ≡ bytes.now) }
+        ensures fault { MatchOption (position is_past_ascii bytes.now)
+            (IsOkUnless result TextFault.NoMemory)
+            (λ place. result ≡ Err (TextFault.NotAscii place)) }
+    {
+        match first_past_ascii(bytes) {
+            Some(place) => Err(TextFault::NotAscii(place)),
+            None => {
+                let bytes = Vec::from_slice(alloc, bytes)?;
+                Ok(Text { bytes })
+            }
+        }
+    }
+
+    /// The bytes as a text, with `?` in place of each byte past ASCII.
+    pub fn from_bytes(alloc: Global, bytes: &[u8]) -> Result<Text, NoMemory>
+        ensures { IfOk result (λ t. t ≡ map to_ascii bytes.now) }
+    {
+        let bytes = bytes
+            .iter()
+            .map(|b| if *b < 128 { *b } else { b'?' })
+            .collect(alloc)?;
+        Ok(Text { bytes })
+    }
+
+    /// The bytes, each below 128.
+    pub fn as_bytes(&self) -> &[u8]
+        ensures value { result.now ≡ self.now }
+        ensures ascii { IsText self.now }
+    {
+        self.bytes.as_slice()
+    }
+
+    /// The bytes from one place up to another, as a text.
+    #[tactic(auto, using(crate::proofs::TextLemmas::parts))]
+    pub fn part(&self, from: usize, to: usize) -> Result<Text, NoMemory>
+        requires ordered { from ≤ to }
+        requires within { to ≤ length self.now }
+        ensures { IfOk result (λ t. t ≡ take (to - from) (drop from self.now)) }
+    {
+        let bytes = Vec::from_slice(*self.bytes.allocator(), &self.bytes.as_slice()[from..to])?;
+        Ok(Text { bytes })
+    }
+
+    /// The two texts, one behind the other.
+    #[tactic(auto, using(crate::proofs::TextLemmas::parts))]
+    pub fn join(&self, behind: &Text) -> Result<Text, NoMemory>
+        ensures { IfOk result (λ t. t ≡ self.now ++ behind.now) }
+    {
+        let mut bytes = Vec::from_slice(*self.bytes.allocator(), self.bytes.as_slice())?;
+        bytes.extend_from_slice(behind.bytes.as_slice())?;
+        Ok(Text { bytes })
+    }
+
+    /// An equal text.
+    pub fn copy(&self) -> Result<Text, NoMemory>
+        ensures { IfOk result (λ t. t ≡ self.now) }
+    {
+        Ok(self.clone()?)
+    }
+}
+
+impl PartialEq for Text {
+    ghost use Rattle.std.specs.Str.{bytes_eq};
+    ghost use Rattle.std.specs.Cmp.{partial_equiv_from_equiv};
+    ghost use Rattle.std.proofs.lemmas.Cmp.{nat_list_eq_equiv};
+
+    ghost eq = { bytes_eq };
+
+    ghost laws = { partial_equiv_from_equiv nat_list_eq_equiv };
+
+    fn eq(&self, other: &Text) -> bool {
+        self.bytes.as_slice() == other.bytes.as_slice()
+    }
+}
+
+impl Eq for Text {
+    ghost use Rattle.std.proofs.lemmas.Cmp.{nat_list_eq_equiv};
+
+    ghost laws = { nat_list_eq_equiv };
+}
+
+// The first place whose byte is no ASCII.
+fn first_past_ascii(bytes: &[u8]) -> Option<usize>
+    ensures place { result ≡ position is_past_ascii bytes.now }
+    ensures text { IfNone result (IsText bytes.now) }
+{
+    bytes.iter().position(|b| *b >= 128)
+}
+
+/// The byte with A to Z on a to z; any other byte stays.
+pub fn fold(byte: u8) -> u8
+    ensures { result ≡ fold_of byte }
+{
+    byte.to_ascii_lowercase()
+}
+
+/// The two are one name: alike where case is ignored.
+pub fn same(a: &Text, b: &Text) -> bool
+    ensures { IsTrue result ↔ (folded a.now ≡ folded b.now) }
+{
+    a.bytes.eq_ignore_ascii_case(b.bytes.as_slice())
+}
