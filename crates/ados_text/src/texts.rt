@@ -1,5 +1,5 @@
 ghost use Rattle.std.specs.Prelude.{◌≡◌, ◌<◌, ◌≤◌, ◌-◌, ◌++◌, take, drop, ◌↔◌, List, length, map, position, IsTrue, IfOk, IfNone, IsOkUnless, MatchOption};
-ghost use Rattle.ados_text.specs.Text.{fold_of, folded, is_past_ascii, to_ascii, IsText};
+ghost use Rattle.ados_text.specs.Text.{fold_of, folded, is_past_ascii, is_same, to_ascii, IsText};
 
 use crate::errors::{NoMemory, TextFault};
 use std::alloc::Global;
@@ -80,6 +80,13 @@ impl Text {
         let mut bytes = Vec::from_slice(*self.bytes.allocator(), self.bytes.as_slice())?;
         bytes.extend_from_slice(behind.bytes.as_slice())?;
         Ok(Text { bytes })
+    }
+
+    /// The text is this name: alike where case is ignored.
+    pub fn is(&self, name: &str) -> bool
+        ensures { result ≡ is_same self.now name.now }
+    {
+        self.bytes.eq_ignore_ascii_case(name.as_bytes())
     }
 
     /// An equal text.
