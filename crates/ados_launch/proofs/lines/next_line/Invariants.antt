@@ -1,0 +1,12 @@
+use Rattle.std.proofs.Common.{◌≡◌, ℕ, ◌≤◌, List, Some, vec_len}
+use Rattle.ados_launch.specs.Lines.{ahead}
+use Rattle.ados_launch.proofs.Scanning.{Scanned}
+use Rattle.ados_launch.proofs.lines.next_line.Given as goal
+
+abbrev pub invariant-loop-length : goal.invariant-loop-length
+invariant-loop-length g l = record {
+  faults : g.S.Source.faults l.source ≡ g.S.Source.faults l.fn.source;
+  short : vec_len l.line ≤ 512;
+  scanned : (bytes : List ℕ) → ahead l.fn.held (g.S.Source.left l.fn.source) ≡ Some bytes
+      → Scanned bytes l.length (ahead l.held (g.S.Source.left l.source)) l.line.items;
+}

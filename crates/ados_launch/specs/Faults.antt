@@ -1,0 +1,11 @@
+-- How the faults of a reader and a writer are counted.
+use Rattle.std.specs.Prelude.{◌≡◌, ℕ, ◌+◌, ◌&&◌, nat_lt, ◌==◌, if◌then◌else◌, MatchResult, Result}
+
+-- an Err adds one, any other answer keeps the count
+abbrev pub CountsFault : {T E : Type 0} → ℕ → ℕ → Result T E → Type 0
+CountsFault before after result = MatchResult result (λ _. after ≡ before) (λ _. after ≡ before + 1)
+
+-- taking nothing of a buffer that is not empty adds one, any other answer keeps the count
+abbrev pub CountsStall : {E : Type 0} → ℕ → ℕ → Result ℕ E → ℕ → Type 0
+CountsStall before after result room =
+    MatchResult result (λ n. after ≡ (if (n == 0) && nat_lt 0 room then before + 1 else before)) (λ _. after ≡ before)

@@ -1,0 +1,38 @@
+-- The lines of an input.
+use Rattle.std.specs.Prelude.{◌≡◌, ℕ, Option, Some, List, [], ◌∷◌, length, nat_le, ◌==◌, if◌then◌else◌}
+use Rattle.std.specs.Io.KnownBytes.{prepend_known}
+use Rattle.ados_launch.specs.declared.lines.LineKind.{LineKind}
+use Rattle.ados_launch.specs.declared.lines.LineKind.TheVariants.{End, Short, Long, Overlong}
+
+-- the bytes up to the first byte 10, or all of them
+abbrev pub line_of : List ℕ → List ℕ
+line_of [] = []
+line_of (byte ∷ bytes) = if byte == 10 then [] else byte ∷ line_of bytes
+
+-- the bytes behind the first byte 10
+abbrev pub rest_of : List ℕ → List ℕ
+rest_of [] = []
+rest_of (byte ∷ bytes) = if byte == 10 then bytes else rest_of bytes
+
+-- the kind of a line of this length
+abbrev pub kind_of_length : ℕ → LineKind
+kind_of_length n = if nat_le n 512 then Short else if nat_le n 65536 then Long else Overlong
+
+-- what comes next from these bytes
+abbrev pub kind_of : List ℕ → LineKind
+kind_of [] = End
+kind_of (byte ∷ bytes) = kind_of_length (length (line_of (byte ∷ bytes)))
+
+-- what is still to be read: the bytes read ahead, and then what the reader has left
+abbrev pub ahead : List ℕ → Option (List ℕ) → Option (List ℕ)
+ahead held left = prepend_known held left
+
+-- what holds of the bytes, where they are known
+abbrev pub Known : Option (List ℕ) → (List ℕ → Type 0) → Type 0
+Known known P = (bytes : List ℕ) → known ≡ Some bytes → P bytes
+
+-- of these bytes the next line was taken: what comes, the line where it is short, and what is left
+pub record TakesLine (bytes : List ℕ) (kind : LineKind) (kept : List ℕ) (now : Option (List ℕ)) : Type 0 where
+  pub kind_is : kind ≡ kind_of bytes
+  pub kept_is : kind ≡ Short → kept ≡ line_of bytes
+  pub now_is : (kind ≡ Overlong → ⊥) → now ≡ Some (rest_of bytes)

@@ -1,0 +1,110 @@
+ghost use Rattle.std.specs.Prelude.{◌≡◌, ◌<◌, ◌^◌, ◌-◌, ℕ, List, Option, length};
+ghost use Rattle.std.specs.Io.{ReadsAtMost, WritesAtMost};
+ghost use Rattle.std.specs.Io.KnownBytes.{ReadConsumes, WriteAppends};
+ghost use Rattle.ados_launch.specs.Faults.{CountsFault, CountsStall};
+
+use std::io;
+use std::io::{Read, Write};
+
+/// A reader whose failed reads are counted.
+pub trait Source {
+    /// The bytes that reads will give from here on, where they are known.
+    ghost left: { Self → Option (List ℕ) };
+
+    /// How many reads have failed.
+    ghost faults: { Self → ℕ };
+
+    /// Reads some bytes into the front of the buffer, and gives their number.
+    ///
+    /// 0 comes only at the end, or where the buffer is empty. An `Err` loses no byte and adds one to
+    /// the faults; one whose kind is `Interrupted` is an `Err` as any other.
+    fn read(&mut self, buffer: &mut [u8]) -> io::Result<usize>
+        requires { faults self.old < 2 ^ 64 - 1 }
+        ensures bound { ReadsAtMost result buffer.new }
+        ensures bytes { ReadConsumes (left self.old) (left self.new) result buffer.new }
+        ensures counted { CountsFault (faults self.old) (faults self.new) result };
+}
+
+/// A writer whose failed writes are counted, and those that took nothing.
+pub trait Sink {
+    /// The bytes that it holds, where they are known.
+    ghost contents: { Self → Option (List ℕ) };
+
+    /// How many writes have failed.
+    ghost faults: { Self → ℕ };
+
+    /// How many writes took nothing of a buffer that was not empty.
+    ghost stalls: { Self → ℕ };
+
+    /// Writes a front of the buffer, and gives its length.
+    ///
+    /// An `Err` writes nothing and adds one to the faults; one whose kind is `Interrupted` is an
+    /// `Err` as any other. `Ok(0)` of a buffer that is not empty adds one to the stalls.
+    fn write(&mut self, buffer: &[u8]) -> io::Result<usize>
+        requires room { faults self.old < 2 ^ 64 - 1 }
+        requires stall_room { stalls self.old < 2 ^ 64 - 1 }
+        ensures bound { WritesAtMost result buffer.now }
+        ensures bytes { WriteAppends (contents self.old) (contents self.new) result buffer.now }
+        ensures counted { CountsFault (faults self.old) (faults self.new) result }
+        ensures stalled { CountsStall (stalls self.old) (stalls self.new) result (length buffer.now) };
+}
+
+/// One of std's readers or writers, with its faults counted.
+#[derive(Drop)]
+pub struct Counted<T> {
+    inner: T,
+    faults: u64,
+    stalls: u64,
+}
+
+impl<T> Counted<T> {
+    /// The reader or writer, with both counts at 0.
+    pub fn new(inner: T) -> Counted<T>
+        ensures { result ≡ record { inner = inner; faults = 0; stalls = 0 } }
+    {
+        Counted {
+            inner,
+            faults: 0,
+            stalls: 0,
+        }
+    }
+}
+
+impl<R: Read> Source for Counted<R> {
+    ghost left = { λ s. R.remaining s.inner };
+
+    ghost faults = { λ s. s.faults };
+
+    fn read(&mut self, buffer: &mut [u8]) -> io::Result<usize> {
+        match self.inner.read(buffer) {
+            Ok(count) => Ok(count),
+            Err(error) => {
+                self.faults += 1;
+                Err(error)
+            }
+        }
+    }
+}
+
+impl<W: Write> Sink for Counted<W> {
+    ghost contents = { λ s. W.contents s.inner };
+
+    ghost faults = { λ s. s.faults };
+
+    ghost stalls = { λ s. s.stalls };
+
+    fn write(&mut self, buffer: &[u8]) -> io::Result<usize> {
+        match self.inner.write(buffer) {
+            Ok(count) => {
+                if count == 0 && !buffer.is_empty() {
+                    self.stalls += 1;
+                }
+                Ok(count)
+            }
+            Err(error) => {
+                self.faults += 1;
+                Err(error)
+            }
+        }
+    }
+}

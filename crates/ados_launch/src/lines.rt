@@ -1,0 +1,109 @@
+ghost use Rattle.std.specs.Prelude.{◌≡◌, ◌<◌, ◌≤◌, vec_len, ◌^◌, ◌-◌, ◌+◌, [], ◌∷◌, ◌++◌, take, IfOk, OnOk, IsErrOf};
+ghost use Rattle.ados_launch.specs.Lines.{ahead, kind_of_length, Known, TakesLine};
+ghost use Rattle.ados_launch.specs.declared.lines.LineFault.TheVariants.{NoMemory as OutOfMemory};
+
+use crate::{ReadAhead, Source};
+use std::alloc::AllocError;
+use thiserror::Error;
+
+// The longest line that the machine takes.
+const LINE_BYTES: usize = 512;
+
+// The longest line that is read to its end.
+const INPUT_LINE_BYTES: u32 = 65_536;
+
+/// What comes next from an input.
+#[derive(Clone, Copy, PartialEq, Eq, Debug)]
+pub enum LineKind {
+    /// No line: no byte is left.
+    End,
+    /// A line of at most 512 bytes.
+    Short,
+    /// A line of 513 to 65,536 bytes, which the machine does not take.
+    Long,
+    /// A line of more than 65,536 bytes, which is not read to its end.
+    Overlong,
+}
+
+/// Why the next line was not taken.
+#[derive(Clone, Copy, PartialEq, Eq, Debug, Error)]
+pub enum LineFault {
+    /// A read failed.
+    #[error("read fault")]
+    Read,
+    /// No memory for the line.
+    #[error("no free store")]
+    NoMemory,
+}
+
+impl From<AllocError> for LineFault {
+    ghost from_gives = { λ _ fault. fault ≡ OutOfMemory };
+
+    fn from(_e: AllocError) -> LineFault {
+        LineFault::NoMemory
+    }
+}
+
+/// Takes the next line, up to byte 10 or the end, and gives its kind.
+///
+/// A last line without byte 10 counts if it is not empty. `line` then holds a short line; of any
+/// other it holds at most the first 512 bytes. Of an overlong line 65,537 bytes are taken.
+///
+/// `Read`: a read failed. `NoMemory`: no memory to hold the line. After both the bytes taken so far
+/// are lost.
+pub fn next_line<S: Source>(
+    held: &mut ReadAhead,
+    source: &mut S,
+    line: &mut Vec<u8>,
+) -> Result<LineKind, LineFault>
+    requires { S.faults source.old < 2 ^ 64 - 1 }
+    ensures taken { IfOk result (λ kind. Known (ahead held.old (S.left source.old))
+        (λ bytes. TakesLine bytes kind line.new.items (ahead held.new (S.left source.new)))) }
+    ensures short { vec_len line.new ≤ 512 }
+    ensures read { IsErrOf result LineFault.Read → S.faults source.new ≡ S.faults source.old + 1 }
+    ensures others { (IsErrOf result LineFault.Read → ⊥) → S.faults source.new ≡ S.faults source.old }
+{
+    line.clear();
+    for length in 0..=INPUT_LINE_BYTES {
+        match held.next(source) {
+            Err(_) => return Err(LineFault::Read),
+            Ok(None) => {
+                return Ok(if length == 0 {
+                    LineKind::End
+                } else {
+                    kind_of(length)
+                });
+            }
+            Ok(Some(b'\n')) => return Ok(kind_of(length)),
+            Ok(Some(byte)) => {
+                keep(line, byte)?;
+            }
+        }
+    }
+    Ok(LineKind::Overlong)
+}
+
+// Keeps one more byte of a line, if there is room.
+fn keep(line: &mut Vec<u8>, byte: u8) -> Result<(), AllocError>
+    requires { vec_len line.old ≤ 512 }
+    ensures kept { OnOk result (line.new.items ≡ take 512 (line.old.items ++ byte ∷ [])) }
+    ensures short { vec_len line.new ≤ 512 }
+{
+    if line.len() < LINE_BYTES {
+        line.push(byte)?;
+    }
+    Ok(())
+}
+
+// The kind of a line of this length.
+fn kind_of(length: u32) -> LineKind
+    ensures { result ≡ kind_of_length length }
+{
+    if length <= 512 {
+        LineKind::Short
+    } else if length <= INPUT_LINE_BYTES {
+        LineKind::Long
+    } else {
+        LineKind::Overlong
+    }
+}

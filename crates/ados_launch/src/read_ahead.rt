@@ -1,0 +1,87 @@
+ghost use Rattle.std.specs.Prelude.{◌≡◌, ◌<◌, ◌≤◌, ◌^◌, ◌-◌, ℕ, List, [], ◌∷◌, length, take, drop, IfOk, IfSome, IfNone, OnErr};
+ghost use Rattle.std.specs.Io.KnownBytes.{Consumes, Keeps, IsAtEnd};
+ghost use Rattle.ados_launch.specs.Faults.{CountsFault};
+ghost use Rattle.ados_launch.specs.Lines.{ahead};
+
+use crate::Source;
+use std::io;
+use std::marker::Model;
+
+const BUFFER_BYTES: usize = 4096;
+
+/// The bytes that were read from a source and not yet taken.
+///
+/// They are lost when it is let go: what comes next from the source is what stands behind them.
+#[derive(Drop)]
+pub struct ReadAhead {
+    buffer: [u8; BUFFER_BYTES],
+    from: usize,
+    to: usize,
+}
+
+impl Model for ReadAhead {
+    ghost Value = { List ℕ };
+
+    ghost view = { λ h. take (h.to - h.from) (drop h.from h.buffer) };
+
+    ghost invariant = { λ h. (h.from ≤ h.to) × (h.to ≤ 4096) };
+}
+
+impl ReadAhead {
+    /// Nothing read ahead.
+    pub fn new() -> ReadAhead
+        ensures { result ≡ [] }
+    {
+        ReadAhead {
+            buffer: [0; BUFFER_BYTES],
+            from: 0,
+            to: 0,
+        }
+    }
+
+    /// Takes the next byte: of those read ahead, or of the source where there is none.
+    ///
+    /// `None` comes at the source's end. An `Err` is a failed read.
+    pub fn next<S: Source>(&mut self, source: &mut S) -> io::Result<Option<u8>>
+        requires { S.faults source.old < 2 ^ 64 - 1 }
+        ensures byte { IfOk result (λ next. IfSome next (λ byte.
+            Consumes (ahead self.old (S.left source.old)) (ahead self.new (S.left source.new)) (byte ∷ []))) }
+        ensures end { IfOk result (λ next. IfNone next
+            (IsAtEnd (ahead self.old (S.left source.old)) × Keeps (ahead self.old (S.left source.old)) (ahead self.new (S.left source.new)))) }
+        ensures counted { CountsFault (S.faults source.old) (S.faults source.new) result }
+    {
+        if self.from == self.to {
+            let count = self.refill(source)?;
+            if count == 0 {
+                return Ok(None);
+            }
+        }
+        Ok(Some(self.pop()))
+    }
+
+    // Takes the first of the bytes read ahead.
+    fn pop(&mut self) -> u8
+        requires { 0 < length self.old }
+        ensures { self.old ≡ result ∷ self.new }
+    {
+        let byte = self.buffer[self.from];
+        self.from += 1;
+        byte
+    }
+
+    // Reads ahead, by one read, and gives the number of bytes; 0 comes only at the end.
+    fn refill<S: Source>(&mut self, source: &mut S) -> io::Result<usize>
+        requires faults { S.faults source.old < 2 ^ 64 - 1 }
+        requires empty { self.old ≡ [] }
+        ensures bytes { IfOk result (λ count. (length self.new ≡ count) × Consumes (S.left source.old) (S.left source.new) self.new) }
+        ensures end { IfOk result (λ count. count ≡ 0 → IsAtEnd (S.left source.new)) }
+        ensures err { OnErr result (self.new ≡ []) }
+        ensures counted { CountsFault (S.faults source.old) (S.faults source.new) result }
+    {
+        self.from = 0;
+        self.to = 0;
+        let count = source.read(&mut self.buffer)?;
+        self.to = count;
+        Ok(count)
+    }
+}

@@ -1,0 +1,32 @@
+ghost use Rattle.std.specs.Prelude.{◌≡◌, ◌⊎◌, ◌<◌, ◌≤◌, ◌^◌, ◌-◌, ◌+◌, ℕ, length, take, OnOk, OnErr};
+ghost use Rattle.std.specs.Io.KnownBytes.{Appends};
+
+use crate::Sink;
+use thiserror::Error;
+
+/// The writer failed, or took nothing.
+#[derive(Clone, Copy, PartialEq, Eq, Debug, Error)]
+#[error("write fault")]
+pub struct WriteFault;
+
+/// Writes all of the bytes, by as many writes as that takes.
+///
+/// `WriteFault`: a write failed or took nothing, and a front of the bytes was written.
+pub fn write_whole<K: Sink>(writer: &mut K, bytes: &[u8]) -> Result<(), WriteFault>
+    requires faults { K.faults writer.old < 2 ^ 64 - 1 }
+    requires stalls { K.stalls writer.old < 2 ^ 64 - 1 }
+    ensures whole { OnOk result (Appends (K.contents writer.old) (K.contents writer.new) bytes.now) }
+    ensures honest { OnOk result ((K.faults writer.new ≡ K.faults writer.old) × (K.stalls writer.new ≡ K.stalls writer.old)) }
+    ensures front { OnErr result ((n : ℕ) × (n < length bytes.now) × Appends (K.contents writer.old) (K.contents writer.new) (take n bytes.now)) }
+    ensures cause { OnErr result ((K.faults writer.new ≡ K.faults writer.old + 1) ⊎ (K.stalls writer.new ≡ K.stalls writer.old + 1)) }
+{
+    let mut at = 0;
+    while at < bytes.len() {
+        match writer.write(&bytes[at..]) {
+            Err(_) => return Err(WriteFault),
+            Ok(0) => return Err(WriteFault),
+            Ok(count) => at += count,
+        }
+    }
+    Ok(())
+}
