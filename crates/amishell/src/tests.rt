@@ -1,8 +1,9 @@
 use crate::reading::asked;
 use crate::request::{Asked, Refused};
+use ados_text::NoMemory;
 
 #[test]
-fn run_and_its_turns(rt: HostRuntime) {
+fn run_and_its_turns(rt: HostRuntime) -> Result<(), NoMemory> {
     let cases: [(&[&str], u64); 5] = [
         (&[], 1_000_000),
         (&["run"], 1_000_000),
@@ -13,13 +14,15 @@ fn run_and_its_turns(rt: HostRuntime) {
     for (words, wanted) in cases {
         match asked(rt.alloc(), words) {
             Ok(Asked::Run { turns }) => assert_eq!(rt; turns, wanted, "{words:?}"),
+            Err(Refused::NoMemory) => return Err(NoMemory),
             Err(_) => panic!(rt; "refused {words:?}"),
         }
     }
+    Ok(())
 }
 
 #[test]
-fn bad_lines(rt: HostRuntime) {
+fn bad_lines(rt: HostRuntime) -> Result<(), NoMemory> {
     let cases: [&[&str]; 8] = [
         &["run", "--turns", "0"],
         &["run", "--turns", "1000000001"],
@@ -31,15 +34,17 @@ fn bad_lines(rt: HostRuntime) {
         &["run", "--hosts", "file"],
     ];
     for words in cases {
-        assert!(rt;
-            matches!(asked(rt.alloc(), words), Err(Refused::BadLine)),
-            "{words:?}"
-        );
+        match asked(rt.alloc(), words) {
+            Err(Refused::BadLine) => {}
+            Err(Refused::NoMemory) => return Err(NoMemory),
+            _ => panic!(rt; "taken {words:?}"),
+        }
     }
+    Ok(())
 }
 
 #[test]
-fn help_is_the_text_of_clap(rt: HostRuntime) {
+fn help_is_the_text_of_clap(rt: HostRuntime) -> Result<(), NoMemory> {
     let cases: [(&[&str], &str); 2] = [
         (&["--help"], "Usage: amishell [COMMAND]"),
         (&["run", "--help"], "Usage: amishell run [OPTIONS]"),
@@ -53,7 +58,9 @@ fn help_is_the_text_of_clap(rt: HostRuntime) {
                     "{words:?}"
                 );
             }
+            Err(Refused::NoMemory) => return Err(NoMemory),
             _ => panic!(rt; "no help for {words:?}"),
         }
     }
+    Ok(())
 }
