@@ -1,0 +1,76 @@
+-- What a world holds, and what it shows.
+use Rattle.std.specs.Prelude.{ℕ, zero, suc, List, [], ◌∷◌, length, map, Bool, true, false, not, ◌&&◌, ◌||◌, nat_lt, ◌==◌, Option, Some, None, is_some, unwrap_or, slice_get}
+use Rattle.std.proofs.Math.ListN.{replicate}
+use Rattle.std.specs.List.{list_any}
+use Rattle.ados_machine.specs.declared.codes.Codes.{Codes}
+use Rattle.ados_machine.specs.declared.requests.Request.{Request}
+use Rattle.ados_machine.specs.CodeRule.{went_well}
+use Rattle.ados_machine.specs.Shell.{ShellState, fresh_shell}
+
+pub record WorldState : Type 0 where
+  -- the shells that run, by number from 1 to 20
+  pub shells : List (Option ShellState)
+  -- the last codes of each number's last shell; those of a running one stand in the shell
+  pub ended : List Codes
+  -- the typed lines that wait
+  pub queue : List (List ℕ)
+  -- no further line will be typed
+  pub input_ended : Bool
+
+-- a world begins with shell 1 alone
+abbrev pub fresh_world : WorldState
+fresh_world = record {
+  shells = Some fresh_shell ∷ replicate 19 None;
+  ended = replicate 20 went_well;
+  queue = [];
+  input_ended = false;
+}
+
+abbrev pub flatten : {X : Type 0} → Option (Option X) → Option X
+flatten None = None
+flatten (Some o) = o
+
+-- what stands at a number, which counts from 1
+abbrev pub numbered : {X : Type 0} → List X → ℕ → Option X
+numbered places zero = None
+numbered places (suc k) = slice_get places k
+
+-- the shell of a number, where it runs
+abbrev pub shell_at : WorldState → ℕ → Option ShellState
+shell_at w k = flatten (numbered w.shells k)
+
+-- no shell is left
+abbrev pub is_over : WorldState → Bool
+is_over w = not (list_any is_some w.shells)
+
+-- a line waits, or the input has ended: shell 1 has something to take
+abbrev pub has_input : WorldState → Bool
+has_input w = nat_lt 0 (length w.queue) || w.input_ended
+
+-- a shell can take a turn: shell 1, where it runs and has something to take
+abbrev pub is_ready : WorldState → ℕ → Bool
+is_ready w k = is_some (shell_at w k) && (k == 1) && has_input w
+
+-- a line is wanted: shell 1 runs, none waits, and the input has not ended
+abbrev pub wants_line : WorldState → Bool
+wants_line w = is_some (shell_at w 1) && not (has_input w)
+
+-- the last codes of a number's last shell; 0 and 0 for one that was never given
+abbrev pub ended_at : WorldState → ℕ → Codes
+ended_at w k = unwrap_or (numbered w.ended k) went_well
+
+abbrev pub shell_codes : Option ShellState → Codes → Codes
+shell_codes (Some shell) ended = shell.codes
+shell_codes None ended = ended
+
+-- the last codes of a number: its shell's, else those that its last shell left
+abbrev pub codes_at : WorldState → ℕ → Codes
+codes_at w k = shell_codes (shell_at w k) (ended_at w k)
+
+-- which numbers have a shell
+abbrev pub running : WorldState → List Bool
+running w = map is_some w.shells
+
+-- what a shell asked a launcher for, and waits for; no shell starts a program yet
+abbrev pub pending_of : WorldState → ℕ → Option Request
+pending_of w k = None

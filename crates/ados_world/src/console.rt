@@ -1,0 +1,45 @@
+// The lines that an answer prints on the console.
+ghost use Rattle.std.specs.Prelude.{◌≡◌, ◌++◌, OnOk};
+ghost use Rattle.ados_machine.specs.CodeRule.{is_reached, fault_line, failed_line};
+
+use ados_text::{Code, NoMemory, Result2, fault_text, push_number};
+
+/// Prints the text of a fault under the command's word, where there is a fault.
+pub fn push_fault(out: &mut Vec<u8>, word: &[u8], fault: Result2) -> Result<(), NoMemory>
+    ensures { OnOk result (out.new.items ≡ out.old.items ++ fault_line word.now fault) }
+{
+    if fault.0 == 0 {
+        return Ok(());
+    }
+    out.extend_from_slice(word)?;
+    out.extend_from_slice(b": ")?;
+    out.extend_from_slice(fault_text(fault).as_bytes())?;
+    out.push(b'\n')?;
+    Ok(())
+}
+
+/// Prints that a command failed, where its code is at the limit or above.
+pub fn push_failed(
+    out: &mut Vec<u8>,
+    word: &[u8],
+    code: Code,
+    limit: Code,
+) -> Result<(), NoMemory>
+    ensures { OnOk result (out.new.items ≡ out.old.items ++ failed_line word.now code limit) }
+{
+    if !is_reached(limit, code) {
+        return Ok(());
+    }
+    out.extend_from_slice(word)?;
+    out.extend_from_slice(b" failed returncode ")?;
+    push_number(out, code.0)?;
+    out.push(b'\n')?;
+    Ok(())
+}
+
+/// The code is at the limit, or above.
+fn is_reached(limit: Code, code: Code) -> bool
+    ensures { result ≡ is_reached limit code }
+{
+    limit.0 <= code.0
+}

@@ -1,0 +1,16 @@
+#![tactic(auto)]
+//! The world of shells: it takes events one by one, and answers what is printed.
+
+mod commands;
+mod console;
+mod hosts;
+mod lines;
+mod runs;
+mod shells;
+mod steps;
+mod worlds;
+
+pub use ados_machine::{Answer, Codes, EndReport, Event, Job, Out, Refusal, Reports, Request};
+pub use hosts::{HostEntry, NewFault};
+pub use runs::{Outs, Run};
+pub use worlds::World;

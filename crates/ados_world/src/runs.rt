@@ -1,0 +1,81 @@
+// Runs: a list of events, one after another.
+ghost use Rattle.std.specs.Prelude.{◌≡◌, length, slice_get, IfOk, IfErr};
+ghost use Rattle.std.specs.Option.{option_copied};
+ghost use Rattle.ados_machine.specs.Runs.{Runs};
+
+use crate::worlds::World;
+use ados_machine::{Event, Out, Refusal};
+use std::marker::Model;
+
+/// What each event of a run was answered, in order.
+#[derive(Drop)]
+pub struct Outs {
+    items: Vec<Result<Out, Refusal>>,
+}
+
+impl Model for Outs {
+    ghost use Rattle.std.specs.Prelude.{List, Result};
+    ghost use Rattle.ados_machine.specs.declared.outs.Out.{Out};
+    ghost use Rattle.ados_machine.specs.declared.refusals.Refusal.{Refusal};
+
+    ghost Value = { List (Result Out Refusal) };
+
+    ghost view = { λ o. o.items.items };
+}
+
+impl Outs {
+    /// The answers of a vector, taken over without memory.
+    pub fn from_vec(items: Vec<Result<Out, Refusal>>) -> Outs
+        ensures { result ≡ items.items }
+    {
+        Outs { items }
+    }
+
+    /// The vector of the answers, given back without memory.
+    pub fn into_vec(self) -> Vec<Result<Out, Refusal>>
+        ensures { result.items ≡ self }
+    {
+        self.items
+    }
+
+    /// The answers, in order.
+    pub fn as_slice(&self) -> &[Result<Out, Refusal>]
+        ensures { result.now ≡ self.now }
+    {
+        self.items.as_slice()
+    }
+}
+
+/// What a run leaves.
+#[derive(Drop)]
+pub struct Run {
+    /// The world behind its last event.
+    pub world: World,
+    /// One answer for each event.
+    pub outs: Outs,
+}
+
+impl World {
+    /// Takes the events one after another.
+    ///
+    /// Each entry of the outs is the step's answer; a refused event keeps the world. Where the list
+    /// of outs finds no memory the world comes back unchanged.
+    pub fn run(mut self, events: &[Event]) -> Result<Run, World>
+        ensures run { IfOk result (λ run. Runs self events.now run.outs run.world) }
+        ensures err { IfErr result (λ world. world ≡ self) }
+    {
+        let Ok(mut outs) = Vec::with_capacity(self.alloc, events.len()) else {
+            return Err(self);
+        };
+        for event in events {
+            let out = self.step(event);
+            let Ok(()) = outs.push(out) else {
+                unreachable!();
+            };
+        }
+        Ok(Run {
+            world: self,
+            outs: Outs::from_vec(outs),
+        })
+    }
+}

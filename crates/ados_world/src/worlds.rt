@@ -1,0 +1,161 @@
+// A world, and what it shows.
+ghost use Rattle.std.specs.Prelude.{◌≡◌, ◌≢◌, [], is_some, IfOk, IfErr};
+ghost use Rattle.std.specs.List.{list_any};
+ghost use Rattle.std.specs.Option.{option_copied};
+ghost use Rattle.ados_machine.specs.World.{fresh_world, shell_at, is_over, is_ready, has_input, wants_line, codes_at, ended_at, running, pending_of};
+
+use crate::hosts::{HostEntry, NewFault};
+use crate::shells::Shell;
+use ados_machine::{Codes, Request};
+use ados_text::Text;
+use std::alloc::Global;
+use std::collections::VecDeque;
+use std::marker::Model;
+
+/// The shells that run, and what they share.
+#[derive(Drop)]
+pub struct World {
+    pub(crate) alloc: Global,
+    pub(crate) shells: [Option<Shell>; 20],
+    pub(crate) ended: [Codes; 20],
+    pub(crate) queue: VecDeque<Text>,
+    pub(crate) input_ended: bool,
+}
+
+impl Model for World {
+    ghost use Rattle.ados_machine.specs.World.{WorldState};
+
+    ghost Value = { WorldState };
+
+    ghost view = { λ w. record { shells = w.shells; ended = w.ended; queue = w.queue.items; input_ended = w.input_ended } };
+}
+
+impl World {
+    /// A world with shell 1 alone, in which nothing was typed.
+    ///
+    /// `TooMany` for any host, since no host's program can be started yet.
+    pub fn new(alloc: Global, hosts: &[HostEntry]) -> Result<World, NewFault>
+        ensures world { IfOk result (λ world. (world ≡ fresh_world) × (hosts.now ≡ [])) }
+        ensures too_many { IfErr result (λ fault. (fault ≡ NewFault.TooMany) × (hosts.now ≢ [])) }
+    {
+        if !hosts.is_empty() {
+            return Err(NewFault::TooMany);
+        }
+        Ok(World {
+            alloc,
+            shells: [
+                Some(Shell::new()),
+                None,
+                None,
+                None,
+                None,
+                None,
+                None,
+                None,
+                None,
+                None,
+                None,
+                None,
+                None,
+                None,
+                None,
+                None,
+                None,
+                None,
+                None,
+                None,
+            ],
+            ended: [Codes::NONE; 20],
+            queue: VecDeque::new(alloc),
+            input_ended: false,
+        })
+    }
+
+    /// Which numbers from 1 to 20 have a shell.
+    pub fn shells(&self) -> [bool; 20]
+        ensures { result ≡ running self.now }
+    {
+        let mut running = [false; 20];
+        for place in 0..20 {
+            running[place] = self.shells[place].is_some();
+        }
+        running
+    }
+
+    /// The last codes of a number: an ended shell's stay until its number is given again; 0 and 0
+    /// for a number that was never given.
+    pub fn codes(&self, number: u8) -> Codes
+        ensures { result ≡ codes_at self.now number }
+    {
+        match self.shell_at(number) {
+            Some(shell) => shell.codes(),
+            None => self.ended_codes(number),
+        }
+    }
+
+    /// The shell of this number can take a turn.
+    pub fn ready(&self, number: u8) -> bool
+        ensures { result ≡ is_ready self.now number }
+    {
+        self.shell_at(number).is_some() && number == 1 && self.has_input()
+    }
+
+    /// What the shell of this number asked a launcher for, and waits for.
+    ///
+    /// Always `None`, since no shell starts a program yet.
+    pub fn pending(&self, number: u8) -> Option<&Request>
+        ensures { option_copied result ≡ pending_of self.now number }
+    {
+        let _ = number;
+        None
+    }
+
+    /// Shell 1 has nothing to take, and a line can still be typed.
+    pub fn wants_line(&self) -> bool
+        ensures { result ≡ wants_line self.now }
+    {
+        self.shell_at(1).is_some() && !self.has_input()
+    }
+
+    pub(crate) fn is_over(&self) -> bool
+        ensures { result ≡ is_over self.now }
+    {
+        !any_runs(&self.shells)
+    }
+
+    pub(crate) fn has_input(&self) -> bool
+        ensures { result ≡ has_input self.now }
+    {
+        !self.queue.is_empty() || self.input_ended
+    }
+
+    pub(crate) fn shell_at(&self, number: u8) -> Option<&Shell>
+        ensures { option_copied result ≡ shell_at self.now number }
+    {
+        match number {
+            0 => None,
+            _ => match self.shells.get(number as usize - 1) {
+                Some(Some(shell)) => Some(shell),
+                _ => None,
+            },
+        }
+    }
+
+    fn ended_codes(&self, number: u8) -> Codes
+        ensures { result ≡ ended_at self.now number }
+    {
+        match number {
+            0 => Codes::NONE,
+            _ => match self.ended.get(number as usize - 1) {
+                Some(codes) => *codes,
+                None => Codes::NONE,
+            },
+        }
+    }
+}
+
+fn any_runs(shells: &[Option<Shell>]) -> bool
+    ensures { result ≡ list_any is_some shells.now }
+{
+    shells.iter().any(|shell| shell.is_some())
+}
