@@ -26,10 +26,12 @@ abbrev pub fault_line : List ℕ → Result2 → List ℕ
 fault_line word result2 =
     if result2.0 == 0 then [] else word ++ codes ": " ++ fault_text_of result2.0 ++ 10 ∷ []
 
+abbrev pub failure : List ℕ → Code → List ℕ
+failure word code = word ++ codes " failed returncode " ++ signed_decimal code.0 ++ 10 ∷ []
+
 -- a code at the limit, or above, prints that the command failed
 abbrev pub failed_line : List ℕ → Code → Code → List ℕ
-failed_line word code limit =
-    if is_reached limit code then word ++ codes " failed returncode " ++ signed_decimal code.0 ++ 10 ∷ [] else []
+failed_line word code limit = if is_reached limit code then failure word code else []
 
 -- a record: the line of its frame, from 1 (0 on the console), what was answered, and the limit after it
 pub record Record : Type 0 where

@@ -1,6 +1,7 @@
 // The lines that an answer prints on the console.
 ghost use Rattle.std.specs.Prelude.{◌≡◌, ◌++◌, OnOk};
-ghost use Rattle.ados_machine.specs.CodeRule.{is_reached, fault_line, failed_line};
+ghost use Rattle.std.specs.Fmt.{signed_decimal};
+ghost use Rattle.ados_machine.specs.CodeRule.{is_reached, fault_line, failure, failed_line};
 
 use ados_text::{Code, NoMemory, Result2, fault_text, push_number};
 
@@ -27,14 +28,27 @@ pub fn push_failed(
 ) -> Result<(), NoMemory>
     ensures { OnOk result (out.new.items ≡ out.old.items ++ failed_line word.now code limit) }
 {
-    if !is_reached(limit, code) {
-        return Ok(());
+    if is_reached(limit, code) {
+        push_failure(out, word, code)
+    } else {
+        Ok(())
     }
+}
+
+fn push_failure(out: &mut Vec<u8>, word: &[u8], code: Code) -> Result<(), NoMemory>
+    ensures { OnOk result (out.new.items ≡ out.old.items ++ failure word.now code) }
+{
     out.extend_from_slice(word)?;
     out.extend_from_slice(b" failed returncode ")?;
-    push_number(out, code.0)?;
+    push_code(out, code)?;
     out.push(b'\n')?;
     Ok(())
+}
+
+fn push_code(out: &mut Vec<u8>, code: Code) -> Result<(), NoMemory>
+    ensures { OnOk result (out.new.items ≡ out.old.items ++ signed_decimal code.0) }
+{
+    push_number(out, code.0)
 }
 
 /// The code is at the limit, or above.

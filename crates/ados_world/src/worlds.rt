@@ -1,5 +1,5 @@
 // A world, and what it shows.
-ghost use Rattle.std.specs.Prelude.{◌≡◌, ◌≢◌, [], is_some, IfOk, IfErr};
+ghost use Rattle.std.specs.Prelude.{◌≡◌, ◌≢◌, [], map, is_some, IfOk, IfErr};
 ghost use Rattle.std.specs.List.{list_any};
 ghost use Rattle.std.specs.Option.{option_copied};
 ghost use Rattle.ados_machine.specs.World.{fresh_world, shell_at, is_over, is_ready, has_input, wants_line, codes_at, ended_at, running, pending_of};
@@ -75,11 +75,7 @@ impl World {
     pub fn shells(&self) -> [bool; 20]
         ensures { result ≡ running self.now }
     {
-        let mut running = [false; 20];
-        for place in 0..20 {
-            running[place] = self.shells[place].is_some();
-        }
-        running
+        taken(&self.shells)
     }
 
     /// The last codes of a number: an ended shell's stay until its number is given again; 0 and 0
@@ -158,4 +154,14 @@ fn any_runs(shells: &[Option<Shell>]) -> bool
     ensures { result ≡ list_any is_some shells.now }
 {
     shells.iter().any(|shell| shell.is_some())
+}
+
+fn taken(shells: &[Option<Shell>; 20]) -> [bool; 20]
+    ensures { result ≡ map is_some shells.now }
+{
+    let mut taken = [false; 20];
+    for place in 0..20 {
+        taken[place] = shells[place].is_some();
+    }
+    taken
 }

@@ -1,24 +1,37 @@
-use Rattle.std.proofs.Common.{rules, ◌≡◌, true, ◌≤◌, ◌+◌, length, option_map, slice_index, IfOk, IfSome, drop, ℕ, ◌-◌, ◌*◌, ◌<◌, ◌/◌, ◌%◌, Bool, false, nat_eq, nat_lt, List, [], ◌∷◌, ◌++◌, slice_index_or, slice_set, bit_and, bit_or, Fits, w8, w32, w64, Bor, MutBor}
-use Rattle.ados_items.specs.Items.{item_at, words_of}
-use Rattle.ados_machine.specs.LineMeaning.{is_redirection, fault_of, command_at, meaning_of, command_with}
+use Rattle.std.proofs.Common.{suc, ◌≡◌, ◌+◌, ◌-◌, ◌∙◌, length, arith, ap, sym}
+use Rattle.ados_items.specs.declared.items.Item.TheVariants.{Word, Quoted, End, Unmatched}
+use Rattle.ados_machine.specs.LineMeaning.{fault_from}
+use Rattle.ados_world.proofs.FaultLemmas.{fault_from-item, fault_from-redirection, fault_from-on}
 use Rattle.ados_world.proofs.lines.first_fault.Goals as goal
+use Rattle.ados_world.proofs.lines.first_fault.Goals.{in-Word+else-is_redirection, in-Quoted}
 
--- src/lines.rt:35:21
 pub returns-then-is_redirection : goal.returns-then-is_redirection
-returns-then-is_redirection c = ?
+returns-then-is_redirection c =
+    let n = length c.args.line.now - c.loop-step.step in
+    fault_from-redirection n c.args.line.now c.loop-step.place c.in-Word.from c.in-Word.to c.in-Word.ensures.value
+        c.if-is_redirection.ensures (c.loop-step.invariant (suc n) (omega arith))
 
--- src/lines.rt:40:35
 pub returns-in-Unmatched : goal.returns-in-Unmatched
-returns-in-Unmatched c = ?
+returns-in-Unmatched c =
+    let n = length c.args.line.now - c.loop-step.step in
+    sym (c.loop-step.invariant (suc n) (omega arith) ∙ fault_from-item n c.args.line.now c.loop-step.place _ c.in-Unmatched.ensures.value)
 
--- src/lines.rt:42:29
 pub returns-in-End : goal.returns-in-End
-returns-in-End c = ?
+returns-in-End c =
+    let n = length c.args.line.now - c.loop-step.step in
+    sym (c.loop-step.invariant (suc n) (omega arith) ∙ fault_from-item n c.args.line.now c.loop-step.place _ c.in-End.ensures.value)
 
--- src/lines.rt:31:5
 pub loop-step-preserved : goal.loop-step-preserved
-loop-step-preserved c = ?
+loop-step-preserved c = λ n h.
+    let line = c.args.line.now in
+    let here = c.loop-step.invariant (suc n) (omega arith) in
+    elim c.match-next_word.branch [
+      | in-Word+else-is_redirection w ↦
+          here ∙ fault_from-on n line c.loop-step.place w.in-Word.from w.in-Word.to w.in-Word.ensures.value w.if-is_redirection.ensures
+          ∙ ap (λ p. fault_from n line p) (sym w.place-is)
+      | in-Quoted w ↦
+          here ∙ fault_from-item n line c.loop-step.place _ w.in-Quoted.ensures.value ∙ ap (λ p. fault_from n line p) (sym w.place-is)
+    ]
 
--- src/lines.rt:27:1
 pub returns : goal.returns
-returns c = ?
+returns c = sym (c.loop-step.invariant 0 (omega (arith, c.loop-step-test.false)))

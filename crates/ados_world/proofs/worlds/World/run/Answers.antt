@@ -1,0 +1,19 @@
+use Rattle.std.proofs.Common.{◌≡◌, ◌∙◌, ◌+◌, ◌++◌, ◌∷◌, [], take, ap, sym, arith}
+use Rattle.std.proofs.lemmas.Grind.{common_steps}
+use Rattle.std.proofs.lemmas.List.{take_more}
+use Rattle.ados_machine.proofs.RunLemmas.{Runs-more}
+use Rattle.ados_world.proofs.worlds.World.run.Goals as goal
+
+pub loop-event-preserved : goal.loop-event-preserved
+loop-event-preserved c =
+    let events = c.args.events.now in
+    let i = c.loop-event.event-index in
+    let more : take (i + 1) events ≡ take i events ++ c.event-item.result ∷ [] =
+        take_more events i c.event-item.result c.loop-event-test.true ∙ ap (λ e. take i events ++ e ∷ []) (sym c.event-item.is) in
+    record {
+      run =
+          rw (more, c.in-Ok-push.ensures.items, c.step-out.ensures.world)
+          (Runs-more _ _ _ _ _ _ c.loop-event.invariant.run c.step-out.ensures.answer);
+      room = grind (arith, common_steps);
+      len = grind (arith, common_steps);
+    }
