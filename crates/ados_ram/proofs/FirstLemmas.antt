@@ -1,0 +1,76 @@
+-- The first rows are those of the first files.
+use Rattle.std.proofs.Common.{◌≡◌, ℕ, ◌≤◌, Bool, true, false, T, cond, List, [], ◌∷◌, ◌++◌, Option, Some, None, IsSome, IsTrue, refl, sym, ap, ◌∙◌, subst, codes, length, length-append, arith}
+use Rattle.std.specs.FinMap as map
+use Rattle.std.specs.FinMap.{get-insert, get-from_entries, len-entries}
+use Rattle.ados_ram.specs.declared.entries.Entry.{Entry}
+use Rattle.ados_ram.specs.Place.{key_of, place_cmp, place_cmp_total, is_same_key}
+use Rattle.ados_ram.specs.Entry.{new_directory}
+use Rattle.ados_ram.specs.Files.{Files, Rows, AreFiles, is_some_directory, bytes_at, total_of, directory_row, first_files, file_limit, bytes_limit, objects_limit}
+use Rattle.ados_ram.specs.Rows.{AreRows, first_rows}
+use Rattle.ados_ram.proofs.RowsLemmas.{AreRowsOf, sorted_of, sorted_of_rows, entries_rows}
+use Rattle.ados_ram.proofs.FilesLemmas.{put_files}
+
+clash : {A : Type 0} → false ≡ true → A
+clash e = absurd (subst T (sym e) tt)
+
+abbrev root_rows : Rows
+root_rows = ([], new_directory []) ∷ []
+
+abbrev nothing : Option Entry
+nothing = None
+
+none : (q : List (List ℕ)) → map.get (map.from_entries {R = place_cmp} []) q ≡ nothing
+none q = get-from_entries place_cmp_total [] q
+
+at_root : (q : List (List ℕ)) → map.get (map.from_entries {R = place_cmp} root_rows) q ≡ cond (is_same_key q []) (Some (new_directory [])) nothing
+at_root q = get-insert place_cmp_total _ [] (new_directory []) q ∙ ap (cond (is_same_key q []) (Some (new_directory []))) (none q)
+
+no_root : (place : List (List ℕ)) (name : List ℕ) (rest : List (List ℕ)) → is_same_key (place ++ name ∷ rest) [] ≡ false
+no_root [] name rest = refl
+no_root (x ∷ xs) name rest = refl
+
+total_rows : (es : Rows) → total_of (sorted_of es) ≤ bytes_limit → total_of (map.entries (map.from_entries {R = place_cmp} es)) ≤ bytes_limit
+total_rows es h = subst (λ (r : Rows). total_of r ≤ bytes_limit) (sym (entries_rows (sorted_of es) (sorted_of_rows es))) h
+
+count_rows : (es : Rows) → length (sorted_of es) ≤ objects_limit → map.len (map.from_entries {R = place_cmp} es) ≤ objects_limit
+count_rows es h = subst (λ (n : ℕ). n ≤ objects_limit) (sym (len-entries _ ∙ ap length (entries_rows (sorted_of es) (sorted_of_rows es)))) h
+
+root_files : AreFiles (map.from_entries root_rows)
+root_files = record {
+  root = subst (λ (o : Option Entry). IsTrue (is_some_directory o)) (sym (at_root [])) refl;
+  above = λ place name rest h.
+      clash (subst (λ (b : Bool). IsSome (cond b (Some (new_directory [])) nothing)) (no_root place name rest) (subst (λ (o : Option Entry). IsSome o) (at_root (place ++ name ∷ rest)) h));
+  each_file = λ place. subst (λ (o : Option Entry). length (bytes_at o) ≤ file_limit) (sym (at_root place))
+      (elim (is_same_key place []) as (λ b. length (bytes_at (cond b (Some (new_directory [])) nothing)) ≤ file_limit) [ true ↦ omega arith | false ↦ omega arith ]);
+  all_bytes = total_rows root_rows (omega arith);
+  objects = count_rows root_rows (omega arith);
+}
+
+-- what is above a place directly in the root is the root
+top_clear : (m : Files) → AreFiles m → (k : List ℕ) (place : List (List ℕ)) (name : List ℕ) (rest : List (List ℕ)) → place ++ name ∷ rest ≡ k ∷ [] → IsTrue (is_some_directory (map.get m place))
+top_clear m files k [] name rest e = files.root
+top_clear m files k (x ∷ xs) name rest e =
+    let one : length (x ∷ (xs ++ name ∷ rest)) ≡ 1 = ap length e in
+    absurd (omega (arith, one, length-append xs (name ∷ rest)))
+
+-- a directory more in the root
+with_directory : (es : Rows) (name : List ℕ) → AreFiles (map.from_entries es) → total_of (sorted_of (directory_row name ∷ es)) ≤ bytes_limit → length (sorted_of (directory_row name ∷ es)) ≤ objects_limit → AreFiles (map.from_entries (directory_row name ∷ es))
+with_directory es name files total count =
+    put_files (key_of (name ∷ [])) (new_directory name) files (top_clear _ files _) (λ d. refl) (omega arith)
+    (total_rows (directory_row name ∷ es) total) (count_rows (directory_row name ∷ es) count)
+
+all_files : AreFiles first_files
+all_files =
+    let r1 = directory_row (codes "Env") ∷ root_rows in
+    let r2 = directory_row (codes "T") ∷ r1 in
+    let r3 = directory_row (codes "S") ∷ r2 in
+    with_directory r3 (codes "C") (with_directory r2 (codes "S") (with_directory r1 (codes "T") (with_directory root_rows (codes "Env") root_files (omega arith) (omega arith)) (omega arith) (omega arith)) (omega arith) (omega arith)) (omega arith) (omega arith)
+
+pub first_is : map.from_sorted first_rows ≡ first_files
+first_is = (sorted_of_rows (directory_row (codes "C") ∷ directory_row (codes "S") ∷ directory_row (codes "T") ∷ directory_row (codes "Env") ∷ root_rows)).is
+
+pub first_are : AreRows first_rows
+first_are = record {
+  sorted = refl;
+  files = subst AreFiles (sym first_is) all_files;
+}

@@ -1,0 +1,3 @@
+pub mod RowsLemmas
+pub mod FilesLemmas
+pub mod FirstLemmas

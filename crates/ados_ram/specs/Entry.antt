@@ -1,0 +1,74 @@
+-- Entries: what stands at a place.
+use Rattle.std.specs.Prelude.{◌≡◌, ℕ, List, [], Bool, true, false, Option, Some, None, length, refl}
+use Rattle.std.specs.Coded.{Coded, code_by, coded×, coded_ℕ, coded_bool, coded_list, coded_option}
+use Rattle.ados_ram.specs.declared.entries.Bits.{Bits}
+use Rattle.ados_ram.specs.declared.entries.Body.{Body}
+use Rattle.ados_ram.specs.declared.entries.Body.TheVariants.{Directory, File}
+use Rattle.ados_ram.specs.declared.entries.Entry.{Entry}
+
+abbrev pub is_directory_body : Body → Bool
+is_directory_body Directory = true
+is_directory_body (File bytes) = false
+
+abbrev pub is_directory : Entry → Bool
+is_directory e = is_directory_body e.body
+
+-- what a file holds; a directory holds no bytes
+abbrev pub bytes_of_body : Body → List ℕ
+bytes_of_body Directory = []
+bytes_of_body (File bytes) = bytes
+
+abbrev pub bytes_of : Entry → List ℕ
+bytes_of e = bytes_of_body e.body
+
+abbrev pub size_of : Entry → ℕ
+size_of e = length (bytes_of e)
+
+-- the bits of a new object: ----rwed
+abbrev pub fresh_bits : Bits
+fresh_bits = record { hold = false; script = false; pure = false; archive = false; read = true; write = true; execute = true; delete = true }
+
+-- the same bits without a
+abbrev pub unarchived : Bits → Bits
+unarchived b = record b { archive = false }
+
+-- a new directory, with nothing in it
+abbrev pub new_directory : List ℕ → Entry
+new_directory name = record { name = name; body = Directory; bits = fresh_bits; comment = [] }
+
+-- a file that holds the bytes: a new one of the name, or the old one, which keeps its name, comment and bits but for a
+abbrev pub written : Option Entry → List ℕ → List ℕ → Entry
+written None name bytes = record { name = name; body = File bytes; bits = fresh_bits; comment = [] }
+written (Some e) name bytes = record e { body = File bytes; bits = unarchived e.bits }
+
+-- how an entry is stored: as its fields
+abbrev pub option_of_body : Body → Option (List ℕ)
+option_of_body Directory = None
+option_of_body (File bytes) = Some bytes
+
+abbrev pub body_of_option : Option (List ℕ) → Body
+body_of_option None = Directory
+body_of_option (Some bytes) = File bytes
+
+abbrev pub body_back : (b : Body) → body_of_option (option_of_body b) ≡ b
+body_back Directory = refl
+body_back (File bytes) = refl
+
+abbrev pub coded_body : Coded Body
+coded_body = code_by (Option (List ℕ)) (coded_option (coded_list coded_ℕ)) option_of_body body_of_option body_back
+
+abbrev pub coded_bits : Coded Bits
+coded_bits =
+    code_by (Bool × (Bool × (Bool × (Bool × (Bool × (Bool × (Bool × Bool)))))))
+    (coded× coded_bool (coded× coded_bool (coded× coded_bool (coded× coded_bool (coded× coded_bool (coded× coded_bool (coded× coded_bool coded_bool)))))))
+    (λ b. (b.hold, (b.script, (b.pure, (b.archive, (b.read, (b.write, (b.execute, b.delete))))))))
+    (λ p. record { hold = p.0; script = p.1.0; pure = p.1.1.0; archive = p.1.1.1.0; read = p.1.1.1.1.0; write = p.1.1.1.1.1.0; execute = p.1.1.1.1.1.1.0; delete = p.1.1.1.1.1.1.1 })
+    (λ _. refl)
+
+abbrev pub coded_entry : Coded Entry
+coded_entry =
+    code_by (List ℕ × (Body × (Bits × List ℕ)))
+    (coded× (coded_list coded_ℕ) (coded× coded_body (coded× coded_bits (coded_list coded_ℕ))))
+    (λ e. (e.name, (e.body, (e.bits, e.comment))))
+    (λ p. record { name = p.0; body = p.1.0; bits = p.1.1.0; comment = p.1.1.1 })
+    (λ _. refl)

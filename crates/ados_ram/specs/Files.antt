@@ -1,0 +1,58 @@
+-- Files: a finite map from places to entries. The root is there and is a directory, each place above one that is there
+-- is a directory, and the limits hold.
+use Rattle.std.specs.Prelude.{◌≡◌, ◌+◌, ◌≤◌, ℕ, Bool, false, List, [], ◌∷◌, ◌++◌, Option, Some, None, IsSome, IsTrue, codes, length}
+use Rattle.std.specs.Coded.{Coded, coded_list, coded_ℕ}
+use Rattle.std.specs.FinMap as map
+use Rattle.ados_ram.specs.Place.{key_of, place_cmp}
+use Rattle.ados_ram.specs.Entry.{is_directory, bytes_of, size_of, new_directory, coded_entry}
+use Rattle.ados_ram.specs.declared.entries.Entry.{Entry}
+
+abbrev pub Files : Type 0
+Files = map.FinMap place_cmp Entry
+
+abbrev pub coded_files : Coded Files
+coded_files = map.code (coded_list (coded_list coded_ℕ)) coded_entry
+
+-- entries with their places, in order
+abbrev pub Rows : Type 0
+Rows = List (List (List ℕ) × Entry)
+
+-- a directory stands there
+abbrev pub is_some_directory : Option Entry → Bool
+is_some_directory None = false
+is_some_directory (Some e) = is_directory e
+
+-- the bytes that stand there; none where there is no file
+abbrev pub bytes_at : Option Entry → List ℕ
+bytes_at None = []
+bytes_at (Some e) = bytes_of e
+
+-- the sizes of all files together
+abbrev pub total_of : Rows → ℕ
+total_of [] = 0
+total_of (e ∷ es) = size_of e.1 + total_of es
+
+-- the limits: bytes in one file, bytes in all, objects with the root
+abbrev pub file_limit : ℕ
+file_limit = 65536
+
+abbrev pub bytes_limit : ℕ
+bytes_limit = 1048576
+
+abbrev pub objects_limit : ℕ
+objects_limit = 1025
+
+pub record AreFiles (m : Files) : Type 0 where
+  pub root : IsTrue (is_some_directory (map.get m []))
+  pub above : (place : List (List ℕ)) (name : List ℕ) (rest : List (List ℕ)) → IsSome (map.get m (place ++ name ∷ rest)) → IsTrue (is_some_directory (map.get m place))
+  pub each_file : (place : List (List ℕ)) → length (bytes_at (map.get m place)) ≤ file_limit
+  pub all_bytes : total_of (map.entries m) ≤ bytes_limit
+  pub objects : map.len m ≤ objects_limit
+
+-- a directory in the root
+abbrev pub directory_row : List ℕ → List (List ℕ) × Entry
+directory_row name = (key_of (name ∷ []), new_directory name)
+
+-- the files at first: the root with C, Env, S and T in it, and nothing in these
+abbrev pub first_files : Files
+first_files = map.from_entries (directory_row (codes "C") ∷ directory_row (codes "S") ∷ directory_row (codes "T") ∷ directory_row (codes "Env") ∷ ([], new_directory []) ∷ [])

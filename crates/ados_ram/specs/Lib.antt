@@ -1,0 +1,5 @@
+pub mod Place
+pub mod Entry
+pub mod Files
+pub mod FileOperations
+pub mod Rows

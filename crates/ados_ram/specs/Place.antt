@@ -1,0 +1,57 @@
+-- Places: lists of names. The folded names tell which place it is, and their order is the order of places.
+use Rattle.std.specs.Prelude.{ℕ, ◌-◌, Bool, true, false, not, List, [], ◌∷◌, length, take, map, cond, nat_eq, Option, Some, None, is_some, slice_index_or}
+use Rattle.std.specs.declared.cmp.Ordering.{Ordering}
+use Rattle.std.specs.Ordering.{nat_cmp, is_eq, eq_by_cmp}
+use Rattle.std.specs.Cmp.{IsTotalOrder, nat_cmp_total}
+use Rattle.std.specs.Cmp.Lexicographic.{slice_cmp, lists_total}
+use Rattle.std.specs.FinMap.{IsAntisymmetric, nat_cmp-IsAntisymmetric, slice_cmp-IsAntisymmetric}
+use Rattle.ados_text.specs.Text.{folded}
+
+-- which place it is: its names in lower case
+abbrev pub key_of : List (List ℕ) → List (List ℕ)
+key_of = map folded
+
+-- the order of folded names, byte by byte
+abbrev pub name_cmp : List ℕ → List ℕ → Ordering
+name_cmp = slice_cmp nat_cmp
+
+-- the order of keys, name by name: a directory comes before what is in it
+abbrev pub place_cmp : List (List ℕ) → List (List ℕ) → Ordering
+place_cmp = slice_cmp name_cmp
+
+pub place_cmp_total : IsTotalOrder place_cmp
+place_cmp_total = lists_total (lists_total nat_cmp_total)
+
+pub place_cmp_exact : IsAntisymmetric place_cmp
+place_cmp_exact = slice_cmp-IsAntisymmetric (slice_cmp-IsAntisymmetric nat_cmp-IsAntisymmetric)
+
+-- the two keys are one place
+abbrev pub is_same_key : List (List ℕ) → List (List ℕ) → Bool
+is_same_key = eq_by_cmp place_cmp
+
+-- the two places are one: alike where case is ignored
+abbrev pub is_same_place : List (List ℕ) → List (List ℕ) → Bool
+is_same_place a b = is_same_key (key_of a) (key_of b)
+
+-- the last name of a place, as it is written; the root's is empty
+abbrev pub last_name : List (List ℕ) → List ℕ
+last_name names = slice_index_or names (length names - 1) []
+
+-- the directory in which a place is; the root is in none
+abbrev pub parent_of : List (List ℕ) → Option (List (List ℕ))
+parent_of [] = None
+parent_of (n ∷ ns) = Some (take (length ns) (n ∷ ns))
+
+-- the way down from a directory to a place, if the place is at it or below it
+abbrev pub behind : List (List ℕ) → List (List ℕ) → Option (List (List ℕ))
+behind [] place = Some place
+behind (n ∷ ns) [] = None
+behind (n ∷ ns) (x ∷ xs) = cond (is_eq (name_cmp n x)) (behind ns xs) None
+
+abbrev pub is_one_name : Option (List (List ℕ)) → Bool
+is_one_name None = false
+is_one_name (Some way) = nat_eq (length way) 1
+
+-- the second place is directly in the first
+abbrev pub is_child : List (List ℕ) → List (List ℕ) → Bool
+is_child directory place = is_one_name (behind directory place)

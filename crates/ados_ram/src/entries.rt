@@ -1,0 +1,129 @@
+ghost use Rattle.std.specs.Prelude.{◌≡◌, ◌++◌, IfOk, length};
+ghost use Rattle.std.specs.Option.{option_copied};
+
+use ados_text::{Name, NoMemory, Octets, Text};
+use std::alloc::Global;
+
+/// What stands at a place: a directory, or a file with its bytes.
+#[derive(Clone, Debug, Drop)]
+pub enum Body {
+    Directory,
+    File(Octets),
+}
+
+/// The protection bits, in their order: h s p a r w e d.
+#[derive(Clone, Copy, Debug, PartialEq, Eq)]
+pub struct Bits {
+    /// h: kept resident.
+    pub hold: bool,
+    /// s: a script.
+    pub script: bool,
+    /// p: pure, so that it may be made resident.
+    pub pure: bool,
+    /// a: not written since it was archived.
+    pub archive: bool,
+    /// r: may be read.
+    pub read: bool,
+    /// w: may be written.
+    pub write: bool,
+    /// e: may be run.
+    pub execute: bool,
+    /// d: may be deleted.
+    pub delete: bool,
+}
+
+impl Bits {
+    ghost use Rattle.ados_ram.specs.Entry.{unarchived};
+
+    /// The bits of a new object: `----rwed`.
+    pub const FRESH: Bits = Bits {
+        hold: false,
+        script: false,
+        pure: false,
+        archive: false,
+        read: true,
+        write: true,
+        execute: true,
+        delete: true,
+    };
+
+    /// The same bits without a.
+    pub fn unarchived(self) -> Bits
+        ensures { result ≡ unarchived self }
+    {
+        Bits {
+            archive: false,
+            ..self
+        }
+    }
+}
+
+/// An object of the files: its name as it is written, what it is, its bits and its comment.
+#[derive(Clone, Debug, Drop)]
+pub struct Entry {
+    pub name: Name,
+    pub body: Body,
+    pub bits: Bits,
+    pub comment: Text,
+}
+
+impl Entry {
+    ghost use Rattle.ados_ram.specs.Entry.{is_directory, bytes_of, new_directory, written};
+
+    /// It is a directory.
+    pub fn is_directory(&self) -> bool
+        ensures { result ≡ is_directory self.now }
+    {
+        match self.body {
+            Body::Directory => true,
+            Body::File(_) => false,
+        }
+    }
+
+    /// The bytes of a file; a directory has none.
+    pub fn bytes(&self) -> &[u8]
+        ensures { result.now ≡ bytes_of self.now }
+    {
+        match &self.body {
+            Body::Directory => &[],
+            Body::File(bytes) => bytes.as_bytes(),
+        }
+    }
+
+    /// A new directory of a name.
+    pub fn directory(alloc: Global, name: Name) -> Result<Entry, NoMemory>
+        ensures { IfOk result (λ entry. entry ≡ new_directory name) }
+    {
+        Ok(Entry {
+            name,
+            body: Body::Directory,
+            bits: Bits::FRESH,
+            comment: Text::from_bytes(alloc, &[])?,
+        })
+    }
+
+    /// A new file of a name, or an old one after it was written: of it name, comment and bits stay, but for bit a.
+    pub fn written(
+        alloc: Global,
+        old: Option<&Entry>,
+        name: Name,
+        bytes: Octets,
+    ) -> Result<Entry, NoMemory>
+        ensures { IfOk result (λ entry. entry ≡ written (option_copied old.entry) name bytes) }
+    {
+        match old {
+            None => Ok(Entry {
+                name,
+                body: Body::File(bytes),
+                bits: Bits::FRESH,
+                comment: Text::from_bytes(alloc, &[])?,
+            }),
+            Some(entry) => Ok(Entry {
+                name: entry.name.copy()?,
+                body: Body::File(bytes),
+                bits: entry.bits.unarchived(),
+                comment: entry.comment.copy()?,
+            }),
+        }
+    }
+}

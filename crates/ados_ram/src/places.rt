@@ -1,0 +1,152 @@
+ghost use Rattle.std.specs.Prelude.{◌≡◌, IfOk, [], ◌++◌, ◌∷◌};
+ghost use Rattle.std.specs.Option.{option_copied, option_map};
+ghost use Rattle.std.specs.Cmp.{partial_equiv_from_equiv};
+ghost use Rattle.std.proofs.lemmas.Cmp.{on_equiv, eq_by_cmp_equiv};
+ghost use Rattle.ados_text.specs.Text.{folded};
+ghost use Rattle.ados_ram.specs.Place.{key_of, name_cmp, place_cmp, place_cmp_total, is_same_place, last_name, parent_of, behind};
+
+use ados_text::{Name, NoMemory, Text, fold};
+use std::alloc::Global;
+use std::cmp::Ordering;
+use std::marker::Model;
+
+/// A full path: the names from the root down, as they are written. Two places are equal where they are alike with
+/// case ignored.
+#[derive(Clone, Debug, Drop)]
+pub struct Place {
+    names: Vec<Name>,
+}
+
+impl Model for Place {
+    ghost use Rattle.std.specs.Prelude.{List, ℕ};
+
+    ghost Value = { List (List ℕ) };
+
+    ghost view = { λ p. p.names.items };
+}
+
+impl Place {
+    /// The root.
+    pub fn root(alloc: Global) -> Place
+        ensures { result ≡ [] }
+    {
+        Place {
+            names: Vec::new(alloc),
+        }
+    }
+
+    /// The names from the root down.
+    pub fn names(&self) -> &[Name]
+        ensures { result.now ≡ self.now }
+    {
+        self.names.as_slice()
+    }
+
+    /// The place of a name in this one.
+    pub fn with(self, name: Name) -> Result<Place, NoMemory>
+        ensures { IfOk result (λ place. place ≡ self ++ name ∷ []) }
+    {
+        let mut names = self.names;
+        names.push(name)?;
+        Ok(Place { names })
+    }
+
+    /// The directory in which this is; the root is in none.
+    pub fn parent(self) -> Option<Place>
+        ensures { result ≡ parent_of self }
+    {
+        let mut names = self.names;
+        match names.pop() {
+            None => None,
+            Some(_) => Some(Place { names }),
+        }
+    }
+
+    /// The last name, as it is written; the root's is empty.
+    pub fn last_name(&self) -> Result<Name, NoMemory>
+        ensures { IfOk result (λ name. name ≡ last_name self.now) }
+    {
+        if self.names.is_empty() {
+            let empty = Text::from_bytes(*self.names.allocator(), &[])?;
+            return Ok(Name::new(empty));
+        }
+        self.names[self.names.len() - 1].copy()
+    }
+
+    /// An equal place, spelled alike.
+    pub fn copy(&self) -> Result<Place, NoMemory>
+        ensures { IfOk result (λ place. place ≡ self.now) }
+    {
+        Ok(self.clone()?)
+    }
+}
+
+impl PartialEq for Place {
+    ghost eq = { is_same_place };
+
+    ghost laws = { partial_equiv_from_equiv (on_equiv key_of (eq_by_cmp_equiv place_cmp_total)) };
+
+    fn eq(&self, other: &Place) -> bool {
+        order(&self.names, &other.names) == Ordering::Equal
+    }
+}
+
+impl Eq for Place {
+    ghost laws = { on_equiv key_of (eq_by_cmp_equiv place_cmp_total) };
+}
+
+/// The order of two places by their folded names.
+pub fn order(a: &[Name], b: &[Name]) -> Ordering
+    ensures { result ≡ place_cmp (key_of a.now) (key_of b.now) }
+{
+    let Some((x, xs)) = a.split_first() else {
+        return if b.is_empty() {
+            Ordering::Equal
+        } else {
+            Ordering::Less
+        };
+    };
+    let Some((y, ys)) = b.split_first() else {
+        return Ordering::Greater;
+    };
+    match name_order(x.text().as_bytes(), y.text().as_bytes()) {
+        Ordering::Equal => order(xs, ys),
+        decided => decided,
+    }
+}
+
+// The order of two names, where case is ignored.
+fn name_order(a: &[u8], b: &[u8]) -> Ordering
+    ensures { result ≡ name_cmp (folded a.now) (folded b.now) }
+{
+    let Some((x, xs)) = a.split_first() else {
+        return if b.is_empty() {
+            Ordering::Equal
+        } else {
+            Ordering::Less
+        };
+    };
+    let Some((y, ys)) = b.split_first() else {
+        return Ordering::Greater;
+    };
+    match fold(*x).cmp(&fold(*y)) {
+        Ordering::Equal => name_order(xs, ys),
+        decided => decided,
+    }
+}
+
+/// The names that lead from a directory down to a place, where the place is at it or below it.
+pub fn behind<'a>(directory: &[Name], place: &'a [Name]) -> Option<&'a [Name]>
+    ensures { option_map key_of (option_copied result) ≡ behind (key_of directory.now) (key_of place.now) }
+{
+    let Some((x, xs)) = directory.split_first() else {
+        return Some(place);
+    };
+    let Some((y, ys)) = place.split_first() else {
+        return None;
+    };
+    match name_order(x.text().as_bytes(), y.text().as_bytes()) {
+        Ordering::Equal => behind(xs, ys),
+        _ => None,
+    }
+}
