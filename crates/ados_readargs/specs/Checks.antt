@@ -1,0 +1,51 @@
+use Rattle.std.specs.Prelude.{ℕ, ◌+◌, ◌^◌, nat_lt, List, [], ◌∷◌, Bool, true, false, ◌&&◌, ◌||◌, not, length, if◌then◌else◌}
+use Rattle.std.specs.List.{list_any, list_all}
+use Rattle.std.specs.Char.{is_ascii_digit}
+use Rattle.ados_text.specs.Number.{digits_of, weight_of, is_negative}
+use Rattle.ados_readargs.specs.declared.options.TemplateOption.{TemplateOption}
+use Rattle.ados_readargs.specs.declared.args.Arg.{Arg}
+use Rattle.ados_readargs.specs.declared.args.Arg.TheVariants.{Absent, On, One, Many}
+
+-- the option was given nothing
+abbrev pub is_absent : Arg → Bool
+is_absent Absent = true
+is_absent On = false
+is_absent (One text) = false
+is_absent (Many texts) = false
+
+-- the option has /A, and no argument
+abbrev pub is_lacking : TemplateOption → Arg → Bool
+is_lacking option arg = option.qualifiers.required && is_absent arg
+
+-- an option with /A has no argument
+abbrev pub lacks : List TemplateOption → List Arg → Bool
+lacks [] args = false
+lacks (option ∷ options) [] = false
+lacks (option ∷ options) (arg ∷ args) = is_lacking option arg || lacks options args
+
+-- the text is a number in the range of i32
+unfoldable pub is_number : List ℕ → Bool
+is_number text =
+    nat_lt 0 (length (digits_of text)) && (list_all is_ascii_digit (digits_of text) &&
+    nat_lt (weight_of (digits_of text)) (if is_negative text then 2 ^ 31 + 1 else 2 ^ 31))
+
+-- the text is no number
+abbrev pub is_bad_text : List ℕ → Bool
+is_bad_text text = not (is_number text)
+
+-- one of the texts of an argument is no number
+abbrev pub has_bad_number : Arg → Bool
+has_bad_number Absent = false
+has_bad_number On = false
+has_bad_number (One text) = is_bad_text text
+has_bad_number (Many texts) = list_any is_bad_text texts
+
+-- the option has /N, and a text that is no number
+abbrev pub is_bad : TemplateOption → Arg → Bool
+is_bad option arg = option.qualifiers.number && has_bad_number arg
+
+-- an option with /N has a text that is no number
+abbrev pub has_bad : List TemplateOption → List Arg → Bool
+has_bad [] args = false
+has_bad (option ∷ options) [] = false
+has_bad (option ∷ options) (arg ∷ args) = is_bad option arg || has_bad options args

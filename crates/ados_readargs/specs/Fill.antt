@@ -1,0 +1,38 @@
+use Rattle.std.specs.Prelude.{ℕ, List, Bool, Option, Some, None, Result, Ok, Err, if◌then◌else◌}
+use Rattle.ados_readargs.specs.declared.errors.ArgFault.{ArgFault}
+use Rattle.ados_readargs.specs.declared.errors.ArgFault.TheVariants as fault
+use Rattle.ados_readargs.specs.declared.options.TemplateOption.{TemplateOption}
+use Rattle.ados_readargs.specs.declared.args.Arg.{Arg}
+use Rattle.ados_readargs.specs.declared.readings.Reading.{Reading}
+use Rattle.ados_readargs.specs.Words.{line_words_of}
+use Rattle.ados_readargs.specs.Meanings.{read_of}
+use Rattle.ados_readargs.specs.Readings.{plain_items}
+use Rattle.ados_readargs.specs.Shares.{is_left}
+use Rattle.ados_readargs.specs.Args.{args_of}
+use Rattle.ados_readargs.specs.Checks.{lacks, has_bad}
+use Rattle.ados_readargs.specs.Template.{template_of}
+
+-- the arguments, where no word is left over, none is missing and numbers are numbers
+abbrev pub checked_args : List TemplateOption → Bool → List Arg → Result (List Arg) ArgFault
+checked_args options left args =
+    if left then Err fault.TooMany else
+    (if lacks options args then Err fault.ArgumentMissing else
+    (if has_bad options args then Err fault.BadNumber else Ok args))
+
+-- the arguments by what the words of the line say
+abbrev pub args_read : List TemplateOption → List ℕ → Result (List Reading) ArgFault → Result (List Arg) ArgFault
+args_read options line (Err fault) = Err fault
+args_read options line (Ok readings) = checked_args options (is_left options readings (plain_items readings)) (args_of options line readings)
+
+-- the arguments that a line gives to options
+abbrev pub args_for : List TemplateOption → List ℕ → Result (List Arg) ArgFault
+args_for options line = args_read options line (read_of options line (line_words_of line))
+
+-- the same, where there are options
+abbrev pub fill_by : List ℕ → Option (List TemplateOption) → Result (List Arg) ArgFault
+fill_by line None = Err fault.BadTemplate
+fill_by line (Some options) = args_for options line
+
+-- the arguments that a line gives to the options of a template's text
+abbrev pub fill_of : List ℕ → List ℕ → Result (List Arg) ArgFault
+fill_of template line = fill_by line (template_of template)

@@ -1,0 +1,10 @@
+pub mod Faults
+pub mod Options
+pub mod Words
+pub mod Readings
+pub mod Meanings
+pub mod Shares
+pub mod Args
+pub mod Checks
+pub mod Template
+pub mod Fill

@@ -1,0 +1,134 @@
+use Rattle.std.specs.Prelude.{ℕ, ◌+◌, ◌==◌, nat_lt, List, [], ◌∷◌, ◌++◌, Bool, true, false, ◌&&◌, ◌||◌, not, Option, Some, None, Result, Ok, Err, position, if◌then◌else◌}
+use Rattle.std.specs.List.{list_any}
+use Rattle.ados_items.specs.Items.{is_blank, bytes_between}
+use Rattle.ados_items.specs.declared.items.Item.{Item}
+use Rattle.ados_items.specs.declared.items.Item.TheVariants as item
+use Rattle.ados_readargs.specs.declared.errors.ArgFault.{ArgFault}
+use Rattle.ados_readargs.specs.declared.errors.ArgFault.TheVariants as fault
+use Rattle.ados_readargs.specs.declared.options.Qualifiers.{Qualifiers}
+use Rattle.ados_readargs.specs.declared.options.TemplateOption.{TemplateOption}
+use Rattle.ados_readargs.specs.declared.words.LineWord.{LineWord}
+use Rattle.ados_readargs.specs.declared.words.LineWord.TheVariants as word
+use Rattle.ados_readargs.specs.declared.readings.Reading.{Reading}
+use Rattle.ados_readargs.specs.declared.readings.Reading.TheVariants.{Named, Given, Plain}
+use Rattle.ados_readargs.specs.declared.meanings.Pending.{Pending}
+use Rattle.ados_readargs.specs.declared.meanings.Pending.TheVariants.{Free, Value}
+use Rattle.ados_readargs.specs.declared.meanings.Meaning.{Meaning}
+use Rattle.ados_readargs.specs.declared.meanings.Meaning.TheVariants.{Read, Wait, Stop, Refuse}
+use Rattle.ados_readargs.specs.Options.{has_name, is_rest, takes_value, qualifiers_at}
+use Rattle.ados_readargs.specs.Words.{item_of, start_of, is_open_quote, is_equal}
+use Rattle.ados_readargs.specs.Readings.{is_filled, first_open}
+
+-- a run whose first Word is the name, and which ends there or not, is a keyword of the option
+abbrev pub is_keyword : List ℕ → Bool → TemplateOption → Bool
+is_keyword name whole option = has_name name option && (not option.qualifiers.rest && (whole || takes_value option.qualifiers))
+
+-- the option that a word is a keyword of
+abbrev pub keyword_of : List TemplateOption → List ℕ → LineWord → Option ℕ
+keyword_of options line (word.Run from key to) =
+    if from == key then None else position (is_keyword (bytes_between line from key) (key == to)) options
+keyword_of options line (word.Quoted from to) = None
+keyword_of options line (word.Open from) = None
+
+-- the place behind the last byte that is no blank, or `end`, where the text stands at `place`
+abbrev pub trimmed_from : ℕ → ℕ → List ℕ → ℕ
+trimmed_from end place [] = end
+trimmed_from end place (c ∷ cs) = trimmed_from (if is_blank c then end else place + 1) (place + 1) cs
+
+-- the option takes no more: it was filled, and has no /M
+abbrev pub is_full : Qualifiers → Bool → Bool
+is_full q filled = filled && not q.many
+
+-- a value for the option at a place, which is full or not
+abbrev pub given_meaning : Bool → ℕ → Item → Meaning
+given_meaning full place item = if full then Refuse fault.TooMany else Read (Given place item)
+
+-- what a run says whose first Word is a keyword of the option at a place: it gives what follows its `=`, or waits for the next word
+abbrev pub value_behind : Bool → ℕ → LineWord → Meaning
+value_behind full place (word.Run from key to) = if nat_lt (key + 1) to then given_meaning full place (item.Word (key + 1) to) else Wait place (key == to)
+value_behind full place (word.Quoted from to) = Wait place false
+value_behind full place (word.Open from) = Wait place false
+
+-- a switch is named once; `filled` says that it was
+abbrev pub switch_meaning : Bool → ℕ → Meaning
+switch_meaning filled place = if filled then Refuse fault.TooMany else Read (Named place)
+
+-- what a keyword of the option at a place says; `filled` says that it is filled
+abbrev pub keyword_meaning : Qualifiers → Bool → ℕ → LineWord → Meaning
+keyword_meaning q filled place word =
+    if q.toggle then Read (Named place) else
+    (if q.switch then switch_meaning filled place else value_behind (is_full q filled) place word)
+
+-- a plain word: in a template with /F it fills the first open plain option
+abbrev pub plain_meaning : Bool → Option ℕ → LineWord → Meaning
+plain_meaning false vacant word = Read (Plain (item_of word))
+plain_meaning true None word = Read (Plain (item_of word))
+plain_meaning true (Some place) word = Read (Given place (item_of word))
+
+-- what a word says for which no keyword waits
+abbrev pub word_meaning : List TemplateOption → List Reading → Option ℕ → LineWord → Option ℕ → Meaning
+word_meaning options readings vacant word None = plain_meaning (list_any is_rest options) vacant word
+word_meaning options readings vacant word (Some place) = keyword_meaning (qualifiers_at options place) (is_filled place readings) place word
+
+-- what the word says behind a keyword of the option at a place; `equal` says that an `=` alone may stand before its value
+abbrev pub value_meaning : Bool → ℕ → Bool → LineWord → Meaning
+value_meaning full place equal word =
+    if is_open_quote word then Refuse fault.Unmatched else
+    (if equal && is_equal word then Wait place false else given_meaning full place (item_of word))
+
+-- what a word says that is not the rest of the line
+abbrev pub next_meaning : List TemplateOption → List ℕ → List Reading → LineWord → Option ℕ → Meaning
+next_meaning options line readings word vacant =
+    if is_open_quote word then Refuse fault.Unmatched else word_meaning options readings vacant word (keyword_of options line word)
+
+-- the text from a word to the line's end, without the blanks there
+abbrev pub rest_of : List ℕ → LineWord → Item
+rest_of line word = item.Word (start_of word) (trimmed_from 0 0 line)
+
+-- what a word says, by the first open plain option: where that is /F, no other is open
+abbrev pub free_meaning : List TemplateOption → List ℕ → List Reading → LineWord → Option ℕ → Meaning
+free_meaning options line readings word None = next_meaning options line readings word None
+free_meaning options line readings word (Some place) =
+    if (qualifiers_at options place).rest then Stop (Given place (rest_of line word)) else next_meaning options line readings word (Some place)
+
+-- what a word says behind the readings so far
+abbrev pub meaning_of : List TemplateOption → List ℕ → List Reading → Pending → LineWord → Meaning
+meaning_of options line readings Free word = free_meaning options line readings word (first_open options readings)
+meaning_of options line readings (Value place equal) word = value_meaning (is_full (qualifiers_at options place) (is_filled place readings)) place equal word
+
+-- the readings where no word is left
+abbrev pub read_end : List Reading → Pending → Result (List Reading) ArgFault
+read_end readings Free = Ok readings
+read_end readings (Value place equal) = Err fault.ValueMissing
+
+-- the readings by what a word says, where `next` goes on
+abbrev pub read_behind : (List Reading → Pending → Result (List Reading) ArgFault) → List Reading → Meaning → Result (List Reading) ArgFault
+read_behind next readings (Read reading) = next (readings ++ reading ∷ []) Free
+read_behind next readings (Wait place equal) = next readings (Value place equal)
+read_behind next readings (Stop reading) = Ok (readings ++ reading ∷ [])
+read_behind next readings (Refuse fault) = Err fault
+
+-- the readings of the words, behind the readings so far
+abbrev pub read_from : List TemplateOption → List ℕ → List Reading → Pending → List LineWord → Result (List Reading) ArgFault
+read_from options line readings pending [] = read_end readings pending
+read_from options line readings pending (word ∷ words) =
+    read_behind (λ more next. read_from options line more next words) readings (meaning_of options line readings pending word)
+
+-- where a quote is not closed, that comes before a word too many
+abbrev pub quotes_first : Bool → ArgFault → ArgFault
+quotes_first unclosed fault.BadTemplate = fault.BadTemplate
+quotes_first unclosed fault.BadNumber = fault.BadNumber
+quotes_first unclosed fault.ArgumentMissing = fault.ArgumentMissing
+quotes_first unclosed fault.ValueMissing = fault.ValueMissing
+quotes_first unclosed fault.TooMany = if unclosed then fault.Unmatched else fault.TooMany
+quotes_first unclosed fault.Unmatched = fault.Unmatched
+quotes_first unclosed fault.NoMemory = fault.NoMemory
+
+-- the readings, or their fault
+abbrev pub with_quotes : Bool → Result (List Reading) ArgFault → Result (List Reading) ArgFault
+with_quotes unclosed (Ok readings) = Ok readings
+with_quotes unclosed (Err fault) = Err (quotes_first unclosed fault)
+
+-- what the words of a line say
+abbrev pub read_of : List TemplateOption → List ℕ → List LineWord → Result (List Reading) ArgFault
+read_of options line words = with_quotes (list_any is_open_quote words) (read_from options line [] Free words)

@@ -1,0 +1,38 @@
+use Rattle.std.specs.Prelude.{ℕ, List, Bool, false, ◌||◌, not, Option, Some, None, slice_get, position}
+use Rattle.std.specs.List.{list_any}
+use Rattle.ados_text.specs.Text.{is_same}
+use Rattle.ados_readargs.specs.declared.options.Qualifiers.{Qualifiers}
+use Rattle.ados_readargs.specs.declared.options.TemplateOption.{TemplateOption}
+
+-- the option has the name
+abbrev pub has_name : List ℕ → TemplateOption → Bool
+has_name name option = list_any (λ own. is_same own name) option.names
+
+-- the place of the option that has the name
+abbrev pub place_named : List ℕ → List TemplateOption → Option ℕ
+place_named name options = position (has_name name) options
+
+-- the option has /F
+abbrev pub is_rest : TemplateOption → Bool
+is_rest option = option.qualifiers.rest
+
+-- no qualifier
+abbrev pub unqualified : Qualifiers
+unqualified = record { required = false; keyword = false; switch = false; toggle = false; number = false; many = false; rest = false }
+
+-- neither /K, /S nor /T
+abbrev pub is_plain : Qualifiers → Bool
+is_plain q = not (q.keyword || q.switch || q.toggle)
+
+-- neither /S nor /T
+abbrev pub takes_value : Qualifiers → Bool
+takes_value q = not (q.switch || q.toggle)
+
+-- the qualifiers of an option, if there is one
+abbrev pub qualifiers_of : Option TemplateOption → Qualifiers
+qualifiers_of None = unqualified
+qualifiers_of (Some option) = option.qualifiers
+
+-- the qualifiers of the option at a place
+abbrev pub qualifiers_at : List TemplateOption → ℕ → Qualifiers
+qualifiers_at options place = qualifiers_of (slice_get options place)

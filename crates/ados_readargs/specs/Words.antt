@@ -1,0 +1,64 @@
+use Rattle.std.specs.Prelude.{ℕ, zero, suc, ◌+◌, ◌-◌, ◌==◌, ◌&&◌, List, [], ◌∷◌, Bool, true, false, if◌then◌else◌, length}
+use Rattle.ados_items.specs.Items.{item_at}
+use Rattle.ados_items.specs.declared.items.Item.{Item}
+use Rattle.ados_items.specs.declared.items.Item.TheVariants as item
+use Rattle.ados_readargs.specs.declared.words.LineWord.{LineWord}
+use Rattle.ados_readargs.specs.declared.words.LineWord.TheVariants.{Run, Quoted, Open}
+
+-- where a run ends that has come to a place, by the item there, where `next` gives the end from a place on
+abbrev pub run_end_behind : (ℕ → ℕ) → ℕ → Item → ℕ
+run_end_behind next place (item.Word from to) = if from == place then next to else place
+run_end_behind next place (item.Equal from) = if from == place then next (from + 1) else place
+run_end_behind next place (item.Quoted from to) = place
+run_end_behind next place (item.End from) = place
+run_end_behind next place (item.Unmatched from) = place
+
+-- where the touching Word and Equal items from a place on end, at most so many
+abbrev pub run_end_from : ℕ → List ℕ → ℕ → ℕ
+run_end_from zero line place = place
+run_end_from (suc count) line place = run_end_behind (λ to. run_end_from count line to) place (item_at true line place)
+
+-- where the run that has come to a place ends
+abbrev pub run_end : List ℕ → ℕ → ℕ
+run_end line place = run_end_from (length line + 1) line place
+
+-- the words of a line from an item on, where `next` gives those from a place on
+abbrev pub words_behind : (ℕ → List LineWord) → List ℕ → Item → List LineWord
+words_behind next line (item.Word from to) = Run from to (run_end line to) ∷ next (run_end line to)
+words_behind next line (item.Equal from) = Run from from (run_end line (from + 1)) ∷ next (run_end line (from + 1))
+words_behind next line (item.Quoted from to) = Quoted from to ∷ next (to + 1)
+words_behind next line (item.Unmatched from) = Open from ∷ []
+words_behind next line (item.End from) = []
+
+-- the words of a line from a place on, at most so many
+abbrev pub words_from : ℕ → List ℕ → ℕ → List LineWord
+words_from zero line place = []
+words_from (suc count) line place = words_behind (λ to. words_from count line to) line (item_at true line place)
+
+-- the words of a line, which are no more than its bytes; a quote that none closes is the last
+abbrev pub line_words_of : List ℕ → List LineWord
+line_words_of line = words_from (length line + 1) line 0
+
+-- the item whose text is the word's
+abbrev pub item_of : LineWord → Item
+item_of (Run from key to) = item.Word from to
+item_of (Quoted from to) = item.Quoted from to
+item_of (Open from) = item.Unmatched from
+
+-- where a word begins
+abbrev pub start_of : LineWord → ℕ
+start_of (Run from key to) = from
+start_of (Quoted from to) = from - 1
+start_of (Open from) = from - 1
+
+-- the word is a quote that none closes
+abbrev pub is_open_quote : LineWord → Bool
+is_open_quote (Run from key to) = false
+is_open_quote (Quoted from to) = false
+is_open_quote (Open from) = true
+
+-- the word is `=` alone
+abbrev pub is_equal : LineWord → Bool
+is_equal (Run from key to) = from == key && to == from + 1
+is_equal (Quoted from to) = false
+is_equal (Open from) = false

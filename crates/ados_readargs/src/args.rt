@@ -1,0 +1,203 @@
+ghost use Rattle.std.specs.Prelude.{◌≡◌, ◌<◌, None, length, map, slice_get, IfOk, MatchOption};
+ghost use Rattle.std.specs.Option.{option_copied, SomeIff};
+ghost use Rattle.ados_text.specs.Number.{IsNumber, value_of as number_value_of};
+ghost use Rattle.ados_items.specs.Items.{value_of};
+ghost use Rattle.ados_readargs.specs.Template.{options_of};
+ghost use Rattle.ados_readargs.specs.Readings.{plain_items};
+ghost use Rattle.ados_readargs.specs.Args.{on_where, many_of, one_of, arg_by, arg_at, args_of, texts_in, arg_named};
+
+use crate::options::{Qualifiers, TemplateOption};
+use crate::readings::{Reading, named_count};
+use crate::shares::held_items;
+use crate::template::Template;
+use ados_items::{Item, value};
+use ados_text::{NoMemory, Text, Texts, number};
+use std::alloc::Global;
+use std::marker::Model;
+
+/// What an option was given.
+#[derive(Clone, Debug, Drop)]
+pub enum Arg {
+    /// Nothing; an `/M` without a value, too.
+    Absent,
+    /// A switch that was named, or a toggle that was named an odd number of times.
+    On,
+    /// The value of an option without `/M`.
+    One(Text),
+    /// The values of an `/M`, one at least: those by keyword first, then the plain words.
+    Many(Texts),
+}
+
+impl Arg {
+    /// The number of the value at a place, counted from 0: `None` where there is no such value,
+    /// or where it is no number.
+    ///
+    /// Each value of an option with `/N` is a number once `Template::fill` has given it, so there
+    /// `None` says only that it is absent.
+    pub fn number(&self, place: usize) -> Option<i32>
+        ensures { MatchOption (slice_get (texts_in self.now) place) (result ≡ None)
+            (λ text. SomeIff result (IsNumber text) (number_value_of text)) }
+    {
+        let text = match self {
+            Arg::Absent => return None,
+            Arg::On => return None,
+            Arg::One(text) => {
+                if place > 0 {
+                    return None;
+                }
+                text
+            }
+            Arg::Many(texts) => texts.get(place)?,
+        };
+        number(text.as_bytes()).ok()
+    }
+}
+
+/// What a line gives to each option of a template, in the order of the options.
+#[derive(Clone, Debug, Drop)]
+pub struct Args {
+    items: Vec<Arg>,
+}
+
+impl Model for Args {
+    ghost use Rattle.std.specs.Prelude.{List};
+    ghost use Rattle.ados_readargs.specs.declared.args.Arg.{Arg};
+
+    ghost Value = { List Arg };
+
+    ghost view = { λ a. a.items.items };
+}
+
+impl Args {
+    /// The arguments of a vector, taken over without memory.
+    pub fn from_vec(items: Vec<Arg>) -> Args
+        ensures { result ≡ items.items }
+    {
+        Args { items }
+    }
+
+    /// How many there are: one for each option.
+    pub fn len(&self) -> usize
+        ensures { result ≡ length self.now }
+    {
+        self.items.len()
+    }
+
+    /// The argument of the option at a place, counted from 0; `None` past the last.
+    pub fn get(&self, place: usize) -> Option<&Arg>
+        ensures { option_copied result ≡ slice_get self.now place }
+    {
+        self.items.get(place)
+    }
+
+    /// The argument of the option that has the name in the template, with case ignored; `None`
+    /// where none has.
+    pub fn named(&self, template: &Template, name: &[u8]) -> Option<&Arg>
+        ensures { option_copied result ≡ arg_named name.now (options_of template.now) self.now }
+    {
+        self.get(template.place_named(name)?)
+    }
+}
+
+fn on_where(on: bool) -> Arg
+    ensures { result ≡ on_where on }
+{
+    if on { Arg::On } else { Arg::Absent }
+}
+
+fn texts_of(alloc: Global, line: &[u8], items: &[Item]) -> Result<Texts, NoMemory>
+    ensures { IfOk result (λ texts. texts ≡ map (value_of line.now) items.now) }
+{
+    let mut texts = Texts::new(alloc);
+    for item in items {
+        texts.push(value(alloc, line, item)?)?;
+    }
+    Ok(texts)
+}
+
+// The texts of the items, for an option with /M.
+fn many_of(alloc: Global, line: &[u8], items: &[Item]) -> Result<Arg, NoMemory>
+    ensures { IfOk result (λ arg. arg ≡ many_of line.now items.now) }
+{
+    if items.is_empty() {
+        return Ok(Arg::Absent);
+    }
+    Ok(Arg::Many(texts_of(alloc, line, items)?))
+}
+
+// The text of the first item, for an option without /M.
+fn one_of(alloc: Global, line: &[u8], items: &[Item]) -> Result<Arg, NoMemory>
+    ensures { IfOk result (λ arg. arg ≡ one_of line.now items.now) }
+{
+    match items {
+        [] => Ok(Arg::Absent),
+        [item, ..] => Ok(Arg::One(value(alloc, line, item)?)),
+    }
+}
+
+// The argument of an option that was named so often, and holds the items.
+fn arg_by(
+    alloc: Global,
+    q: Qualifiers,
+    named: usize,
+    line: &[u8],
+    items: &[Item],
+) -> Result<Arg, NoMemory>
+    ensures { IfOk result (λ arg. arg ≡ arg_by q named line.now items.now) }
+{
+    if q.switch {
+        return Ok(on_where(named > 0));
+    }
+    if q.toggle {
+        return Ok(on_where(named % 2 == 1));
+    }
+    if q.many {
+        many_of(alloc, line, items)
+    } else {
+        one_of(alloc, line, items)
+    }
+}
+
+#[tactic(auto, unfolding(crate::specs::Args::arg_at))]
+fn arg_at(
+    alloc: Global,
+    options: &[TemplateOption],
+    line: &[u8],
+    readings: &[Reading],
+    plain: &[Item],
+    place: usize,
+    q: Qualifiers,
+) -> Result<Arg, NoMemory>
+    requires place { place < length options.now }
+    requires plain { plain.now ≡ plain_items readings.now }
+    ensures { IfOk result (λ arg. arg ≡ arg_at options.now line.now readings.now place q) }
+{
+    let items = held_items(alloc, options, readings, plain, place)?;
+    arg_by(
+        alloc,
+        q,
+        named_count(readings, place),
+        line,
+        items.as_slice(),
+    )
+}
+
+/// The arguments of the options, by what the words of the line were read as.
+pub fn args_of(
+    alloc: Global,
+    options: &[TemplateOption],
+    line: &[u8],
+    readings: &[Reading],
+    plain: &[Item],
+) -> Result<Vec<Arg>, NoMemory>
+    requires { plain.now ≡ plain_items readings.now }
+    ensures args { IfOk result (λ args. args.items ≡ args_of options.now line.now readings.now) }
+    ensures len { IfOk result (λ args. length args.items ≡ length options.now) }
+{
+    let mut args = Vec::new(alloc);
+    for place in 0..options.len() {
+        let q = options[place].qualifiers;
+        args.push(arg_at(alloc, options, line, readings, plain, place, q)?)?;
+    }
+    Ok(args)
+}

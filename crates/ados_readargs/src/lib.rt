@@ -1,0 +1,20 @@
+#![tactic(auto)]
+//! Templates, and what a line gives to their options.
+
+mod args;
+mod checks;
+mod errors;
+mod fill;
+mod meanings;
+mod options;
+mod readings;
+mod shares;
+mod template;
+#[cfg(test)]
+mod tests;
+mod words;
+
+pub use args::{Arg, Args};
+pub use errors::ArgFault;
+pub use options::{Qualifiers, TemplateOption};
+pub use template::Template;

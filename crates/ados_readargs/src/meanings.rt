@@ -1,0 +1,336 @@
+ghost use Rattle.std.specs.Prelude.{◌≡◌, Ok, [], IfOk, IfErr, position};
+ghost use Rattle.std.specs.List.{list_any};
+ghost use Rattle.ados_items.specs.Items.{bytes_between};
+ghost use Rattle.ados_readargs.specs.Faults.{IsFaultOf};
+ghost use Rattle.ados_readargs.specs.Words.{is_open_quote};
+ghost use Rattle.ados_readargs.specs.Meanings.{is_keyword, keyword_of, trimmed_from, is_full, given_meaning, value_behind, switch_meaning, keyword_meaning, plain_meaning, word_meaning, value_meaning, next_meaning, rest_of, free_meaning, meaning_of, read_from, read_of, quotes_first};
+ghost use Rattle.ados_readargs.specs.declared.meanings.Pending.TheVariants.{Free};
+
+use crate::errors::ArgFault;
+use crate::options::{Qualifiers, TemplateOption, has_rest, qualifiers_at};
+use crate::readings::{Reading, first_open, is_filled};
+use crate::words::LineWord;
+use ados_items::Item;
+use std::alloc::Global;
+
+/// Whether an option waits for its value.
+#[derive(Clone, Copy, Debug, PartialEq, Eq)]
+pub enum Pending {
+    /// None does.
+    Free,
+    /// The option at a place does; an `=` alone may stand before the value.
+    Value { option: usize, equal: bool },
+}
+
+/// What a word of a line says.
+#[derive(Clone, Copy, Debug, PartialEq, Eq)]
+pub enum Meaning {
+    /// It is read so.
+    Read(Reading),
+    /// The option at a place waits for its value; an `=` alone may stand before that.
+    Wait { option: usize, equal: bool },
+    /// It and what follows are read so, to the end of the line.
+    Stop(Reading),
+    /// It is refused.
+    Refuse(ArgFault),
+}
+
+fn is_keyword(name: &[u8], whole: bool, option: &TemplateOption) -> bool
+    ensures { result ≡ is_keyword name.now whole option.now }
+{
+    option.has_name(name) && !option.qualifiers.rest && (whole || option.qualifiers.takes_value())
+}
+
+// The bytes of a line from one place up to another; none where the places are the other way round.
+fn between(line: &[u8], from: usize, to: usize) -> &[u8]
+    ensures { result.now ≡ bytes_between line.now from to }
+{
+    let to = to.min(line.len());
+    if from >= to { &[] } else { &line[from..to] }
+}
+
+// The option of which a run is a keyword that has the name in front; `whole` says that it ends there.
+fn option_named(options: &[TemplateOption], name: &[u8], whole: bool) -> Option<usize>
+    ensures { result ≡ position (is_keyword name.now whole) options.now }
+{
+    options
+        .iter()
+        .position(|option| is_keyword(name, whole, option))
+}
+
+// The option of which a word is a keyword.
+fn keyword_of(options: &[TemplateOption], line: &[u8], word: LineWord) -> Option<usize>
+    ensures { result ≡ keyword_of options.now line.now word }
+{
+    match word {
+        LineWord::Run { from, key, to } => {
+            if from == key {
+                None
+            } else {
+                option_named(options, between(line, from, key), key == to)
+            }
+        }
+        LineWord::Quoted { .. } => None,
+        LineWord::Open(_) => None,
+    }
+}
+
+// The place behind the last byte that is no blank.
+fn trimmed_len(line: &[u8]) -> usize
+    ensures { result ≡ trimmed_from 0 0 line.now }
+{
+    let mut end = 0;
+    for place in 0..line.len() {
+        if !(line[place] == b' ' || line[place] == b'\t') {
+            end = place + 1;
+        }
+    }
+    end
+}
+
+// Whether the option takes no more, by whether it was filled.
+fn is_full(q: Qualifiers, filled: bool) -> bool
+    ensures { result ≡ is_full q filled }
+{
+    filled && !q.many
+}
+
+fn given_meaning(full: bool, place: usize, item: Item) -> Meaning
+    ensures { result ≡ given_meaning full place item }
+{
+    if full {
+        Meaning::Refuse(ArgFault::TooMany)
+    } else {
+        Meaning::Read(Reading::Given(place, item))
+    }
+}
+
+fn value_behind(full: bool, place: usize, word: LineWord) -> Meaning
+    ensures { result ≡ value_behind full place word }
+{
+    match word {
+        LineWord::Run { key, to, .. } => {
+            if key < to && to - key > 1 {
+                given_meaning(full, place, Item::Word { from: key + 1, to })
+            } else {
+                Meaning::Wait {
+                    option: place,
+                    equal: key == to,
+                }
+            }
+        }
+        LineWord::Quoted { .. } => Meaning::Wait {
+            option: place,
+            equal: false,
+        },
+        LineWord::Open(_) => Meaning::Wait {
+            option: place,
+            equal: false,
+        },
+    }
+}
+
+fn switch_meaning(filled: bool, place: usize) -> Meaning
+    ensures { result ≡ switch_meaning filled place }
+{
+    if filled {
+        Meaning::Refuse(ArgFault::TooMany)
+    } else {
+        Meaning::Read(Reading::Named(place))
+    }
+}
+
+fn keyword_meaning(q: Qualifiers, filled: bool, place: usize, word: LineWord) -> Meaning
+    ensures { result ≡ keyword_meaning q filled place word }
+{
+    if q.toggle {
+        Meaning::Read(Reading::Named(place))
+    } else if q.switch {
+        switch_meaning(filled, place)
+    } else {
+        value_behind(is_full(q, filled), place, word)
+    }
+}
+
+fn plain_meaning(with_rest: bool, vacant: Option<usize>, word: LineWord) -> Meaning
+    ensures { result ≡ plain_meaning with_rest vacant word }
+{
+    if !with_rest {
+        return Meaning::Read(Reading::Plain(word.item()));
+    }
+    match vacant {
+        None => Meaning::Read(Reading::Plain(word.item())),
+        Some(place) => Meaning::Read(Reading::Given(place, word.item())),
+    }
+}
+
+fn word_meaning(
+    options: &[TemplateOption],
+    readings: &[Reading],
+    vacant: Option<usize>,
+    word: LineWord,
+    keyword: Option<usize>,
+) -> Meaning
+    ensures { result ≡ word_meaning options.now readings.now vacant word keyword }
+{
+    match keyword {
+        None => plain_meaning(has_rest(options), vacant, word),
+        Some(place) => keyword_meaning(
+            qualifiers_at(options, place),
+            is_filled(readings, place),
+            place,
+            word,
+        ),
+    }
+}
+
+fn value_meaning(full: bool, place: usize, equal: bool, word: LineWord) -> Meaning
+    ensures { result ≡ value_meaning full place equal word }
+{
+    if word.is_open_quote() {
+        Meaning::Refuse(ArgFault::Unmatched)
+    } else if equal && word.is_equal() {
+        Meaning::Wait {
+            option: place,
+            equal: false,
+        }
+    } else {
+        given_meaning(full, place, word.item())
+    }
+}
+
+fn next_meaning(
+    options: &[TemplateOption],
+    line: &[u8],
+    readings: &[Reading],
+    word: LineWord,
+    vacant: Option<usize>,
+) -> Meaning
+    ensures { result ≡ next_meaning options.now line.now readings.now word vacant }
+{
+    if word.is_open_quote() {
+        return Meaning::Refuse(ArgFault::Unmatched);
+    }
+    word_meaning(
+        options,
+        readings,
+        vacant,
+        word,
+        keyword_of(options, line, word),
+    )
+}
+
+// The text from a word to the line's end, without the blanks there.
+fn rest_of(line: &[u8], word: LineWord) -> Item
+    ensures { result ≡ rest_of line.now word }
+{
+    Item::Word {
+        from: word.start(),
+        to: trimmed_len(line),
+    }
+}
+
+fn free_meaning(
+    options: &[TemplateOption],
+    line: &[u8],
+    readings: &[Reading],
+    word: LineWord,
+    vacant: Option<usize>,
+) -> Meaning
+    ensures { result ≡ free_meaning options.now line.now readings.now word vacant }
+{
+    match vacant {
+        None => next_meaning(options, line, readings, word, None),
+        Some(place) => {
+            if qualifiers_at(options, place).rest {
+                Meaning::Stop(Reading::Given(place, rest_of(line, word)))
+            } else {
+                next_meaning(options, line, readings, word, Some(place))
+            }
+        }
+    }
+}
+
+fn meaning_of(
+    options: &[TemplateOption],
+    line: &[u8],
+    readings: &[Reading],
+    pending: Pending,
+    word: LineWord,
+) -> Meaning
+    ensures { result ≡ meaning_of options.now line.now readings.now pending word }
+{
+    match pending {
+        Pending::Free => free_meaning(options, line, readings, word, first_open(options, readings)),
+        Pending::Value { option, equal } => {
+            let full = is_full(qualifiers_at(options, option), is_filled(readings, option));
+            value_meaning(full, option, equal, word)
+        }
+    }
+}
+
+fn read_words(
+    alloc: Global,
+    options: &[TemplateOption],
+    line: &[u8],
+    words: &[LineWord],
+) -> Result<Vec<Reading>, ArgFault>
+    ensures ok { IfOk result (λ readings. read_from options.now line.now [] Free words.now ≡ Ok readings.items) }
+    ensures fault { IfErr result (λ e. IsFaultOf (read_from options.now line.now [] Free words.now) e) }
+{
+    let mut readings = Vec::new(alloc);
+    let mut pending = Pending::Free;
+    for word in words {
+        match meaning_of(options, line, readings.as_slice(), pending, *word) {
+            Meaning::Read(reading) => {
+                readings.push(reading)?;
+                pending = Pending::Free;
+            }
+            Meaning::Wait { option, equal } => pending = Pending::Value { option, equal },
+            Meaning::Stop(reading) => {
+                readings.push(reading)?;
+                return Ok(readings);
+            }
+            Meaning::Refuse(fault) => return Err(fault),
+        }
+    }
+    match pending {
+        Pending::Free => Ok(readings),
+        Pending::Value { .. } => Err(ArgFault::ValueMissing),
+    }
+}
+
+fn is_unclosed(words: &[LineWord]) -> bool
+    ensures { result ≡ list_any is_open_quote words.now }
+{
+    words.iter().any(|word| word.is_open_quote())
+}
+
+fn quotes_first(unclosed: bool, fault: ArgFault) -> ArgFault
+    ensures { result ≡ quotes_first unclosed fault }
+{
+    if unclosed && fault == ArgFault::TooMany {
+        ArgFault::Unmatched
+    } else {
+        fault
+    }
+}
+
+/// What the words of a line say, from left to right.
+///
+/// `Unmatched` comes before `TooMany`, wherever the open quote stands; `ValueMissing` where a
+/// keyword is the last word.
+pub fn read(
+    alloc: Global,
+    options: &[TemplateOption],
+    line: &[u8],
+    words: &[LineWord],
+) -> Result<Vec<Reading>, ArgFault>
+    ensures ok { IfOk result (λ readings. read_of options.now line.now words.now ≡ Ok readings.items) }
+    ensures fault { IfErr result (λ e. IsFaultOf (read_of options.now line.now words.now) e) }
+{
+    match read_words(alloc, options, line, words) {
+        Ok(readings) => Ok(readings),
+        Err(fault) => Err(quotes_first(is_unclosed(words), fault)),
+    }
+}

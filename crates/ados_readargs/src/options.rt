@@ -1,0 +1,107 @@
+ghost use Rattle.std.specs.Prelude.{◌≡◌};
+ghost use Rattle.ados_text.specs.Text.{is_same};
+ghost use Rattle.ados_readargs.specs.Options.{has_name, place_named, is_plain, takes_value, unqualified, qualifiers_at, is_rest};
+ghost use Rattle.std.specs.List.{list_any};
+
+use ados_text::Texts;
+
+/// The qualifiers of an option.
+#[derive(Clone, Copy, Debug, PartialEq, Eq)]
+pub struct Qualifiers {
+    /// `/A`: it has to be filled.
+    pub required: bool,
+    /// `/K`: it is filled by keyword alone.
+    pub keyword: bool,
+    /// `/S`: a switch, which takes no value.
+    pub switch: bool,
+    /// `/T`: a switch that changes over each time that it is named.
+    pub toggle: bool,
+    /// `/N`: its values are numbers.
+    pub number: bool,
+    /// `/M`: it takes any number of values.
+    pub many: bool,
+    /// `/F`: it takes the rest of the line.
+    pub rest: bool,
+}
+
+impl Qualifiers {
+    /// No qualifier.
+    pub fn none() -> Qualifiers
+        ensures { result ≡ unqualified }
+    {
+        Qualifiers {
+            required: false,
+            keyword: false,
+            switch: false,
+            toggle: false,
+            number: false,
+            many: false,
+            rest: false,
+        }
+    }
+
+    /// Whether plain words fill the option: it has neither `/K`, `/S` nor `/T`.
+    pub fn is_plain(self) -> bool
+        ensures { result ≡ is_plain self }
+    {
+        !(self.keyword || self.switch || self.toggle)
+    }
+
+    /// Whether a keyword of the option stands before a value: it has neither `/S` nor `/T`.
+    pub fn takes_value(self) -> bool
+        ensures { result ≡ takes_value self }
+    {
+        !(self.switch || self.toggle)
+    }
+}
+
+/// One option of a template.
+#[derive(Clone, Debug, Drop)]
+pub struct TemplateOption {
+    /// Its names, in order; a name may be empty.
+    pub names: Texts,
+    pub qualifiers: Qualifiers,
+}
+
+// The two are one name: alike where case is ignored.
+pub fn same_name(a: &[u8], b: &[u8]) -> bool
+    ensures { result ≡ is_same a.now b.now }
+{
+    a.eq_ignore_ascii_case(b)
+}
+
+impl TemplateOption {
+    /// Whether the option has the name; case is ignored.
+    pub fn has_name(&self, name: &[u8]) -> bool
+        ensures { result ≡ has_name name.now self.now }
+    {
+        self.names
+            .as_slice()
+            .iter()
+            .any(|own| same_name(own.as_bytes(), name))
+    }
+}
+
+/// The place of the option that has the name.
+pub fn place_named(options: &[TemplateOption], name: &[u8]) -> Option<usize>
+    ensures { result ≡ place_named name.now options.now }
+{
+    options.iter().position(|option| option.has_name(name))
+}
+
+/// The qualifiers of the option at a place; none past the last option.
+pub fn qualifiers_at(options: &[TemplateOption], place: usize) -> Qualifiers
+    ensures { result ≡ qualifiers_at options.now place }
+{
+    match options.get(place) {
+        Some(option) => option.qualifiers,
+        None => Qualifiers::none(),
+    }
+}
+
+/// Whether one of the options has `/F`.
+pub fn has_rest(options: &[TemplateOption]) -> bool
+    ensures { result ≡ list_any is_rest options.now }
+{
+    options.iter().any(|option| option.qualifiers.rest)
+}

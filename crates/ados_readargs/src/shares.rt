@@ -1,0 +1,173 @@
+ghost use Rattle.std.specs.Prelude.{◌≡◌, ◌≤◌, ◌<◌, true, false, take, drop, length, IfOk, IfSome};
+ghost use Rattle.ados_readargs.specs.Shares.{is_vacant, open_count, is_middle, middle_of, front_share, middle_share, back_share, share_by, is_left, held_items};
+
+use crate::options::{Qualifiers, TemplateOption, qualifiers_at};
+use crate::readings::{Reading, given_items, is_filled};
+use ados_items::Item;
+use ados_text::NoMemory;
+use std::alloc::Global;
+
+// Whether the option is plain, and no reading fills it.
+fn is_vacant(place: usize, q: Qualifiers, readings: &[Reading]) -> bool
+    ensures { result ≡ is_vacant place q readings.now }
+{
+    q.is_plain() && !is_filled(readings, place)
+}
+
+// How many options from a place on are vacant, and have /A where that is needed.
+fn open_count(needed: bool, from: usize, options: &[TemplateOption], readings: &[Reading]) -> usize
+    ensures value { result ≡ open_count needed from (drop from options.now) readings.now }
+    ensures within { result ≤ length options.now }
+{
+    let mut count = 0;
+    for place in from..options.len() {
+        let q = options[place].qualifiers;
+        if is_vacant(place, q, readings) && (!needed || q.required) {
+            count += 1;
+        }
+    }
+    count
+}
+
+// Whether the option is plain and has /M.
+fn is_middle(option: &TemplateOption) -> bool
+    ensures { result ≡ is_middle option.now }
+{
+    option.qualifiers.is_plain() && option.qualifiers.many
+}
+
+// The place of the plain /M.
+fn middle_of(options: &[TemplateOption]) -> Option<usize>
+    ensures value { result ≡ middle_of options.now }
+    ensures within { IfSome result (λ middle. middle < length options.now) }
+{
+    options.iter().position(|option| is_middle(option))
+}
+
+// So many of the items from a place on, or as many as there are.
+fn piece(items: &[Item], from: usize, count: usize) -> &[Item]
+    ensures { result.now ≡ take count (drop from items.now) }
+{
+    if from >= items.len() {
+        return &[];
+    }
+    let rest = &items[from..];
+    let count = count.min(rest.len());
+    &rest[..count]
+}
+
+// How many vacant options stand before a place.
+fn front_count(options: &[TemplateOption], readings: &[Reading], place: usize) -> usize
+    requires { place < length options.now }
+    ensures { result ≡ open_count false 0 (take place options.now) readings.now }
+{
+    open_count(false, 0, &options[..place], readings)
+}
+
+// The plain word of an option with no /M before it.
+fn front_share<'a>(
+    options: &[TemplateOption],
+    readings: &[Reading],
+    plain: &'a [Item],
+    place: usize,
+) -> &'a [Item]
+    requires { place < length options.now }
+    ensures { result.now ≡ front_share options.now readings.now plain.now place }
+{
+    if is_vacant(place, qualifiers_at(options, place), readings) {
+        piece(plain, front_count(options, readings, place), 1)
+    } else {
+        &[]
+    }
+}
+
+// The plain words of the /M.
+fn middle_share<'a>(
+    options: &[TemplateOption],
+    readings: &[Reading],
+    plain: &'a [Item],
+    middle: usize,
+) -> &'a [Item]
+    requires { middle < length options.now }
+    ensures { result.now ≡ middle_share options.now readings.now plain.now middle }
+{
+    let front = front_count(options, readings, middle);
+    let behind = open_count(true, middle + 1, options, readings);
+    piece(
+        plain,
+        front,
+        plain.len().saturating_sub(front).saturating_sub(behind),
+    )
+}
+
+// The plain word of an option behind the /M.
+fn back_share<'a>(
+    options: &[TemplateOption],
+    readings: &[Reading],
+    plain: &'a [Item],
+    middle: usize,
+    place: usize,
+) -> &'a [Item]
+    requires middle { middle < length options.now }
+    requires place { place < length options.now }
+    ensures { result.now ≡ back_share options.now readings.now plain.now middle place }
+{
+    let front = front_count(options, readings, middle);
+    let behind = open_count(true, place + 1, options, readings);
+    let q = qualifiers_at(options, place);
+    if is_vacant(place, q, readings) && q.required && behind < plain.len().saturating_sub(front) {
+        piece(plain, plain.len() - 1 - behind, 1)
+    } else {
+        &[]
+    }
+}
+
+// The plain words that the option at a place takes.
+fn share<'a>(
+    options: &[TemplateOption],
+    readings: &[Reading],
+    plain: &'a [Item],
+    place: usize,
+) -> &'a [Item]
+    requires { place < length options.now }
+    ensures { result.now ≡ share_by (middle_of options.now) options.now readings.now plain.now place }
+{
+    match middle_of(options) {
+        None => front_share(options, readings, plain, place),
+        Some(middle) => {
+            if place < middle {
+                front_share(options, readings, plain, place)
+            } else if place == middle {
+                middle_share(options, readings, plain, middle)
+            } else {
+                back_share(options, readings, plain, middle, place)
+            }
+        }
+    }
+}
+
+/// Whether a plain word is left over.
+pub fn is_left(options: &[TemplateOption], readings: &[Reading], plain: &[Item]) -> bool
+    ensures { result ≡ is_left options.now readings.now plain.now }
+{
+    match middle_of(options) {
+        None => open_count(false, 0, options, readings) < plain.len(),
+        Some(_) => false,
+    }
+}
+
+/// What the option at a place holds: what keywords give it, and behind that its plain words.
+pub fn held_items(
+    alloc: Global,
+    options: &[TemplateOption],
+    readings: &[Reading],
+    plain: &[Item],
+    place: usize,
+) -> Result<Vec<Item>, NoMemory>
+    requires { place < length options.now }
+    ensures { IfOk result (λ items. items.items ≡ held_items options.now readings.now plain.now place) }
+{
+    let mut items = given_items(alloc, readings, place)?;
+    items.extend_from_slice(share(options, readings, plain, place))?;
+    Ok(items)
+}

@@ -1,0 +1,131 @@
+ghost use Rattle.std.specs.Prelude.{◌≡◌, ◌+◌, ◌≤◌, length, IfOk};
+ghost use Rattle.ados_readargs.specs.Words.{run_end_from, line_words_of, item_of, start_of, is_open_quote, is_equal};
+
+use ados_items::{Item, next_item};
+use ados_text::NoMemory;
+use std::alloc::Global;
+
+/// A word of a line, by its places; bytes count from 0, and `to` is the place behind the last.
+#[derive(Clone, Copy, Debug, PartialEq, Eq)]
+pub enum LineWord {
+    /// Touching Word and Equal items. `key` is where the Word that they begin with ends: `from`
+    /// where they begin with an equal sign.
+    Run { from: usize, key: usize, to: usize },
+    /// The bytes between the quotes.
+    Quoted { from: usize, to: usize },
+    /// The place behind a quote that none closes.
+    Open(usize),
+}
+
+impl LineWord {
+    /// The item whose text is the word's.
+    pub fn item(self) -> Item
+        ensures { result ≡ item_of self }
+    {
+        match self {
+            LineWord::Run { from, to, .. } => Item::Word { from, to },
+            LineWord::Quoted { from, to } => Item::Quoted { from, to },
+            LineWord::Open(from) => Item::Unmatched(from),
+        }
+    }
+
+    /// Where it begins, with its quote.
+    pub fn start(self) -> usize
+        ensures { result ≡ start_of self }
+    {
+        match self {
+            LineWord::Run { from, .. } => from,
+            LineWord::Quoted { from, .. } => from.saturating_sub(1),
+            LineWord::Open(from) => from.saturating_sub(1),
+        }
+    }
+
+    /// Whether it is a quote that none closes.
+    pub fn is_open_quote(self) -> bool
+        ensures { result ≡ is_open_quote self }
+    {
+        match self {
+            LineWord::Run { .. } => false,
+            LineWord::Quoted { .. } => false,
+            LineWord::Open(_) => true,
+        }
+    }
+
+    /// Whether it is `=` alone.
+    pub fn is_equal(self) -> bool
+        ensures { result ≡ is_equal self }
+    {
+        match self {
+            LineWord::Run { from, key, to } => from == key && to > from && to - from == 1,
+            LineWord::Quoted { .. } => false,
+            LineWord::Open(_) => false,
+        }
+    }
+}
+
+// Where the touching Word and Equal items from a place on end.
+fn run_end(line: &[u8], from: usize) -> usize
+    ensures { result ≡ run_end_from (length line.now + 1) line.now from }
+{
+    let mut end = from;
+    for step in 0..line.len() + 1 {
+        match next_item(line, end) {
+            Item::Word { from, to } => {
+                if from != end {
+                    return end;
+                }
+                end = to;
+            }
+            Item::Equal(place) => {
+                if place != end {
+                    return end;
+                }
+                end = place + 1;
+            }
+            Item::Quoted { .. } => return end,
+            Item::End(_) => return end,
+            Item::Unmatched(_) => return end,
+        }
+    }
+    end
+}
+
+/// The words of a line, in order; a quote that none closes is the last.
+pub fn line_words(alloc: Global, line: &[u8]) -> Result<Vec<LineWord>, NoMemory>
+    ensures { IfOk result (λ words. words.items ≡ line_words_of line.now) }
+{
+    let mut words = Vec::new(alloc);
+    let mut place = 0;
+    for step in 0..line.len() + 1 {
+        match next_item(line, place) {
+            Item::Word { from, to } => {
+                let end = run_end(line, to);
+                words.push(LineWord::Run {
+                    from,
+                    key: to,
+                    to: end,
+                })?;
+                place = end;
+            }
+            Item::Equal(from) => {
+                let end = run_end(line, from + 1);
+                words.push(LineWord::Run {
+                    from,
+                    key: from,
+                    to: end,
+                })?;
+                place = end;
+            }
+            Item::Quoted { from, to } => {
+                words.push(LineWord::Quoted { from, to })?;
+                place = to + 1;
+            }
+            Item::Unmatched(from) => {
+                words.push(LineWord::Open(from))?;
+                return Ok(words);
+            }
+            Item::End(_) => return Ok(words),
+        }
+    }
+    Ok(words)
+}
