@@ -1,2 +1,6 @@
 pub mod Scanning
 pub mod Appending
+pub mod Runs
+pub mod Inputs
+pub mod Accepts
+pub mod ReaderEnd

@@ -1,5 +1,9 @@
 -- How the faults of a reader and a writer are counted.
 use Rattle.std.specs.Prelude.{◌≡◌, ℕ, ◌+◌, ◌&&◌, nat_lt, ◌==◌, if◌then◌else◌, MatchResult, Result}
+use Rattle.ados_launch.specs.declared.faults.DriveFault.{DriveFault}
+use Rattle.ados_launch.specs.declared.faults.DriveFault.TheVariants.{Read, Memory}
+use Rattle.ados_launch.specs.declared.lines.LineFault.{LineFault}
+use Rattle.ados_launch.specs.declared.lines.LineFault.TheVariants.{Read as Unread, NoMemory as OutOfMemory}
 
 -- an Err adds one, any other answer keeps the count
 abbrev pub CountsFault : {T E : Type 0} → ℕ → ℕ → Result T E → Type 0
@@ -9,3 +13,8 @@ CountsFault before after result = MatchResult result (λ _. after ≡ before) (�
 abbrev pub CountsStall : {E : Type 0} → ℕ → ℕ → Result ℕ E → ℕ → Type 0
 CountsStall before after result room =
     MatchResult result (λ n. after ≡ (if (n == 0) && nat_lt 0 room then before + 1 else before)) (λ _. after ≡ before)
+
+-- why a run stops where the next line was not taken
+abbrev pub drive_fault : LineFault → DriveFault
+drive_fault Unread = Read
+drive_fault OutOfMemory = Memory

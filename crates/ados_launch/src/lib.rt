@@ -1,15 +1,20 @@
 #![tactic(auto)]
 //! Drives the machine: bytes in, bytes out.
+//!
+//! A reader and a writer are any of std's, within [`Counted`], which counts how often they failed.
 
 mod counted;
+mod drive;
+mod events;
+mod faults;
 mod lines;
 mod read_ahead;
+mod schedule;
 mod written;
 
 pub use counted::{Counted, Sink, Source};
-pub use lines::{LineFault, LineKind, next_line};
-pub use read_ahead::ReadAhead;
-pub use written::{WriteFault, write_whole};
+pub use drive::{End, drive_lines};
+pub use faults::DriveFault;
 
 #[cfg(test)]
 mod memory;

@@ -2,7 +2,8 @@ ghost use Rattle.std.specs.Prelude.{◌≡◌, ◌<◌, ◌≤◌, vec_len, ◌^
 ghost use Rattle.ados_launch.specs.Lines.{ahead, kind_of_length, Known, TakesLine};
 ghost use Rattle.ados_launch.specs.declared.lines.LineFault.TheVariants.{NoMemory as OutOfMemory};
 
-use crate::{ReadAhead, Source};
+use crate::Source;
+use crate::read_ahead::ReadAhead;
 use std::alloc::AllocError;
 use thiserror::Error;
 

@@ -1,50 +1,162 @@
 use crate::memory::{FlakyReader, FlakyWriter, NEVER};
-use crate::{Counted, LineFault, LineKind, ReadAhead, next_line, write_whole};
+use crate::{Counted, DriveFault, End, drive_lines};
+use ados_text::{Code, NoMemory, Result2};
+use ados_world::World;
 use std::alloc::Global;
-use std::test::Fail;
 
-// What `next_line` makes of a line of this many bytes.
-fn kind_of_line(alloc: Global, length: usize) -> Result<LineKind, Fail> {
-    let input = vec![in alloc; b'a'; length]?;
-    let mut reader = Counted::new(FlakyReader::new(input.as_slice(), 4_000, NEVER));
-    let mut line = Vec::new(alloc);
-    Ok(next_line(&mut ReadAhead::new(), &mut reader, &mut line)?)
+// More events than any run here has.
+const ENOUGH: u64 = 100;
+
+// What a run gave, and what it wrote.
+#[derive(Drop)]
+struct Outcome {
+    end: Result<End, DriveFault>,
+    text: Vec<u8>,
+}
+
+// Which calls go wrong, counted from 1.
+#[derive(Clone, Copy)]
+struct Failing {
+    read: u64,
+    write: u64,
+    stalled_write: u64,
+}
+
+const NONE_FAILS: Failing = Failing {
+    read: NEVER,
+    write: NEVER,
+    stalled_write: NEVER,
+};
+
+// A fresh world driven by these bytes, read three at a time and written one at a time.
+fn driven(alloc: Global, input: &[u8], fails: Failing, turns: u64) -> Result<Outcome, NoMemory> {
+    let Ok(mut world) = World::new(alloc, &[]) else {
+        unreachable!();
+    };
+    let mut text = Vec::with_capacity(alloc, 100)?;
+    let mut reader = Counted::new(FlakyReader::new(input, 3, fails.read));
+    let mut writer = Counted::new(FlakyWriter::new(&mut text, 1, fails.write, fails.stalled_write));
+    let end = drive_lines(alloc, &mut world, &mut reader, &mut writer, turns);
+    match end {
+        Err(DriveFault::Memory) => Err(NoMemory),
+        _ => Ok(Outcome { end, text }),
+    }
+}
+
+// A run that ends well after this many events.
+fn well(events: u64) -> Result<End, DriveFault> {
+    Ok(End {
+        code: Code::OK,
+        result2: Result2::NONE,
+        events,
+    })
 }
 
 #[test]
-fn lines_by_length(rt: HostRuntime) -> Result<(), Fail> {
-    assert_eq!(rt; kind_of_line(rt.alloc(), 0)?, LineKind::End);
-    assert_eq!(rt; kind_of_line(rt.alloc(), 512)?, LineKind::Short);
-    assert_eq!(rt; kind_of_line(rt.alloc(), 513)?, LineKind::Long);
-    assert_eq!(rt; kind_of_line(rt.alloc(), 65_536)?, LineKind::Long);
-    assert_eq!(rt; kind_of_line(rt.alloc(), 65_537)?, LineKind::Overlong);
+fn empty_input_ends_the_shell(rt: HostRuntime) -> Result<(), NoMemory> {
+    let driven = driven(rt.alloc(), b"", NONE_FAILS, ENOUGH)?;
+    assert_eq!(rt; driven.end, well(2));
+    assert!(rt; driven.text.is_empty());
     Ok(())
 }
 
 #[test]
-fn reader_fails_within_a_line(rt: HostRuntime) -> Result<(), Fail> {
-    let mut reader = Counted::new(FlakyReader::new(b"ab\n", 1, 2));
-    let mut line = Vec::new(rt.alloc());
-    let taken = next_line(&mut ReadAhead::new(), &mut reader, &mut line);
-    assert_eq!(rt; taken, Err(LineFault::Read));
+fn a_last_line_needs_no_newline_and_bytes_past_ascii_are_question_marks(
+    rt: HostRuntime,
+) -> Result<(), NoMemory> {
+    let driven = driven(rt.alloc(), b"\nEcho a\0b\xC8", NONE_FAILS, ENOUGH)?;
+    assert_eq!(rt; driven.end, well(6));
+    assert_eq!(rt; driven.text.as_slice(), b"a\0b?\n".as_slice());
     Ok(())
 }
 
-// What a writer holds that takes a byte at a time of `abc`, and at one call fails or takes nothing.
-fn written(alloc: Global, fails_at: u64, stalls_at: u64) -> Result<Vec<u8>, Fail> {
-    let mut bytes = Vec::with_capacity(alloc, 3)?;
-    let mut writer = Counted::new(FlakyWriter::new(&mut bytes, 1, fails_at, stalls_at));
-    let _ = write_whole(&mut writer, b"abc");
-    Ok(bytes)
+#[test]
+fn the_end_has_the_codes_of_the_last_command(rt: HostRuntime) -> Result<(), NoMemory> {
+    let driven = driven(rt.alloc(), b"foo\n", NONE_FAILS, ENOUGH)?;
+    let want = End {
+        code: Code::ERROR,
+        result2: Result2::OBJECT_NOT_FOUND,
+        events: 4,
+    };
+    assert_eq!(rt; driven.end, Ok(want));
+    let want = b"foo: object not found\nfoo failed returncode 10\n";
+    assert_eq!(rt; driven.text.as_slice(), want.as_slice());
+    Ok(())
 }
 
 #[test]
-fn writes_stop_at_a_fault_or_where_nothing_is_taken(rt: HostRuntime) -> Result<(), Fail> {
-    assert_eq!(rt;
-        written(rt.alloc(), NEVER, NEVER)?.as_slice(),
-        b"abc".as_slice()
-    );
-    assert_eq!(rt; written(rt.alloc(), 2, NEVER)?.as_slice(), b"a".as_slice());
-    assert_eq!(rt; written(rt.alloc(), NEVER, 3)?.as_slice(), b"ab".as_slice());
+fn a_line_of_513_bytes_is_reported_and_no_event(rt: HostRuntime) -> Result<(), NoMemory> {
+    let mut input = vec![in rt.alloc(); b';'; 512]?;
+    let at_limit = driven(rt.alloc(), input.as_slice(), NONE_FAILS, ENOUGH)?;
+    assert_eq!(rt; at_limit.end, well(4));
+    assert!(rt; at_limit.text.is_empty());
+    input.extend_from_slice(b";\nEcho ok")?;
+    let past_it = driven(rt.alloc(), input.as_slice(), NONE_FAILS, ENOUGH)?;
+    assert_eq!(rt; past_it.end, well(5));
+    assert_eq!(rt; past_it.text.as_slice(), b"Line too long\nok\n".as_slice());
+    Ok(())
+}
+
+#[test]
+fn a_line_of_65537_bytes_is_a_read_fault(rt: HostRuntime) -> Result<(), NoMemory> {
+    let mut input = vec![in rt.alloc(); b'a'; 65_536]?;
+    let at_limit = driven(rt.alloc(), input.as_slice(), NONE_FAILS, ENOUGH)?;
+    assert_eq!(rt; at_limit.end, well(3));
+    assert_eq!(rt; at_limit.text.as_slice(), b"Line too long\n".as_slice());
+    input.push(b'a')?;
+    let past_it = driven(rt.alloc(), input.as_slice(), NONE_FAILS, ENOUGH)?;
+    assert_eq!(rt; past_it.end, Err(DriveFault::Read));
+    assert!(rt; past_it.text.is_empty());
+    Ok(())
+}
+
+// Six reads: five of up to three bytes, two of which end within a line, and one at the end.
+#[test]
+fn each_failed_read_is_a_read_fault(rt: HostRuntime) -> Result<(), NoMemory> {
+    let input = b"Echo a\nEcho b\n";
+    for read in 1..7 {
+        let fails = Failing { read, ..NONE_FAILS };
+        let driven = driven(rt.alloc(), input, fails, ENOUGH)?;
+        assert_eq!(rt; driven.end, Err(DriveFault::Read));
+    }
+    let driven = driven(rt.alloc(), input, NONE_FAILS, ENOUGH)?;
+    assert_eq!(rt; driven.end, well(6));
+    Ok(())
+}
+
+#[test]
+fn each_write_that_fails_or_takes_nothing_is_a_write_fault(
+    rt: HostRuntime,
+) -> Result<(), NoMemory> {
+    for call in 1..4 {
+        let fails = Failing {
+            write: call,
+            ..NONE_FAILS
+        };
+        let failed = driven(rt.alloc(), b"Echo ab", fails, ENOUGH)?;
+        assert_eq!(rt; failed.end, Err(DriveFault::Write));
+        assert_eq!(rt; failed.text.len() as u64, call - 1);
+        let fails = Failing {
+            stalled_write: call,
+            ..NONE_FAILS
+        };
+        let stalled = driven(rt.alloc(), b"Echo ab", fails, ENOUGH)?;
+        assert_eq!(rt; stalled.end, Err(DriveFault::Write));
+        assert_eq!(rt; stalled.text.len() as u64, call - 1);
+    }
+    Ok(())
+}
+
+#[test]
+fn no_more_events_than_turns_are_taken(rt: HostRuntime) -> Result<(), NoMemory> {
+    let input = b"Echo a\nEcho b";
+    let none = driven(rt.alloc(), input, NONE_FAILS, 0)?;
+    assert_eq!(rt; none.end, Err(DriveFault::Turns));
+    assert!(rt; none.text.is_empty());
+    let too_few = driven(rt.alloc(), input, NONE_FAILS, 5)?;
+    assert_eq!(rt; too_few.end, Err(DriveFault::Turns));
+    assert_eq!(rt; too_few.text.as_slice(), b"a\nb\n".as_slice());
+    let enough = driven(rt.alloc(), input, NONE_FAILS, 6)?;
+    assert_eq!(rt; enough.end, well(6));
     Ok(())
 }

@@ -1,0 +1,48 @@
+-- What is due is accepted.
+use Rattle.std.proofs.Common.{◌≡◌, ℕ, zero, suc, ◌≤◌, ◌∷◌, List, [], Option, Some, None, true, false, not, ◌&&◌, refl, ap, is_some, length, slice_get, ◌==◌, arith}
+use Rattle.std.proofs.lemmas.Grind.{common_steps}
+use Rattle.std.specs.List.{list_any}
+use Rattle.ados_machine.specs.World.{WorldState, shell_at, is_ready, wants_line, is_over, has_input, flatten}
+use Rattle.ados_machine.specs.Shell.{ShellState}
+use Rattle.ados_machine.specs.Step.{step_of, turned, turn_by}
+use Rattle.ados_machine.specs.declared.events.Event.TheVariants.{Typed, EndOfInput, Turn}
+use Rattle.ados_launch.specs.Schedule.{is_accepted, is_due}
+
+any_some : (shells : List (Option ShellState)) (i : ℕ) → is_some (flatten (slice_get shells i)) ≡ true → list_any is_some shells ≡ true
+any_some [] zero e = e
+any_some [] (suc i) e = e
+any_some (Some shell ∷ shells) i e = refl
+any_some (None ∷ shells) zero e = cc
+any_some (None ∷ shells) (suc i) e = any_some shells i e
+
+runs-on : (w : WorldState) (k : ℕ) → is_some (shell_at w k) ≡ true → is_over w ≡ false
+runs-on w zero e = cc
+runs-on w (suc k) e = ap not (any_some w.shells k e)
+
+-- where a line is wanted the input's end is accepted
+pub end-accepted : (w : WorldState) → wants_line w ≡ true → is_accepted (step_of w EndOfInput) ≡ true
+end-accepted w e = let left : is_over w ≡ false = runs-on w 1 (grind (arith, common_steps)) in grind (arith, common_steps)
+
+-- where a line is wanted one of at most 512 bytes is accepted
+pub line-accepted : (w : WorldState) (line : List ℕ) → wants_line w ≡ true → length line ≤ 512 → is_accepted (step_of w (Typed line)) ≡ true
+line-accepted w line e h = let left : is_over w ≡ false = runs-on w 1 (grind (arith, common_steps)) in grind (arith, common_steps)
+
+turn_by-accepted : (w : WorldState) (shell : ShellState) (queue : List (List ℕ)) → is_accepted (turn_by w shell queue) ≡ true
+turn_by-accepted w shell [] = refl
+turn_by-accepted w shell (line ∷ rest) = refl
+
+turned-accepted : (w : WorldState) (k : ℕ) (shell : Option ShellState) → (is_some shell && (k == 1) && has_input w) ≡ true → is_accepted (turned w k shell) ≡ true
+turned-accepted w k None e = cc
+turned-accepted w k (Some shell) e =
+    let first : (k == 1) ≡ true = grind (arith, common_steps) in
+    let some : has_input w ≡ true = grind (arith, common_steps) in
+    rw (first, some) (turn_by-accepted w shell w.queue)
+
+-- a turn of a shell that is ready is accepted
+pub turn-accepted : (w : WorldState) (k : ℕ) → is_ready w k ≡ true → is_accepted (step_of w (Turn k)) ≡ true
+turn-accepted w k e = let left : is_over w ≡ false = runs-on w k (grind (arith, common_steps)) in rw left (turned-accepted w k (shell_at w k) e)
+
+-- the turn of a shell whose place is due is accepted
+pub due-accepted : (w : WorldState) (place : ℕ) → is_due w place ≡ true → (place ≡ 0 → ⊥) → is_accepted (step_of w (Turn place)) ≡ true
+due-accepted w zero e h = absurd (h refl)
+due-accepted w (suc k) e h = turn-accepted w (suc k) e

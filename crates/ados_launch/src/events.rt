@@ -1,0 +1,91 @@
+// Taking the event that is due.
+ghost use Rattle.std.specs.Prelude.{◌≡◌, ◌⊎◌, ◌<◌, ◌^◌, ◌-◌, ◌+◌, true, IfOk, OnOk, OnErr, IsErrOf, Err};
+ghost use Rattle.ados_machine.specs.Step.{step_of};
+ghost use Rattle.ados_launch.specs.Lines.{ahead, Known, kind_of};
+ghost use Rattle.ados_launch.specs.Schedule.{is_due, is_accepted, IsTaken, DidAt};
+
+use crate::Source;
+use crate::faults::DriveFault;
+use crate::lines::{LineKind, next_line};
+use crate::read_ahead::ReadAhead;
+use ados_text::Text;
+use ados_world::{Event, Out, Refusal, World};
+use std::alloc::Global;
+
+const LONG_LINE_TEXT: &[u8] = b"Line too long\n";
+
+// Takes the event that is due at this place: the next line, or the turn of a shell.
+pub fn take_event<S: Source>(
+    alloc: Global,
+    world: &mut World,
+    place: u8,
+    held: &mut ReadAhead,
+    reader: &mut S,
+    line: &mut Vec<u8>,
+) -> Result<Out, DriveFault>
+    requires reader { S.faults reader.old < 2 ^ 64 - 1 }
+    requires due { is_due world.old place ≡ true }
+    ensures did { IfOk result (λ out. Known (ahead held.old (S.left reader.old)) (λ bytes.
+        DidAt world.old bytes place world.new (ahead held.new (S.left reader.new)) out.bytes)) }
+    ensures honest { OnOk result (S.faults reader.new ≡ S.faults reader.old) }
+    ensures err { OnErr result (world.new ≡ world.old) }
+    ensures read { IsErrOf result DriveFault.Read → Known (ahead held.old (S.left reader.old)) (λ bytes.
+        (S.faults reader.new ≡ S.faults reader.old + 1) ⊎ (kind_of bytes ≡ LineKind.Overlong)) }
+    ensures reading { IsErrOf result DriveFault.Read → place ≡ 0 }
+    ensures no_write { IsErrOf result DriveFault.Write → ⊥ }
+    ensures no_turns { IsErrOf result DriveFault.Turns → ⊥ }
+{
+    if place == 0 {
+        take_line(alloc, world, held, reader, line)
+    } else {
+        give(world, &Event::Turn(place))
+    }
+}
+
+// Reads a line and gives it to the world, or the end of the input. A long one is not given, and a
+// text is written in its place.
+fn take_line<S: Source>(
+    alloc: Global,
+    world: &mut World,
+    held: &mut ReadAhead,
+    reader: &mut S,
+    line: &mut Vec<u8>,
+) -> Result<Out, DriveFault>
+    requires reader { S.faults reader.old < 2 ^ 64 - 1 }
+    requires due { is_due world.old 0 ≡ true }
+    ensures did { IfOk result (λ out. Known (ahead held.old (S.left reader.old)) (λ bytes.
+        DidAt world.old bytes 0 world.new (ahead held.new (S.left reader.new)) out.bytes)) }
+    ensures honest { OnOk result (S.faults reader.new ≡ S.faults reader.old) }
+    ensures err { OnErr result (world.new ≡ world.old) }
+    ensures read { IsErrOf result DriveFault.Read → Known (ahead held.old (S.left reader.old)) (λ bytes.
+        (S.faults reader.new ≡ S.faults reader.old + 1) ⊎ (kind_of bytes ≡ LineKind.Overlong)) }
+    ensures no_write { IsErrOf result DriveFault.Write → ⊥ }
+    ensures no_turns { IsErrOf result DriveFault.Turns → ⊥ }
+{
+    match next_line(held, reader, line)? {
+        LineKind::End => give(world, &Event::EndOfInput),
+        LineKind::Short => {
+            let text = Text::from_bytes(alloc, line.as_slice())?;
+            give(world, &Event::Typed(text))
+        }
+        LineKind::Long => {
+            let text = LONG_LINE_TEXT.to_vec(alloc)?;
+            Ok(Out::printing(alloc, text))
+        }
+        LineKind::Overlong => Err(DriveFault::Read),
+    }
+}
+
+// Gives the world an event that it accepts, unless memory is wanting.
+fn give(world: &mut World, event: &Event) -> Result<Out, DriveFault>
+    requires { is_accepted (step_of world.old event.now) ≡ true }
+    ensures taken { IfOk result (λ out. IsTaken world.new out (step_of world.old event.now)) }
+    ensures memory { OnErr result (result ≡ Err DriveFault.Memory) }
+    ensures err { OnErr result (world.new ≡ world.old) }
+{
+    match world.step(event) {
+        Ok(out) => Ok(out),
+        Err(Refusal::NoMemory) => Err(DriveFault::Memory),
+        Err(_) => unreachable!(),
+    }
+}
