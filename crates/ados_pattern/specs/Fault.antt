@@ -1,0 +1,63 @@
+-- Which texts are no patterns, and the least place at which a fault stands.
+use Rattle.std.specs.Prelude.{ℕ, ◌+◌, ◌-◌, List, [], ◌∷◌, length, Option, Some, None, option_map, Bool, true, false, ◌==◌, nat_lt, if◌then◌else◌}
+use Rattle.std.proofs.Math.Bool.{not}
+use Rattle.ados_pattern.specs.declared.tokens.Token.{Token}
+use Rattle.ados_pattern.specs.declared.tokens.Token.TheVariants.{Many, Other, Bar, Open, Close, ClassOpen, Member, ClassClose, Hanging}
+use Rattle.ados_pattern.specs.declared.errors.PatternFault.{PatternFault}
+use Rattle.ados_pattern.specs.declared.errors.PatternFault.TheVariants.{BadPattern, TooLong}
+use Rattle.ados_pattern.specs.Tokens.{tokens_of}
+
+abbrev pub ends_row : Token → Bool
+ends_row Bar = true
+ends_row Close = true
+ends_row _ = false
+
+-- no item stands behind a `#` or `~`
+abbrev pub has_nothing : List Token → Bool
+has_nothing [] = true
+has_nothing (t ∷ ts) = ends_row t
+
+abbrev pub closes_by : ℕ → Token → Bool → Bool → Bool → Bool
+closes_by depth Open deeper higher same = deeper
+closes_by depth Close deeper higher same = if depth == 0 then true else higher
+closes_by depth _ deeper higher same = same
+
+-- whether, inside so many groups, the tokens close the group around them
+abbrev pub closes : ℕ → List Token → Bool
+closes depth [] = false
+closes depth (t ∷ ts) = closes_by depth t (closes (depth + 1) ts) (closes (depth - 1) ts) (closes depth ts)
+
+-- what a token of a class says of it, where the rest says so much with and without a member before
+abbrev pub bad_by : Bool → Token → Bool → Bool → Bool
+bad_by has ClassClose with_one same = not has
+bad_by has (Member low high) with_one same = if nat_lt high low then true else with_one
+bad_by has _ with_one same = same
+
+-- the class is open, empty or has a range downwards
+abbrev pub is_bad_class : Bool → List Token → Bool
+is_bad_class has [] = true
+is_bad_class has (t ∷ ts) = bad_by has t (is_bad_class true ts) (is_bad_class has ts)
+
+-- whether a token is a fault, inside so many groups, by what stands behind it
+abbrev pub is_fault : ℕ → Token → List Token → Bool
+is_fault depth Open ts = not (closes 0 ts)
+is_fault depth Close ts = depth == 0
+is_fault depth Many ts = has_nothing ts
+is_fault depth Other ts = has_nothing ts
+is_fault depth ClassOpen ts = is_bad_class false ts
+is_fault depth Hanging ts = true
+is_fault depth _ ts = false
+
+abbrev pub depth_after : ℕ → Token → ℕ
+depth_after depth Open = depth + 1
+depth_after depth Close = depth - 1
+depth_after depth _ = depth
+
+-- the place of the first token that is a fault, from a place on
+abbrev pub fault_from : ℕ → ℕ → List Token → Option ℕ
+fault_from depth place [] = None
+fault_from depth place (t ∷ ts) = if is_fault depth t ts then Some place else fault_from (depth_after depth t) (place + 1) ts
+
+-- why a text is no pattern
+abbrev pub fault_of : List ℕ → Option PatternFault
+fault_of text = if nat_lt 255 (length text) then Some TooLong else option_map BadPattern (fault_from 0 0 (tokens_of text))

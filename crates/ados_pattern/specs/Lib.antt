@@ -1,0 +1,10 @@
+pub mod Form
+pub mod FormCode
+pub mod Matches
+pub mod Tokens
+pub mod Fault
+pub mod Build
+pub mod Literal
+pub mod Meaning
+pub mod Table
+pub mod Range

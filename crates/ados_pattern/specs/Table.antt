@@ -1,0 +1,85 @@
+-- Which pieces of a text a part matches, as bits.
+use Rattle.std.specs.Prelude.{◌≡◌, ℕ, ◌+◌, ◌-◌, ◌*◌, ◌/◌, ◌%◌, ◌<◌, ◌≤◌, List, [], length, take, drop, Bool, true, false, Option, Some, None, slice_get, nat_le, ◌&&◌, ◌||◌, ◌==◌}
+use Rattle.std.specs.Prelude.{Vec}
+use Rattle.std.specs.Global.{Global}
+use Rattle.std.specs.Int.{bit_at}
+use Rattle.std.proofs.Math.Bool.{not}
+use Rattle.std.specs.List.{range_with_len, list_any}
+use Rattle.ados_pattern.specs.declared.tables.Table.{Table}
+use Rattle.ados_pattern.specs.declared.tables.Rule.{Rule}
+use Rattle.ados_pattern.specs.declared.tables.Rule.TheVariants.{Empty, One, Outside, Many, Other, Then, Either}
+
+-- for a start with so many bytes left and an end with so many bytes left
+abbrev pub Cells : Type 0
+Cells = ℕ → ℕ → Bool
+
+unfoldable pub is_set : ℕ → ℕ → Bool
+is_set word b = bit_at word b == 1
+
+abbrev pub or_false : Option Bool → Bool
+or_false None = false
+or_false (Some b) = b
+
+abbrev pub or_zero : Option ℕ → ℕ
+or_zero None = 0
+or_zero (Some w) = w
+
+abbrev pub word_of : List ℕ → ℕ → ℕ
+word_of words i = or_zero (slice_get words i)
+
+-- the ends of one column
+abbrev pub cells_in : List ℕ → ℕ → Cells
+cells_in words group i j = (j / 64 == group) && is_set (word_of words i) (j % 64)
+
+abbrev pub items_of : Option (Vec ℕ Global) → List ℕ
+items_of None = []
+items_of (Some v) = v.items
+
+abbrev pub column_at : List (Vec ℕ Global) → ℕ → List ℕ
+column_at columns group = items_of (slice_get columns group)
+
+abbrev pub column_of : Table → ℕ → List ℕ
+column_of t group = column_at t.columns.items group
+
+abbrev pub cells_at : List (Vec ℕ Global) → Cells
+cells_at columns i j = is_set (word_of (column_at columns (j / 64)) i) (j % 64)
+
+abbrev pub cells_of : Table → Cells
+cells_of t i j = cells_at t.columns.items i j
+
+-- what a rule says of a cell, in a text of n bytes, where the cells of shorter starts are known
+abbrev pub cell_of : Rule → ℕ → Cells → Cells
+cell_of Empty n known i j = i == j
+cell_of (One ones) n known i j = (i == j + 1) && or_false (slice_get ones.items (n - i))
+cell_of (Outside a) n known i j = (i == j + 1) && not (cells_of a i j)
+cell_of (Many a) n known i j = (i == j) || list_any (λ k. cells_of a i k && known k j) (range_with_len 0 i)
+cell_of (Other a) n known i j = not (cells_of a i j)
+cell_of (Then a b) n known i j = list_any (λ k. cells_of a i k && cells_of b k j) (range_with_len 0 (i + 1))
+cell_of (Either a b) n known i j = cells_of a i j || cells_of b i j
+
+-- the same, for the ends that do not come before the start alone
+abbrev pub row_cell : Rule → ℕ → Cells → Cells
+row_cell rule n known i j = cell_of rule n known i j && nat_le j i
+
+-- the words of the starts with less than so many bytes left, in one column of the table of a rule
+pub record IsBuilt (rule : Rule) (n : ℕ) (group : ℕ) (words : List ℕ) (count : ℕ) : Type 0 where
+  pub counted : length words ≡ count
+  pub inside : (i j : ℕ) → i < count → j ≤ i → j / 64 ≡ group → cells_in words group i j ≡ cell_of rule n (cells_in words group) i j
+  pub above : (i j : ℕ) → i < j → cells_in words group i j ≡ false
+
+-- the table of a rule, for a text of n bytes
+pub record IsFilled (rule : Rule) (n : ℕ) (cells : Cells) : Type 0 where
+  pub inside : (i j : ℕ) → i ≤ n → j ≤ i → cells i j ≡ cell_of rule n cells i j
+  pub past : (i j : ℕ) → n < i → cells i j ≡ false
+  pub above : (i j : ℕ) → i < j → cells i j ≡ false
+
+-- the bytes from a start to an end
+abbrev pub piece : List ℕ → ℕ → ℕ → List ℕ
+piece text i j = take (i - j) (drop (length text - i) text)
+
+-- the cells say which pieces have P
+pub record IsTable (P : List ℕ → Type 0) (text : List ℕ) (cells : Cells) : Type 0 where
+  pub ordered : (i j : ℕ) → cells i j ≡ true → j ≤ i
+  pub within : (i j : ℕ) → cells i j ≡ true → i ≤ length text
+  pub sound : (i j : ℕ) → cells i j ≡ true → P (piece text i j)
+  pub complete : (i j : ℕ) → j ≤ i → i ≤ length text → P (piece text i j) → cells i j ≡ true

@@ -1,0 +1,189 @@
+//! The parts of a pattern from its text, from the right to the left.
+
+ghost use Rattle.std.specs.Prelude.{◌≡◌, IfOk, option_map};
+ghost use Rattle.ados_pattern.specs.Form.{Outside, form_of};
+ghost use Rattle.ados_pattern.specs.Build.{added_to, built_of, closed_at, item_many, item_other, levels_of, on_row, parted_at, whole_of, whole_row, with_item, with_member};
+ghost use Rattle.ados_pattern.specs.Tokens.{tokens_from, tokens_of};
+
+use crate::parts::Part;
+use crate::tokens::{Mode, Token};
+use ados_text::NoMemory;
+use std::alloc::Global;
+
+/// The groups that are open to the right, the innermost first: of each the row so far, and the
+/// alternatives behind it.
+#[derive(Drop)]
+pub enum Stack {
+    Bottom,
+    Level(Part, Option<Part>, Box<Stack>),
+}
+
+/// What a pattern's text says.
+pub fn whole(alloc: Global, bytes: &[u8]) -> Result<Part, NoMemory>
+    ensures { IfOk result (λ p. form_of p ≡ whole_of (tokens_of bytes.now)) }
+{
+    let stack = built(alloc, Mode::Plain, bytes)?;
+    match stack {
+        Stack::Bottom => Ok(Part::Empty),
+        Stack::Level(row, rest, _) => row_and_rest(alloc, row, rest),
+    }
+}
+
+fn built(alloc: Global, mode: Mode, bytes: &[u8]) -> Result<Stack, NoMemory>
+    ensures { IfOk result (λ s. levels_of s ≡ built_of (tokens_from mode bytes.now)) }
+{
+    match bytes {
+        [] => level(alloc, Stack::Bottom),
+        [byte, rest @ ..] => {
+            let stack = built(alloc, mode.next(*byte, rest), rest)?;
+            added(alloc, mode.token(*byte, rest), stack)
+        }
+    }
+}
+
+fn added(alloc: Global, token: Token, stack: Stack) -> Result<Stack, NoMemory>
+    ensures { IfOk result (λ s. levels_of s ≡ added_to token (levels_of stack)) }
+{
+    match token {
+        Token::Silent => Ok(stack),
+        Token::Char(c) => item_in(alloc, Part::Char(c), stack),
+        Token::Any => item_in(alloc, Part::Any, stack),
+        Token::Nothing => item_in(alloc, Part::Empty, stack),
+        Token::Many => repeated(alloc, stack),
+        Token::Other => denied(alloc, stack),
+        Token::Bar => parted(alloc, stack),
+        Token::Close => level(alloc, stack),
+        Token::Open => closed(alloc, stack),
+        Token::ClassClose => level(alloc, stack),
+        Token::Member(low, high) => member_in(alloc, low, high, stack),
+        Token::Negated => outside(alloc, stack),
+        Token::ClassOpen => closed(alloc, stack),
+        Token::Hanging => Ok(stack),
+    }
+}
+
+fn level(alloc: Global, stack: Stack) -> Result<Stack, NoMemory>
+    ensures { IfOk result (λ s. levels_of s ≡ added_to Token.Close (levels_of stack)) }
+{
+    Ok(Stack::Level(Part::Empty, None, Box::new(alloc, stack)?))
+}
+
+fn item_in(alloc: Global, item: Part, stack: Stack) -> Result<Stack, NoMemory>
+    ensures { IfOk result (λ s. levels_of s ≡ with_item (form_of item) (levels_of stack)) }
+{
+    match stack {
+        Stack::Bottom => Ok(Stack::Bottom),
+        Stack::Level(row, rest, below) => {
+            let row = Part::Then(Box::new(alloc, item)?, Box::new(alloc, row)?);
+            Ok(Stack::Level(row, rest, below))
+        }
+    }
+}
+
+fn repeated(alloc: Global, stack: Stack) -> Result<Stack, NoMemory>
+    ensures { IfOk result (λ s. levels_of s ≡ on_row item_many (levels_of stack)) }
+{
+    match stack {
+        Stack::Bottom => Ok(Stack::Bottom),
+        Stack::Level(row, rest, below) => {
+            let row = first_repeated(alloc, row)?;
+            Ok(Stack::Level(row, rest, below))
+        }
+    }
+}
+
+fn denied(alloc: Global, stack: Stack) -> Result<Stack, NoMemory>
+    ensures { IfOk result (λ s. levels_of s ≡ on_row item_other (levels_of stack)) }
+{
+    match stack {
+        Stack::Bottom => Ok(Stack::Bottom),
+        Stack::Level(row, rest, below) => {
+            let row = first_denied(alloc, row)?;
+            Ok(Stack::Level(row, rest, below))
+        }
+    }
+}
+
+fn first_repeated(alloc: Global, row: Part) -> Result<Part, NoMemory>
+    ensures { IfOk result (λ p. form_of p ≡ item_many (form_of row)) }
+{
+    match row {
+        Part::Then(item, rest) => Ok(Part::Then(Box::new(alloc, Part::Many(item))?, rest)),
+        other => Ok(other),
+    }
+}
+
+fn first_denied(alloc: Global, row: Part) -> Result<Part, NoMemory>
+    ensures { IfOk result (λ p. form_of p ≡ item_other (form_of row)) }
+{
+    match row {
+        Part::Then(item, rest) => Ok(Part::Then(Box::new(alloc, Part::Other(item))?, rest)),
+        other => Ok(other),
+    }
+}
+
+fn parted(alloc: Global, stack: Stack) -> Result<Stack, NoMemory>
+    ensures { IfOk result (λ s. levels_of s ≡ parted_at (levels_of stack)) }
+{
+    match stack {
+        Stack::Bottom => Ok(Stack::Bottom),
+        Stack::Level(row, rest, below) => {
+            let rest = row_and_rest(alloc, row, rest)?;
+            Ok(Stack::Level(Part::Empty, Some(rest), below))
+        }
+    }
+}
+
+fn row_and_rest(alloc: Global, row: Part, rest: Option<Part>) -> Result<Part, NoMemory>
+    ensures { IfOk result (λ p. form_of p ≡ whole_row (form_of row) (option_map form_of rest)) }
+{
+    match rest {
+        None => Ok(row),
+        Some(rest) => Ok(Part::Either(Box::new(alloc, row)?, Box::new(alloc, rest)?)),
+    }
+}
+
+fn closed(alloc: Global, stack: Stack) -> Result<Stack, NoMemory>
+    ensures { IfOk result (λ s. levels_of s ≡ closed_at (levels_of stack)) }
+{
+    match stack {
+        Stack::Bottom => Ok(Stack::Bottom),
+        Stack::Level(row, rest, below) => {
+            let group = row_and_rest(alloc, row, rest)?;
+            item_in(alloc, group, Box::into_inner(below))
+        }
+    }
+}
+
+fn outside(alloc: Global, stack: Stack) -> Result<Stack, NoMemory>
+    ensures { IfOk result (λ s. levels_of s ≡ on_row Outside (levels_of stack)) }
+{
+    match stack {
+        Stack::Bottom => Ok(Stack::Bottom),
+        Stack::Level(row, rest, below) => {
+            let row = Part::Outside(Box::new(alloc, row)?);
+            Ok(Stack::Level(row, rest, below))
+        }
+    }
+}
+
+fn member_in(alloc: Global, low: u8, high: u8, stack: Stack) -> Result<Stack, NoMemory>
+    ensures { IfOk result (λ s. levels_of s ≡ on_row (with_member low high) (levels_of stack)) }
+{
+    match stack {
+        Stack::Bottom => Ok(Stack::Bottom),
+        Stack::Level(row, rest, below) => {
+            let row = member_or(alloc, low, high, row)?;
+            Ok(Stack::Level(row, rest, below))
+        }
+    }
+}
+
+fn member_or(alloc: Global, low: u8, high: u8, row: Part) -> Result<Part, NoMemory>
+    ensures { IfOk result (λ p. form_of p ≡ with_member low high (form_of row)) }
+{
+    match row {
+        Part::Empty => Ok(Part::Range(low, high)),
+        other => Ok(Part::Either(Box::new(alloc, Part::Range(low, high))?, Box::new(alloc, other)?)),
+    }
+}

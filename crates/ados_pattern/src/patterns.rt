@@ -1,0 +1,92 @@
+//! A pattern, from its text.
+
+use crate::builds::whole;
+use crate::errors::PatternFault;
+use crate::faults::first_fault;
+use crate::literals::name_of;
+use crate::parts::Part;
+use crate::tokens::Mode;
+use ados_text::{NoMemory, Text};
+use std::alloc::Global;
+use std::marker::Model;
+
+/// A pattern of names.
+#[derive(Drop)]
+pub struct Pattern {
+    part: Part,
+    name: Option<Text>,
+    alloc: Global,
+}
+
+impl Model for Pattern {
+    ghost use Rattle.ados_pattern.specs.Form.{form_of};
+    ghost use Rattle.ados_pattern.specs.Meaning.{Meaning, meaning_code};
+
+    ghost Value = { Meaning };
+
+    ghost coded = { meaning_code };
+
+    ghost view = { λ p. record { form = form_of p.part; name = p.name } };
+}
+
+impl Pattern {
+    ghost use Rattle.std.specs.Prelude.{◌≡◌, IfOk, IsOkUnless, MatchOption, is_some, option_copied};
+    ghost use Rattle.ados_pattern.specs.Fault.{fault_of};
+    ghost use Rattle.ados_pattern.specs.Form.{form_of};
+    ghost use Rattle.ados_pattern.specs.Meaning.{meaning_of};
+
+    /// The pattern that a text is.
+    ///
+    /// `TooLong` where it has more than 255 bytes; then `BadPattern` with the least place, from 0,
+    /// at which a fault stands. `NoMemory` stands only where nothing else is refused.
+    pub fn parse(alloc: Global, text: &Text) -> Result<Pattern, PatternFault>
+        ensures fault { MatchOption (fault_of text.now)
+            (IsOkUnless result PatternFault.NoMemory)
+            (λ fault. result ≡ Err fault) }
+        ensures pattern { IfOk result (λ pattern. pattern ≡ meaning_of text.now) }
+    {
+        let bytes = text.as_bytes();
+        if bytes.len() > 255 {
+            return Err(PatternFault::TooLong);
+        }
+        match first_fault(0, 0, Mode::Plain, bytes) {
+            Some(place) => Err(PatternFault::BadPattern(place)),
+            None => Ok(Pattern::made(alloc, text)?),
+        }
+    }
+
+    /// Whether the text was literal: one alternative, in which every item is a character, quoted
+    /// or not.
+    pub fn is_literal(&self) -> bool
+        ensures { result ≡ is_some self.now.name }
+    {
+        self.name.is_some()
+    }
+
+    /// The name of a literal pattern: its characters, without their quotes.
+    pub fn literal(&self) -> Option<&Text>
+        ensures { option_copied result ≡ self.now.name }
+    {
+        self.name.as_ref()
+    }
+
+    /// What the pattern says.
+    pub fn part(&self) -> &Part
+        ensures { form_of result.now ≡ self.now.form }
+    {
+        &self.part
+    }
+
+    /// The allocator by which the pattern was made.
+    pub fn alloc(&self) -> Global {
+        self.alloc
+    }
+
+    fn made(alloc: Global, text: &Text) -> Result<Pattern, NoMemory>
+        ensures { IfOk result (λ pattern. pattern ≡ meaning_of text.now) }
+    {
+        let part = whole(alloc, text.as_bytes())?;
+        let name = name_of(alloc, text)?;
+        Ok(Pattern { part, name, alloc })
+    }
+}
