@@ -4,3 +4,4 @@ pub mod Runs
 pub mod Inputs
 pub mod Accepts
 pub mod ReaderEnd
+pub mod Alone

@@ -1,6 +1,6 @@
 -- The order in which events come, in rounds of places: at place 0 a line is read as long as one is wanted, and
 -- at place k, from 1 to 20, shell k takes a turn if it is ready. What a run has done after so many events.
-use Rattle.std.specs.Prelude.{◌≡◌, ℕ, zero, suc, ◌+◌, ◌-◌, ◌≤◌, List, [], ◌∷◌, ◌++◌, take, map, Option, Some, None, is_some, IsSome, Bool, true, false, not, ◌&&◌, codes}
+use Rattle.std.specs.Prelude.{◌≡◌, ◌≢◌, ℕ, zero, suc, ◌+◌, ◌-◌, ◌≤◌, List, [], ◌∷◌, ◌++◌, take, map, Option, Some, None, is_some, IsSome, Bool, true, false, not, ◌&&◌, codes}
 use Rattle.std.specs.Io.KnownBytes.{Appends}
 use Rattle.std.specs.List.{find, range_with_len}
 use Rattle.ados_text.specs.Text.{to_ascii}
@@ -112,6 +112,10 @@ IsIdle w = (place : ℕ) → place ≤ 20 → is_due w place ≡ false
 -- shell 1 runs, and its input has not ended
 abbrev pub takes_input : WorldState → Bool
 takes_input w = is_some (shell_at w 1) && not w.input_ended
+
+-- no shell but shell 1 runs
+abbrev pub IsAlone : WorldState → Type 0
+IsAlone w = (k : ℕ) → k ≢ 1 → shell_at w k ≡ None
 
 -- the event at this place did this: the world, what is left to read, and the bytes that are written
 pub record DidAt (w : WorldState) (left : List ℕ) (place : ℕ) (now : WorldState) (rest : Option (List ℕ)) (bytes : List ℕ) : Type 0 where

@@ -1,8 +1,8 @@
 // A world driven by a reader's lines.
 ghost use Rattle.std.specs.Prelude.{◌≡◌, ◌⊎◌, ◌<◌, ◌≤◌, ◌^◌, ◌-◌, ◌+◌, ℕ, true, [], Some, IfOk, OnOk, IsErrOf, IsSome};
-ghost use Rattle.ados_machine.specs.World.{codes_at};
+ghost use Rattle.ados_machine.specs.World.{codes_at, is_over};
 ghost use Rattle.ados_launch.specs.Lines.{Known, kind_of};
-ghost use Rattle.ados_launch.specs.Schedule.{IsIdle, IsReading, IsRunning, Stands, StandsCut, after, begun, due, takes_input};
+ghost use Rattle.ados_launch.specs.Schedule.{IsAlone, IsIdle, IsReading, IsRunning, Stands, StandsCut, after, begun, due, takes_input};
 
 use crate::events::take_event;
 use crate::faults::DriveFault;
@@ -74,6 +74,8 @@ pub fn drive_lines<S: Source, K: Sink>(
         Stands (after end.events (begun world.old bytes)) world.new (K.contents writer.old) (K.contents writer.new))) }
     // Nothing is due in the world that is left.
     ensures idle { OnOk result (IsIdle world.new) }
+    // No shell is left, where only shell 1 ran before.
+    ensures over { OnOk result (Known (S.left reader.old) (λ bytes. IsAlone world.old → is_over world.new ≡ true)) }
     // At each earlier count a further event was due.
     ensures counted { IfOk result (λ end. Known (S.left reader.old) (λ bytes.
         (n : ℕ) → n < end.events → IsRunning (after n (begun world.old bytes)))) }

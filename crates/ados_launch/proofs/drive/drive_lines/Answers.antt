@@ -1,5 +1,6 @@
 use Rattle.std.proofs.Common.{rules, IsErrOf, ◌≡◌, ◌+◌, refl, subst, below_more, ◌∙◌, arith}
 use Rattle.ados_launch.proofs.Runs.{at_begun, at_more, cut_more, due_below, due_is, idle, behind_in_round, due_here, running, stands}
+use Rattle.ados_launch.proofs.Alone.{none-left}
 use Rattle.ados_launch.proofs.ReaderEnd.{reader-ended}
 use Rattle.ados_launch.specs.declared.faults.DriveFault.TheVariants.{Read}
 use Rattle.ados_launch.specs.Schedule.{after, begun, IsRunning, Stands}
@@ -40,7 +41,7 @@ returns-in_err-write_whole-clause-write g c = λ _ bytes e.
     let front = c.in_err-write_whole.ensures.front in (
       c.loop-events.events + 1,
       omega arith,
-      cut_more c.loop-events.events front.0 (begun c.args.world.now bytes) c.loop-events.place c.in-Some.next c.loop-events.world _ _ _ _ _ _ c.in_ok-out.out.bytes
+      cut_more c.loop-events.events front.0 (begun c.args.world.now bytes) c.loop-events.place c.in-Some.next c.loop-events.world _ _ _ _ _ (g.K.Sink.contents c.write_whole.new.writer) c.in_ok-out.out.bytes
           (i.stands bytes e) c.in-Some.ensures c.in_ok-out.ensures.did (rw c.as_bytes.ensures at front.2),
     )
 
@@ -88,3 +89,13 @@ pub returns-clause-reader_ended : goal.returns-clause-reader_ended
 returns-clause-reader_ended g c bytes e takes =
     reader-ended c.loop-events.events (begun c.args.world.now bytes) c.loop-events.place c.loop-events.world c.loop-events.held _ _ _
     (c.loop-events.invariant.stands bytes e) (idle c.loop-events.place c.loop-events.world c.in-None.ensures) takes
+
+pub returns-in_default-clause-over : goal.returns-in_default-clause-over
+returns-in_default-clause-over g c bytes e alone =
+    none-left c.loop-events.events (begun c.args.world.now bytes) c.loop-events.place c.loop-events.world _ _ _
+    (c.loop-events.invariant.stands bytes e) (idle c.loop-events.place c.loop-events.world c.in_default.ensures) alone
+
+pub returns-clause-over : goal.returns-clause-over
+returns-clause-over g c bytes e alone =
+    none-left c.loop-events.events (begun c.args.world.now bytes) c.loop-events.place c.loop-events.world _ _ _
+    (c.loop-events.invariant.stands bytes e) (idle c.loop-events.place c.loop-events.world c.in-None.ensures) alone
