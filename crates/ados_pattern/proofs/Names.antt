@@ -1,12 +1,12 @@
 -- The name of a literal text is ASCII, as the text is.
-use Rattle.std.proofs.Common.{◌≡◌, ℕ, List, [], ◌∷◌, ◌++◌, Bool, true, false, ◌==◌, if◌then◌else◌, Option, Some, None, refl, sym, ◌∙◌, ap, subst, arith, suc, ◌<◌, length, ◌⊎◌, inl, inr, map}
+use Rattle.std.proofs.Common.{◌≡◌, ℕ, List, [], ◌∷◌, ◌++◌, Bool, true, false, ◌==◌, if◌then◌else◌, Option, Some, None, refl, sym, ◌∙◌, ap, subst, arith, suc, ◌<◌, ◌⊎◌, inl, inr, map}
 use Rattle.std.proofs.lemmas.List.{map-append}
 use Rattle.ados_text.specs.Text.{IsText, to_ascii}
 use Rattle.ados_pattern.specs.declared.tokens.Token.{Token}
-use Rattle.ados_pattern.specs.declared.tokens.Token.TheVariants.{Silent, Char, Any, Nothing, Many, Other, Bar, Open, Close, ClassOpen, Negated, Member, ClassClose, Hanging}
+use Rattle.ados_pattern.specs.declared.tokens.Token.TheVariants.{Silent, Char, Negated, Member, ClassClose}
 use Rattle.ados_pattern.specs.declared.tokens.Mode.{Mode}
 use Rattle.ados_pattern.specs.declared.tokens.Mode.TheVariants.{Plain, Quoted, Begun, Class, ClassQuoted, Low, Ranged, RangedQuoted}
-use Rattle.ados_pattern.specs.Tokens.{begins_range, class_token, member_token, next_mode, plain_token, quote_token, token_of, tokens_from}
+use Rattle.ados_pattern.specs.Tokens.{begins_range, class_token, next_mode, plain_token, quote_token, token_of, tokens_from}
 use Rattle.ados_pattern.specs.Literal.{chars_after, literal_name}
 use Rattle.ados_pattern.proofs.Bits.{lt-true}
 

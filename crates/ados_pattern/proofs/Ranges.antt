@@ -1,12 +1,11 @@
 -- A range has a member that folds as a byte does where it has the byte in lower or in upper case.
-use Rattle.std.proofs.Common.{◌≡◌, ℕ, ◌+◌, ◌-◌, ◌<◌, ◌≤◌, Bool, true, false, ◌&&◌, ◌||◌, ◌==◌, refl, sym, ◌∙◌, ap, arith, ◌⊎◌, inl, inr, nat_le, nat_lt}
-use Rattle.std.specs.List.{range_with_len, list_any}
+use Rattle.std.proofs.Common.{◌≡◌, ℕ, ◌+◌, ◌-◌, ◌<◌, ◌≤◌, Bool, true, false, ◌||◌, refl, sym, ◌∙◌, ap, arith, ◌⊎◌, inl, inr, nat_le}
 use Rattle.std.proofs.lemmas.Grind.{common_steps}
 use Rattle.ados_text.specs.Text.{fold_of}
 use Rattle.ados_pattern.specs.Matches.{in_range, is_same}
 use Rattle.ados_pattern.specs.Range.{raised_of, is_between_of}
 use Rattle.ados_pattern.proofs.Anys.{Found, any-found, any-true, both-left, both-right, both-true, either-cases, or-left, or-right}
-use Rattle.ados_pattern.proofs.Bits.{is-true, le-true, le-false, lt-true, lt-false, below-or-not}
+use Rattle.ados_pattern.proofs.Bits.{is-true, le-true, lt-true, lt-false, below-or-not}
 use Rattle.ados_pattern.proofs.RuleLemmas.{eq-is}
 
 pub fold-low : (b : ℕ) → b < 65 → fold_of b ≡ b

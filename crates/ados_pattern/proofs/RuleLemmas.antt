@@ -176,5 +176,5 @@ table-one test ones text cells o f = table-from (One ones) (λ s. is_one test s 
 pub table-whole : (P : List ℕ → Type 0) (text : List ℕ) (cells : Cells) → IsTable P text cells → (found : Bool) → found ≡ cells (length text) 0 → (found ≡ true → P text) × (P text → found ≡ true)
 table-whole P text cells t found e = (
   λ h. subst P (piece-whole text) (t.sound (length text) 0 (sym e ∙ h)),
-  λ p. e ∙ t.complete (length text) 0 (omega arith) (omega arith) (subst P (sym (piece-whole text)) p)
+  λ p. e ∙ t.complete (length text) 0 (omega arith) (omega arith) (subst P (sym (piece-whole text)) p),
 )

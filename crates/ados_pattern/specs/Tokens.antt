@@ -1,5 +1,5 @@
 -- What each byte of a pattern's text is.
-use Rattle.std.specs.Prelude.{ℕ, List, [], ◌∷◌, Bool, true, false, ◌&&◌, ◌==◌, if◌then◌else◌}
+use Rattle.std.specs.Prelude.{ℕ, List, [], ◌∷◌, Bool, false, ◌&&◌, ◌==◌, if◌then◌else◌}
 use Rattle.std.proofs.Math.Bool.{not}
 use Rattle.ados_pattern.specs.declared.tokens.Token.{Token}
 use Rattle.ados_pattern.specs.declared.tokens.Token.TheVariants.{Silent, Char, Any, Nothing, Many, Other, Bar, Open, Close, ClassOpen, Negated, Member, ClassClose, Hanging}

@@ -184,6 +184,9 @@ fn member_or(alloc: Global, low: u8, high: u8, row: Part) -> Result<Part, NoMemo
 {
     match row {
         Part::Empty => Ok(Part::Range(low, high)),
-        other => Ok(Part::Either(Box::new(alloc, Part::Range(low, high))?, Box::new(alloc, other)?)),
+        other => Ok(Part::Either(
+            Box::new(alloc, Part::Range(low, high))?,
+            Box::new(alloc, other)?,
+        )),
     }
 }

@@ -16,4 +16,3 @@ pub use patterns::Pattern;
 
 #[cfg(test)]
 mod tests;
-

@@ -89,7 +89,11 @@ fn any_bytes(alloc: Global, text: &[u8]) -> Result<Vec<bool>, NoMemory>
 fn bytes_in(alloc: Global, low: u8, high: u8, text: &[u8]) -> Result<Vec<bool>, NoMemory>
     ensures { IfOk result (λ ones. ones.items ≡ map (in_range low high) text.now) }
 {
-    Ok(text.iter().map(|b| is_in_range(low, high, *b)).collect(alloc)?)
+    Ok(
+        text.iter()
+            .map(|b| is_in_range(low, high, *b))
+            .collect(alloc)?,
+    )
 }
 
 // A character folds as the byte does where it is the byte in lower or in upper case.

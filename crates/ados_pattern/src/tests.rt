@@ -37,9 +37,15 @@ fn finds_the_first_fault(rt: HostRuntime) -> Result<(), Fail> {
 #[test]
 fn refuses_more_than_255_bytes(rt: HostRuntime) -> Result<(), Fail> {
     let letters = Text::from_bytes(rt.alloc(), &[b'a'; 256])?;
-    assert_eq!(rt; Pattern::parse(rt.alloc(), &letters).err(), Some(PatternFault::TooLong));
+    assert_eq!(rt;
+        Pattern::parse(rt.alloc(), &letters).err(),
+        Some(PatternFault::TooLong)
+    );
     let opens = Text::from_bytes(rt.alloc(), &[b'('; 256])?;
-    assert_eq!(rt; Pattern::parse(rt.alloc(), &opens).err(), Some(PatternFault::TooLong));
+    assert_eq!(rt;
+        Pattern::parse(rt.alloc(), &opens).err(),
+        Some(PatternFault::TooLong)
+    );
     let fewer = Text::from_bytes(rt.alloc(), &[b'a'; 255])?;
     let name = Text::from_bytes(rt.alloc(), &[b'a'; 30])?;
     assert!(rt; !Pattern::parse(rt.alloc(), &fewer)?.matches(&name)?);

@@ -1,5 +1,5 @@
 use Rattle.std.proofs.Common.{◌+◌, ◌*◌, sym, ◌∙◌, ap}
-use Rattle.ados_pattern.specs.Table.{cell_of, cells_in, column_of, word_of}
+use Rattle.ados_pattern.specs.Table.{cell_of, cells_in, word_of}
 use Rattle.ados_pattern.proofs.Columns.{ends-many, ends-other, ends-either}
 use Rattle.ados_pattern.proofs.tables.ends.Goals as goal
 

@@ -1,4 +1,4 @@
-use Rattle.std.proofs.Common.{◌+◌, ◌*◌, ◌&&◌, nat_le, ◌∙◌, ap}
+use Rattle.std.proofs.Common.{◌+◌, ◌*◌, ◌&&◌, ◌∙◌, ap}
 use Rattle.ados_pattern.specs.Table.{cell_of, cells_in, is_set}
 use Rattle.ados_pattern.proofs.Bits.{set-and}
 use Rattle.ados_pattern.proofs.tables.word_for.Goals as goal
