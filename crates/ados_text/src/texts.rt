@@ -1,4 +1,4 @@
-ghost use Rattle.std.specs.Prelude.{◌≡◌, ◌<◌, ◌≤◌, ◌-◌, ◌++◌, take, drop, ◌↔◌, List, length, map, position, IsTrue, IfOk, IfNone, IsOkUnless, MatchOption};
+ghost use Rattle.std.specs.Prelude.{◌≡◌, ◌<◌, ◌≤◌, ◌-◌, ◌++◌, take, drop, ◌↔◌, List, length, map, position, IsTrue, IfOk, IfNone, OnOk, OnErr, IsOkUnless, MatchOption};
 ghost use Rattle.ados_text.specs.Text.{fold_of, folded, is_past_ascii, is_same, to_ascii, IsText};
 
 use crate::errors::{NoMemory, TextFault};
@@ -80,6 +80,17 @@ impl Text {
         let mut bytes = Vec::from_slice(*self.bytes.allocator(), self.bytes.as_slice())?;
         bytes.extend_from_slice(behind.bytes.as_slice())?;
         Ok(Text { bytes })
+    }
+
+    /// Adds ASCII bytes at the end; at `NoMemory` the text is as before.
+    #[tactic(auto, using(crate::proofs::TextLemmas::parts))]
+    pub fn push_bytes(&mut self, bytes: &[u8]) -> Result<(), NoMemory>
+        requires { IsText bytes.now }
+        ensures ok { OnOk result (self.new ≡ self.old ++ bytes.now) }
+        ensures err { OnErr result (self.new ≡ self.old) }
+    {
+        self.bytes.extend_from_slice(bytes)?;
+        Ok(())
     }
 
     /// The text is this name: alike where case is ignored.

@@ -1,0 +1,3 @@
+pub mod Comment
+pub mod Cut
+pub mod Steps

@@ -1,0 +1,31 @@
+ghost use Rattle.std.specs.Prelude.{◌≡◌};
+ghost use Rattle.ados_line.specs.Comment.{comment_start, without_comment};
+
+use ados_items::{Item, next_item};
+
+/// A line without its comment, which begins at the first `;` outside quotes.
+///
+/// A quote that none closes takes the rest of the line, so that no comment begins behind it. It
+/// takes no memory.
+pub fn without_comment(line: &[u8]) -> &[u8]
+    ensures { result.now ≡ without_comment line.now }
+{
+    &line[..comment_start(line).min(line.len())]
+}
+
+// Where a line's comment begins; where it has none, the line's end.
+fn comment_start(line: &[u8]) -> usize
+    ensures { result ≡ comment_start line.now }
+{
+    let mut place = 0;
+    for step in 0..line.len() + 1 {
+        match next_item(line, place) {
+            Item::Word { to, .. } => place = to,
+            Item::Quoted { to, .. } => place = to + 1,
+            Item::Equal(at) => place = at + 1,
+            Item::End(at) => return at,
+            Item::Unmatched(_) => return line.len(),
+        }
+    }
+    line.len()
+}

@@ -1,0 +1,36 @@
+ghost use Rattle.std.specs.Prelude.{◌≡◌};
+ghost use Rattle.ados_line.specs.declared.faults.LineFault.TheVariants.{NoMemory as OutOfMemory};
+
+use ados_text::NoMemory;
+use thiserror::Error;
+
+/// Why a line can't be read.
+#[derive(Clone, Copy, Debug, PartialEq, Eq, Error)]
+pub enum LineFault {
+    /// A redirection without a name.
+    #[error("required argument missing")]
+    ArgumentMissing,
+    /// A second redirection of the output.
+    #[error("too many arguments")]
+    TooManyArguments,
+    /// A quote that none closes.
+    #[error("unmatched quotes")]
+    UnmatchedQuotes,
+    /// More than 512 bytes.
+    #[error("line too long")]
+    LineTooLong,
+    /// An input, `<`, which can't be redirected yet.
+    #[error("not implemented")]
+    NotImplemented,
+    /// There was no memory for what the line says.
+    #[error("no free store")]
+    NoMemory,
+}
+
+impl From<NoMemory> for LineFault {
+    ghost from_gives = { λ _ e. e ≡ OutOfMemory };
+
+    fn from(_e: NoMemory) -> LineFault {
+        LineFault::NoMemory
+    }
+}

@@ -1,0 +1,13 @@
+#![tactic(auto)]
+//! What a raw line asks for: its comment is dropped, and what is left is cut into the command, its
+//! arguments and the redirection of its output.
+
+mod comments;
+mod cuts;
+mod faults;
+mod lines;
+#[cfg(test)]
+mod tests;
+
+pub use faults::LineFault;
+pub use lines::{Expanded, Line, Redirection, expand};
