@@ -60,6 +60,7 @@ impl Qualifiers {
 pub struct TemplateOption {
     /// Its names, in order; a name may be empty.
     pub names: Texts,
+    /// What stands behind the names.
     pub qualifiers: Qualifiers,
 }
 
