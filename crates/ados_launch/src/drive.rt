@@ -51,13 +51,15 @@ impl End {
 /// long` and a newline are written. The run ends where nothing is due any more.
 ///
 /// At most `turns` events and long lines are taken, and no line is read for a further one. At a
-/// fault the world stands behind the events that it accepted, and what they print is written,
-/// but for what a `Write` kept back. `Read`: the reader failed, or a line has more than 65,536
-/// bytes. `Write`: the writer failed, or took nothing. `Turns`: a further event was due. `Memory`:
-/// none was there for the next line or event.
+/// fault the world stands behind the events that it accepted, and what they print is written, but
+/// for what a `Write` kept back; a line that was read and not accepted is lost. `Read`: the reader
+/// failed, or a line has more than 65,536 bytes. `Write`: the writer failed, or took nothing.
+/// `Turns`: a further event was due. `Memory`: there was none for the next line or event. A read
+/// or write that is interrupted has failed, and is not tried again.
 ///
-/// Bytes are read ahead of the lines: those read and not taken are lost at the return, also to a
-/// second call with the same reader.
+/// Before the call each count of the reader and the writer is below 2^64 - 1. Bytes are read ahead
+/// of the lines: those read and not taken are lost at the return, also to a second call with the
+/// same reader.
 pub fn drive_lines<S: Source, K: Sink>(
     alloc: Global,
     world: &mut World,
