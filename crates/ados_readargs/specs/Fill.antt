@@ -1,4 +1,4 @@
-use Rattle.std.specs.Prelude.{ℕ, List, Bool, Option, Some, None, Result, Ok, Err, if◌then◌else◌}
+use Rattle.std.specs.Prelude.{ℕ, List, Bool, Option, Some, None, Result, Ok, Err, IfOk, if◌then◌else◌}
 use Rattle.ados_readargs.specs.declared.errors.ArgFault.{ArgFault}
 use Rattle.ados_readargs.specs.declared.errors.ArgFault.TheVariants as fault
 use Rattle.ados_readargs.specs.declared.options.TemplateOption.{TemplateOption}
@@ -7,7 +7,7 @@ use Rattle.ados_readargs.specs.declared.readings.Reading.{Reading}
 use Rattle.ados_readargs.specs.Words.{line_words_of}
 use Rattle.ados_readargs.specs.Meanings.{read_of}
 use Rattle.ados_readargs.specs.Readings.{plain_items}
-use Rattle.ados_readargs.specs.Shares.{is_left}
+use Rattle.ados_readargs.specs.Shares.{is_left, TakesAll}
 use Rattle.ados_readargs.specs.Args.{args_of}
 use Rattle.ados_readargs.specs.Checks.{lacks, has_bad}
 use Rattle.ados_readargs.specs.Template.{template_of}
@@ -36,3 +36,7 @@ fill_by line (Some options) = args_for options line
 -- the arguments that a line gives to the options of a template's text
 abbrev pub fill_of : List ℕ → List ℕ → Result (List Arg) ArgFault
 fill_of template line = fill_by line (template_of template)
+
+-- each plain word of the line is taken by one option, in the order of the line
+abbrev pub LosesNoWord : List TemplateOption → List ℕ → Type 0
+LosesNoWord options line = IfOk (read_of options line (line_words_of line)) (λ readings. TakesAll options readings (plain_items readings))

@@ -1,4 +1,4 @@
-use Rattle.std.specs.Prelude.{ℕ, ◌+◌, ◌-◌, ◌==◌, nat_lt, List, [], ◌∷◌, ◌++◌, Bool, true, false, ◌&&◌, ◌||◌, not, Option, Some, None, length, take, drop, position, if◌then◌else◌}
+use Rattle.std.specs.Prelude.{◌≡◌, ℕ, zero, suc, ◌+◌, ◌-◌, ◌==◌, nat_lt, List, [], ◌∷◌, ◌++◌, Bool, true, false, ◌&&◌, ◌||◌, not, Option, Some, None, length, take, drop, position, if◌then◌else◌}
 use Rattle.ados_items.specs.declared.items.Item.{Item}
 use Rattle.ados_readargs.specs.declared.options.Qualifiers.{Qualifiers}
 use Rattle.ados_readargs.specs.declared.options.TemplateOption.{TemplateOption}
@@ -63,3 +63,12 @@ is_left options readings plain = is_left_by (middle_of options) options readings
 -- what the option at a place holds
 abbrev pub held_items : List TemplateOption → List Reading → List Item → ℕ → List Item
 held_items options readings plain place = given_items place readings ++ share_by (middle_of options) options readings plain place
+
+-- the plain words that the first options take, so many of them, one behind another
+abbrev pub shares_to : Option ℕ → ℕ → List TemplateOption → List Reading → List Item → List Item
+shares_to middle zero options readings plain = []
+shares_to middle (suc n) options readings plain = shares_to middle n options readings plain ++ share_by middle options readings plain n
+
+-- each plain word is taken by one option, in the order of the line
+abbrev pub TakesAll : List TemplateOption → List Reading → List Item → Type 0
+TakesAll options readings plain = shares_to (middle_of options) (length options) options readings plain ≡ plain

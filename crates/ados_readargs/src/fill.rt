@@ -1,7 +1,9 @@
 ghost use Rattle.std.specs.Prelude.{◌≡◌, Ok, false, IfOk, IfErr};
 ghost use Rattle.ados_readargs.specs.Checks.{has_bad};
 ghost use Rattle.ados_readargs.specs.Faults.{IsFaultOf};
-ghost use Rattle.ados_readargs.specs.Fill.{args_for, args_read};
+ghost use Rattle.ados_readargs.specs.Fill.{args_for, args_read, LosesNoWord};
+ghost use Rattle.ados_readargs.specs.Readings.{plain_items};
+ghost use Rattle.ados_readargs.specs.Shares.{TakesAll};
 
 use crate::args::{Args, args_of};
 use crate::checks::{has_bad, lacks};
@@ -22,6 +24,7 @@ fn args_read(
 ) -> Result<Args, ArgFault>
     ensures ok { IfOk result (λ args. args_read options.now line.now (Ok readings.now) ≡ Ok args) }
     ensures numbers { IfOk result (λ args. has_bad options.now args ≡ false) }
+    ensures taken { IfOk result (λ _. TakesAll options.now readings.now (plain_items readings.now)) }
     ensures fault { IfErr result (λ e. IsFaultOf (args_read options.now line.now (Ok readings.now)) e) }
 {
     let plain = plain_items(alloc, readings)?;
@@ -46,6 +49,7 @@ pub fn fill_options(
 ) -> Result<Args, ArgFault>
     ensures ok { IfOk result (λ args. args_for options.now line.now ≡ Ok args) }
     ensures numbers { IfOk result (λ args. has_bad options.now args ≡ false) }
+    ensures taken { IfOk result (λ _. LosesNoWord options.now line.now) }
     ensures fault { IfErr result (λ e. IsFaultOf (args_for options.now line.now) e) }
 {
     let words = line_words(alloc, line)?;

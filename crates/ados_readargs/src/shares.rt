@@ -1,5 +1,5 @@
 ghost use Rattle.std.specs.Prelude.{◌≡◌, ◌≤◌, ◌<◌, true, false, take, drop, length, IfOk, IfSome};
-ghost use Rattle.ados_readargs.specs.Shares.{is_vacant, open_count, is_middle, middle_of, front_share, middle_share, back_share, share_by, is_left, held_items};
+ghost use Rattle.ados_readargs.specs.Shares.{is_vacant, open_count, is_middle, middle_of, front_share, middle_share, back_share, share_by, is_left, held_items, TakesAll};
 
 use crate::options::{Qualifiers, TemplateOption, qualifiers_at};
 use crate::readings::{Reading, given_items, is_filled};
@@ -146,9 +146,10 @@ fn share<'a>(
     }
 }
 
-/// Whether a plain word is left over.
+/// Whether a plain word is left over; otherwise each is taken by one option, in order.
 pub fn is_left(options: &[TemplateOption], readings: &[Reading], plain: &[Item]) -> bool
-    ensures { result ≡ is_left options.now readings.now plain.now }
+    ensures value { result ≡ is_left options.now readings.now plain.now }
+    ensures taken { result ≡ false → TakesAll options.now readings.now plain.now }
 {
     match middle_of(options) {
         None => open_count(false, 0, options, readings) < plain.len(),

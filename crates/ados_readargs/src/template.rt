@@ -3,7 +3,7 @@ ghost use Rattle.std.specs.List.{slice_split, list_any, count_by};
 ghost use Rattle.ados_text.specs.Text.{to_ascii, is_same};
 ghost use Rattle.ados_readargs.specs.Options.{has_name, unqualified, place_named};
 ghost use Rattle.ados_readargs.specs.Checks.{has_bad};
-ghost use Rattle.ados_readargs.specs.Fill.{fill_of};
+ghost use Rattle.ados_readargs.specs.Fill.{fill_of, LosesNoWord};
 ghost use Rattle.ados_readargs.specs.Faults.{IsFaultOf, IsBadTemplate};
 ghost use Rattle.ados_readargs.specs.Template.{IsTemplate, with_letter, with_piece, qualifiers_from, qualifiers_of_pieces, is_byte, names_of, option_of, options_from, is_many, stands_again, is_twice, has_twice, is_template, template_of, options_of};
 
@@ -81,6 +81,7 @@ impl Template {
     pub fn fill(&self, alloc: Global, line: &[u8]) -> Result<Args, ArgFault>
         ensures ok { IfOk result (λ args. fill_of self.now line.now ≡ Ok args) }
         ensures numbers { IfOk result (λ args. has_bad (options_of self.now) args ≡ false) }
+        ensures taken { IfOk result (λ _. LosesNoWord (options_of self.now) line.now) }
         ensures fault { IfErr result (λ e. IsFaultOf (fill_of self.now line.now) e) }
     {
         fill_options(alloc, self.options.as_slice(), line)
