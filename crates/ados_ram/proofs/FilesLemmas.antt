@@ -1,5 +1,5 @@
 -- What is put where the way is clear leaves files: a tree of directories within the limits.
-use Rattle.std.proofs.Common.{◌≡◌, ℕ, Bool, true, false, cond, T, List, [], ◌∷◌, ◌++◌, Option, Some, None, IsSome, IsTrue, refl, sym, ap, ◌∙◌, subst, append_assoc, ◌≤◌, ◌&&◌, nat_le, length, arith}
+use Rattle.std.proofs.Common.{◌≡◌, ℕ, Bool, true, false, cond, T, List, [], ◌∷◌, ◌++◌, Option, Some, None, IsSome, IsTrue, refl, sym, ap, ◌∙◌, subst, append_assoc, ◌+◌, ◌≤◌, ◌&&◌, ◌||◌, nat_le, length, arith}
 use Rattle.std.proofs.lemmas.Bool.{leb-true}
 use Rattle.std.proofs.lemmas.List.{append-nil}
 use Rattle.std.specs.Ordering.{is_eq, eq_by_cmp}
@@ -7,16 +7,22 @@ use Rattle.std.specs.declared.cmp.Ordering.{Ordering}
 use Rattle.std.specs.declared.cmp.Ordering.TheVariants.{Less, Equal, Greater}
 use Rattle.std.specs.Option.{option_or}
 use Rattle.std.specs.FinMap as map
-use Rattle.std.specs.FinMap.{get-insert}
+use Rattle.std.specs.FinMap.{find, get-insert, get-remove, get-entries, len-entries, entries-insert, entries_sorted}
+use Rattle.std.specs.Cmp.{eq_by_cmp_equiv}
 use Rattle.ados_text.specs.declared.codes.Result2.{Result2}
-use Rattle.ados_text.specs.declared.codes.TheConstants.Result2.{WRONG_TYPE, DISK_FULL}
+use Rattle.ados_text.specs.declared.codes.TheConstants.Result2.{OBJECT_IN_USE, WRONG_TYPE, DIRECTORY_NOT_EMPTY, DISK_FULL, DELETE_PROTECTED}
 use Rattle.ados_ram.specs.declared.entries.Entry.{Entry}
-use Rattle.ados_ram.specs.Place.{place_cmp, place_cmp_total, place_cmp_exact, is_same_key}
-use Rattle.ados_ram.specs.Entry.{is_directory, size_of, written}
-use Rattle.ados_ram.specs.Files.{Files, AreFiles, is_some_directory, bytes_at, total_of, file_limit, bytes_limit, objects_limit}
-use Rattle.ados_ram.specs.FileOperations.{on_the_way, way_fault, write_target_fault, full_fault, limit_fault, write_of, write_fault}
+use Rattle.ados_ram.specs.Place.{name_cmp_total, place_cmp, place_cmp_total, place_cmp_exact, is_same_key, is_root, behind, has_names, is_below}
+use Rattle.ados_ram.specs.Entry.{is_directory, is_directory_body, bytes_of_body, size_of, written, new_directory}
+use Rattle.ados_ram.specs.Files.{Files, Rows, AreFiles, is_some_directory, bytes_at, total_of, file_limit, bytes_limit, objects_limit}
+use Rattle.ados_ram.specs.FileOperations.{on_the_way, way_fault, write_target_fault, full_fault, limit_fault, write_of, write_fault, free_fault, make_dir_of, make_dir_fault, changed, any_below, delete_target_fault, delete_fault}
+use Rattle.ados_ram.specs.InUse.{is_in_use}
+use Rattle.ados_ram.specs.declared.in_use.Busy.{Busy}
+use Rattle.ados_ram.specs.Rows.{rows_without}
+use Rattle.ados_ram.specs.declared.entries.Body.{Body}
+use Rattle.ados_ram.proofs.RowsLemmas.{AreRowsOf, size-written, own_rows, entries_rows, deleted_rows, total-put, length-put_without, total-without, length-without, total-found, length-found}
 
-equal : (r : Ordering) → is_eq r ≡ true → r ≡ Equal
+pub equal : (r : Ordering) → is_eq r ≡ true → r ≡ Equal
 equal Less p = absurd (subst T (sym p) tt)
 equal Equal p = refl
 equal Greater p = absurd (subst T (sym p) tt)
@@ -114,10 +120,6 @@ no_limit_fault size total count h =
     let all : AllHold (nat_le size file_limit) (nat_le total bytes_limit) (nat_le count objects_limit) = all_hold _ _ _ h in
     record { size = leb-true _ _ all.first; total = leb-true _ _ all.second; count = leb-true _ _ all.third }
 
-size-written : (o : Option Entry) (name bytes : List ℕ) → size_of (written o name bytes) ≡ length bytes
-size-written None name bytes = refl
-size-written (Some e) name bytes = refl
-
 -- after a write that is not refused
 pub written_files : {m : Files} (is_open : Bool) (key : List (List ℕ)) (name bytes : List ℕ) → AreFiles m → write_fault is_open m key name bytes ≡ None → AreFiles (write_of m key name bytes)
 written_files {m} is_open key name bytes files e =
@@ -130,3 +132,126 @@ written_files {m} is_open key name bytes files e =
     (λ d. absurd (no_directory is_open (map.get m key) (or_first (write_target_fault is_open (map.get m key)) _ rest) d))
     (subst (λ (n : ℕ). n ≤ file_limit) (sym (size-written (map.get m key) name bytes)) within.size)
     within.total within.count
+
+pub clash : {A : Type 0} → false ≡ true → A
+clash e = absurd (subst T (sym e) tt)
+
+abbrev pub nothing : Option Entry
+nothing = None
+
+-- what stands behind a place in that place and more
+pub behind-append : (place way : List (List ℕ)) → behind place (place ++ way) ≡ Some way
+behind-append [] way = refl
+behind-append (n ∷ ns) way =
+    ap (λ b. cond b (behind ns (ns ++ way)) None) ((eq_by_cmp_equiv name_cmp_total).refl n) ∙ behind-append ns way
+
+pub total-insert : (m : Files) (key : List (List ℕ)) (new : Entry) → total_of (map.entries (map.insert m key new)) ≡ size_of new + total_of (rows_without key (map.entries m))
+total-insert m key new = ap total_of (entries-insert place_cmp_total m key new) ∙ total-put key new (map.entries m) (entries_sorted m)
+
+pub len-insert : (m : Files) (key : List (List ℕ)) (new : Entry) → map.len (map.insert m key new) ≡ 1 + length (rows_without key (map.entries m))
+len-insert m key new = len-entries _ ∙ ap length (entries-insert place_cmp_total m key new) ∙ length-put_without key new (map.entries m) (entries_sorted m)
+
+-- after a directory was made that is not refused
+pub made_files : {m : Files} (key : List (List ℕ)) (name : List ℕ) → AreFiles m → make_dir_fault m key name ≡ None → AreFiles (make_dir_of m key name)
+made_files {m} key name files e =
+    let way = or_first (way_fault m [] key) _ e in
+    let rest = or_second (way_fault m [] key) _ e in
+    let within = no_limit_fault 0 _ _ (or_second (free_fault (map.get m key)) _ rest) in
+    put_files key (new_directory name) files
+    (λ place n more t. way_clear m [] place n more (subst (λ (q : List (List ℕ)). way_fault m [] q ≡ None) (sym t) way))
+    (λ d. refl) (omega arith) within.total within.count
+
+-- after an entry was changed, but not what it holds
+pub changed_files : {m : Files} (key : List (List ℕ)) (change : Entry → Entry) (e : Entry) → AreFiles m → map.get m key ≡ Some e → (change e).body ≡ e.body → AreFiles (changed m key change (map.get m key))
+changed_files {m} key change e files found body =
+    let r = own_rows m in
+    let there : find place_cmp key (map.entries m) ≡ Some e = sym (get-entries m key) ∙ found in
+    let size : size_of (change e) ≡ size_of e = ap (λ b. length (bytes_of_body b)) body in
+    let small : size_of e ≤ file_limit = subst (λ (o : Option Entry). length (bytes_at o) ≤ file_limit) found (files.each_file key) in
+    let all = files.all_bytes in
+    let count = files.objects in
+    let total : total_of (map.entries (map.insert m key (change e))) ≡ size_of (change e) + total_of (rows_without key (map.entries m)) = total-insert m key (change e) in
+    let number : map.len (map.insert m key (change e)) ≡ 1 + length (rows_without key (map.entries m)) = len-insert m key (change e) in
+    subst (λ (o : Option Entry). AreFiles (changed m key change o)) (sym found)
+    (put_files key (change e) files
+    (λ place name rest t. files.above place name rest (subst (λ (o : Option Entry). IsSome o) (sym (ap (map.get m) t ∙ found)) refl))
+    (λ d. subst (λ (b : Body). IsTrue (is_directory_body b)) (sym body) (subst (λ (o : Option Entry). IsTrue (is_some_directory o)) found d))
+    (omega arith)
+    (omega (arith, total-found key e (map.entries m) there))
+    (omega (arith, length-found key e (map.entries m) there, len-entries m)))
+
+-- what is there is below a place where one of the rows is
+any_below-there : (key q : List (List ℕ)) (es : Rows) → any_below key es ≡ false → is_below key q ≡ true → find place_cmp q es ≡ None
+any_below-there key q [] h b = refl
+any_below-there key q (e ∷ es) h b =
+    elim (is_same_key q e.0) as (λ t. is_same_key q e.0 ≡ t → cond t (Some e.1) (find place_cmp q es) ≡ None) [
+      | true ↦ λ t. absurd (both_false (is_below key e.0) (any_below key es) h (subst (λ (k : List (List ℕ)). is_below key k ≡ true) (same q e.0 t) b))
+      | false ↦ λ t. any_below-there key q es (second_false (is_below key e.0) (any_below key es) h) b
+    ] refl
+  where
+    both_false : (x y : Bool) → (x || y) ≡ false → x ≡ true → ⊥
+    both_false true y h t = clash (sym h)
+    both_false false y h t = clash t
+
+    second_false : (x y : Bool) → (x || y) ≡ false → y ≡ false
+    second_false true y h = clash (sym h)
+    second_false false y h = h
+
+no_root_left : (m : Files) (key : List (List ℕ)) → is_root key ≡ false → IsTrue (is_some_directory (map.get m [])) → IsTrue (is_some_directory (cond (is_same_key [] key) nothing (map.get m [])))
+no_root_left m [] h d = clash (sym h)
+no_root_left m (n ∷ ns) h d = d
+
+nothing_in : (m : Files) (key place : List (List ℕ)) (name : List ℕ) (rest : List (List ℕ)) → any_below key (map.entries m) ≡ false → place ≡ key → IsSome (map.get m (place ++ name ∷ rest)) → ⊥
+nothing_in m key place name rest empty t g =
+    let way : is_below place (place ++ name ∷ rest) ≡ true = ap has_names (behind-append place (name ∷ rest)) in
+    let below : is_below key (place ++ name ∷ rest) ≡ true = subst (λ (k : List (List ℕ)). is_below k (place ++ name ∷ rest) ≡ true) t way in
+    clash (subst (λ (o : Option Entry). IsSome o) (get-entries m (place ++ name ∷ rest) ∙ any_below-there key (place ++ name ∷ rest) (map.entries m) empty below) g)
+
+above_left : {m : Files} (key place : List (List ℕ)) (name : List ℕ) (rest : List (List ℕ)) → AreFiles m → any_below key (map.entries m) ≡ false → IsSome (cond (is_same_key (place ++ name ∷ rest) key) nothing (map.get m (place ++ name ∷ rest))) → IsTrue (is_some_directory (cond (is_same_key place key) nothing (map.get m place)))
+above_left {m} key place name rest files empty =
+    elim (is_same_key (place ++ name ∷ rest) key) as (λ b. IsSome (cond b nothing (map.get m (place ++ name ∷ rest))) → IsTrue (is_some_directory (cond (is_same_key place key) nothing (map.get m place)))) [
+      | true ↦ λ g. clash g
+      | false ↦ λ g. elim (is_same_key place key) as (λ b. is_same_key place key ≡ b → IsTrue (is_some_directory (cond b nothing (map.get m place)))) [
+        | true ↦ λ t. absurd (nothing_in m key place name rest empty (same place key t) g)
+        | false ↦ λ t. files.above place name rest g
+      ] refl
+    ]
+
+-- after an object with nothing below it was taken out
+pub removed_files : {m : Files} (key : List (List ℕ)) → AreFiles m → is_root key ≡ false → any_below key (map.entries m) ≡ false → AreFiles (map.remove m key)
+removed_files {m} key files not_root empty =
+    let r : AreRowsOf (rows_without key (map.entries m)) (map.remove m key) = deleted_rows key (own_rows m) refl in
+    let left : map.entries (map.remove m key) ≡ rows_without key (map.entries m) = entries_rows (rows_without key (map.entries m)) r in
+    let all = files.all_bytes in
+    let objects = files.objects in
+    record {
+      root = subst (λ (o : Option Entry). IsTrue (is_some_directory o)) (sym (get-remove place_cmp_total m key [])) (no_root_left m key not_root files.root);
+      above = λ place name rest h. subst (λ (o : Option Entry). IsTrue (is_some_directory o)) (sym (get-remove place_cmp_total m key place))
+          (above_left key place name rest files empty (subst (λ (o : Option Entry). IsSome o) (get-remove place_cmp_total m key (place ++ name ∷ rest)) h));
+      each_file = λ place. subst (λ (o : Option Entry). length (bytes_at o) ≤ file_limit) (sym (get-remove place_cmp_total m key place))
+          (elim (is_same_key place key) as (λ b. length (bytes_at (cond b nothing (map.get m place))) ≤ file_limit) [ true ↦ omega arith | false ↦ files.each_file place ]);
+      all_bytes = subst (λ (es : Rows). total_of es ≤ bytes_limit) (sym left) (omega (arith, total-without key (map.entries m)));
+      objects = subst (λ (n : ℕ). n ≤ objects_limit) (sym (len-entries _ ∙ ap length left)) (omega (arith, length-without key (map.entries m), len-entries m));
+    }
+
+record CanDelete (key : List (List ℕ)) (es : Rows) : Type 0 where
+  pub not_root : is_root key ≡ false
+  pub empty : any_below key es ≡ false
+
+can_delete : (busy : Busy) (key : List (List ℕ)) (es : Rows) (o : Option Entry) → delete_target_fault busy es key o ≡ None → CanDelete key es
+can_delete busy key es None h = cc
+can_delete busy key es (Some e) h = by_tests (is_in_use busy key) (is_root key) e.bits.delete (any_below key es) h refl refl
+  where
+    by_tests : (used root delete below : Bool) → cond (used || root) (Some OBJECT_IN_USE) (cond delete (cond below (Some DIRECTORY_NOT_EMPTY) None) (Some DELETE_PROTECTED)) ≡ None
+        → is_root key ≡ root → any_below key es ≡ below → CanDelete key es
+    by_tests true root delete below h a b = cc
+    by_tests false true delete below h a b = cc
+    by_tests false false true true h a b = cc
+    by_tests false false true false h a b = record { not_root = a; empty = b }
+    by_tests false false false below h a b = cc
+
+-- after a delete that is not refused
+pub deleted_files : {m : Files} (busy : Busy) (key : List (List ℕ)) → AreFiles m → delete_fault busy m key ≡ None → AreFiles (map.remove m key)
+deleted_files {m} busy key files e =
+    let can = can_delete busy key (map.entries m) (map.get m key) e in
+    removed_files key files can.not_root can.empty

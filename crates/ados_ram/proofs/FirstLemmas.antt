@@ -6,18 +6,12 @@ use Rattle.ados_ram.specs.declared.entries.Entry.{Entry}
 use Rattle.ados_ram.specs.Place.{key_of, place_cmp, place_cmp_total, is_same_key}
 use Rattle.ados_ram.specs.Entry.{new_directory}
 use Rattle.ados_ram.specs.Files.{Files, Rows, AreFiles, is_some_directory, bytes_at, total_of, directory_row, first_files, file_limit, bytes_limit, objects_limit}
-use Rattle.ados_ram.specs.Rows.{AreRows, first_rows}
-use Rattle.ados_ram.proofs.RowsLemmas.{AreRowsOf, sorted_of, sorted_of_rows, entries_rows}
-use Rattle.ados_ram.proofs.FilesLemmas.{put_files}
-
-clash : {A : Type 0} → false ≡ true → A
-clash e = absurd (subst T (sym e) tt)
+use Rattle.ados_ram.specs.Rows.{AreRows, first_rows, sorted_of}
+use Rattle.ados_ram.proofs.RowsLemmas.{AreRowsOf, sorted_of_rows, entries_rows}
+use Rattle.ados_ram.proofs.FilesLemmas.{put_files, clash, nothing}
 
 abbrev root_rows : Rows
 root_rows = ([], new_directory []) ∷ []
-
-abbrev nothing : Option Entry
-nothing = None
 
 none : (q : List (List ℕ)) → map.get (map.from_entries {R = place_cmp} []) q ≡ nothing
 none q = get-from_entries place_cmp_total [] q

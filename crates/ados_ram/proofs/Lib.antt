@@ -1,3 +1,4 @@
 pub mod RowsLemmas
 pub mod FilesLemmas
 pub mod FirstLemmas
+pub mod RenameLemmas

@@ -1,5 +1,5 @@
 -- Entries: what stands at a place.
-use Rattle.std.specs.Prelude.{◌≡◌, ℕ, List, [], Bool, true, false, Option, Some, None, length, refl}
+use Rattle.std.specs.Prelude.{◌≡◌, ℕ, List, [], ◌∷◌, Bool, true, false, Option, Some, None, length, refl}
 use Rattle.std.specs.Coded.{Coded, code_by, coded×, coded_ℕ, coded_bool, coded_list, coded_option}
 use Rattle.ados_ram.specs.declared.entries.Bits.{Bits}
 use Rattle.ados_ram.specs.declared.entries.Body.{Body}
@@ -40,6 +40,18 @@ new_directory name = record { name = name; body = Directory; bits = fresh_bits; 
 abbrev pub written : Option Entry → List ℕ → List ℕ → Entry
 written None name bytes = record { name = name; body = File bytes; bits = fresh_bits; comment = [] }
 written (Some e) name bytes = record e { body = File bytes; bits = unarchived e.bits }
+
+-- an entry with other bits, another comment
+abbrev pub with_bits : Bits → Entry → Entry
+with_bits bits e = record e { bits = bits }
+
+abbrev pub with_comment : List ℕ → Entry → Entry
+with_comment comment e = record e { comment = comment }
+
+-- an entry that moved, by the way down to it from the object that was renamed: that one itself takes the new name
+abbrev pub renamed : List ℕ → List (List ℕ) → Entry → Entry
+renamed name [] e = record e { name = name }
+renamed name (n ∷ ns) e = e
 
 -- how an entry is stored: as its fields
 abbrev pub option_of_body : Body → Option (List ℕ)

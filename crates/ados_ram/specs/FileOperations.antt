@@ -1,13 +1,17 @@
 -- File operations: for each the fault, which is the first of its row that holds, and what it gives.
-use Rattle.std.specs.Prelude.{◌≡◌, ◌+◌, ℕ, Bool, cond, ◌&&◌, nat_le, List, [], ◌∷◌, ◌++◌, length, Option, Some, None, Result, Ok, Err}
+-- `is_open` says that a place is an open output; `name` is the name that a new object takes.
+use Rattle.std.specs.Prelude.{◌≡◌, ◌+◌, ℕ, Bool, false, cond, not, ◌&&◌, ◌||◌, nat_le, List, [], ◌∷◌, ◌++◌, length, Option, Some, None, is_some, Result, Ok, Err}
 use Rattle.std.specs.Option.{option_or}
 use Rattle.std.specs.FinMap as map
 use Rattle.ados_text.specs.declared.codes.Result2.{Result2}
-use Rattle.ados_text.specs.declared.codes.TheConstants.Result2.{OBJECT_IN_USE, DIRECTORY_NOT_FOUND, OBJECT_NOT_FOUND, WRONG_TYPE, DISK_FULL, WRITE_PROTECTED, READ_PROTECTED}
-use Rattle.ados_ram.specs.Place.{is_child}
-use Rattle.ados_ram.specs.Entry.{is_directory, written}
+use Rattle.ados_text.specs.declared.codes.TheConstants.Result2.{OBJECT_IN_USE, OBJECT_EXISTS, DIRECTORY_NOT_FOUND, OBJECT_NOT_FOUND, WRONG_TYPE, DIRECTORY_NOT_EMPTY, COMMENT_TOO_LONG, DISK_FULL, DELETE_PROTECTED, WRITE_PROTECTED, READ_PROTECTED}
+use Rattle.ados_ram.specs.Place.{is_root, is_same_key, behind, is_below, is_child}
+use Rattle.ados_ram.specs.Entry.{is_directory, new_directory, written, with_bits, with_comment, renamed}
 use Rattle.ados_ram.specs.Files.{Files, Rows, bytes_at, total_of, file_limit, bytes_limit, objects_limit}
+use Rattle.ados_ram.specs.InUse.{is_in_use, holds_output}
+use Rattle.ados_ram.specs.declared.entries.Bits.{Bits}
 use Rattle.ados_ram.specs.declared.entries.Entry.{Entry}
+use Rattle.ados_ram.specs.declared.in_use.Busy.{Busy}
 use Rattle.ados_ram.specs.declared.faults.FsFault.{FsFault}
 use Rattle.ados_ram.specs.declared.faults.FsFault.TheVariants.{Refused, NoMemory}
 
@@ -35,7 +39,7 @@ limit_fault size total count = cond (nat_le size file_limit && nat_le total byte
 abbrev pub full_fault : ℕ → Files → Option Result2
 full_fault size m = limit_fault size (total_of (map.entries m)) (map.len m)
 
--- Read: `is_open` says that the place is an open output
+-- Read
 abbrev pub read_fault : Bool → Option Entry → Option Result2
 read_fault is_open None = Some OBJECT_NOT_FOUND
 read_fault is_open (Some e) =
@@ -51,7 +55,7 @@ abbrev pub names_in : List (List ℕ) → Rows → List (List ℕ)
 names_in directory [] = []
 names_in directory (e ∷ es) = cond (is_child directory e.0) (e.1.name ∷ names_in directory es) (names_in directory es)
 
--- Write: `is_open` says that the place is an open output, `name` is the name that a new file takes
+-- Write
 abbrev pub write_of : Files → List (List ℕ) → List ℕ → List ℕ → Files
 write_of m key name bytes = map.insert m key (written (map.get m key) name bytes)
 
@@ -71,3 +75,73 @@ append_of m key name bytes = write_of m key name (bytes_at (map.get m key) ++ by
 
 abbrev pub append_fault : Bool → Files → List (List ℕ) → List ℕ → List ℕ → Option Result2
 append_fault is_open m key name bytes = write_fault is_open m key name (bytes_at (map.get m key) ++ bytes)
+
+-- Make a directory: of the limits only the number of objects can be passed
+abbrev pub make_dir_of : Files → List (List ℕ) → List ℕ → Files
+make_dir_of m key name = map.insert m key (new_directory name)
+
+abbrev pub free_fault : Option Entry → Option Result2
+free_fault None = None
+free_fault (Some e) = Some OBJECT_EXISTS
+
+abbrev pub make_dir_fault : Files → List (List ℕ) → List ℕ → Option Result2
+make_dir_fault m key name =
+    option_or (way_fault m [] key) (option_or (free_fault (map.get m key)) (full_fault 0 (make_dir_of m key name)))
+
+-- Delete: the files without a place
+abbrev pub any_below : List (List ℕ) → Rows → Bool
+any_below key [] = false
+any_below key (e ∷ es) = is_below key e.0 || any_below key es
+
+abbrev pub delete_target_fault : Busy → Rows → List (List ℕ) → Option Entry → Option Result2
+delete_target_fault busy es key None = Some OBJECT_NOT_FOUND
+delete_target_fault busy es key (Some e) =
+    cond (is_in_use busy key || is_root key) (Some OBJECT_IN_USE)
+    (cond e.bits.delete (cond (any_below key es) (Some DIRECTORY_NOT_EMPTY) None) (Some DELETE_PROTECTED))
+
+abbrev pub delete_fault : Busy → Files → List (List ℕ) → Option Result2
+delete_fault busy m key = delete_target_fault busy (map.entries m) key (map.get m key)
+
+-- Rename: the files in which what is at a place or below it is at another or below that, and the object itself has the
+-- last name of the new place
+abbrev pub moved_row : List (List ℕ) → List ℕ → List (List ℕ) → Entry → Option (List (List ℕ)) → List (List ℕ) × Entry
+moved_row to name key e None = (key, e)
+moved_row to name key e (Some way) = (to ++ way, renamed name way e)
+
+abbrev pub moved_rows : List (List ℕ) → List (List ℕ) → List ℕ → Rows → Rows
+moved_rows from to name [] = []
+moved_rows from to name (e ∷ es) = moved_row to name e.0 e.1 (behind from e.0) ∷ moved_rows from to name es
+
+abbrev pub rename_of : Files → List (List ℕ) → List (List ℕ) → List ℕ → Files
+rename_of m from to name = map.from_entries (moved_rows from to name (map.entries m))
+
+abbrev pub rename_target_fault : Busy → List (List ℕ) → List (List ℕ) → Option Entry → Option Entry → Option Result2
+rename_target_fault busy from to None there = Some OBJECT_NOT_FOUND
+rename_target_fault busy from to (Some e) there =
+    cond (holds_output busy from || is_root from || is_below from to) (Some OBJECT_IN_USE)
+    (cond (is_some there && not (is_same_key from to)) (Some OBJECT_EXISTS) None)
+
+abbrev pub rename_fault : Busy → Files → List (List ℕ) → List (List ℕ) → Option Result2
+rename_fault busy m from to = option_or (way_fault m [] to) (rename_target_fault busy from to (map.get m from) (map.get m to))
+
+-- Protect and comment: the files with an entry changed
+abbrev pub changed : Files → List (List ℕ) → (Entry → Entry) → Option Entry → Files
+changed m key change None = m
+changed m key change (Some e) = map.insert m key (change e)
+
+abbrev pub change_fault : List (List ℕ) → Option Entry → Option Result2
+change_fault key None = Some OBJECT_NOT_FOUND
+change_fault key (Some e) = cond (is_root key) (Some WRONG_TYPE) None
+
+abbrev pub protect_of : Files → List (List ℕ) → Bits → Files
+protect_of m key bits = changed m key (with_bits bits) (map.get m key)
+
+abbrev pub protect_fault : Files → List (List ℕ) → Option Result2
+protect_fault m key = change_fault key (map.get m key)
+
+abbrev pub comment_of : Files → List (List ℕ) → List ℕ → Files
+comment_of m key comment = changed m key (with_comment comment) (map.get m key)
+
+abbrev pub comment_fault : Files → List (List ℕ) → List ℕ → Option Result2
+comment_fault m key comment =
+    option_or (change_fault key (map.get m key)) (cond (nat_le (length comment) 79) None (Some COMMENT_TOO_LONG))

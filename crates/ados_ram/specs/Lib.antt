@@ -1,5 +1,6 @@
 pub mod Place
 pub mod Entry
+pub mod InUse
 pub mod Files
 pub mod FileOperations
 pub mod Rows

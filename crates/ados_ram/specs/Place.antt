@@ -1,5 +1,5 @@
 -- Places: lists of names. The folded names tell which place it is, and their order is the order of places.
-use Rattle.std.specs.Prelude.{ℕ, ◌-◌, Bool, true, false, not, List, [], ◌∷◌, length, take, map, cond, nat_eq, Option, Some, None, is_some, slice_index_or}
+use Rattle.std.specs.Prelude.{ℕ, ◌-◌, Bool, true, false, not, ◌||◌, List, [], ◌∷◌, length, take, map, cond, nat_eq, Option, Some, None, is_some, slice_index_or}
 use Rattle.std.specs.declared.cmp.Ordering.{Ordering}
 use Rattle.std.specs.Ordering.{nat_cmp, is_eq, eq_by_cmp}
 use Rattle.std.specs.Cmp.{IsTotalOrder, nat_cmp_total}
@@ -19,11 +19,17 @@ name_cmp = slice_cmp nat_cmp
 abbrev pub place_cmp : List (List ℕ) → List (List ℕ) → Ordering
 place_cmp = slice_cmp name_cmp
 
+pub name_cmp_total : IsTotalOrder name_cmp
+name_cmp_total = lists_total nat_cmp_total
+
 pub place_cmp_total : IsTotalOrder place_cmp
-place_cmp_total = lists_total (lists_total nat_cmp_total)
+place_cmp_total = lists_total name_cmp_total
+
+pub name_cmp_exact : IsAntisymmetric name_cmp
+name_cmp_exact = slice_cmp-IsAntisymmetric nat_cmp-IsAntisymmetric
 
 pub place_cmp_exact : IsAntisymmetric place_cmp
-place_cmp_exact = slice_cmp-IsAntisymmetric (slice_cmp-IsAntisymmetric nat_cmp-IsAntisymmetric)
+place_cmp_exact = slice_cmp-IsAntisymmetric name_cmp_exact
 
 -- the two keys are one place
 abbrev pub is_same_key : List (List ℕ) → List (List ℕ) → Bool
@@ -48,10 +54,38 @@ behind [] place = Some place
 behind (n ∷ ns) [] = None
 behind (n ∷ ns) (x ∷ xs) = cond (is_eq (name_cmp n x)) (behind ns xs) None
 
+abbrev pub is_root : List (List ℕ) → Bool
+is_root [] = true
+is_root (n ∷ ns) = false
+
+-- a way of just one name
 abbrev pub is_one_name : Option (List (List ℕ)) → Bool
 is_one_name None = false
 is_one_name (Some way) = nat_eq (length way) 1
 
+-- a way of one name or more
+abbrev pub has_names : Option (List (List ℕ)) → Bool
+has_names None = false
+has_names (Some way) = not (is_root way)
+
 -- the second place is directly in the first
 abbrev pub is_child : List (List ℕ) → List (List ℕ) → Bool
 is_child directory place = is_one_name (behind directory place)
+
+-- the second place is below the first, directly or further down
+abbrev pub is_below : List (List ℕ) → List (List ℕ) → Bool
+is_below directory place = has_names (behind directory place)
+
+-- the second place is the first or below it
+abbrev pub is_at_or_below : List (List ℕ) → List (List ℕ) → Bool
+is_at_or_below directory place = is_some (behind directory place)
+
+-- one of the places is that of the key
+abbrev pub any_same : List (List (List ℕ)) → List (List ℕ) → Bool
+any_same [] key = false
+any_same (place ∷ places) key = is_same_key (key_of place) key || any_same places key
+
+-- one of the places is that of the key or below it
+abbrev pub any_at_or_below : List (List (List ℕ)) → List (List ℕ) → Bool
+any_at_or_below [] key = false
+any_at_or_below (place ∷ places) key = is_at_or_below key (key_of place) || any_at_or_below places key

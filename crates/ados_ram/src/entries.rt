@@ -1,4 +1,4 @@
-ghost use Rattle.std.specs.Prelude.{◌≡◌, ◌++◌, IfOk, length};
+ghost use Rattle.std.specs.Prelude.{◌≡◌, [], IfOk};
 ghost use Rattle.std.specs.Option.{option_copied};
 
 use ados_text::{Name, NoMemory, Octets, Text};
@@ -68,7 +68,7 @@ pub struct Entry {
 }
 
 impl Entry {
-    ghost use Rattle.ados_ram.specs.Entry.{is_directory, bytes_of, new_directory, written};
+    ghost use Rattle.ados_ram.specs.Entry.{is_directory, bytes_of, new_directory, written, with_bits, with_comment, renamed};
 
     /// It is a directory.
     pub fn is_directory(&self) -> bool
@@ -125,5 +125,41 @@ impl Entry {
                 comment: entry.comment.copy()?,
             }),
         }
+    }
+
+    /// The entry under another name.
+    pub fn renamed(&self, name: &Name) -> Result<Entry, NoMemory>
+        ensures { IfOk result (λ entry. entry ≡ renamed name.now [] self.now) }
+    {
+        Ok(Entry {
+            name: name.copy()?,
+            body: self.body.clone()?,
+            bits: self.bits,
+            comment: self.comment.copy()?,
+        })
+    }
+
+    /// The entry with other bits.
+    pub fn with_bits(&self, bits: Bits) -> Result<Entry, NoMemory>
+        ensures { IfOk result (λ entry. entry ≡ with_bits bits self.now) }
+    {
+        Ok(Entry {
+            name: self.name.copy()?,
+            body: self.body.clone()?,
+            bits,
+            comment: self.comment.copy()?,
+        })
+    }
+
+    /// The entry with another comment.
+    pub fn with_comment(&self, comment: &Text) -> Result<Entry, NoMemory>
+        ensures { IfOk result (λ entry. entry ≡ with_comment comment.now self.now) }
+    {
+        Ok(Entry {
+            name: self.name.copy()?,
+            body: self.body.clone()?,
+            bits: self.bits,
+            comment: comment.copy()?,
+        })
     }
 }

@@ -1,8 +1,4 @@
-ghost use Rattle.std.specs.Prelude.{◌≡◌};
-ghost use Rattle.ados_ram.specs.declared.faults.FsFault.TheVariants.{NoMemory as OutOfMemory};
-
-use ados_text::{NoMemory, Result2, fault_text};
-use std::alloc::AllocError;
+use ados_text::{Result2, fault_text};
 use thiserror::Error;
 
 /// Why a call on the files came to nothing.
@@ -14,20 +10,4 @@ pub enum FsFault {
     /// No memory for the new version.
     #[error("no free store")]
     NoMemory,
-}
-
-impl From<NoMemory> for FsFault {
-    ghost from_gives = { λ _ e. e ≡ OutOfMemory };
-
-    fn from(_e: NoMemory) -> FsFault {
-        FsFault::NoMemory
-    }
-}
-
-impl From<AllocError> for FsFault {
-    ghost from_gives = { λ _ e. e ≡ OutOfMemory };
-
-    fn from(_e: AllocError) -> FsFault {
-        FsFault::NoMemory
-    }
 }

@@ -4,6 +4,7 @@
 mod entries;
 mod faults;
 mod files;
+mod in_use;
 mod places;
 mod refusals;
 mod rows;
@@ -13,4 +14,5 @@ mod tests;
 pub use entries::{Bits, Body, Entry};
 pub use faults::FsFault;
 pub use files::Ram;
+pub use in_use::Busy;
 pub use places::Place;

@@ -1,9 +1,9 @@
-ghost use Rattle.std.specs.Prelude.{◌≡◌, IfOk, [], ◌++◌, ◌∷◌};
+ghost use Rattle.std.specs.Prelude.{◌≡◌, IfOk, OnOk, [], ◌++◌, ◌∷◌};
 ghost use Rattle.std.specs.Option.{option_copied, option_map};
 ghost use Rattle.std.specs.Cmp.{partial_equiv_from_equiv};
 ghost use Rattle.std.proofs.lemmas.Cmp.{on_equiv, eq_by_cmp_equiv};
 ghost use Rattle.ados_text.specs.Text.{folded};
-ghost use Rattle.ados_ram.specs.Place.{key_of, name_cmp, place_cmp, place_cmp_total, is_same_place, last_name, parent_of, behind};
+ghost use Rattle.ados_ram.specs.Place.{key_of, name_cmp, place_cmp, place_cmp_total, is_same_place, last_name, parent_of, behind, is_below, any_same, any_at_or_below};
 
 use ados_text::{Name, NoMemory, Text, fold};
 use std::alloc::Global;
@@ -71,6 +71,16 @@ impl Place {
             return Ok(Name::new(empty));
         }
         self.names[self.names.len() - 1].copy()
+    }
+
+    /// The place that names lead down to from this one.
+    pub fn joined(&self, names: &[Name]) -> Result<Place, NoMemory>
+        ensures { IfOk result (λ place. place ≡ self.now ++ names.now) }
+    {
+        let mut joined = Vec::new(*self.names.allocator());
+        copy_into(&mut joined, &self.names)?;
+        copy_into(&mut joined, names)?;
+        Ok(Place { names: joined })
     }
 
     /// An equal place, spelled alike.
@@ -149,4 +159,48 @@ pub fn behind<'a>(directory: &[Name], place: &'a [Name]) -> Option<&'a [Name]>
         Ordering::Equal => behind(xs, ys),
         _ => None,
     }
+}
+
+/// The second place is below the first.
+pub fn is_below(directory: &[Name], place: &[Name]) -> bool
+    ensures { result ≡ is_below (key_of directory.now) (key_of place.now) }
+{
+    match behind(directory, place) {
+        None => false,
+        Some(way) => !way.is_empty(),
+    }
+}
+
+/// One of the places is that of the names.
+pub fn any_same(places: &[Place], names: &[Name]) -> bool
+    ensures { result ≡ any_same places.now (key_of names.now) }
+{
+    for place in places {
+        if order(place.names(), names) == Ordering::Equal {
+            return true;
+        }
+    }
+    false
+}
+
+/// One of the places is that of the names or below it.
+pub fn any_at_or_below(places: &[Place], names: &[Name]) -> bool
+    ensures { result ≡ any_at_or_below places.now (key_of names.now) }
+{
+    for place in places {
+        if behind(names, place.names()).is_some() {
+            return true;
+        }
+    }
+    false
+}
+
+// The names behind those of a list.
+fn copy_into(out: &mut Vec<Name>, names: &[Name]) -> Result<(), NoMemory>
+    ensures { OnOk result (out.new.items ≡ out.old.items ++ names.now) }
+{
+    for name in names {
+        out.push(name.copy()?)?;
+    }
+    Ok(())
 }

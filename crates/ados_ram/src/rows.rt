@@ -2,13 +2,13 @@ ghost use Rattle.std.specs.Prelude.{◌≡◌, ◌++◌, IfOk, OnOk, map as each
 ghost use Rattle.std.specs.Option.{option_copied};
 ghost use Rattle.std.specs.FinMap as map;
 ghost use Rattle.ados_text.specs.Text.{to_ascii};
-ghost use Rattle.ados_ram.specs.Place.{key_of, place_cmp, is_same_key, is_child};
+ghost use Rattle.ados_ram.specs.Place.{key_of, place_cmp, is_child, is_below, behind};
 ghost use Rattle.ados_ram.specs.Files.{directory_row};
-ghost use Rattle.ados_ram.specs.FileOperations.{names_in};
-ghost use Rattle.ados_ram.specs.Rows.{first_rows};
+ghost use Rattle.ados_ram.specs.FileOperations.{names_in, any_below, moved_row, moved_rows};
+ghost use Rattle.ados_ram.specs.Rows.{first_rows, rows_without, sorted_of};
 
 use crate::entries::Entry;
-use crate::places::{Place, behind, order};
+use crate::places::{Place, behind, is_below, order};
 use ados_text::{Name, NoMemory, Text};
 use std::alloc::Global;
 use std::cmp::Ordering;
@@ -81,6 +81,49 @@ impl Row {
     }
 }
 
+impl Row {
+    /// It is below a directory.
+    pub fn is_below(&self, directory: &[Name]) -> bool
+        ensures { result ≡ is_below (key_of directory.now) self.now.0 }
+    {
+        is_below(directory, self.place.names())
+    }
+
+    // The row after a rename.
+    fn moved(&self, alloc: Global, from: &[Name], to: &Place, name: &Name) -> Result<Row, NoMemory>
+        ensures { IfOk result (λ row. row ≡ moved_row (key_of to.now) name.now self.now.0 self.now.1 (behind (key_of from.now) self.now.0)) }
+    {
+        let Some(way) = behind(from, self.place.names()) else {
+            return self.share();
+        };
+        if way.is_empty() {
+            return Row::new(alloc, to.copy()?, self.entry.renamed(name)?);
+        }
+        Ok(Row {
+            place: Rc::new(alloc, to.joined(way)?)?,
+            entry: self.entry.clone()?,
+        })
+    }
+
+    // How another row stands to this one.
+    fn order_of(&self, row: &Row) -> Ordering
+        ensures { result ≡ place_cmp row.now.0 self.now.0 }
+    {
+        order(row.place.names(), self.place.names())
+    }
+
+    // The row of this place with the entry of another.
+    fn replaced(&self, by: Row) -> Result<Row, NoMemory>
+        ensures { IfOk result (λ row. row ≡ (self.now.0, by.1)) }
+    {
+        let Row { place: _, entry } = by;
+        Ok(Row {
+            place: self.place.clone()?,
+            entry,
+        })
+    }
+}
+
 /// What stands at a place.
 pub fn find<'a>(rows: &'a [Row], names: &[Name]) -> Option<&'a Entry>
     ensures { option_copied result ≡ map.find place_cmp (key_of names.now) rows.now }
@@ -116,46 +159,87 @@ fn share_into(out: &mut Vec<Row>, rows: &[Row]) -> Result<(), NoMemory>
     Ok(())
 }
 
-/// The rows with an entry put at its place, behind those of a list; the others are shared.
-pub fn put_into(
-    out: &mut Vec<Row>,
-    rows: &[Row],
-    place: Place,
-    entry: Entry,
-) -> Result<(), NoMemory>
-    ensures { OnOk result (out.new.items ≡ out.old.items ++ map.put place_cmp (key_of place) entry rows.now) }
+// The rows with one put in its place, behind those of a list; all are shared.
+fn put_into(out: &mut Vec<Row>, rows: &[Row], row: Row) -> Result<(), NoMemory>
+    ensures { OnOk result (out.new.items ≡ out.old.items ++ map.put place_cmp row.0 row.1 rows.now) }
 {
-    let alloc = *out.allocator();
     let Some((first, rest)) = rows.split_first() else {
-        out.push(Row::new(alloc, place, entry)?)?;
+        out.push(row)?;
         return Ok(());
     };
-    match first.order(place.names()) {
+    match first.order_of(&row) {
         Ordering::Less => {
-            out.push(Row::new(alloc, place, entry)?)?;
+            out.push(row)?;
             share_into(out, rows)
         }
         Ordering::Equal => {
-            out.push(first.with_entry(alloc, entry)?)?;
+            out.push(first.replaced(row)?)?;
             share_into(out, rest)
         }
         Ordering::Greater => {
             out.push(first.share()?)?;
-            put_into(out, rest, place, entry)
+            put_into(out, rest, row)
         }
     }
 }
 
-impl Row {
-    // The row of the same place with another entry.
-    fn with_entry(&self, alloc: Global, entry: Entry) -> Result<Row, NoMemory>
-        ensures { IfOk result (λ row. row ≡ (self.now.0, entry)) }
-    {
-        Ok(Row {
-            place: self.place.clone()?,
-            entry: Rc::new(alloc, entry)?,
-        })
+/// Something is below a directory.
+pub fn any_below(rows: &[Row], directory: &[Name]) -> bool
+    ensures { result ≡ any_below (key_of directory.now) rows.now }
+{
+    for row in rows {
+        if row.is_below(directory) {
+            return true;
+        }
     }
+    false
+}
+
+/// The rows without a place; the others are shared.
+pub fn without(alloc: Global, rows: &[Row], names: &[Name]) -> Result<Vec<Row>, NoMemory>
+    ensures { IfOk result (λ left. left.items ≡ rows_without (key_of names.now) rows.now) }
+{
+    let mut left = Vec::new(alloc);
+    for row in rows {
+        match row.order(names) {
+            Ordering::Equal => {}
+            _ => left.push(row.share()?)?,
+        }
+    }
+    Ok(left)
+}
+
+/// The rows with an entry put at its place; the others are shared.
+pub fn with_entry(
+    alloc: Global,
+    rows: &[Row],
+    place: &Place,
+    entry: Entry,
+) -> Result<Vec<Row>, NoMemory>
+    ensures { IfOk result (λ new. new.items ≡ map.put place_cmp (key_of place.now) entry rows.now) }
+{
+    let mut new = Vec::new(alloc);
+    put_into(&mut new, rows, Row::new(alloc, place.copy()?, entry)?)?;
+    Ok(new)
+}
+
+/// The rows after a rename, in order; but for the object itself the entries are shared.
+pub fn moved(
+    alloc: Global,
+    rows: &[Row],
+    from: &[Name],
+    to: &Place,
+    name: &Name,
+) -> Result<Vec<Row>, NoMemory>
+    ensures { IfOk result (λ new. new.items ≡ sorted_of (moved_rows (key_of from.now) (key_of to.now) name.now rows.now)) }
+{
+    let mut new = Vec::new(alloc);
+    let Some((first, rest)) = rows.split_first() else {
+        return Ok(new);
+    };
+    let others = moved(alloc, rest, from, to, name)?;
+    put_into(&mut new, &others, first.moved(alloc, from, to, name)?)?;
+    Ok(new)
 }
 
 /// The rows at first: the root with C, Env, S and T in it.

@@ -1,9 +1,10 @@
-use crate::{FsFault, Place, Ram};
+use crate::{Bits, Busy, FsFault, Place, Ram};
 use ados_text::{Name, NoMemory, Result2, Text};
 use std::alloc::Global;
 use std::process::Abort;
 use std::test::Fail;
 
+// A place from its names.
 fn place(alloc: Global, names: &[&str]) -> Result<Place, NoMemory> {
     let mut place = Place::root(alloc);
     for name in names {
@@ -12,7 +13,7 @@ fn place(alloc: Global, names: &[&str]) -> Result<Place, NoMemory> {
     Ok(place)
 }
 
-// Place `f` and the letters of a number, of three digits to the base 26.
+// One of many places in the root, by its number.
 fn numbered(alloc: Global, number: u32) -> Result<Place, NoMemory> {
     let letters = [
         b'f',
@@ -23,15 +24,6 @@ fn numbered(alloc: Global, number: u32) -> Result<Place, NoMemory> {
     Place::root(alloc).with(Name::new(Text::from_bytes(alloc, &letters)?))
 }
 
-fn assert_names(rt: &impl Abort, names: &[Name], expected: &[&str]) {
-    assert_eq!(rt; names.len(), expected.len());
-    for i in 0..names.len() {
-        if i < expected.len() {
-            assert_eq!(rt; names[i].text().as_bytes(), expected[i].as_bytes());
-        }
-    }
-}
-
 fn bytes(alloc: Global, count: usize) -> Result<Vec<u8>, NoMemory> {
     let mut bytes = Vec::new(alloc);
     for _ in 0..count {
@@ -40,17 +32,73 @@ fn bytes(alloc: Global, count: usize) -> Result<Vec<u8>, NoMemory> {
     Ok(bytes)
 }
 
+fn write(alloc: Global, ram: &Ram, names: &[&str], bytes: &[u8]) -> Result<Ram, Fail> {
+    Ok(ram.write(&Busy::none(alloc), &place(alloc, names)?, bytes)?)
+}
+
+fn append(alloc: Global, ram: &Ram, names: &[&str], bytes: &[u8]) -> Result<Ram, Fail> {
+    Ok(ram.append(&Busy::none(alloc), &place(alloc, names)?, bytes)?)
+}
+
+fn delete(alloc: Global, ram: &Ram, names: &[&str]) -> Result<Ram, Fail> {
+    Ok(ram.delete(&Busy::none(alloc), &place(alloc, names)?)?)
+}
+
+fn rename(alloc: Global, ram: &Ram, from: &[&str], to: &[&str]) -> Result<Ram, Fail> {
+    let to = place(alloc, to)?;
+    Ok(ram.rename(&Busy::none(alloc), &place(alloc, from)?, &to)?)
+}
+
+fn holds(alloc: Global, ram: &Ram, names: &[&str], bytes: &[u8]) -> Result<bool, Fail> {
+    match ram.read(&Busy::none(alloc), &place(alloc, names)?) {
+        Ok(found) => Ok(found == bytes),
+        Err(_) => Ok(false),
+    }
+}
+
+fn is_spelled(names: &[Name], expected: &[&str]) -> bool {
+    let mut same = names.len() == expected.len();
+    for (name, text) in names.iter().zip(expected.iter()) {
+        if name.text().as_bytes() != text.as_bytes() {
+            same = false;
+        }
+    }
+    same
+}
+
+fn lists(alloc: Global, ram: &Ram, names: &[&str], expected: &[&str]) -> Result<bool, Fail> {
+    let found = ram.list(&place(alloc, names)?)?;
+    Ok(is_spelled(&found, expected))
+}
+
+// The number of the fault, 0 where there is none.
+fn fault<T: Drop>(answer: Result<T, FsFault>) -> u16 {
+    match answer {
+        Ok(_) => 0,
+        Err(FsFault::Refused(number)) => number.0,
+        Err(FsFault::NoMemory) => Result2::NO_FREE_STORE.0,
+    }
+}
+
+// The faults of reading, listing, writing, appending, making and deleting at a place.
+fn faults(ram: &Ram, busy: &Busy, place: &Place) -> [u16; 6] {
+    [
+        fault(ram.read(busy, place).map(|_| ()).map_err(FsFault::Refused)),
+        fault(ram.list(place)),
+        fault(ram.write(busy, place, b"x")),
+        fault(ram.append(busy, place, b"x")),
+        fault(ram.make_dir(place)),
+        fault(ram.delete(busy, place)),
+    ]
+}
+
 #[test]
 fn begins_with_four_empty_directories(rt: HostRuntime) -> Result<(), Fail> {
     let alloc = rt.alloc();
     let ram = Ram::new(alloc)?;
-    assert_names(
-        &rt,
-        &ram.list(&Place::root(alloc))?,
-        &["C", "Env", "S", "T"],
-    );
+    assert!(rt; lists(alloc, &ram, &[], &["C", "Env", "S", "T"])?);
     for name in ["c", "ENV", "s", "T"] {
-        assert_eq!(rt; ram.list(&place(alloc, &[name])?)?.len(), 0);
+        assert!(rt; lists(alloc, &ram, &[name], &[])?);
     }
     Ok(())
 }
@@ -58,64 +106,178 @@ fn begins_with_four_empty_directories(rt: HostRuntime) -> Result<(), Fail> {
 #[test]
 fn writes_appends_and_reads(rt: HostRuntime) -> Result<(), Fail> {
     let alloc = rt.alloc();
-    let ram = Ram::new(alloc)?;
-    let file = place(alloc, &["S", "q"])?;
-    let ram = ram.write(&file, b"Quit")?;
-    let ram = ram.append(&file, b" 20\n")?;
-    let ram = ram.append(&place(alloc, &["S", "B"])?, b"b")?;
-    let ram = ram.write(&place(alloc, &["S", "a"])?, b"")?;
-    assert_eq!(rt; ram.read(&file)?, b"Quit 20\n".as_slice());
-    assert_eq!(rt; ram.read(&place(alloc, &["S", "b"])?)?, b"b".as_slice());
-    assert_names(&rt, &ram.list(&place(alloc, &["S"])?)?, &["a", "B", "q"]);
-    let ram = ram.write(&file, b"Quit")?;
-    assert_eq!(rt; ram.read(&file)?, b"Quit".as_slice());
+    let ram = write(alloc, &Ram::new(alloc)?, &["S", "q"], b"Quit")?;
+    let ram = append(alloc, &ram, &["S", "q"], b" 20\n")?;
+    let ram = append(alloc, &ram, &["S", "B"], b"b")?;
+    assert!(rt; holds(alloc, &ram, &["S", "q"], b"Quit 20\n")?);
+    assert!(rt; holds(alloc, &ram, &["S", "b"], b"b")?);
+    assert!(rt; lists(alloc, &ram, &["S"], &["B", "q"])?);
     Ok(())
 }
 
 #[test]
 fn a_second_spelling_is_the_same_file(rt: HostRuntime) -> Result<(), Fail> {
     let alloc = rt.alloc();
-    let ram = Ram::new(alloc)?;
-    let ram = ram.write(&place(alloc, &["ReadMe"])?, b"one")?;
-    let ram = ram.write(&place(alloc, &["README"])?, b"two")?;
-    assert_eq!(rt; ram.read(&place(alloc, &["readme"])?)?, b"two".as_slice());
-    let names = ram.list(&Place::root(alloc))?;
-    assert_names(&rt, &names, &["C", "Env", "ReadMe", "S", "T"]);
+    let ram = write(alloc, &Ram::new(alloc)?, &["ReadMe"], b"one")?;
+    let ram = write(alloc, &ram, &["README"], b"two")?;
+    assert!(rt; holds(alloc, &ram, &["readme"], b"two")?);
+    assert!(rt; lists(alloc, &ram, &[], &["C", "Env", "ReadMe", "S", "T"])?);
     assert!(rt; place(alloc, &["S", "Q"])? == place(alloc, &["s", "q"])?);
-    assert!(rt; place(alloc, &["S", "q"])? != place(alloc, &["S"])?);
     Ok(())
 }
 
 #[test]
 fn refuses_with_the_first_fault(rt: HostRuntime) -> Result<(), Fail> {
     let alloc = rt.alloc();
-    let ram = Ram::new(alloc)?.write(&place(alloc, &["f"])?, b"x")?;
-    let refused = |number| Some(FsFault::Refused(number));
-    assert_eq!(rt; ram.read(&place(alloc, &["g"])?).err(), Some(Result2(205)));
-    assert_eq!(rt; ram.read(&place(alloc, &["S"])?).err(), Some(Result2(212)));
+    let idle = Busy::none(alloc);
+    let ram = write(alloc, &Ram::new(alloc)?, &["S", "f"], b"x")?;
     assert_eq!(rt;
-        ram.list(&place(alloc, &["g"])?).err(),
-        refused(Result2(205))
+        faults(&ram, &idle, &place(alloc, &[])?),
+        [212, 0, 212, 212, 203, 202]
     );
     assert_eq!(rt;
-        ram.list(&place(alloc, &["f"])?).err(),
-        refused(Result2(212))
+        faults(&ram, &idle, &place(alloc, &["s"])?),
+        [212, 0, 212, 212, 203, 216]
     );
     assert_eq!(rt;
-        ram.write(&place(alloc, &["S"])?, b"").err(),
-        refused(Result2(212))
+        faults(&ram, &idle, &place(alloc, &["g"])?),
+        [205, 205, 0, 0, 0, 205]
     );
     assert_eq!(rt;
-        ram.append(&Place::root(alloc), b"").err(),
-        refused(Result2(212))
+        faults(&ram, &idle, &place(alloc, &["g", "h"])?),
+        [205, 205, 204, 204, 204, 205]
     );
     assert_eq!(rt;
-        ram.write(&place(alloc, &["g", "h"])?, b"").err(),
-        refused(Result2(204))
+        faults(&ram, &idle, &place(alloc, &["S", "f"])?),
+        [0, 212, 0, 0, 203, 0]
     );
     assert_eq!(rt;
-        ram.append(&place(alloc, &["f", "h"])?, b"").err(),
-        refused(Result2(212))
+        faults(&ram, &idle, &place(alloc, &["S", "f", "h"])?),
+        [205, 205, 212, 212, 212, 205]
+    );
+    Ok(())
+}
+
+#[test]
+fn what_is_in_use_stands(rt: HostRuntime) -> Result<(), Fail> {
+    let alloc = rt.alloc();
+    let mut busy = Busy::none(alloc);
+    busy.dirs.push(place(alloc, &["t"])?)?;
+    busy.outputs.push(place(alloc, &["s", "F"])?)?;
+    let ram = write(alloc, &Ram::new(alloc)?, &["S", "f"], b"x")?;
+    assert_eq!(rt;
+        faults(&ram, &busy, &place(alloc, &["S", "f"])?),
+        [202, 212, 202, 202, 203, 202]
+    );
+    assert_eq!(rt;
+        faults(&ram, &busy, &place(alloc, &["S"])?),
+        [212, 0, 212, 212, 203, 202]
+    );
+    assert_eq!(rt;
+        faults(&ram, &busy, &place(alloc, &["T"])?),
+        [212, 0, 212, 212, 203, 202]
+    );
+    let other = place(alloc, &["g"])?;
+    assert_eq!(rt;
+        fault(ram.rename(&busy, &place(alloc, &["S"])?, &other)),
+        202
+    );
+    assert_eq!(rt; fault(ram.rename(&busy, &place(alloc, &["T"])?, &other)), 0);
+    Ok(())
+}
+
+#[test]
+fn bits_forbid(rt: HostRuntime) -> Result<(), Fail> {
+    let alloc = rt.alloc();
+    let idle = Busy::none(alloc);
+    let file = place(alloc, &["f"])?;
+    let bits = Bits {
+        read: false,
+        write: false,
+        delete: false,
+        ..Bits::FRESH
+    };
+    let ram = write(alloc, &Ram::new(alloc)?, &["f"], b"x")?.protect(&file, bits)?;
+    assert_eq!(rt; faults(&ram, &idle, &file), [224, 212, 223, 223, 203, 222]);
+    assert_eq!(rt; fault(ram.protect(&Place::root(alloc), bits)), 212);
+    assert_eq!(rt; fault(ram.protect(&place(alloc, &["g"])?, bits)), 205);
+    Ok(())
+}
+
+#[test]
+fn a_write_clears_the_archive_bit(rt: HostRuntime) -> Result<(), Fail> {
+    let alloc = rt.alloc();
+    let file = place(alloc, &["f"])?;
+    let bits = Bits {
+        archive: true,
+        script: true,
+        ..Bits::FRESH
+    };
+    let ram = write(alloc, &Ram::new(alloc)?, &["f"], b"x")?.protect(&file, bits)?;
+    assert_eq!(rt; ram.look(&file).map(|entry| entry.bits), Some(bits));
+    let ram = append(alloc, &ram, &["f"], b"y")?;
+    assert_eq!(rt;
+        ram.look(&file).map(|entry| entry.bits),
+        Some(bits.unarchived())
+    );
+    Ok(())
+}
+
+#[test]
+fn a_comment_has_79_bytes(rt: HostRuntime) -> Result<(), Fail> {
+    let alloc = rt.alloc();
+    let file = place(alloc, &["S"])?;
+    let ram = Ram::new(alloc)?;
+    let long = Text::from_bytes(alloc, &bytes(alloc, 80)?)?;
+    let short = Text::from_bytes(alloc, &bytes(alloc, 79)?)?;
+    assert_eq!(rt; fault(ram.comment(&file, &long)), 220);
+    assert_eq!(rt; fault(ram.comment(&Place::root(alloc), &long)), 212);
+    let ram = ram.comment(&file, &short)?;
+    assert_eq!(rt;
+        ram.look(&file).map(|entry| entry.comment.as_bytes().len()),
+        Some(79)
+    );
+    Ok(())
+}
+
+#[test]
+fn a_rename_carries_what_is_below(rt: HostRuntime) -> Result<(), Fail> {
+    let alloc = rt.alloc();
+    let ram = Ram::new(alloc)?.make_dir(&place(alloc, &["d"])?)?;
+    let ram = write(alloc, &ram, &["d", "f"], b"x")?;
+    let ram = rename(alloc, &ram, &["D"], &["T", "Down"])?;
+    assert!(rt; lists(alloc, &ram, &[], &["C", "Env", "S", "T"])?);
+    assert!(rt; lists(alloc, &ram, &["T"], &["Down"])?);
+    assert!(rt; holds(alloc, &ram, &["t", "down", "F"], b"x")?);
+    let ram = rename(alloc, &ram, &["T", "Down"], &["t", "DOWN"])?;
+    assert!(rt; lists(alloc, &ram, &["T"], &["DOWN"])?);
+    let ram = delete(
+        alloc,
+        &delete(alloc, &ram, &["T", "Down", "f"])?,
+        &["T", "Down"],
+    )?;
+    assert!(rt; lists(alloc, &ram, &["T"], &[])?);
+    Ok(())
+}
+
+#[test]
+fn refuses_a_rename(rt: HostRuntime) -> Result<(), Fail> {
+    let alloc = rt.alloc();
+    let idle = Busy::none(alloc);
+    let ram = write(alloc, &Ram::new(alloc)?, &["S", "f"], b"x")?;
+    let gone = place(alloc, &["g"])?;
+    let directory = place(alloc, &["S"])?;
+    let file = place(alloc, &["S", "f"])?;
+    assert_eq!(rt; fault(ram.rename(&idle, &gone, &directory)), 205);
+    assert_eq!(rt; fault(ram.rename(&idle, &Place::root(alloc), &gone)), 202);
+    assert_eq!(rt;
+        fault(ram.rename(&idle, &directory, &place(alloc, &["S", "x"])?)),
+        202
+    );
+    assert_eq!(rt; fault(ram.rename(&idle, &file, &directory)), 203);
+    assert_eq!(rt;
+        fault(ram.rename(&idle, &file, &place(alloc, &["g", "h"])?)),
+        204
     );
     Ok(())
 }
@@ -123,100 +285,89 @@ fn refuses_with_the_first_fault(rt: HostRuntime) -> Result<(), Fail> {
 #[test]
 fn a_file_holds_65_536_bytes(rt: HostRuntime) -> Result<(), Fail> {
     let alloc = rt.alloc();
-    let ram = Ram::new(alloc)?;
+    let idle = Busy::none(alloc);
     let file = place(alloc, &["f"])?;
-    let full = bytes(alloc, 65_536)?;
-    let over = bytes(alloc, 65_537)?;
-    let disk_full = Some(FsFault::Refused(Result2(221)));
-    assert_eq!(rt; ram.write(&file, &over).err(), disk_full);
-    let ram = ram.write(&file, &full)?;
-    assert_eq!(rt; ram.read(&file)?.len(), 65_536);
-    assert_eq!(rt; ram.append(&file, b"x").err(), disk_full);
-    assert_eq!(rt; ram.read(&file)?.len(), 65_536);
+    let ram = Ram::new(alloc)?;
+    assert_eq!(rt; fault(ram.write(&idle, &file, &bytes(alloc, 65_537)?)), 221);
+    let ram = ram.write(&idle, &file, &bytes(alloc, 65_536)?)?;
+    assert_eq!(rt; fault(ram.append(&idle, &file, b"x")), 221);
+    assert_eq!(rt; fault(ram.append(&idle, &file, b"")), 0);
     Ok(())
+}
+
+// The files with many files of the same bytes.
+fn filled(alloc: Global, count: u32, bytes: &[u8]) -> Result<Ram, Fail> {
+    let idle = Busy::none(alloc);
+    let mut ram = Ram::new(alloc)?;
+    for i in 0..count {
+        ram = ram.append(&idle, &numbered(alloc, i)?, bytes)?;
+    }
+    Ok(ram)
 }
 
 #[test]
 fn all_files_hold_1_048_576_bytes(rt: HostRuntime) -> Result<(), Fail> {
     let alloc = rt.alloc();
-    let mut ram = Ram::new(alloc)?;
-    let part = bytes(alloc, 65_536)?;
-    for i in 0..16 {
-        ram = ram.write(&numbered(alloc, i)?, &part)?;
-    }
-    let disk_full = Some(FsFault::Refused(Result2(221)));
-    assert_eq!(rt; ram.write(&place(alloc, &["g"])?, b"x").err(), disk_full);
-    let ram = ram.write(&place(alloc, &["g"])?, b"")?;
-    assert_eq!(rt; ram.append(&place(alloc, &["g"])?, b"x").err(), disk_full);
-    let ram = ram.write(&numbered(alloc, 3)?, b"")?;
-    let ram = ram.write(&place(alloc, &["g"])?, &part)?;
-    assert_eq!(rt; ram.read(&place(alloc, &["g"])?)?.len(), 65_536);
+    let idle = Busy::none(alloc);
+    let ram = filled(alloc, 16, &bytes(alloc, 65_536)?)?;
+    let ram = write(alloc, &ram, &["g"], b"")?;
+    assert_eq!(rt; fault(ram.append(&idle, &place(alloc, &["g"])?, b"x")), 221);
+    assert_eq!(rt; fault(ram.write(&idle, &numbered(alloc, 3)?, b"y")), 0);
     Ok(())
 }
 
 #[test]
 fn there_are_1_024_objects(rt: HostRuntime) -> Result<(), Fail> {
     let alloc = rt.alloc();
-    let mut ram = Ram::new(alloc)?;
-    for i in 0..1_020 {
-        ram = ram.append(&numbered(alloc, i)?, b"x")?;
-    }
-    let disk_full = Some(FsFault::Refused(Result2(221)));
-    assert_eq!(rt; ram.write(&numbered(alloc, 1_020)?, b"").err(), disk_full);
-    let ram = ram.append(&numbered(alloc, 1_019)?, b"y")?;
-    assert_eq!(rt; ram.read(&numbered(alloc, 1_019)?)?, b"xy".as_slice());
+    let idle = Busy::none(alloc);
+    let ram = filled(alloc, 1_020, b"x")?;
     assert_eq!(rt; ram.list(&Place::root(alloc))?.len(), 1_024);
+    assert_eq!(rt; fault(ram.write(&idle, &place(alloc, &["g"])?, b"")), 221);
+    assert_eq!(rt; fault(ram.make_dir(&place(alloc, &["g"])?)), 221);
+    assert_eq!(rt; fault(ram.write(&idle, &numbered(alloc, 1_019)?, b"y")), 0);
     Ok(())
 }
 
 #[test]
 fn an_old_version_stands(rt: HostRuntime) -> Result<(), Fail> {
     let alloc = rt.alloc();
-    let file = place(alloc, &["T", "f"])?;
-    let kept = Ram::new(alloc)?.write(&file, b"old")?;
-    let mut last = kept.append(&file, b"er")?;
-    for i in 0..100 {
-        last = last.write(&numbered(alloc, i)?, b"x")?;
-        last = last.append(&file, b"!")?;
+    let kept = write(alloc, &Ram::new(alloc)?, &["f"], b"old")?;
+    let mut last = append(alloc, &kept, &["f"], b"er")?;
+    for _ in 0..100 {
+        last = append(alloc, &last, &["f"], b"!")?;
     }
-    assert_eq!(rt; kept.read(&file)?, b"old".as_slice());
-    assert_eq!(rt; kept.list(&Place::root(alloc))?.len(), 4);
-    assert_eq!(rt; last.read(&file)?.len(), 105);
-    assert_eq!(rt; last.list(&Place::root(alloc))?.len(), 104);
+    let last = rename(alloc, &last, &["f"], &["g"])?;
+    assert!(rt; holds(alloc, &kept, &["f"], b"old")?);
+    assert!(rt; lists(alloc, &kept, &[], &["C", "Env", "f", "S", "T"])?);
+    assert!(rt; lists(alloc, &last, &[], &["C", "Env", "g", "S", "T"])?);
     Ok(())
 }
 
-fn holds(ram: &Ram, place: &Place, bytes: &[u8]) -> bool {
-    match ram.read(place) {
-        Ok(found) => found == bytes,
-        Err(_) => false,
-    }
-}
-
-// What a change answers where no memory is left for it: nothing else, and the old version stands.
+// Each change gives a new version or the answer for want of memory, and the old version stands.
 #[test]
 fn want_of_memory_changes_nothing(rt: HostRuntime) {
     let alloc = rt.alloc();
-    let Ok(file) = place(alloc, &["S", "f"]) else {
-        return;
-    };
+    let idle = Busy::none(alloc);
     let Ok(ram) = Ram::new(alloc) else {
         return;
     };
-    match ram.write(&file, b"one") {
-        Ok(next) => {
-            assert!(rt; holds(&next, &file, b"one"));
-            match next.append(&file, b" two") {
-                Ok(last) => assert!(rt; holds(&last, &file, b"one two")),
-                Err(fault) => assert_eq!(rt; fault, FsFault::NoMemory),
-            }
-            assert!(rt; holds(&next, &file, b"one"));
-        }
-        Err(fault) => assert_eq!(rt; fault, FsFault::NoMemory),
-    }
-    assert!(rt; ram.look(&file).is_none());
-    match ram.list(&Place::root(alloc)) {
-        Ok(names) => assert_eq!(rt; names.len(), 4),
-        Err(fault) => assert_eq!(rt; fault, FsFault::NoMemory),
-    }
+    let Ok(directory) = place(alloc, &["C"]) else {
+        return;
+    };
+    let Ok(new) = place(alloc, &["S", "D"]) else {
+        return;
+    };
+    assert_done(&rt, fault(ram.write(&idle, &new, b"one")));
+    assert_done(&rt, fault(ram.append(&idle, &new, b"two")));
+    assert_done(&rt, fault(ram.list(&directory)));
+    assert_done(&rt, fault(ram.make_dir(&new)));
+    assert_done(&rt, fault(ram.delete(&idle, &directory)));
+    assert_done(&rt, fault(ram.rename(&idle, &directory, &new)));
+    assert_done(&rt, fault(ram.protect(&directory, Bits::FRESH)));
+    assert!(rt; ram.look(&directory).is_some());
+    assert!(rt; ram.look(&new).is_none());
+}
+
+fn assert_done(rt: &impl Abort, number: u16) {
+    assert!(rt; number == 0 || number == Result2::NO_FREE_STORE.0);
 }
