@@ -1,5 +1,5 @@
 -- Words of a column.
-use Rattle.std.proofs.Common.{◌≡◌, ℕ, zero, suc, ◌+◌, ◌-◌, ◌*◌, ◌/◌, ◌%◌, ◌^◌, ◌<◌, ◌≤◌, List, Bool, true, false, ◌&&◌, ◌||◌, ◌==◌, refl, sym, ◌∙◌, ap, arith, inl, inr, bit_or, nat_le, add-zero}
+use Rattle.std.proofs.Common.{◌≡◌, ℕ, ◌+◌, ◌-◌, ◌*◌, ◌/◌, ◌%◌, ◌^◌, ◌<◌, ◌≤◌, List, Bool, true, false, ◌&&◌, ◌||◌, ◌==◌, refl, sym, ◌∙◌, ap, arith, inl, inr, bit_or, nat_le}
 use Rattle.std.specs.List.{range_with_len, list_any}
 use Rattle.std.proofs.Math.Bool.{not}
 use Rattle.std.specs.Int.{bit_not, w64}
@@ -17,27 +17,6 @@ either-assoc false b c = refl
 pub either-false : (a : Bool) → (a || false) ≡ a
 either-false true = refl
 either-false false = refl
-
-pub any-last : (p : ℕ → Bool) (a n : ℕ) → list_any p (range_with_len a (suc n)) ≡ (list_any p (range_with_len a n) || p (a + n))
-any-last p a zero = either-false (p a) ∙ ap p (sym (add-zero a))
-any-last p a (suc n) =
-    ap (λ b. p a || b) (any-last p (a + 1) n)
-    ∙ sym (either-assoc (p a) (list_any p (range_with_len (a + 1) n)) (p (a + 1 + n)))
-    ∙ (let e : a + 1 + n ≡ a + suc n = omega arith in ap (λ k. (p a || list_any p (range_with_len (a + 1) n)) || p k) e)
-
-pub middle-is : (p : ℕ → Bool) (m : ℕ) → list_any p (range_with_len 0 (m + 1)) ≡ (list_any p (range_with_len 0 m) || p m)
-middle-is p m =
-    (let f : m + 1 ≡ suc m = omega arith in ap (λ k. list_any p (range_with_len 0 k)) f)
-    ∙ any-last p 0 m
-    ∙ (let e : 0 + m ≡ m = omega arith in ap (λ k. list_any p (range_with_len 0 m) || p k) e)
-
--- a middle that leads on
-pub middle-taken : (p : ℕ → Bool) (m word more b : ℕ) → is_set word b ≡ list_any p (range_with_len 0 m) → p m ≡ is_set more b → is_set (bit_or word more) b ≡ list_any p (range_with_len 0 (m + 1))
-middle-taken p m word more b h e = set-or word more b ∙ ap (λ x. x || is_set more b) h ∙ ap (λ x. list_any p (range_with_len 0 m) || x) (sym e) ∙ sym (middle-is p m)
-
--- a middle that does not
-pub middle-left : (p : ℕ → Bool) (m word b : ℕ) → is_set word b ≡ list_any p (range_with_len 0 m) → p m ≡ false → is_set word b ≡ list_any p (range_with_len 0 (m + 1))
-middle-left p m word b h e = h ∙ sym (either-false (list_any p (range_with_len 0 m))) ∙ ap (λ x. list_any p (range_with_len 0 m) || x) (sym e) ∙ sym (middle-is p m)
 
 -- the cell of a bit
 pub cell-at : (t : Table) (group i b : ℕ) → b < 64 → cells_of t i (group * 64 + b) ≡ is_set (word_of (column_of t group) i) b
@@ -83,17 +62,17 @@ pub up-past : (start group b : ℕ) → group < start / 64 → b < 64 → is_set
 up-past start group b e l = set-low 64 b ∙ lt-true b 64 l ∙ sym (le-true (group * 64 + b) start (omega (arith, e, l)))
 
 -- what the rules say of the ends of one start
-pub ends-many : (t : Table) (known : List ℕ) (n group start one more b : ℕ) → b < 64 → is_set one b ≡ (start == group * 64 + b) → is_set more b ≡ list_any (λ k. cells_of t start k && is_set (word_of known k) b) (range_with_len 0 start) → is_set (bit_or one more) b ≡ cell_of (Many t) n (cells_in known group) start (group * 64 + b)
-ends-many t known n group start one more b l e f =
+pub ends-many : (t : Table) (known text : List ℕ) (group start one more b : ℕ) → b < 64 → is_set one b ≡ (start == group * 64 + b) → is_set more b ≡ list_any (λ k. cells_of t start k && is_set (word_of known k) b) (range_with_len 0 start) → is_set (bit_or one more) b ≡ cell_of (Many t) text (cells_in known group) start (group * 64 + b)
+ends-many t known text group start one more b l e f =
     set-or one more b
     ∙ ap (λ x. x || is_set more b) e
     ∙ ap (λ x. (start == group * 64 + b) || x) (f ∙ any-same (λ k. cells_of t start k && is_set (word_of known k) b) (λ k. cells_of t start k && cells_in known group k (group * 64 + b)) 0 start (λ k _ _. ap (λ x. cells_of t start k && x) (sym (known-at known group k b l))))
 
-pub ends-other : (t : Table) (known : Cells) (n group start word b : ℕ) → b < 64 → word < 2 ^ 64 → word ≡ word_of (column_of t group) start → is_set (bit_not w64 word) b ≡ cell_of (Other t) n known start (group * 64 + b)
-ends-other t known n group start word b l fits e = set-not word b fits l ∙ ap not (ap (λ (w : ℕ). is_set w b) e ∙ sym (cell-at t group start b l))
+pub ends-other : (t : Table) (known : Cells) (text : List ℕ) (group start word b : ℕ) → b < 64 → word < 2 ^ 64 → word ≡ word_of (column_of t group) start → is_set (bit_not w64 word) b ≡ cell_of (Other t) text known start (group * 64 + b)
+ends-other t known text group start word b l fits e = set-not word b fits l ∙ ap not (ap (λ (w : ℕ). is_set w b) e ∙ sym (cell-at t group start b l))
 
-pub ends-either : (s t : Table) (known : Cells) (n group start one other b : ℕ) → b < 64 → one ≡ word_of (column_of s group) start → other ≡ word_of (column_of t group) start → is_set (bit_or one other) b ≡ cell_of (Either s t) n known start (group * 64 + b)
-ends-either s t known n group start one other b l e f =
+pub ends-either : (s t : Table) (known : Cells) (text : List ℕ) (group start one other b : ℕ) → b < 64 → one ≡ word_of (column_of s group) start → other ≡ word_of (column_of t group) start → is_set (bit_or one other) b ≡ cell_of (Either s t) text known start (group * 64 + b)
+ends-either s t known text group start one other b l e f =
     set-or one other b
     ∙ ap (λ x. x || is_set other b) (ap (λ (w : ℕ). is_set w b) e ∙ sym (cell-at s group start b l))
     ∙ ap (λ x. cells_of s start (group * 64 + b) || x) (ap (λ (w : ℕ). is_set w b) f ∙ sym (cell-at t group start b l))

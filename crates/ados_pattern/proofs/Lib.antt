@@ -2,7 +2,9 @@ pub mod Anys
 pub mod Bits
 pub mod Columns
 pub mod Filling
+pub mod Middles
 pub mod Names
 pub mod Pieces
 pub mod Ranges
+pub mod Places
 pub mod RuleLemmas

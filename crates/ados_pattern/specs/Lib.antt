@@ -6,5 +6,7 @@ pub mod Fault
 pub mod Build
 pub mod Literal
 pub mod Meaning
+pub mod CharTest
 pub mod Table
+pub mod Reach
 pub mod Range

@@ -1,5 +1,5 @@
 -- Which pieces of a text a part matches, as bits.
-use Rattle.std.specs.Prelude.{◌≡◌, ℕ, ◌+◌, ◌-◌, ◌/◌, ◌%◌, ◌<◌, ◌≤◌, List, [], length, take, drop, Bool, true, false, Option, Some, None, slice_get, nat_le, ◌&&◌, ◌||◌, ◌==◌}
+use Rattle.std.specs.Prelude.{◌≡◌, ℕ, ◌+◌, ◌-◌, ◌*◌, ◌/◌, ◌%◌, ◌<◌, ◌≤◌, List, [], ◌∷◌, length, take, drop, Bool, true, false, Option, Some, None, slice_get, nat_le, ◌&&◌, ◌||◌, ◌==◌}
 use Rattle.std.specs.Prelude.{Vec}
 use Rattle.std.specs.Global.{Global}
 use Rattle.std.specs.Int.{bit_at}
@@ -7,7 +7,8 @@ use Rattle.std.proofs.Math.Bool.{not}
 use Rattle.std.specs.List.{range_with_len, list_any}
 use Rattle.ados_pattern.specs.declared.tables.Table.{Table}
 use Rattle.ados_pattern.specs.declared.tables.Rule.{Rule}
-use Rattle.ados_pattern.specs.declared.tables.Rule.TheVariants.{Empty, One, Outside, Many, Other, Then, Either}
+use Rattle.ados_pattern.specs.declared.tables.Rule.TheVariants.{Empty, One, Next, Outside, Many, Other, Then, Either}
+use Rattle.ados_pattern.specs.CharTest.{has_test, test_of}
 
 -- for a start with so many bytes left and an end with so many bytes left
 abbrev pub Cells : Type 0
@@ -16,9 +17,9 @@ Cells = ℕ → ℕ → Bool
 unfoldable pub is_set : ℕ → ℕ → Bool
 is_set word b = bit_at word b == 1
 
-abbrev pub or_false : Option Bool → Bool
-or_false None = false
-or_false (Some b) = b
+-- the byte behind a start
+abbrev pub byte_at : List ℕ → ℕ → Option ℕ
+byte_at text i = slice_get text (length text - i)
 
 abbrev pub or_zero : Option ℕ → ℕ
 or_zero None = 0
@@ -26,6 +27,10 @@ or_zero (Some w) = w
 
 abbrev pub word_of : List ℕ → ℕ → ℕ
 word_of words i = or_zero (slice_get words i)
+
+-- whether some middle of a group leads to an end in the words of the rest
+unfoldable pub leads : ℕ → ℕ → List ℕ → ℕ → Bool
+leads middles group rest b = list_any (λ k. is_set middles k && is_set (word_of rest (group * 64 + k)) b) (range_with_len 0 64)
 
 -- the ends of one column
 abbrev pub cells_in : List ℕ → ℕ → Cells
@@ -38,39 +43,44 @@ items_of (Some v) = v.items
 abbrev pub column_at : List (Vec ℕ Global) → ℕ → List ℕ
 column_at columns group = items_of (slice_get columns group)
 
+-- the columns of a table, in the order of their ends
+abbrev pub columns_of : Table → List (Vec ℕ Global)
+columns_of t = t.first ∷ t.more.items
+
 abbrev pub column_of : Table → ℕ → List ℕ
-column_of t group = column_at t.columns.items group
+column_of t group = column_at (columns_of t) group
 
 abbrev pub cells_at : List (Vec ℕ Global) → Cells
 cells_at columns i j = is_set (word_of (column_at columns (j / 64)) i) (j % 64)
 
 abbrev pub cells_of : Table → Cells
-cells_of t i j = cells_at t.columns.items i j
+cells_of t i j = cells_at (columns_of t) i j
 
--- what a rule says of a cell, in a text of n bytes, where the cells of shorter starts are known
-abbrev pub cell_of : Rule → ℕ → Cells → Cells
-cell_of Empty n known i j = i == j
-cell_of (One ones) n known i j = (i == j + 1) && or_false (slice_get ones.items (n - i))
-cell_of (Outside a) n known i j = (i == j + 1) && not (cells_of a i j)
-cell_of (Many a) n known i j = (i == j) || list_any (λ k. cells_of a i k && known k j) (range_with_len 0 i)
-cell_of (Other a) n known i j = not (cells_of a i j)
-cell_of (Then a b) n known i j = list_any (λ k. cells_of a i k && cells_of b k j) (range_with_len 0 (i + 1))
-cell_of (Either a b) n known i j = cells_of a i j || cells_of b i j
+-- what a rule says of a cell, where the cells of shorter starts are known
+abbrev pub cell_of : Rule → List ℕ → Cells → Cells
+cell_of Empty text known i j = i == j
+cell_of (One test) text known i j = (i == j + 1) && has_test (test_of test) (byte_at text i)
+cell_of (Next test b) text known i j = has_test (test_of test) (byte_at text i) && cells_of b (i - 1) j
+cell_of (Outside a) text known i j = (i == j + 1) && not (cells_of a i j)
+cell_of (Many a) text known i j = (i == j) || list_any (λ k. cells_of a i k && known k j) (range_with_len 0 i)
+cell_of (Other a) text known i j = not (cells_of a i j)
+cell_of (Then a b) text known i j = list_any (λ k. cells_of a i k && cells_of b k j) (range_with_len 0 (i + 1))
+cell_of (Either a b) text known i j = cells_of a i j || cells_of b i j
 
 -- the same, for the ends that do not come before the start alone
-abbrev pub row_cell : Rule → ℕ → Cells → Cells
-row_cell rule n known i j = cell_of rule n known i j && nat_le j i
+abbrev pub row_cell : Rule → List ℕ → Cells → Cells
+row_cell rule text known i j = cell_of rule text known i j && nat_le j i
 
 -- the words of the starts with less than so many bytes left, in one column of the table of a rule
-pub record IsBuilt (rule : Rule) (n : ℕ) (group : ℕ) (words : List ℕ) (count : ℕ) : Type 0 where
+pub record IsBuilt (rule : Rule) (text : List ℕ) (group : ℕ) (words : List ℕ) (count : ℕ) : Type 0 where
   pub counted : length words ≡ count
-  pub inside : (i j : ℕ) → i < count → j ≤ i → j / 64 ≡ group → cells_in words group i j ≡ cell_of rule n (cells_in words group) i j
+  pub inside : (i j : ℕ) → i < count → j ≤ i → j / 64 ≡ group → cells_in words group i j ≡ cell_of rule text (cells_in words group) i j
   pub above : (i j : ℕ) → i < j → cells_in words group i j ≡ false
 
--- the table of a rule, for a text of n bytes
-pub record IsFilled (rule : Rule) (n : ℕ) (cells : Cells) : Type 0 where
-  pub inside : (i j : ℕ) → i ≤ n → j ≤ i → cells i j ≡ cell_of rule n cells i j
-  pub past : (i j : ℕ) → n < i → cells i j ≡ false
+-- the table of a rule
+pub record IsFilled (rule : Rule) (text : List ℕ) (cells : Cells) : Type 0 where
+  pub inside : (i j : ℕ) → i ≤ length text → j ≤ i → cells i j ≡ cell_of rule text cells i j
+  pub past : (i j : ℕ) → length text < i → cells i j ≡ false
   pub above : (i j : ℕ) → i < j → cells i j ≡ false
 
 -- the bytes from a start to an end

@@ -2,14 +2,17 @@
 //! Patterns of names: what they match, and which texts are patterns.
 
 mod builds;
+mod bytes;
 mod errors;
 mod faults;
 mod literals;
 mod matching;
 mod parts;
 mod patterns;
+mod reaching;
 mod tables;
 mod tokens;
+mod words;
 
 pub use errors::PatternFault;
 pub use patterns::Pattern;

@@ -1,24 +1,32 @@
 //! Which pieces of a text a part of a pattern matches.
 
-ghost use Rattle.std.specs.Prelude.{◌≡◌, ◌==◌, ◌+◌, ◌*◌, ◌<◌, ◌^◌, ◌≤◌, ◌&&◌, ℕ, nat_le, slice_get, IfOk};
+ghost use Rattle.std.specs.Prelude.{◌≡◌, ◌+◌, ◌*◌, ◌<◌, ◌^◌, ◌≤◌, ◌-◌, ◌&&◌, ℕ, length, IfOk};
 ghost use Rattle.std.specs.List.{list_any, range_with_len};
-ghost use Rattle.ados_pattern.specs.Table.{IsBuilt, IsFilled, cell_of, cells_in, cells_of, column_of, is_set, or_false, row_cell, word_of};
+ghost use Rattle.ados_pattern.specs.CharTest.{has_test, test_of};
+ghost use Rattle.ados_pattern.specs.Table.{IsBuilt, IsFilled, byte_at, cell_of, cells_in, cells_of, column_of, is_set, leads, row_cell, word_of};
 
+use crate::bytes::CharTest;
+use crate::words::{before, below, has_bit, led_to, single, up_to, word_at};
 use ados_text::NoMemory;
 use std::alloc::Global;
 
 /// For each start and end, both told by the bytes left, whether the piece matches. A column holds
-/// 64 ends, each a bit of the word of its start.
+/// 64 ends, each a bit of the word of its start; a name has no more than the first.
 #[derive(Drop)]
 pub struct Table {
-    columns: Vec<Vec<u64>>,
+    first: Vec<u64>,
+    more: Vec<Vec<u64>>,
 }
 
 /// How a table comes from the tables of the parts.
 #[derive(Drop)]
 pub enum Rule {
+    /// The empty piece.
     Empty,
-    One(Vec<bool>),
+    /// One character.
+    One(CharTest),
+    /// One character, and a piece of the table behind it.
+    Next(CharTest, Table),
     Outside(Table),
     Many(Table),
     Other(Table),
@@ -34,62 +42,75 @@ impl Table {
         has_bit(word_at(self.column(end / 64), start), end % 64)
     }
 
+    /// The ends below 64 of the pieces from some starts below 64, each a bit.
+    pub fn ends_of(&self, starts: u64) -> u64
+        ensures { (b : ℕ) → b < 64 → is_set result b ≡ leads starts 0 (column_of self.now 0) b }
+    {
+        led_to(starts, 0, self.column(0))
+    }
+
     fn column(&self, group: usize) -> &[u64]
         ensures { result.now ≡ column_of self.now group }
     {
-        match self.columns.get(group) {
+        if group == 0 {
+            return &self.first;
+        }
+        match self.more.get(group - 1) {
             Some(column) => column,
             None => &[],
         }
     }
 
-    /// The table of a rule, for a text of so many bytes.
-    pub fn filled(alloc: Global, rule: &Rule, len: usize) -> Result<Table, NoMemory>
-        requires { len < 2 ^ 63 }
-        ensures { IfOk result (λ t. IsFilled rule.now len (cells_of t)) }
+    /// The table of a rule, for a text.
+    pub fn filled(alloc: Global, rule: &Rule, text: &[u8]) -> Result<Table, NoMemory>
+        requires { length text.now < 2 ^ 63 }
+        ensures { IfOk result (λ t. IsFilled rule.now text.now (cells_of t)) }
     {
-        let mut columns = Vec::with_capacity(alloc, len / 64 + 1)?;
-        for group in 0..len / 64 + 1 {
-            let column = column_for(alloc, rule, len, group)?;
-            columns.push(column)?;
+        let first = column_for(alloc, rule, text, 0)?;
+        let mut more = Vec::new(alloc);
+        for group in 1..text.len() / 64 + 1 {
+            let column = column_for(alloc, rule, text, group)?;
+            more.push(column)?;
         }
-        Ok(Table { columns })
+        Ok(Table { first, more })
     }
 }
 
-fn column_for(alloc: Global, rule: &Rule, len: usize, group: usize) -> Result<Vec<u64>, NoMemory>
-    requires short { len < 2 ^ 63 }
-    requires within { group * 64 ≤ len }
-    ensures { IfOk result (λ column. IsBuilt rule.now len group column.items (len + 1)) }
+fn column_for(alloc: Global, rule: &Rule, text: &[u8], group: usize) -> Result<Vec<u64>, NoMemory>
+    requires short { length text.now < 2 ^ 63 }
+    requires within { group * 64 ≤ length text.now }
+    ensures { IfOk result (λ column. IsBuilt rule.now text.now group column.items (length text.now + 1)) }
 {
+    let len = text.len();
     let mut column = Vec::with_capacity(alloc, len + 1)?;
     for start in 0..len + 1 {
-        let word = word_for(rule, len, &column, group, start);
+        let word = word_for(rule, text, &column, group, start);
         column.push(word)?;
     }
     Ok(column)
 }
 
 // The ends of one start, where the words of the starts before it are known.
-fn word_for(rule: &Rule, len: usize, known: &[u64], group: usize, start: usize) -> u64
-    requires short { len < 2 ^ 63 }
-    requires within { start ≤ len }
-    requires in_column { group * 64 ≤ len }
-    ensures { (b : ℕ) → b < 64 → is_set result b ≡ row_cell rule.now len (cells_in known.now group) start (group * 64 + b) }
+fn word_for(rule: &Rule, text: &[u8], known: &[u64], group: usize, start: usize) -> u64
+    requires short { length text.now < 2 ^ 63 }
+    requires within { start ≤ length text.now }
+    requires in_column { group * 64 ≤ length text.now }
+    ensures { (b : ℕ) → b < 64 → is_set result b ≡ row_cell rule.now text.now (cells_in known.now group) start (group * 64 + b) }
 {
-    ends(rule, len, known, group, start) & up_to(group, start)
+    ends(rule, text, known, group, start) & up_to(group, start)
 }
 
 // What the rule says of the ends of one start, also of those that come before it.
-fn ends(rule: &Rule, len: usize, known: &[u64], group: usize, start: usize) -> u64
-    requires short { len < 2 ^ 63 }
-    requires within { start ≤ len }
-    requires in_column { group * 64 ≤ len }
-    ensures { (b : ℕ) → b < 64 → is_set result b ≡ cell_of rule.now len (cells_in known.now group) start (group * 64 + b) }
+fn ends(rule: &Rule, text: &[u8], known: &[u64], group: usize, start: usize) -> u64
+    requires short { length text.now < 2 ^ 63 }
+    requires within { start ≤ length text.now }
+    requires in_column { group * 64 ≤ length text.now }
+    ensures { (b : ℕ) → b < 64 → is_set result b ≡ cell_of rule.now text.now (cells_in known.now group) start (group * 64 + b) }
 {
     match rule {
         Rule::Empty => single(group, start),
-        Rule::One(ones) => before(group, start, found(ones, len - start)),
+        Rule::One(test) => before(group, start, test.holds(next_byte(text, start))),
+        Rule::Next(test, rest) => next_ends(*test, rest, text, group, start),
         Rule::Outside(inner) => before(group, start, !inner.at(start, start.saturating_sub(1))),
         Rule::Many(inner) => single(group, start) | through(inner, start, known, start),
         Rule::Other(inner) => !word_at(inner.column(group), start),
@@ -100,75 +121,36 @@ fn ends(rule: &Rule, len: usize, known: &[u64], group: usize, start: usize) -> u
     }
 }
 
-// The ends that some middle of the first table leads to in the words of the rest.
+// The ends behind one character.
+fn next_ends(test: CharTest, rest: &Table, text: &[u8], group: usize, start: usize) -> u64
+    requires { start ≤ length text.now }
+    ensures { (b : ℕ) → b < 64 → is_set result b ≡ (has_test (test_of test) (byte_at text.now start) && cells_of rest.now (start - 1) (group * 64 + b)) }
+{
+    if test.holds(next_byte(text, start)) {
+        word_at(rest.column(group), start.saturating_sub(1))
+    } else {
+        0
+    }
+}
+
+/// The byte behind a start.
+pub fn next_byte(text: &[u8], start: usize) -> Option<u8>
+    requires { start ≤ length text.now }
+    ensures { result ≡ byte_at text.now start }
+{
+    text.get(text.len() - start).copied()
+}
+
+// The ends in the words of the rest to which the middles of the first table lead, those below a
+// limit.
 fn through(first: &Table, start: usize, rest: &[u64], limit: usize) -> u64
+    requires { limit < 2 ^ 63 + 1 }
     ensures { (b : ℕ) → b < 64 → is_set result b ≡ list_any (λ k. cells_of first.now start k && is_set (word_of rest.now k) b) (range_with_len 0 limit) }
 {
     let mut word = 0;
-    for middle in 0..limit {
-        if first.at(start, middle) {
-            word |= word_at(rest, middle);
-        }
+    for group in 0..limit / 64 + 1 {
+        let middles = word_at(first.column(group), start) & below(group, limit);
+        word |= led_to(middles, group, rest);
     }
     word
-}
-
-fn found(ones: &[bool], place: usize) -> bool
-    ensures { result ≡ or_false (slice_get ones.now place) }
-{
-    match ones.get(place) {
-        Some(one) => *one,
-        None => false,
-    }
-}
-
-fn word_at(words: &[u64], place: usize) -> u64
-    ensures { result ≡ word_of words.now place }
-{
-    match words.get(place) {
-        Some(word) => *word,
-        None => 0,
-    }
-}
-
-fn has_bit(word: u64, bit: usize) -> bool
-    requires { bit < 64 }
-    ensures { result ≡ is_set word bit }
-{
-    (word >> bit) & 1 == 1
-}
-
-// The word of a column with the bit of one end.
-fn single(group: usize, end: usize) -> u64
-    ensures { (b : ℕ) → b < 64 → is_set result b ≡ (end == group * 64 + b) }
-{
-    if end / 64 == group {
-        1 << (end % 64)
-    } else {
-        0
-    }
-}
-
-// The word with the bit of the end right behind a start, where that holds.
-fn before(group: usize, start: usize, holds: bool) -> u64
-    ensures { (b : ℕ) → b < 64 → is_set result b ≡ (start == group * 64 + b + 1) && holds }
-{
-    if holds && start > 0 {
-        single(group, start - 1)
-    } else {
-        0
-    }
-}
-
-// The word with the bits of all ends that do not come before a start.
-fn up_to(group: usize, start: usize) -> u64
-    ensures { (b : ℕ) → b < 64 → is_set result b ≡ nat_le (group * 64 + b) start }
-{
-    if start / 64 < group {
-        0
-    } else if start / 64 == group {
-        u64::MAX >> (63 - start % 64)
-    } else {
-        u64::MAX
-    }
 }

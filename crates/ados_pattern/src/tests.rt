@@ -117,13 +117,24 @@ fn knows_a_literal_and_its_name(rt: HostRuntime) -> Result<(), Fail> {
 
 #[test]
 fn matches_a_text_of_more_than_64_bytes(rt: HostRuntime) -> Result<(), Fail> {
-    let mut bytes = [b'a'; 130];
-    bytes[129] = b'b';
-    let text = Text::from_bytes(rt.alloc(), &bytes)?;
-    for (pattern, want) in [("#(#(#a))b", true), ("#(#(#a))", false), ("~(#a)", true)] {
-        let pattern_text = Text::from_bytes(rt.alloc(), pattern.as_bytes())?;
-        let parsed = Pattern::parse(rt.alloc(), &pattern_text)?;
-        assert_eq!(rt; parsed.matches(&text)?, want, "at {pattern}");
+    for size in [62, 63, 64, 129] {
+        let mut bytes = Vec::new(rt.alloc());
+        for _ in 0..size {
+            bytes.push(b'a')?;
+        }
+        bytes.push(b'b')?;
+        let text = Text::from_bytes(rt.alloc(), &bytes)?;
+        for (pattern, want) in [
+            ("#(#(#a))b", true),
+            ("#(#(#a))", false),
+            ("~(#a)", true),
+            ("#?[a-c]", true),
+            ("a#?a", false),
+        ] {
+            let pattern_text = Text::from_bytes(rt.alloc(), pattern.as_bytes())?;
+            let parsed = Pattern::parse(rt.alloc(), &pattern_text)?;
+            assert_eq!(rt; parsed.matches(&text)?, want, "at {pattern}");
+        }
     }
     Ok(())
 }

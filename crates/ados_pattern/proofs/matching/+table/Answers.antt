@@ -2,30 +2,28 @@ use Rattle.std.proofs.Common.{◌≡◌, ◌∙◌, sym, ap, subst, List, ℕ}
 use Rattle.std.proofs.lemmas.Result.{IfOk-weaker}
 use Rattle.ados_pattern.specs.declared.parts.Part.{Part}
 use Rattle.ados_pattern.specs.declared.tables.Table.{Table}
+use Rattle.ados_pattern.specs.declared.bytes.CharTest.TheVariants.{Is, Any as AnyByte, Within}
 use Rattle.ados_pattern.specs.Form.{Form, Char, Any, Range, Outside, Many, Other, Then, Either, form_of}
-use Rattle.ados_pattern.specs.Matches.{Matches, is_any, is_same, in_range}
+use Rattle.ados_pattern.specs.Matches.{Matches}
 use Rattle.ados_pattern.specs.Table.{IsTable, cells_of}
-use Rattle.ados_pattern.proofs.RuleLemmas.{table-one, table-outside, table-many, table-other, table-then, table-either}
+use Rattle.ados_pattern.proofs.RuleLemmas.{table-one, table-next, table-outside, table-many, table-other, table-then, table-either, test-cases}
 use Rattle.ados_pattern.proofs.matching.+table.Goals as goal
 
 -- a table of what a part is
 at_part : (part : Part) (form : Form) (text : List ℕ) → form_of part ≡ form → (t : Table) → IsTable (Matches form) text (cells_of t) → IsTable (Matches (form_of part)) text (cells_of t)
 at_part part form text e t h = let P : Form → Type 0 = λ f. IsTable (Matches f) text (cells_of t) in subst P (sym e) h
 
-pub returns-in_ok-ones-in-Char : goal.returns-in_ok-ones-in-Char
-returns-in_ok-ones-in-Char t c =
-    IfOk-weaker c.filled-in-Char.result _ _ (λ t f. at_part c.args.part.now (Char c.in-Char.c) c.args.text.now (ap form_of c.in-Char.is) t
-    (table-one (is_same c.in-Char.c) c.in_ok-ones-in-Char.ones c.args.text.now (cells_of t) c.in_ok-ones-in-Char.ensures f)) c.filled-in-Char.ensures
+pub returns-in-Char : goal.returns-in-Char
+returns-in-Char t c =
+    IfOk-weaker c.filled-in-Char.result _ _ (λ t f. at_part c.args.part.now (Char c.in-Char.c) c.args.text.now (ap form_of c.in-Char.is) t (table-one (Is c.in-Char.c) c.args.text.now (cells_of t) f)) c.filled-in-Char.ensures
 
-pub returns-in_ok-ones-in-Any : goal.returns-in_ok-ones-in-Any
-returns-in_ok-ones-in-Any t c =
-    IfOk-weaker c.filled-in-Any.result _ _ (λ t f. at_part c.args.part.now (Any) c.args.text.now (ap form_of c.in-Any.is) t
-    (table-one (is_any) c.in_ok-ones-in-Any.ones c.args.text.now (cells_of t) c.in_ok-ones-in-Any.ensures f)) c.filled-in-Any.ensures
+pub returns-in-Any : goal.returns-in-Any
+returns-in-Any t c =
+    IfOk-weaker c.filled-in-Any.result _ _ (λ t f. at_part c.args.part.now Any c.args.text.now (ap form_of c.in-Any.is) t (table-one AnyByte c.args.text.now (cells_of t) f)) c.filled-in-Any.ensures
 
-pub returns-in_ok-ones-in-Range : goal.returns-in_ok-ones-in-Range
-returns-in_ok-ones-in-Range t c =
-    IfOk-weaker c.filled-in-Range.result _ _ (λ t f. at_part c.args.part.now (Range c.in-Range.low c.in-Range.high) c.args.text.now (ap form_of c.in-Range.is) t
-    (table-one (in_range c.in-Range.low c.in-Range.high) c.in_ok-ones-in-Range.ones c.args.text.now (cells_of t) c.in_ok-ones-in-Range.ensures f)) c.filled-in-Range.ensures
+pub returns-in-Range : goal.returns-in-Range
+returns-in-Range t c =
+    IfOk-weaker c.filled-in-Range.result _ _ (λ t f. at_part c.args.part.now (Range c.in-Range.low c.in-Range.high) c.args.text.now (ap form_of c.in-Range.is) t (table-one (Within c.in-Range.low c.in-Range.high) c.args.text.now (cells_of t) f)) c.filled-in-Range.ensures
 
 pub returns-in_ok-inner-in-Outside : goal.returns-in_ok-inner-in-Outside
 returns-in_ok-inner-in-Outside t c =
@@ -42,11 +40,18 @@ returns-in_ok-inner-in-Other t c =
     IfOk-weaker c.filled-in-Other.result _ _ (λ t f. at_part c.args.part.now (Other (form_of c.deref-in-Other.result.now)) c.args.text.now (ap form_of c.in-Other.is ∙ ap (λ x. Other (form_of x)) (sym c.deref-in-Other.ensures)) t
     (table-other (Matches (form_of c.deref-in-Other.result.now)) c.in_ok-inner-in-Other.inner c.args.text.now (cells_of t) c.in_ok-inner-in-Other.ensures f)) c.filled-in-Other.ensures
 
-pub returns-in_ok-rest-in-Then : goal.returns-in_ok-rest-in-Then
-returns-in_ok-rest-in-Then t c =
-    IfOk-weaker c.filled-in-Then.result _ _ (λ t f. at_part c.args.part.now (Then (form_of c.deref-in-Then.result.now) (form_of c.deref-in-Then-2.result.now)) c.args.text.now
-    (ap form_of c.in-Then.is ∙ ap (λ x. Then (form_of x) (form_of c.in-Then.rest.value)) (sym c.deref-in-Then.ensures) ∙ ap (λ x. Then (form_of c.deref-in-Then.result.now) (form_of x)) (sym c.deref-in-Then-2.ensures)) t
-    (table-then (Matches (form_of c.deref-in-Then.result.now)) (Matches (form_of c.deref-in-Then-2.result.now)) c.in_ok-first-in-Then.first c.in_ok-rest-in-Then.rest c.args.text.now (cells_of t) c.in_ok-first-in-Then.ensures c.in_ok-rest-in-Then.ensures f)) c.filled-in-Then.ensures
+pub returns-in-Some : goal.returns-in-Some
+returns-in-Some t c =
+    IfOk-weaker c.filled-in-Some.result _ _ (λ t f. at_part c.args.part.now (Then (form_of c.deref-in-Then-2.result.now) (form_of c.deref-in-Then.result.now)) c.args.text.now
+    (ap form_of c.in-Then.is ∙ ap (λ x. Then (form_of x) (form_of c.in-Then.rest.value)) (sym c.deref-in-Then-2.ensures) ∙ ap (λ x. Then (form_of c.deref-in-Then-2.result.now) (form_of x)) (sym c.deref-in-Then.ensures)) t
+    (test-cases (form_of c.deref-in-Then-2.result.now) c.in-Some.test (Matches (form_of c.deref-in-Then.result.now)) c.args.text.now (cells_of t) (sym c.in-Some.ensures)
+    (table-next (Matches (form_of c.deref-in-Then.result.now)) c.in-Some.test c.in_ok-rest-in-Then.rest c.args.text.now (cells_of t) c.in_ok-rest-in-Then.ensures f))) c.filled-in-Some.ensures
+
+pub returns-in_ok-first-in-None : goal.returns-in_ok-first-in-None
+returns-in_ok-first-in-None t c =
+    IfOk-weaker c.filled-in-None.result _ _ (λ t f. at_part c.args.part.now (Then (form_of c.deref-in-None.result.now) (form_of c.deref-in-Then.result.now)) c.args.text.now
+    (ap form_of c.in-Then.is ∙ ap (λ x. Then (form_of x) (form_of c.in-Then.rest.value)) (sym c.deref-in-None.ensures) ∙ ap (λ x. Then (form_of c.deref-in-None.result.now) (form_of x)) (sym c.deref-in-Then.ensures)) t
+    (table-then (Matches (form_of c.deref-in-None.result.now)) (Matches (form_of c.deref-in-Then.result.now)) c.in_ok-first-in-None.first c.in_ok-rest-in-Then.rest c.args.text.now (cells_of t) c.in_ok-first-in-None.ensures c.in_ok-rest-in-Then.ensures f)) c.filled-in-None.ensures
 
 pub returns-in_ok-other-in-Either : goal.returns-in_ok-other-in-Either
 returns-in_ok-other-in-Either t c =

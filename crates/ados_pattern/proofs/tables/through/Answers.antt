@@ -1,19 +1,21 @@
-use Rattle.std.proofs.Common.{ℕ, ◌&&◌, sym, ◌∙◌, ap}
-use Rattle.ados_pattern.specs.Table.{is_set, word_of}
+use Rattle.std.proofs.Common.{◌≤◌, ◌*◌, ℕ, ◌∙◌, ap, arith, bit_and}
+use Rattle.ados_pattern.specs.Table.{word_of}
 use Rattle.ados_pattern.proofs.Bits.{set-zero}
-use Rattle.ados_pattern.proofs.Columns.{middle-taken, middle-left}
+use Rattle.ados_pattern.proofs.Middles.{led-all, led-more}
 use Rattle.ados_pattern.proofs.tables.through.Goals as goal
-use Rattle.ados_pattern.proofs.tables.through.Goals.{then-at, else-at}
 
-pub loop-middle-init : goal.loop-middle-init
-loop-middle-init c = λ b l. set-zero b
+pub loop-group-init : goal.loop-group-init
+loop-group-init c = λ b l. set-zero b
 
-pub loop-middle-preserved : goal.loop-middle-preserved
-loop-middle-preserved c = λ b l. elim c.if-at.branch [
-  | then-at w ↦ ap (λ (n : ℕ). is_set n b) w.word-is
-      ∙ middle-taken _ c.loop-middle.middle c.loop-middle.word w.word_at-word.result b (c.loop-middle.invariant b l)
-      (ap (λ x. x && is_set (word_of c.args.rest.now c.loop-middle.middle) b) (sym c.at.ensures ∙ w.if-at.true) ∙ ap (λ (n : ℕ). is_set n b) (sym w.word_at-word.ensures))
-  | else-at w ↦ ap (λ (n : ℕ). is_set n b) w.word-is
-      ∙ middle-left _ c.loop-middle.middle c.loop-middle.word b (c.loop-middle.invariant b l)
-      (ap (λ x. x && is_set (word_of c.args.rest.now c.loop-middle.middle) b) (sym c.at.ensures ∙ w.if-at.false))
-]
+pub loop-group-preserved : goal.loop-group-preserved
+loop-group-preserved c = λ b l.
+    led-more c.args.first.now c.args.start c.args.limit c.loop-group.group c.loop-group.word (bit_and c.word_at.result c.below.result) c.below.result c.led_to-word.result b c.args.rest.now l
+    (c.loop-group.invariant b l)
+    (ap (λ (n : ℕ). bit_and n c.below.result) (c.word_at.ensures ∙ ap (λ words. word_of words c.args.start) c.column.ensures))
+    c.below.ensures
+    (c.led_to-word.ensures b l)
+
+pub returns : goal.returns
+returns c =
+    let past : c.args.limit ≤ c.loop-group.group * 64 = omega (arith, c.loop-group-test.false, c.loop-group.auto.group-end) in
+    λ b l. c.loop-group.invariant b l ∙ led-all c.args.first.now c.args.start c.args.limit c.loop-group.group b c.args.rest.now past

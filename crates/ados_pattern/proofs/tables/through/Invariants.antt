@@ -1,7 +1,7 @@
-use Rattle.std.proofs.Common.{◌≡◌, ℕ, ◌<◌, ◌&&◌}
-use Rattle.std.specs.List.{list_any, range_with_len}
-use Rattle.ados_pattern.specs.Table.{cells_of, is_set, word_of}
+use Rattle.std.proofs.Common.{◌≡◌, ℕ, ◌<◌}
+use Rattle.ados_pattern.specs.Table.{is_set}
+use Rattle.ados_pattern.proofs.Middles.{led_before}
 use Rattle.ados_pattern.proofs.tables.through.Given as goal
 
-abbrev pub invariant-loop-middle : goal.invariant-loop-middle
-invariant-loop-middle l = (b : ℕ) → b < 64 → is_set l.word b ≡ list_any (λ k. cells_of l.first l.start k && is_set (word_of l.rest k) b) (range_with_len 0 l.middle)
+abbrev pub invariant-loop-group : goal.invariant-loop-group
+invariant-loop-group l = (b : ℕ) → b < 64 → is_set l.word b ≡ led_before l.first l.start l.rest l.limit l.group b

@@ -7,4 +7,4 @@ pub returns : goal.returns
 returns c = λ b l.
     set-and c.ends.result c.up_to.result b
     ∙ ap (λ x. x && is_set c.up_to.result b) (c.ends.ensures b l)
-    ∙ ap (λ x. cell_of c.args.rule.now c.args.len (cells_in c.args.known.now c.args.group) c.args.start (c.args.group * 64 + b) && x) (c.up_to.ensures b l)
+    ∙ ap (λ x. cell_of c.args.rule.now c.args.text.now (cells_in c.args.known.now c.args.group) c.args.start (c.args.group * 64 + b) && x) (c.up_to.ensures b l)

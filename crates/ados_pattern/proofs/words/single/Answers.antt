@@ -1,5 +1,5 @@
 use Rattle.ados_pattern.proofs.Columns.{single-there, single-elsewhere}
-use Rattle.ados_pattern.proofs.tables.single.Goals as goal
+use Rattle.ados_pattern.proofs.words.single.Goals as goal
 
 pub returns-then-end-group : goal.returns-then-end-group
 returns-then-end-group c = λ b l. single-there c.args.end c.args.group b c.if-end-group.true l

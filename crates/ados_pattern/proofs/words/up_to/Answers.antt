@@ -1,6 +1,6 @@
 use Rattle.std.proofs.Common.{◌<◌, ◌/◌, arith}
 use Rattle.ados_pattern.proofs.Columns.{up-before, up-there, up-past}
-use Rattle.ados_pattern.proofs.tables.up_to.Goals as goal
+use Rattle.ados_pattern.proofs.words.up_to.Goals as goal
 
 pub returns-then-start-group : goal.returns-then-start-group
 returns-then-start-group c = λ b l. up-before c.args.start c.args.group b c.if-start-group.true l

@@ -1,0 +1,107 @@
+//! All short patterns over all short texts.
+
+use ados_pattern::{Pattern, PatternFault};
+use ados_text::{NoMemory, Text};
+use std::alloc::Global;
+use std::fmt;
+
+const SIGNS: [u8; 13] = [
+    b'a', b'b', b'#', b'~', b'?', b'%', b'(', b')', b'|', b'[', b']', b'\'', b'-',
+];
+
+/// What the patterns of one length are, and what they match.
+#[derive(Clone, Copy, Debug, Default)]
+pub struct Tally {
+    patterns: u32,
+    bad: u32,
+    literal: u32,
+    matches: u32,
+    digest: u32,
+}
+
+impl fmt::Display for Tally {
+    fn fmt<W: fmt::Write>(&self, f: &mut fmt::Formatter<W>) -> Result<(), fmt::Error> {
+        write!(
+            f,
+            "{} patterns, {} bad, {} literal, {} matches, digest {}",
+            self.patterns, self.bad, self.literal, self.matches, self.digest
+        )
+    }
+}
+
+impl Tally {
+    fn mix(&mut self, value: u32) {
+        self.digest = self.digest.wrapping_mul(31).wrapping_add(value);
+    }
+
+    fn add_bad(&mut self, place: usize) {
+        self.bad = self.bad.wrapping_add(1);
+        self.mix((place % 1000) as u32 + 2);
+    }
+
+    fn add_literal(&mut self, name: &Text) {
+        self.literal = self.literal.wrapping_add(1);
+        self.mix(100);
+        for byte in name.as_bytes() {
+            self.mix(u32::from(*byte));
+        }
+    }
+
+    fn add_match(&mut self, matched: bool) {
+        let value = u32::from(matched);
+        self.matches = self.matches.wrapping_add(value);
+        self.mix(value);
+    }
+
+    fn add(&mut self, pattern: &Pattern, texts: &[Text]) -> Result<(), PatternFault> {
+        self.patterns = self.patterns.wrapping_add(1);
+        if let Some(name) = pattern.literal() {
+            self.add_literal(name);
+        }
+        for text in texts {
+            self.add_match(pattern.matches(text)?);
+        }
+        Ok(())
+    }
+}
+
+/// The tally of all patterns of so many signs.
+pub fn of_length(alloc: Global, length: u32) -> Result<Tally, PatternFault> {
+    let texts = short_texts(alloc)?;
+    let mut tally = Tally::default();
+    for index in 0..13_u32.saturating_pow(length) {
+        let text = written(alloc, &SIGNS, length, index)?;
+        match Pattern::parse(alloc, &text) {
+            Ok(pattern) => tally.add(&pattern, &texts)?,
+            Err(PatternFault::BadPattern(place)) => tally.add_bad(place),
+            Err(other) => return Err(other),
+        }
+    }
+    Ok(tally)
+}
+
+// All texts of up to three letters `a` and `b`, the shorter ones first.
+fn short_texts(alloc: Global) -> Result<Vec<Text>, NoMemory> {
+    let mut texts = Vec::new(alloc);
+    for length in 0..4 {
+        for index in 0..2_u32.saturating_pow(length) {
+            texts.push(written(alloc, b"ab", length, index)?)?;
+        }
+    }
+    Ok(texts)
+}
+
+// The text of so many signs whose places in the list of signs are the digits of the index.
+fn written(alloc: Global, signs: &[u8], length: u32, index: u32) -> Result<Text, NoMemory> {
+    let mut bytes = Vec::new(alloc);
+    let mut left = index as usize;
+    for _ in 0..length {
+        let sign = signs
+            .get(left % signs.len().max(1))
+            .copied()
+            .unwrap_or(b'a');
+        bytes.insert(0, sign)?;
+        left /= signs.len().max(1);
+    }
+    Ok(Text::from_bytes(alloc, &bytes)?)
+}
