@@ -57,7 +57,7 @@ impl Ram {
         })
     }
 
-    /// What stands at a place. Takes no memory.
+    /// What stands at a place. Takes no memory. Whatever is there is in a directory, and the limits hold.
     pub fn look(&self, place: &Place) -> Option<&Entry>
         ensures entry { option_copied result ≡ map.get self.now (key_of place.now) }
         ensures files { AreFiles self.now }
@@ -99,8 +99,8 @@ impl Ram {
     /// a new one takes the name as it is written here and the bits `----rwed`.
     ///
     /// 204 where a directory above is not there and 212 where a file is in its place; 212 for a directory, 202 for an
-    /// open output, 223 without bit w; 221 for a file of more than 65,536 bytes, for more than 1,048,576 bytes in all, or for more
-    /// than 1,024 objects.
+    /// open output, 223 without bit w; 221 for a file of more than 65,536 bytes, for more than 1,048,576 bytes in all,
+    /// or for more than 1,024 objects.
     pub fn write(&self, busy: &Busy, place: &Place, bytes: &[u8]) -> Result<Ram, FsFault>
         ensures ok { IfOk result (λ new. new ≡ write_of self.now (key_of place.now) (last_name place.now) bytes.now) }
         ensures fault { Answers result (write_fault (is_output busy.now (key_of place.now)) self.now (key_of place.now) (last_name place.now) bytes.now) }

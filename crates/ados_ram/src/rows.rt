@@ -25,7 +25,6 @@ pub struct Row {
 impl Model for Row {
     ghost use Rattle.std.specs.Prelude.{List, ℕ};
     ghost use Rattle.std.specs.Coded.{coded×, coded_list, coded_ℕ};
-    ghost use Rattle.ados_text.specs.Text.{to_ascii};
     ghost use Rattle.ados_ram.specs.Place.{key_of};
     ghost use Rattle.ados_ram.specs.Entry.{coded_entry};
     ghost use Rattle.ados_ram.specs.declared.entries.Entry.{Entry};
@@ -79,9 +78,7 @@ impl Row {
             Some(way) => way.len() == 1,
         }
     }
-}
 
-impl Row {
     /// It is below a directory.
     pub fn is_below(&self, directory: &[Name]) -> bool
         ensures { result ≡ is_below (key_of directory.now) self.now.0 }
