@@ -20,8 +20,8 @@ impl Pattern {
 
     /// Whether the text is what the pattern says, where case is ignored.
     ///
-    /// The work is bounded by the cube of the text's length for each byte of the pattern's text,
-    /// and by a 64th of it where the text has less than 64 bytes.
+    /// `NoMemory` where a growth was refused. The work is bounded: for each byte of the pattern's
+    /// text, by the square of the name's length, and by a 64th of its cube from 64 bytes on.
     pub fn matches(&self, text: &Text) -> Result<bool, NoMemory>
         ensures { IfOk result (λ b. IsTrue b ↔ Matches self.now.form text.now) }
     {
@@ -34,6 +34,7 @@ impl Pattern {
     }
 }
 
+// A text of less than 64 bytes, as each name is: its places are the bits of one word.
 fn matches_short(alloc: Global, part: &Part, text: &[u8]) -> Result<bool, NoMemory>
     requires { length text.now < 64 }
     ensures { IfOk result (λ b. IsTrue b ↔ Matches (form_of part.now) text.now) }

@@ -71,14 +71,14 @@ impl Pattern {
     }
 
     /// What the pattern says.
-    pub fn part(&self) -> &Part
+    pub(crate) fn part(&self) -> &Part
         ensures { form_of result.now ≡ self.now.form }
     {
         &self.part
     }
 
     /// The allocator by which the pattern was made.
-    pub fn alloc(&self) -> Global {
+    pub(crate) fn alloc(&self) -> Global {
         self.alloc
     }
 

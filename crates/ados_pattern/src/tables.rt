@@ -27,10 +27,15 @@ pub enum Rule {
     One(CharTest),
     /// One character, and a piece of the table behind it.
     Next(CharTest, Table),
+    /// One character that is no piece of the table.
     Outside(Table),
+    /// Pieces of the table, one behind the other; or the empty piece.
     Many(Table),
+    /// What is no piece of the table.
     Other(Table),
+    /// A piece of the first, and behind it one of the second.
     Then(Table, Table),
+    /// A piece of the one or of the other.
     Either(Table, Table),
 }
 
@@ -76,6 +81,7 @@ impl Table {
     }
 }
 
+// The words of all starts for the 64 ends of a group.
 fn column_for(alloc: Global, rule: &Rule, text: &[u8], group: usize) -> Result<Vec<u64>, NoMemory>
     requires short { length text.now < 2 ^ 63 }
     requires within { group * 64 ≤ length text.now }

@@ -107,6 +107,7 @@ impl Mode {
     }
 }
 
+// Outside of a class.
 fn token_of_plain(byte: u8, rest: &[u8]) -> Token
     ensures { result ≡ plain_token byte rest.now }
 {
@@ -170,6 +171,7 @@ fn mode_of_member(byte: u8, rest: &[u8]) -> Mode
     }
 }
 
+// A `-` and the high end of a range, where `]` is none but by a quote.
 fn starts_range(rest: &[u8]) -> bool
     ensures { result ≡ begins_range rest.now }
 {
