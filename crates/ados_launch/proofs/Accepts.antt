@@ -1,10 +1,11 @@
 -- What is due is accepted.
-use Rattle.std.proofs.Common.{◌≡◌, ℕ, zero, suc, ◌≤◌, ◌∷◌, List, [], Option, Some, None, true, false, not, ◌&&◌, refl, ap, is_some, length, slice_get, ◌==◌, arith}
+use Rattle.std.proofs.Common.{◌≡◌, ℕ, zero, suc, ◌≤◌, ◌∷◌, List, [], Option, Some, None, true, false, not, ◌&&◌, ◌||◌, refl, ap, is_some, length, slice_get, ◌==◌, arith}
+use Rattle.std.proofs.lemmas.Bool.{and_parts}
 use Rattle.std.proofs.lemmas.Grind.{common_steps}
 use Rattle.std.specs.List.{list_any}
-use Rattle.ados_machine.specs.World.{WorldState, shell_at, is_ready, wants_line, is_over, has_input, flatten}
-use Rattle.ados_machine.specs.Shell.{ShellState}
-use Rattle.ados_machine.specs.Step.{step_of, turned, turn_by}
+use Rattle.ados_machine.specs.World.{WorldState, shell_at, has_frame, can_turn, is_ready, wants_line, is_over, has_input, flatten}
+use Rattle.ados_machine.specs.Frames.{FrameState, ShellState}
+use Rattle.ados_machine.specs.Step.{step_of, turned, turn_by, console_turn}
 use Rattle.ados_machine.specs.declared.events.Event.TheVariants.{Typed, EndOfInput, Turn}
 use Rattle.ados_launch.specs.Schedule.{is_accepted, is_due}
 
@@ -19,28 +20,49 @@ runs-on : (w : WorldState) (k : ℕ) → is_some (shell_at w k) ≡ true → is_
 runs-on w zero e = cc
 runs-on w (suc k) e = ap not (any_some w.shells k e)
 
+runs-where_wanted : (w : WorldState) → wants_line w ≡ true → is_over w ≡ false
+runs-where_wanted w e = runs-on w 1 (and_parts (is_some (shell_at w 1)) (not (is_ready w 1)) e).0
+
+-- a shell that could take something wants no line
+nothing-to-take : (w : WorldState) (found : Option ShellState) → (is_some found && not (can_turn w 1 found)) ≡ true → has_input w ≡ false
+nothing-to-take w None e = cc
+nothing-to-take w (Some shell) e = grind (arith, common_steps)
+
 -- where a line is wanted the input's end is accepted
 pub end-accepted : (w : WorldState) → wants_line w ≡ true → is_accepted (step_of w EndOfInput) ≡ true
-end-accepted w e = let left : is_over w ≡ false = runs-on w 1 (grind (arith, common_steps)) in grind (arith, common_steps)
+end-accepted w e =
+    let left : is_over w ≡ false = runs-where_wanted w e in
+    let none : has_input w ≡ false = nothing-to-take w (shell_at w 1) e in
+    grind (arith, common_steps)
 
 -- where a line is wanted one of at most 512 bytes is accepted
 pub line-accepted : (w : WorldState) (line : List ℕ) → wants_line w ≡ true → length line ≤ 512 → is_accepted (step_of w (Typed line)) ≡ true
-line-accepted w line e h = let left : is_over w ≡ false = runs-on w 1 (grind (arith, common_steps)) in grind (arith, common_steps)
+line-accepted w line e h =
+    let left : is_over w ≡ false = runs-where_wanted w e in
+    let none : has_input w ≡ false = nothing-to-take w (shell_at w 1) e in
+    grind (arith, common_steps)
 
-turn_by-accepted : (w : WorldState) (shell : ShellState) (queue : List (List ℕ)) → is_accepted (turn_by w shell queue) ≡ true
-turn_by-accepted w shell [] = refl
-turn_by-accepted w shell (line ∷ rest) = refl
+console-accepted : (w : WorldState) (shell : ShellState) (queue : List (List ℕ)) → is_accepted (console_turn w shell queue) ≡ true
+console-accepted w shell [] = refl
+console-accepted w shell (line ∷ rest) = refl
 
-turned-accepted : (w : WorldState) (k : ℕ) (shell : Option ShellState) → (is_some shell && (k == 1) && has_input w) ≡ true → is_accepted (turned w k shell) ≡ true
+turn_by-accepted : (w : WorldState) (k : ℕ) (shell : ShellState) (frames : List FrameState) → (has_frame frames || ((k == 1) && has_input w)) ≡ true → is_accepted (turn_by w k shell frames) ≡ true
+turn_by-accepted w k shell (frame ∷ frames) e = refl
+turn_by-accepted w k shell [] e = rw e (console-accepted w shell w.queue)
+
+turned-accepted : (w : WorldState) (k : ℕ) (found : Option ShellState) → can_turn w k found ≡ true → is_accepted (turned w k found) ≡ true
 turned-accepted w k None e = cc
-turned-accepted w k (Some shell) e =
-    let first : (k == 1) ≡ true = grind (arith, common_steps) in
-    let some : has_input w ≡ true = grind (arith, common_steps) in
-    rw (first, some) (turn_by-accepted w shell w.queue)
+turned-accepted w k (Some shell) e = turn_by-accepted w k shell shell.frames e
+
+runs-where_ready : (w : WorldState) (k : ℕ) (found : Option ShellState) → can_turn w k found ≡ true → is_some found ≡ true
+runs-where_ready w k None e = cc
+runs-where_ready w k (Some shell) e = refl
 
 -- a turn of a shell that is ready is accepted
 pub turn-accepted : (w : WorldState) (k : ℕ) → is_ready w k ≡ true → is_accepted (step_of w (Turn k)) ≡ true
-turn-accepted w k e = let left : is_over w ≡ false = runs-on w k (grind (arith, common_steps)) in rw left (turned-accepted w k (shell_at w k) e)
+turn-accepted w k e =
+    let left : is_over w ≡ false = runs-on w k (runs-where_ready w k (shell_at w k) e) in
+    rw left (turned-accepted w k (shell_at w k) e)
 
 -- the turn of a shell whose place is due is accepted
 pub due-accepted : (w : WorldState) (place : ℕ) → is_due w place ≡ true → (place ≡ 0 → ⊥) → is_accepted (step_of w (Turn place)) ≡ true

@@ -1,11 +1,11 @@
 -- Where only shell 1 runs no other shell comes, and where nothing is due it has ended.
-use Rattle.std.proofs.Common.{◌≡◌, ◌≢◌, ℕ, zero, suc, ◌∷◌, List, [], Option, Some, None, true, false, not, refl, ap, ◌∙◌, is_some, slice_get, slice_set, ◌==◌, inl, inr, arith}
+use Rattle.std.proofs.Common.{◌≡◌, ◌≢◌, ℕ, zero, suc, ◌∷◌, List, [], Option, Some, None, true, false, not, ◌&&◌, refl, ap, ◌∙◌, is_some, slice_get, slice_set, inl, inr, arith}
 use Rattle.std.specs.List.{list_any}
-use Rattle.std.proofs.lemmas.Bool.{cases_Bool}
+use Rattle.std.proofs.lemmas.Bool.{cases_Bool, cases_eq}
 use Rattle.std.proofs.lemmas.Grind.{common_steps}
-use Rattle.ados_machine.specs.World.{WorldState, shell_at, is_over, has_input, flatten, numbered}
-use Rattle.ados_machine.specs.Shell.{ShellState}
-use Rattle.ados_machine.specs.Step.{step_of, turned, turn_by}
+use Rattle.ados_machine.specs.World.{WorldState, shell_at, is_ready, is_over, has_input, flatten, numbered}
+use Rattle.ados_machine.specs.Frames.{FrameState, ShellState}
+use Rattle.ados_machine.specs.Step.{step_of, turned, turn_by, console_turn}
 use Rattle.ados_machine.specs.declared.events.Event.TheVariants.{Typed, EndOfInput, Turn}
 use Rattle.ados_launch.specs.declared.lines.LineKind.{LineKind}
 use Rattle.ados_launch.specs.declared.lines.LineKind.TheVariants.{End, Short, Long, Overlong}
@@ -28,26 +28,34 @@ others_stay shells first (suc zero) other = absurd (other refl)
 others_stay [] first (suc (suc k)) other = refl
 others_stay (o ∷ shells) first (suc (suc k)) other = refl
 
-turn_by-alone : (w : WorldState) (left : List ℕ) (shell : ShellState) (queue : List (List ℕ)) → IsAlone w → IsAlone (did_by w left (turn_by w shell queue)).world
-turn_by-alone w left shell [] alone k other = others_stay w.shells None k other ∙ alone k other
-turn_by-alone w left shell (line ∷ rest) alone k other = others_stay w.shells _ k other ∙ alone k other
+console-alone : (w : WorldState) (left : List ℕ) (shell : ShellState) (queue : List (List ℕ)) → IsAlone w → IsAlone (did_by w left (console_turn w shell queue)).world
+console-alone w left shell [] alone k other = others_stay w.shells None k other ∙ alone k other
+console-alone w left shell (line ∷ rest) alone k other = others_stay w.shells _ k other ∙ alone k other
 
-turned-alone : (w : WorldState) (left : List ℕ) (k : ℕ) (shell : Option ShellState) → IsAlone w → IsAlone (did_by w left (turned w k shell)).world
-turned-alone w left k None alone = alone
-turned-alone w left k (Some shell) alone =
-    elim (cases_Bool (k == 1)) [
-      | inl one ↦ rw one (elim (cases_Bool (has_input w)) [
-        | inl some ↦ rw some (turn_by-alone w left shell w.queue alone)
-        | inr none ↦ rw none alone
-      ])
-      | inr other ↦ rw other alone
+turn_by-alone : (w : WorldState) (left : List ℕ) (shell : ShellState) (frames : List FrameState) → IsAlone w → IsAlone (did_by w left (turn_by w 1 shell frames)).world
+turn_by-alone w left shell (frame ∷ frames) alone = λ k other. others_stay w.shells _ k other ∙ alone k other
+turn_by-alone w left shell [] alone =
+    elim (cases_Bool (has_input w)) [
+      | inl some ↦ rw some (console-alone w left shell w.queue alone)
+      | inr none ↦ rw none alone
+    ]
+
+first-turned-alone : (w : WorldState) (left : List ℕ) (found : Option ShellState) → IsAlone w → IsAlone (did_by w left (turned w 1 found)).world
+first-turned-alone w left None alone = alone
+first-turned-alone w left (Some shell) alone = turn_by-alone w left shell shell.frames alone
+
+turned-alone : (w : WorldState) (left : List ℕ) (k : ℕ) → IsAlone w → IsAlone (did_by w left (turned w k (shell_at w k))).world
+turned-alone w left k alone =
+    elim (cases_eq k 1) [
+      | inl one ↦ rw one (first-turned-alone w left (shell_at w 1) alone)
+      | inr other ↦ rw (alone k other) alone
     ]
 
 turn-alone : (w : WorldState) (left : List ℕ) (k : ℕ) → IsAlone w → IsAlone (did_by w left (step_of w (Turn k))).world
 turn-alone w left k alone =
     elim (cases_Bool (is_over w)) [
       | inl over ↦ rw over alone
-      | inr running ↦ rw running (turned-alone w left k (shell_at w k) alone)
+      | inr running ↦ rw running (turned-alone w left k alone)
     ]
 
 line-alone : (w : WorldState) (left : List ℕ) (kind : LineKind) → IsAlone w → IsAlone (did_line w left kind).world
@@ -78,9 +86,10 @@ none_runs (None ∷ shells) none = none_runs shells (λ i. none (suc i))
 first-ended : (w : WorldState) (shell : Option ShellState) → shell_at w 1 ≡ shell → IsIdle w → shell ≡ None
 first-ended w None e idle = refl
 first-ended w (Some shell) e idle =
-    let unwanted = idle 0 (omega arith) in
-    let unready = idle 1 (omega arith) in
-    absurd (grind (arith, common_steps))
+    let unready : is_ready w 1 ≡ false = idle 1 (omega arith) in
+    let unwanted : (is_some (shell_at w 1) && not false) ≡ false = rw unready at (idle 0 (omega arith)) in
+    let none : true ≡ false = rw e at unwanted in
+    cc
 
 all-ended : (w : WorldState) → IsIdle w → IsAlone w → (i : ℕ) → flatten (slice_get w.shells i) ≡ None
 all-ended w idle alone zero = first-ended w (shell_at w 1) refl idle

@@ -1,10 +1,11 @@
 -- What an event makes of the input: shell 1 ends only where it has ended.
-use Rattle.std.proofs.Common.{◌≡◌, ℕ, ◌∷◌, List, [], Option, Some, None, Bool, true, not, ◌&&◌, refl, is_some, slice_get, slice_set, ◌⊎◌, inl, inr, ◌==◌, arith}
-use Rattle.std.proofs.lemmas.Bool.{cases_Bool}
+use Rattle.std.proofs.Common.{◌≡◌, ℕ, zero, suc, ◌-◌, ◌∷◌, List, [], Option, Some, None, Bool, true, not, ◌&&◌, refl, is_some, slice_get, slice_set, ◌⊎◌, inl, inr, ◌==◌, arith}
+use Rattle.std.proofs.lemmas.Bool.{cases_Bool, and_parts}
 use Rattle.std.proofs.lemmas.Grind.{common_steps}
 use Rattle.ados_machine.specs.World.{WorldState, shell_at, is_ready, wants_line, is_over, has_input, flatten}
-use Rattle.ados_machine.specs.Shell.{ShellState, turn_of}
-use Rattle.ados_machine.specs.Step.{step_of, turned, turn_by}
+use Rattle.ados_machine.specs.Frames.{FrameState, ShellState}
+use Rattle.ados_machine.specs.Shell.{turn_of}
+use Rattle.ados_machine.specs.Step.{step_of, turned, turn_by, console_turn, script_turned}
 use Rattle.ados_machine.specs.declared.events.Event.TheVariants.{Typed, Turn}
 use Rattle.ados_launch.specs.Schedule.{takes_input, did_by}
 
@@ -12,26 +13,30 @@ use Rattle.ados_launch.specs.Schedule.{takes_input, did_by}
 pub typed-takes : (w : WorldState) (left line : List ℕ) → takes_input w ≡ true → takes_input (did_by w left (step_of w (Typed line))).world ≡ true
 typed-takes w left line e = grind (arith, common_steps)
 
-first_stays : (ended : Bool) (shells : List (Option ShellState)) (shell : ShellState) → (is_some (flatten (slice_get shells 0)) && not ended) ≡ true → (is_some (flatten (slice_get (slice_set shells 0 (Some shell)) 0)) && not ended) ≡ true
-first_stays ended [] shell e = e
-first_stays ended (None ∷ shells) shell e = cc
-first_stays ended (Some o ∷ shells) shell e = e
+-- shell 1 runs on where any shell takes a line
+first_stays : (ended : Bool) (shells : List (Option ShellState)) (i : ℕ) (shell : ShellState) → (is_some (flatten (slice_get shells 0)) && not ended) ≡ true → (is_some (flatten (slice_get (slice_set shells i (Some shell)) 0)) && not ended) ≡ true
+first_stays ended [] i shell e = e
+first_stays ended (None ∷ shells) zero shell e = cc
+first_stays ended (Some o ∷ shells) zero shell e = e
+first_stays ended (o ∷ shells) (suc i) shell e = e
 
 -- shell 1 takes the first line that waits, and ends only where there is none and the input has ended
-turn_by-takes : (w : WorldState) (left : List ℕ) (shell : ShellState) (queue : List (List ℕ)) → takes_input w ≡ true → w.queue ≡ queue → has_input w ≡ true → takes_input (did_by w left (turn_by w shell queue)).world ≡ true
-turn_by-takes w left shell [] e q h = absurd (grind (arith, common_steps))
-turn_by-takes w left shell (line ∷ rest) e q h = first_stays w.input_ended w.shells (turn_of line shell).shell e
+console-takes : (w : WorldState) (left : List ℕ) (shell : ShellState) (queue : List (List ℕ)) → takes_input w ≡ true → w.queue ≡ queue → has_input w ≡ true → takes_input (did_by w left (console_turn w shell queue)).world ≡ true
+console-takes w left shell [] e q h = absurd (grind (arith, common_steps))
+console-takes w left shell (line ∷ rest) e q h = first_stays w.input_ended w.shells 0 (turn_of line shell w.shared).shell e
 
-turned-takes : (w : WorldState) (left : List ℕ) (k : ℕ) (shell : Option ShellState) → takes_input w ≡ true → takes_input (did_by w left (turned w k shell)).world ≡ true
-turned-takes w left k None e = e
-turned-takes w left k (Some shell) e =
-    elim (cases_Bool (k == 1)) [
-      | inl one ↦ rw one (elim (cases_Bool (has_input w)) [
-        | inl some ↦ rw some (turn_by-takes w left shell w.queue e refl some)
-        | inr none ↦ rw none e
-      ])
-      | inr other ↦ rw other e
+turn_by-takes : (w : WorldState) (left : List ℕ) (k : ℕ) (shell : ShellState) (frames : List FrameState) → takes_input w ≡ true → takes_input (did_by w left (turn_by w k shell frames)).world ≡ true
+turn_by-takes w left k shell (frame ∷ frames) e =
+    first_stays w.input_ended w.shells (k - 1) (script_turned shell frame frames w.shared (slice_get frame.lines frame.position)).shell e
+turn_by-takes w left k shell [] e =
+    elim (cases_Bool ((k == 1) && has_input w)) [
+      | inl some ↦ rw some (console-takes w left shell w.queue e refl (and_parts (k == 1) (has_input w) some).1)
+      | inr none ↦ rw none e
     ]
+
+turned-takes : (w : WorldState) (left : List ℕ) (k : ℕ) (found : Option ShellState) → takes_input w ≡ true → takes_input (did_by w left (turned w k found)).world ≡ true
+turned-takes w left k None e = e
+turned-takes w left k (Some shell) e = turn_by-takes w left k shell shell.frames e
 
 -- a turn leaves the input as it is, and shell 1 ends only where it has ended
 pub turn-takes : (w : WorldState) (left : List ℕ) (k : ℕ) → takes_input w ≡ true → takes_input (did_by w left (step_of w (Turn k))).world ≡ true
@@ -44,7 +49,7 @@ turn-takes w left k e =
 -- where shell 1 takes input, a line is wanted or shell 1 is ready
 pub takes-due : (w : WorldState) → takes_input w ≡ true → (wants_line w ≡ true) ⊎ (is_ready w 1 ≡ true)
 takes-due w e =
-    elim (cases_Bool (has_input w)) [
-      | inl some ↦ inr (grind (arith, common_steps))
-      | inr none ↦ inl (grind (arith, common_steps))
+    elim (cases_Bool (is_ready w 1)) [
+      | inl ready ↦ inr ready
+      | inr unready ↦ inl (rw (unready, (and_parts (is_some (shell_at w 1)) (not w.input_ended) e).0) refl)
     ]

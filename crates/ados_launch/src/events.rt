@@ -70,7 +70,7 @@ fn take_line<S: Source>(
         }
         LineKind::Long => {
             let text = LONG_LINE_TEXT.to_vec(alloc)?;
-            Ok(Out::printing(alloc, text))
+            Ok(Out::giving(text, Vec::new(alloc)))
         }
         LineKind::Overlong => Err(DriveFault::Read),
     }

@@ -1,7 +1,7 @@
 use crate::memory::{FlakyReader, FlakyWriter, NEVER};
 use crate::{Counted, DriveFault, End, drive_lines};
 use ados_text::{Code, NoMemory, Result2};
-use ados_world::World;
+use ados_world::{NewFault, World};
 use std::alloc::Global;
 
 // More events than any run here has.
@@ -30,10 +30,12 @@ const NONE_FAILS: Failing = Failing {
 
 // A fresh world driven by these bytes, read three at a time and written one at a time.
 fn driven(alloc: Global, input: &[u8], fails: Failing, turns: u64) -> Result<Outcome, NoMemory> {
-    let Ok(mut world) = World::new(alloc, &[]) else {
-        unreachable!();
+    let mut world = match World::new(alloc, &[]) {
+        Ok(world) => world,
+        Err(NewFault::NoMemory) => return Err(NoMemory),
+        Err(NewFault::TooMany) => unreachable!(),
     };
-    let mut text = Vec::with_capacity(alloc, 100)?;
+    let mut text = Vec::with_capacity(alloc, 200)?;
     let mut reader = Counted::new(FlakyReader::new(input, 3, fails.read));
     let mut writer = Counted::new(FlakyWriter::new(&mut text, 1, fails.write, fails.stalled_write));
     let end = drive_lines(alloc, &mut world, &mut reader, &mut writer, turns);
@@ -81,6 +83,37 @@ fn the_end_has_the_codes_of_the_last_command(rt: HostRuntime) -> Result<(), NoMe
     assert_eq!(rt; driven.end, Ok(want));
     let want = b"foo: object not found\nfoo failed returncode 10\n";
     assert_eq!(rt; driven.text.as_slice(), want.as_slice());
+    Ok(())
+}
+
+#[test]
+fn a_script_ends_at_the_first_command_that_reaches_the_limit(
+    rt: HostRuntime,
+) -> Result<(), NoMemory> {
+    let input = b"Echo >>S:b \"Echo one\"\nEcho >>S:b \"Echo two\"\n\
+        Echo >>S:a nosuch\nEcho >>S:a \"Echo on\"\nExecute a\nFailAt 11\nExecute a\n\
+        FailAt 0\nExecute b\n";
+    let driven = driven(rt.alloc(), input, NONE_FAILS, ENOUGH)?;
+    assert_eq!(rt; driven.end, well(24));
+    let want = b"nosuch: object not found\nnosuch failed returncode 10\n\
+        Execute failed returncode 10\nnosuch: object not found\non\n\
+        FailAt failed returncode 0\none\nEcho failed returncode 0\n";
+    assert_eq!(rt; driven.text.as_slice(), want.as_slice());
+    Ok(())
+}
+
+#[test]
+fn a_script_that_quits_gives_its_code(rt: HostRuntime) -> Result<(), NoMemory> {
+    let input = b"Echo >>S:g \"Echo a\"\nEcho >>S:g \"Quit 5\"\nEcho >>S:g \"Echo b\"\n\
+        Execute g\n";
+    let driven = driven(rt.alloc(), input, NONE_FAILS, ENOUGH)?;
+    let want = End {
+        code: Code::WARN,
+        result2: Result2::NONE,
+        events: 12,
+    };
+    assert_eq!(rt; driven.end, Ok(want));
+    assert_eq!(rt; driven.text.as_slice(), b"a\n".as_slice());
     Ok(())
 }
 

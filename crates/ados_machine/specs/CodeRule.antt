@@ -3,19 +3,22 @@ use Rattle.std.specs.Prelude.{ℕ, ℤ, pos, int_le, List, [], ◌∷◌, ◌++�
 use Rattle.std.specs.Fmt.{signed_decimal}
 use Rattle.ados_text.specs.declared.codes.Code.{Code}
 use Rattle.ados_text.specs.declared.codes.Result2.{Result2}
+use Rattle.ados_text.specs.declared.codes.TheConstants.Code.{OK, ERROR, FAIL}
+use Rattle.ados_text.specs.declared.codes.TheConstants.Result2.{NONE}
 use Rattle.ados_text.specs.Fault.{fault_text_of}
 use Rattle.ados_machine.specs.declared.codes.Codes.{Codes}
 
-abbrev pub codes_of : ℤ → ℕ → Codes
-codes_of code result2 = record { code = record { 0 = code }; result2 = record { 0 = result2 } }
-
 -- nothing has answered yet, or the last command went well
 abbrev pub went_well : Codes
-went_well = codes_of (pos 0) 0
+went_well = record { code = OK; result2 = NONE }
 
--- a line fault, under the name `Shell`
-abbrev pub line_fault : Result2 → Codes
-line_fault fault = record { code = record { 0 = pos 20 }; result2 = fault }
+-- a fault of a line, of arguments, or of a redirection
+abbrev pub failed : Result2 → Codes
+failed fault = record { code = FAIL; result2 = fault }
+
+-- any other fault
+abbrev pub erred : Result2 → Codes
+erred fault = record { code = ERROR; result2 = fault }
 
 -- the code is at the limit, or above
 abbrev pub is_reached : Code → Code → Bool
@@ -32,13 +35,3 @@ failure word code = word ++ codes " failed returncode " ++ signed_decimal code.0
 -- a code at the limit, or above, prints that the command failed
 abbrev pub failed_line : List ℕ → Code → Code → List ℕ
 failed_line word code limit = if is_reached limit code then failure word code else []
-
--- a record: the line of its frame, from 1 (0 on the console), what was answered, and the limit after it
-pub record Record : Type 0 where
-  pub line : ℕ
-  pub codes : Codes
-  pub limit : Code
-
--- what the trace of a shell says: at this depth (0 is the console) a command answered, or a line was at fault
-pub data Item : Type 0 where
-  Answered : (depth : ℕ) (entry : Record) → Item

@@ -1,7 +1,12 @@
 pub mod CodeRule
-pub mod LineMeaning
-pub mod Rows
+pub mod FileNames
+pub mod ScriptLines
+pub mod Commands
+pub mod Frames
 pub mod Shell
 pub mod World
 pub mod Step
 pub mod Runs
+pub mod Trace
+pub mod Limits
+pub mod Laws

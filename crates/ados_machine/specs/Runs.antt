@@ -5,7 +5,7 @@ use Rattle.ados_machine.specs.declared.events.Event.TheVariants.{Typed, EndOfInp
 use Rattle.ados_machine.specs.declared.outs.Out.{Out}
 use Rattle.ados_machine.specs.declared.refusals.Refusal.{Refusal}
 use Rattle.ados_machine.specs.declared.refusals.Refusal.TheVariants.{NoMemory}
-use Rattle.ados_machine.specs.CodeRule.{Item}
+use Rattle.ados_machine.specs.Frames.{Item}
 use Rattle.ados_machine.specs.World.{WorldState}
 use Rattle.ados_machine.specs.Step.{Response, Refused, Accepted, step_of}
 

@@ -1,45 +1,119 @@
--- A shell, and what a line of it does.
-use Rattle.std.specs.Prelude.{ℕ, pos, List, [], ◌∷◌, ◌++◌, codes}
-use Rattle.ados_text.specs.declared.codes.Code.{Code}
+-- What a line does to its shell.
+use Rattle.std.specs.Prelude.{ℕ, suc, List, [], ◌∷◌, ◌++◌, Bool, false, true, ◌&&◌, Option, Some, None, Result, Ok, Err, is_none, codes, length}
+use Rattle.std.specs.FinMap as finite
+use Rattle.ados_text.specs.declared.codes.Result2.{Result2}
+use Rattle.ados_text.specs.declared.codes.TheConstants.Result2.{OBJECT_NOT_FOUND, ARGUMENT_MISSING, TOO_MANY_ARGUMENTS, UNMATCHED_QUOTES, LINE_TOO_LONG, NOT_IMPLEMENTED, NO_FREE_STORE}
+use Rattle.ados_line.specs.declared.faults.LineFault.{LineFault}
+use Rattle.ados_line.specs.declared.faults.LineFault.TheVariants as fault
+use Rattle.ados_line.specs.declared.lines.Line.{Line}
+use Rattle.ados_line.specs.declared.lines.Redirection.{Redirection}
+use Rattle.ados_line.specs.declared.lines.Expanded.{Expanded}
+use Rattle.ados_line.specs.declared.lines.Expanded.TheVariants.{Nothing, Ready}
+use Rattle.ados_line.specs.Cut.{expanded_of}
+use Rattle.ados_ram.specs.Place.{key_of, last_name}
+use Rattle.ados_ram.specs.Files.{Files}
+use Rattle.ados_ram.specs.FileOperations.{write_of, write_fault, append_of, append_fault}
+use Rattle.ados_machine.specs.declared.builtins.Builtin.{Builtin}
 use Rattle.ados_machine.specs.declared.codes.Codes.{Codes}
-use Rattle.ados_machine.specs.declared.lines.Line.{Line}
-use Rattle.ados_machine.specs.declared.lines.Line.TheVariants.{Nothing, Fault, Command as AsksFor}
-use Rattle.ados_machine.specs.CodeRule.{went_well, line_fault, fault_line, failed_line, Record, Item, Answered}
-use Rattle.ados_machine.specs.LineMeaning.{meaning_of}
-use Rattle.ados_machine.specs.Rows.{Effect, effect_of}
+use Rattle.ados_machine.specs.CodeRule.{failed, erred, fault_line}
+use Rattle.ados_machine.specs.FileNames.{place_of}
+use Rattle.ados_machine.specs.Commands.{builtin_of, Effect, Action, Answers, Quits, Calls, Called, action_of}
+use Rattle.ados_machine.specs.Frames.{FrameState, SharedState, ShellState, Course, Turned, Began, printing, behind, finish, passed}
 
--- a shell's own parts
-pub record ShellState : Type 0 where
-  pub limit : Code
+-- the number of a line's fault
+abbrev pub number_of_fault : LineFault → Result2
+number_of_fault fault.ArgumentMissing = ARGUMENT_MISSING
+number_of_fault fault.TooManyArguments = TOO_MANY_ARGUMENTS
+number_of_fault fault.UnmatchedQuotes = UNMATCHED_QUOTES
+number_of_fault fault.LineTooLong = LINE_TOO_LONG
+number_of_fault fault.NotImplemented = NOT_IMPLEMENTED
+number_of_fault fault.NoMemory = NO_FREE_STORE
+
+-- a command answered: the text of its fault is printed, and what follows is the code rule
+abbrev pub answered : List ℕ → Codes → Bool → ShellState → Course → Turned
+answered word codes quits shell course = finish word codes quits shell.limit shell.frames (printing (fault_line word codes.result2) course)
+
+-- an output that was opened: the files behind that, and its place, if it is no console
+pub record Opened : Type 0 where
+  pub files : Files
+  pub place : Option (List (List ℕ))
+
+abbrev pub opened_unless : Option Result2 → Files → List (List ℕ) → Result Opened Result2
+opened_unless None files place = Ok (record { files = files; place = Some place })
+opened_unless (Some fault) files place = Err fault
+
+-- `>` empties the file or makes it, and `>>` keeps it or makes it
+abbrev pub opened_at : Files → Bool → Result (List (List ℕ)) Result2 → Result Opened Result2
+opened_at files append (Err fault) = Err fault
+opened_at files true (Ok place) =
+    opened_unless (append_fault false files (key_of place) (last_name place) []) (append_of files (key_of place) (last_name place) []) place
+opened_at files false (Ok place) =
+    opened_unless (write_fault false files (key_of place) (last_name place) []) (write_of files (key_of place) (last_name place) []) place
+
+-- what a redirection opens
+abbrev pub opening : Files → Option Redirection → Result Opened Result2
+opening files None = Ok (record { files = files; place = None })
+opening files (Some output) = opened_at files output.append (place_of output.name)
+
+-- what was put out, and what the command answers then
+pub record Put : Type 0 where
   pub codes : Codes
+  pub course : Course
 
--- a shell begins with limit 10, and nothing has answered
-abbrev pub fresh_shell : ShellState
-fresh_shell = record { limit = record { 0 = pos 10 }; codes = went_well }
+-- output that does not fit is not written at all, and is the command's fault
+abbrev pub put_unless : Option Result2 → Codes → Files → Course → Put
+put_unless None codes files course = record { codes = codes; course = record course { shared = record { files = files } } }
+put_unless (Some fault) codes files course = record { codes = failed fault; course = course }
 
--- what a turn leaves: the shell, what it prints on the console, what its trace gets
-pub record Turned : Type 0 where
-  pub shell : ShellState
-  pub printed : List ℕ
-  pub log : List Item
+-- output goes to its file, or to the console
+abbrev pub put : Option (List (List ℕ)) → List ℕ → Codes → Course → Put
+put None output codes course = record { codes = codes; course = printing output course }
+put (Some place) [] codes course = record { codes = codes; course = course }
+put (Some place) (byte ∷ bytes) codes course = (let files = course.shared.files in
+    put_unless (append_fault false files (key_of place) (last_name place) (byte ∷ bytes)) codes
+    (append_of files (key_of place) (last_name place) (byte ∷ bytes)) course)
 
--- a command of the console has answered, and printed this: its fault's text and that it failed come behind
-abbrev pub finish : List ℕ → Codes → List ℕ → ShellState → Turned
-finish word answered printed shell = record {
-  shell = record shell { codes = answered };
-  printed = printed ++ fault_line word answered.result2 ++ failed_line word answered.code shell.limit;
-  log = Answered 0 (record { line = 0; codes = answered; limit = shell.limit }) ∷ [];
-}
+abbrev pub after_put : List ℕ → ShellState → Put → Turned
+after_put word shell done = answered word done.codes false shell done.course
 
-abbrev pub after_effect : List ℕ → Effect → ShellState → Turned
-after_effect word effect shell = finish word effect.codes effect.output shell
+-- a script begins, with the limit that stands, and ends at once where it has no line
+abbrev pub called : List ℕ → Called → ShellState → Course → Turned
+called word script shell course =
+    behind (Began (suc (length shell.frames)) ∷ [])
+    (passed shell.codes shell.limit
+    (record { name = script.name; lines = script.lines; position = 0; command = word; limit = shell.limit; last = None } ∷ shell.frames)
+    course)
 
--- a line was taken, and asks for this
-abbrev pub obeyed : Line → ShellState → Turned
-obeyed Nothing shell = record { shell = shell; printed = []; log = [] }
-obeyed (Fault fault) shell = finish (codes "Shell") (line_fault fault) [] shell
-obeyed (AsksFor command) shell = after_effect command.word (effect_of command) shell
+-- what a command did
+abbrev pub acted : List ℕ → Option (List (List ℕ)) → Action → ShellState → Course → Turned
+acted word place (Answers effect) shell course =
+    after_put word (record shell { limit = effect.limit }) (put place effect.output effect.codes course)
+acted word place (Quits code) shell course = answered word (record { code = code; result2 = record { 0 = 0 } }) true shell course
+acted word place (Calls script) shell course = called word script shell course
+
+-- a shell without frames runs no script
+abbrev pub is_free : List FrameState → Bool
+is_free [] = true
+is_free (frame ∷ frames) = false
+
+-- a command whose output was opened
+abbrev pub ran : Builtin → Line → ShellState → Course → Result Opened Result2 → Turned
+ran builtin line shell course (Err fault) = answered line.command (failed fault) false shell course
+ran builtin line shell course (Ok opened) =
+    acted line.command opened.place (action_of builtin opened.files (is_free shell.frames && is_none opened.place) line.args shell.limit) shell
+    (record course { shared = record { files = opened.files } })
+
+-- a command that is not known opens nothing
+abbrev pub sought : Option Builtin → Line → ShellState → Course → Turned
+sought None line shell course = answered line.command (erred OBJECT_NOT_FOUND) false shell course
+sought (Some builtin) line shell course = ran builtin line shell course (opening course.shared.files line.output)
+
+-- what a line does
+abbrev pub obeyed : Result Expanded LineFault → ShellState → Course → Turned
+obeyed (Err fault) shell course = answered (codes "Shell") (failed (number_of_fault fault)) false shell course
+obeyed (Ok Nothing) shell course = passed shell.codes shell.limit shell.frames course
+obeyed (Ok (Ready line)) shell course = sought (builtin_of line.command) line shell course
 
 -- a turn of a shell that takes a raw line
-abbrev pub turn_of : List ℕ → ShellState → Turned
-turn_of line shell = obeyed (meaning_of line) shell
+abbrev pub turn_of : List ℕ → ShellState → SharedState → Turned
+turn_of raw shell shared = obeyed (expanded_of raw) shell (record { shared = shared; printed = [] })

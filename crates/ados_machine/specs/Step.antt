@@ -1,12 +1,13 @@
 -- The step: what an event makes of a world.
-use Rattle.std.specs.Prelude.{ℕ, suc, List, [], ◌∷◌, ◌++◌, length, Bool, true, not, ◌&&◌, nat_lt, ◌==◌, ◌-◌, Option, Some, None, slice_set, if◌then◌else◌}
+use Rattle.std.specs.Prelude.{ℕ, suc, ◌+◌, List, [], ◌∷◌, ◌++◌, length, Bool, true, not, ◌&&◌, nat_lt, ◌==◌, ◌-◌, Option, Some, None, slice_get, slice_set, if◌then◌else◌}
 use Rattle.ados_machine.specs.declared.events.Event.{Event}
 use Rattle.ados_machine.specs.declared.events.Event.TheVariants.{Typed, EndOfInput, Turn, Answer}
 use Rattle.ados_machine.specs.declared.outs.Out.{Out}
+use Rattle.ados_machine.specs.declared.outs.EndReport.{EndReport}
 use Rattle.ados_machine.specs.declared.refusals.Refusal.{Refusal}
 use Rattle.ados_machine.specs.declared.refusals.Refusal.TheVariants.{Over, NoSuchShell, NotReady, WrongAnswer, QueueFull, LineTooLong}
-use Rattle.ados_machine.specs.CodeRule.{Item}
-use Rattle.ados_machine.specs.Shell.{ShellState, Turned, turn_of}
+use Rattle.ados_machine.specs.Frames.{Item, FrameState, ShellState, SharedState, Turned, passed, reports_of}
+use Rattle.ados_machine.specs.Shell.{turn_of}
 use Rattle.ados_machine.specs.World.{WorldState, shell_at, is_over, has_input}
 
 -- what an event is answered: the first refusal that holds, or the world behind it, what it gives, and what
@@ -15,38 +16,53 @@ pub data Response : Type 0 where
   Refused : Refusal → Response
   Accepted : (world : WorldState) (out : Out) (log : List Item) → Response
 
--- an event that only printed
-abbrev pub printing : List ℕ → Out
-printing bytes = record { bytes = bytes; request = None; reports = [] }
+-- what an event gives that printed these bytes, and at which these scripts ended
+abbrev pub giving : List ℕ → List EndReport → Out
+giving bytes reports = record { bytes = bytes; request = None; reports = reports }
 
 -- with this shell, or none, at this number
 abbrev pub with_shell : WorldState → ℕ → Option ShellState → WorldState
 with_shell w k shell = record w { shells = slice_set w.shells (k - 1) shell }
 
--- shell 1 took the first line that waited
-abbrev pub took_line : WorldState → List (List ℕ) → Turned → Response
-took_line w rest turned =
-    Accepted (record (with_shell w 1 (Some turned.shell)) { queue = rest }) (printing turned.printed) turned.log
+-- the shell of this number took a line
+abbrev pub took : WorldState → ℕ → Turned → Response
+took w k turned =
+    Accepted (record (with_shell w k (Some turned.shell)) { shared = turned.course.shared })
+    (giving turned.course.printed (reports_of k turned.log)) turned.log
 
 -- shell 1 ended; its codes stay
 abbrev pub shell_ended : WorldState → ShellState → Response
 shell_ended w shell =
-    Accepted (record (with_shell w 1 None) { ended = slice_set w.ended 0 shell.codes }) (printing []) []
+    Accepted (record (with_shell w 1 None) { ended = slice_set w.ended 0 shell.codes }) (giving [] []) []
+
+-- the shell moves on in its script
+abbrev pub moved : ShellState → FrameState → List FrameState → ShellState
+moved shell frame frames = record shell { frames = record frame { position = frame.position + 1 } ∷ frames }
+
+-- a turn that takes the next line of the newest script; one without a line ends
+abbrev pub script_turned : ShellState → FrameState → List FrameState → SharedState → Option (List ℕ) → Turned
+script_turned shell frame frames shared None = passed shell.codes shell.limit (frame ∷ frames) (record { shared = shared; printed = [] })
+script_turned shell frame frames shared (Some line) = turn_of line (moved shell frame frames) shared
 
 -- shell 1 takes the first line that waits, and ends where there is none
-abbrev pub turn_by : WorldState → ShellState → List (List ℕ) → Response
-turn_by w shell [] = shell_ended w shell
-turn_by w shell (line ∷ rest) = took_line w rest (turn_of line shell)
+abbrev pub console_turn : WorldState → ShellState → List (List ℕ) → Response
+console_turn w shell [] = shell_ended w shell
+console_turn w shell (line ∷ rest) = took (record w { queue = rest }) 1 (turn_of line shell w.shared)
+
+-- a turn of a shell: a line of its newest frame, else, for shell 1, one that was typed
+abbrev pub turn_by : WorldState → ℕ → ShellState → List FrameState → Response
+turn_by w k shell (frame ∷ frames) = took w k (script_turned shell frame frames w.shared (slice_get frame.lines frame.position))
+turn_by w k shell [] = if (k == 1) && has_input w then console_turn w shell w.queue else Refused NotReady
 
 -- a turn of the shell of this number, if it runs
 abbrev pub turned : WorldState → ℕ → Option ShellState → Response
 turned w k None = Refused NoSuchShell
-turned w k (Some shell) = if (k == 1) && has_input w then turn_by w shell w.queue else Refused NotReady
+turned w k (Some shell) = turn_by w k shell shell.frames
 
 -- an answer for the shell of this number, if it runs: no shell waits for one yet
-abbrev pub answered : Option ShellState → Response
-answered None = Refused NoSuchShell
-answered (Some shell) = Refused WrongAnswer
+abbrev pub replied : Option ShellState → Response
+replied None = Refused NoSuchShell
+replied (Some shell) = Refused WrongAnswer
 
 -- a line joins the queue
 abbrev pub typed : WorldState → List ℕ → Response
@@ -54,17 +70,17 @@ typed w line =
     if w.input_ended then Refused NotReady else
     (if nat_lt 255 (length w.queue) then Refused QueueFull else
     (if nat_lt 512 (length line) then Refused LineTooLong else
-    Accepted (record w { queue = w.queue ++ line ∷ [] }) (printing []) []))
+    Accepted (record w { queue = w.queue ++ line ∷ [] }) (giving [] []) []))
 
 abbrev pub end_of_input : WorldState → Response
-end_of_input w = if w.input_ended then Refused NotReady else Accepted (record w { input_ended = true }) (printing []) []
+end_of_input w = if w.input_ended then Refused NotReady else Accepted (record w { input_ended = true }) (giving [] []) []
 
 -- an event, where a shell is left
 abbrev pub happened : WorldState → Event → Response
 happened w (Typed line) = typed w line
 happened w EndOfInput = end_of_input w
 happened w (Turn k) = turned w k (shell_at w k)
-happened w (Answer k answer) = answered (shell_at w k)
+happened w (Answer k answer) = replied (shell_at w k)
 
 abbrev pub step_of : WorldState → Event → Response
 step_of w event = if is_over w then Refused Over else happened w event

@@ -2,10 +2,11 @@
 use Rattle.std.specs.Prelude.{ℕ, zero, suc, List, [], ◌∷◌, length, map, Bool, true, false, not, ◌&&◌, ◌||◌, nat_lt, ◌==◌, Option, Some, None, is_some, unwrap_or, slice_get}
 use Rattle.std.proofs.Math.ListN.{replicate}
 use Rattle.std.specs.List.{list_any}
+use Rattle.ados_ram.specs.Files.{first_files}
 use Rattle.ados_machine.specs.declared.codes.Codes.{Codes}
 use Rattle.ados_machine.specs.declared.requests.Request.{Request}
 use Rattle.ados_machine.specs.CodeRule.{went_well}
-use Rattle.ados_machine.specs.Shell.{ShellState, fresh_shell}
+use Rattle.ados_machine.specs.Frames.{FrameState, ShellState, SharedState, fresh_shell}
 
 pub record WorldState : Type 0 where
   -- the shells that run, by number from 1 to 20
@@ -16,14 +17,17 @@ pub record WorldState : Type 0 where
   pub queue : List (List ℕ)
   -- no further line will be typed
   pub input_ended : Bool
+  -- what all shells share
+  pub shared : SharedState
 
--- a world begins with shell 1 alone
+-- a world begins with shell 1 alone, and the first files
 abbrev pub fresh_world : WorldState
 fresh_world = record {
   shells = Some fresh_shell ∷ replicate 19 None;
   ended = replicate 20 went_well;
   queue = [];
   input_ended = false;
+  shared = record { files = first_files };
 }
 
 abbrev pub flatten : {X : Type 0} → Option (Option X) → Option X
@@ -43,17 +47,27 @@ shell_at w k = flatten (numbered w.shells k)
 abbrev pub is_over : WorldState → Bool
 is_over w = not (list_any is_some w.shells)
 
--- a line waits, or the input has ended: shell 1 has something to take
+-- a line waits, or the input has ended
 abbrev pub has_input : WorldState → Bool
 has_input w = nat_lt 0 (length w.queue) || w.input_ended
 
--- a shell can take a turn: shell 1, where it runs and has something to take
-abbrev pub is_ready : WorldState → ℕ → Bool
-is_ready w k = is_some (shell_at w k) && (k == 1) && has_input w
+-- the shell runs a script
+abbrev pub has_frame : List FrameState → Bool
+has_frame [] = false
+has_frame (frame ∷ frames) = true
 
--- a line is wanted: shell 1 runs, none waits, and the input has not ended
+-- a shell has something to take: a line of its script, or, for shell 1, one that was typed or the input's end
+abbrev pub can_turn : WorldState → ℕ → Option ShellState → Bool
+can_turn w k None = false
+can_turn w k (Some shell) = has_frame shell.frames || ((k == 1) && has_input w)
+
+-- a shell can take a turn
+abbrev pub is_ready : WorldState → ℕ → Bool
+is_ready w k = can_turn w k (shell_at w k)
+
+-- a line is wanted: shell 1 runs and has nothing to take
 abbrev pub wants_line : WorldState → Bool
-wants_line w = is_some (shell_at w 1) && not (has_input w)
+wants_line w = is_some (shell_at w 1) && not (is_ready w 1)
 
 -- the last codes of a number's last shell; 0 and 0 for one that was never given
 abbrev pub ended_at : WorldState → ℕ → Codes

@@ -1,21 +1,30 @@
 #![tactic(auto)]
 //! The words of the machine: what happens to it, what it answers, and why it refuses.
 //!
-//! Its definitions stand in `specs/`: what a line asks for, what a command answers, what an event
-//! makes of a world, and what a run of events is. The crates above hold the bodies that meet them.
+//! Its definitions stand in `specs/`: what a line asks for, what a command answers, how frames end,
+//! what an event makes of a world, and what a run of events is. The crates above hold the bodies
+//! that meet them.
 
+mod actions;
 mod answers;
+mod builtins;
 mod codes;
 mod events;
-mod lines;
+mod laws;
 mod outs;
+mod records;
 mod refusals;
 mod requests;
 
+pub use actions::{Action, Called, Effect};
 pub use answers::Answer;
+pub use builtins::Builtin;
 pub use codes::Codes;
 pub use events::Event;
-pub use lines::{Command, Line};
+pub use laws::{
+    each_end_is_reported_once, no_script_runs_on_behind_a_failure, scripts_end_where_the_rule_says,
+};
 pub use outs::{EndReport, Out, Reports};
+pub use records::Record;
 pub use refusals::Refusal;
 pub use requests::{Job, Request};

@@ -2,7 +2,6 @@ ghost use Rattle.std.specs.Prelude.{◌≡◌};
 
 use crate::requests::Request;
 use ados_text::{Code, Octets, Text};
-use std::alloc::Global;
 use std::marker::Model;
 
 /// How a script ended.
@@ -13,7 +12,7 @@ pub struct EndReport {
     /// The full path of its file.
     pub name: Text,
     /// The line of its last command, from 1; 0 if none of its lines was a command.
-    pub last_line: u32,
+    pub last_line: usize,
     /// Its code: that of its last command.
     pub code: Code,
     /// It ended at a command whose code reached the limit.
@@ -70,16 +69,16 @@ pub struct Out {
 }
 
 impl Out {
-    ghost use Rattle.ados_machine.specs.Step.{printing};
+    ghost use Rattle.ados_machine.specs.Step.{giving};
 
-    /// Of an event that only printed these bytes.
-    pub fn printing(alloc: Global, bytes: Vec<u8>) -> Out
-        ensures { result ≡ printing bytes.items }
+    /// Of an event that printed these bytes, and at which these scripts ended.
+    pub fn giving(bytes: Vec<u8>, reports: Vec<EndReport>) -> Out
+        ensures { result ≡ giving bytes.items reports.items }
     {
         Out {
             bytes: Octets::from_vec(bytes),
             request: None,
-            reports: Reports::from_vec(Vec::new(alloc)),
+            reports: Reports::from_vec(reports),
         }
     }
 }

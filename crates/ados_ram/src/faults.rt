@@ -1,4 +1,7 @@
-use ados_text::{Result2, fault_text};
+ghost use Rattle.std.specs.Prelude.{◌≡◌};
+ghost use Rattle.ados_ram.specs.declared.faults.FsFault.TheVariants.{NoMemory as OutOfMemory};
+
+use ados_text::{NoMemory, Result2, fault_text};
 use thiserror::Error;
 
 /// Why a call on the files came to nothing.
@@ -10,4 +13,12 @@ pub enum FsFault {
     /// No memory for the new version.
     #[error("no free store")]
     NoMemory,
+}
+
+impl From<NoMemory> for FsFault {
+    ghost from_gives = { λ _ e. e ≡ OutOfMemory };
+
+    fn from(_e: NoMemory) -> FsFault {
+        FsFault::NoMemory
+    }
 }

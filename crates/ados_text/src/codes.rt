@@ -22,34 +22,63 @@ pub struct Result2(pub u16);
 
 impl Result2 {
     pub const NONE: Result2 = Result2(0);
+
     pub const NO_FREE_STORE: Result2 = Result2(103);
+
     pub const BAD_TEMPLATE: Result2 = Result2(114);
+
     pub const BAD_NUMBER: Result2 = Result2(115);
+
     pub const ARGUMENT_MISSING: Result2 = Result2(116);
+
     pub const VALUE_MISSING: Result2 = Result2(117);
+
     pub const TOO_MANY_ARGUMENTS: Result2 = Result2(118);
+
     pub const UNMATCHED_QUOTES: Result2 = Result2(119);
+
     pub const LINE_TOO_LONG: Result2 = Result2(120);
+
     pub const NO_PROGRAM_FILE: Result2 = Result2(121);
+
     pub const OBJECT_IN_USE: Result2 = Result2(202);
+
     pub const OBJECT_EXISTS: Result2 = Result2(203);
+
     pub const DIRECTORY_NOT_FOUND: Result2 = Result2(204);
+
     pub const OBJECT_NOT_FOUND: Result2 = Result2(205);
+
     pub const INVALID_NAME: Result2 = Result2(210);
+
     pub const WRONG_TYPE: Result2 = Result2(212);
+
     pub const DIRECTORY_NOT_EMPTY: Result2 = Result2(216);
+
     pub const TOO_MANY_LEVELS: Result2 = Result2(217);
+
     pub const DEVICE_NOT_MOUNTED: Result2 = Result2(218);
+
     pub const COMMENT_TOO_LONG: Result2 = Result2(220);
+
     pub const DISK_FULL: Result2 = Result2(221);
+
     pub const DELETE_PROTECTED: Result2 = Result2(222);
+
     pub const WRITE_PROTECTED: Result2 = Result2(223);
+
     pub const READ_PROTECTED: Result2 = Result2(224);
+
     pub const NOT_IMPLEMENTED: Result2 = Result2(236);
+
     pub const BREAK: Result2 = Result2(304);
+
     pub const NOT_EXECUTABLE: Result2 = Result2(305);
+
     pub const PIPE_FAULT: Result2 = Result2(901);
+
     pub const WAIT_FAULT: Result2 = Result2(902);
+
     pub const ENDED_BY_SIGNAL: Result2 = Result2(903);
 }
 

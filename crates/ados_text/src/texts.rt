@@ -1,4 +1,4 @@
-ghost use Rattle.std.specs.Prelude.{◌≡◌, ◌<◌, ◌≤◌, ◌-◌, ◌++◌, take, drop, ◌↔◌, List, length, map, position, IsTrue, IfOk, IfNone, OnOk, OnErr, IsOkUnless, MatchOption};
+ghost use Rattle.std.specs.Prelude.{◌≡◌, ◌<◌, ◌≤◌, ◌-◌, ◌++◌, [], ◌∷◌, OnOk, OnErr, take, drop, ◌↔◌, List, length, map, position, IsTrue, IfOk, IfNone, IsOkUnless, MatchOption};
 ghost use Rattle.ados_text.specs.Text.{fold_of, folded, is_past_ascii, is_same, to_ascii, IsText};
 
 use crate::errors::{NoMemory, TextFault};
@@ -46,11 +46,38 @@ impl Text {
     pub fn from_bytes(alloc: Global, bytes: &[u8]) -> Result<Text, NoMemory>
         ensures { IfOk result (λ t. t ≡ map to_ascii bytes.now) }
     {
-        let bytes = bytes
-            .iter()
-            .map(|b| if *b < 128 { *b } else { b'?' })
-            .collect(alloc)?;
+        let bytes = bytes.iter().map(|b| ascii(*b)).collect(alloc)?;
         Ok(Text { bytes })
+    }
+
+    /// The empty text.
+    pub fn new(alloc: Global) -> Text
+        ensures { result ≡ [] }
+    {
+        Text {
+            bytes: Vec::new(alloc),
+        }
+    }
+
+    /// Adds a byte at the end, `?` in place of one past ASCII; at `NoMemory` the text is as before.
+    #[tactic(auto, using(crate::proofs::TextLemmas::parts))]
+    pub fn push(&mut self, byte: u8) -> Result<(), NoMemory>
+        ensures ok { OnOk result (self.new ≡ self.old ++ to_ascii byte ∷ []) }
+        ensures err { OnErr result (self.new ≡ self.old) }
+    {
+        self.bytes.push(ascii(byte))?;
+        Ok(())
+    }
+
+    /// Adds ASCII bytes at the end; at `NoMemory` the text is as before.
+    #[tactic(auto, using(crate::proofs::TextLemmas::parts))]
+    pub fn push_bytes(&mut self, bytes: &[u8]) -> Result<(), NoMemory>
+        requires { IsText bytes.now }
+        ensures ok { OnOk result (self.new ≡ self.old ++ bytes.now) }
+        ensures err { OnErr result (self.new ≡ self.old) }
+    {
+        self.bytes.extend_from_slice(bytes)?;
+        Ok(())
     }
 
     /// The bytes, each below 128.
@@ -80,17 +107,6 @@ impl Text {
         let mut bytes = Vec::from_slice(*self.bytes.allocator(), self.bytes.as_slice())?;
         bytes.extend_from_slice(behind.bytes.as_slice())?;
         Ok(Text { bytes })
-    }
-
-    /// Adds ASCII bytes at the end; at `NoMemory` the text is as before.
-    #[tactic(auto, using(crate::proofs::TextLemmas::parts))]
-    pub fn push_bytes(&mut self, bytes: &[u8]) -> Result<(), NoMemory>
-        requires { IsText bytes.now }
-        ensures ok { OnOk result (self.new ≡ self.old ++ bytes.now) }
-        ensures err { OnErr result (self.new ≡ self.old) }
-    {
-        self.bytes.extend_from_slice(bytes)?;
-        Ok(())
     }
 
     /// The text is this name: alike where case is ignored.
@@ -126,6 +142,13 @@ impl Eq for Text {
     ghost use Rattle.std.proofs.lemmas.Cmp.{nat_list_eq_equiv};
 
     ghost laws = { nat_list_eq_equiv };
+}
+
+// The byte, or `?` in place of one past ASCII.
+fn ascii(byte: u8) -> u8
+    ensures { result ≡ to_ascii byte }
+{
+    if byte < 128 { byte } else { b'?' }
 }
 
 // The first place whose byte is no ASCII.

@@ -1,2 +1,3 @@
-mod FaultLemmas
 mod FlagLemmas
+mod DraftLemmas
+pub mod RunsOnLemmas

@@ -1,16 +1,75 @@
 -- What is drafted, by the machine's definitions.
-use Rattle.std.specs.Prelude.{◌≡◌}
-use Rattle.ados_machine.specs.Rows as row
-use Rattle.ados_machine.specs.Shell.{Turned}
-use Rattle.ados_world.specs.declared.commands.Effect.{Effect}
-use Rattle.ados_world.specs.declared.shells.Draft.{Draft}
+use Rattle.std.specs.Prelude.{◌≡◌, ℕ, [], ◌∷◌, ◌++◌, List, Option, Some, None, Result, Ok, Err, slice_get}
+use Rattle.ados_text.specs.declared.codes.Result2.{Result2}
+use Rattle.ados_ram.specs.Files.{Files}
+use Rattle.ados_ram.specs.declared.faults.FsFault.{FsFault}
+use Rattle.ados_ram.specs.declared.faults.FsFault.TheVariants.{Refused, NoMemory}
+use Rattle.ados_machine.specs.declared.codes.Codes.{Codes}
+use Rattle.ados_machine.specs.Frames.{SharedState, ShellState, FrameState, Course, Turned, limit_behind, reports_of}
+use Rattle.ados_world.specs.Frames.{report_of}
+use Rattle.ados_machine.specs.Shell as shell
+use Rattle.ados_machine.specs.Step.{script_turned}
+use Rattle.ados_world.specs.declared.drafts.Draft.{Draft}
+use Rattle.ados_world.specs.declared.outputs.Opened.{Opened}
 
--- the effect is that of the definition
-pub record IsEffect (effect : Effect) (defined : row.Effect) : Type 0 where
-  pub codes : effect.codes ≡ defined.codes
-  pub output : effect.output.items ≡ defined.output
+-- the shared parts behind a draft: those before, unless it has a new version
+abbrev pub version : SharedState → Option SharedState → SharedState
+version old None = old
+version old (Some new) = new
 
--- the draft holds what the turn leaves
-pub record IsDraft (draft : Draft) (turned : Turned) : Type 0 where
-  pub shell : draft.shell ≡ turned.shell
-  pub printed : draft.printed.items ≡ turned.printed
+-- what a draft hands on
+abbrev pub course_of : SharedState → Draft → Course
+course_of old draft = record { shared = version old draft.shared; printed = draft.printed.items }
+
+-- nothing is changed yet of a shell
+pub record IsFresh (number : ℕ) (shell : ShellState) (draft : Draft) : Type 0 where
+  pub number_is : draft.number ≡ number
+  pub shell_is : draft.shell ≡ shell
+  pub shared_is : draft.shared ≡ None
+  pub printed_is : draft.printed.items ≡ []
+  pub reports_are : draft.reports.items ≡ []
+
+-- the draft holds what a turn leaves
+pub record IsDrafted (number : ℕ) (old : SharedState) (draft : Draft) (turned : Turned) : Type 0 where
+  pub number_is : draft.number ≡ number
+  pub shell_is : draft.shell ≡ turned.shell
+  pub shared_is : version old draft.shared ≡ turned.course.shared
+  pub printed_is : draft.printed.items ≡ turned.course.printed
+  pub reports_are : draft.reports.items ≡ reports_of number turned.log
+
+-- the draft holds what the next line of the newest script leaves
+abbrev pub IsScriptDrafted : ℕ → SharedState → Draft → ShellState → List FrameState → Type 0
+IsScriptDrafted number old draft shell [] = draft.shell ≡ shell
+IsScriptDrafted number old draft shell (frame ∷ frames) =
+    IsDrafted number old draft (script_turned shell frame frames old (slice_get frame.lines frame.position))
+
+-- the end of a frame was reported, and its limit restored
+pub record IsReported (before after : Draft) (frame : FrameState) : Type 0 where
+  pub number : after.number ≡ before.number
+  pub shell : after.shell ≡ record before.shell { limit = limit_behind frame before.shell.frames }
+  pub shared : after.shared ≡ before.shared
+  pub printed : after.printed.items ≡ before.printed.items
+  pub reports : after.reports.items ≡ before.reports.items ++ report_of before.number frame ∷ []
+
+-- a draft went on by what a definition leaves
+pub record GoesOn (old : SharedState) (before after : Draft) (turned : Turned) : Type 0 where
+  pub number : after.number ≡ before.number
+  pub shell : after.shell ≡ turned.shell
+  pub course : course_of old after ≡ turned.course
+  pub reports : after.reports.items ≡ before.reports.items ++ reports_of before.number turned.log
+
+-- an output was opened: a new version of the files and a place, or nothing for the console
+abbrev pub IsOpened : Files → Result (Option Opened) FsFault → Result shell.Opened Result2 → Type 0
+IsOpened files (Ok None) (Ok opened) = opened ≡ record { files = files; place = None }
+IsOpened files (Ok (Some new)) (Ok opened) = opened ≡ record { files = new.ram; place = Some new.place }
+IsOpened files (Err (Refused fault)) (Err other) = fault ≡ other
+IsOpened files (Err NoMemory) opened = Unit {0}
+IsOpened files _ _ = ⊥
+
+-- a draft after output was put, and what the command answers then
+pub record IsPut (old : SharedState) (before after : Draft) (codes : Codes) (done : shell.Put) : Type 0 where
+  pub number : after.number ≡ before.number
+  pub shell : after.shell ≡ before.shell
+  pub codes_are : codes ≡ done.codes
+  pub course : course_of old after ≡ done.course
+  pub reports : after.reports.items ≡ before.reports.items

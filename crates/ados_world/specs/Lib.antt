@@ -1,1 +1,6 @@
+pub mod Shells
+pub mod Frames
+pub mod Answers
 pub mod Drafts
+pub mod Hosts
+pub mod Steps

@@ -20,12 +20,7 @@ pub fn push_fault(out: &mut Vec<u8>, word: &[u8], fault: Result2) -> Result<(), 
 }
 
 /// Prints that a command failed, where its code is at the limit or above.
-pub fn push_failed(
-    out: &mut Vec<u8>,
-    word: &[u8],
-    code: Code,
-    limit: Code,
-) -> Result<(), NoMemory>
+pub fn push_failed(out: &mut Vec<u8>, word: &[u8], code: Code, limit: Code) -> Result<(), NoMemory>
     ensures { OnOk result (out.new.items ≡ out.old.items ++ failed_line word.now code limit) }
 {
     if is_reached(limit, code) {
@@ -45,14 +40,15 @@ fn push_failure(out: &mut Vec<u8>, word: &[u8], code: Code) -> Result<(), NoMemo
     Ok(())
 }
 
-fn push_code(out: &mut Vec<u8>, code: Code) -> Result<(), NoMemory>
+/// Prints a code in decimal.
+pub fn push_code(out: &mut Vec<u8>, code: Code) -> Result<(), NoMemory>
     ensures { OnOk result (out.new.items ≡ out.old.items ++ signed_decimal code.0) }
 {
     push_number(out, code.0)
 }
 
 /// The code is at the limit, or above.
-fn is_reached(limit: Code, code: Code) -> bool
+pub fn is_reached(limit: Code, code: Code) -> bool
     ensures { result ≡ is_reached limit code }
 {
     limit.0 <= code.0

@@ -1,11 +1,18 @@
 #![tactic(auto)]
-//! The world of shells: it takes events one by one, and answers what is printed.
+//! The world of shells: it takes events one by one, and answers what is printed and which scripts
+//! ended.
 
 mod commands;
 mod console;
+mod drafts;
+mod file_names;
+mod files;
+mod frames;
 mod hosts;
-mod lines;
+mod outputs;
 mod runs;
+mod script_lines;
+mod shared;
 mod shells;
 mod steps;
 mod worlds;

@@ -2,6 +2,7 @@
 ghost use Rattle.std.specs.Prelude.{◌≡◌, length, slice_get, IfOk, IfErr};
 ghost use Rattle.std.specs.Option.{option_copied};
 ghost use Rattle.ados_machine.specs.Runs.{Runs};
+ghost use Rattle.ados_machine.specs.Limits.{LimitsHold, ReportsHold};
 
 use crate::worlds::World;
 use ados_machine::{Event, Out, Refusal};
@@ -60,8 +61,13 @@ impl World {
     ///
     /// Each entry of the outs is the step's answer; a refused event keeps the world. Where the list
     /// of outs finds no memory the world comes back unchanged.
+    ///
+    /// Whatever the events, each script ends early exactly at its first command whose code reaches
+    /// its limit, and the reports of the outs are the ends of scripts, in their order.
     pub fn run(mut self, events: &[Event]) -> Result<Run, World>
         ensures run { IfOk result (λ run. Runs self events.now run.outs run.world) }
+        ensures limits { IfOk result (λ run. LimitsHold self events.now run.outs) }
+        ensures reports { IfOk result (λ run. ReportsHold self events.now run.outs) }
         ensures err { IfErr result (λ world. world ≡ self) }
     {
         let Ok(mut outs) = Vec::with_capacity(self.alloc, events.len()) else {

@@ -1,54 +1,69 @@
-// A shell, and what a line of it does.
-ghost use Rattle.std.specs.Prelude.{◌≡◌, IfOk};
-ghost use Rattle.ados_machine.specs.Shell.{fresh_shell, finish, obeyed, turn_of, after_effect};
-ghost use Rattle.ados_machine.specs.CodeRule.{line_fault};
+// A shell: its scripts, its fail limit, what its last command answered.
+ghost use Rattle.std.specs.Prelude.{◌≡◌, [], ◌∷◌, IfOk, IfNone, IfSome, OnOk, reverse};
+ghost use Rattle.std.specs.Option.{option_copied};
+ghost use Rattle.ados_machine.specs.Frames.{fresh_shell, limit_behind};
+ghost use Rattle.ados_machine.specs.Shell.{is_free};
 
-use crate::commands::Effect;
-use crate::console::{push_failed, push_fault};
-use crate::lines::meaning;
-use ados_machine::{Codes, Line};
-use ados_text::{Code, NoMemory, Result2, Text};
+use crate::frames::Frame;
+use ados_machine::Codes;
+use ados_text::{Code, NoMemory};
 use std::alloc::Global;
 use std::marker::Model;
 
-/// The limit with which a shell begins.
-const FIRST_LIMIT: Code = Code(10);
+/// The limit with which a shell begins, and which stands again where no script is left.
+pub const FIRST_LIMIT: Code = Code(10);
 
-/// A shell: its fail limit, and what its last command answered.
-#[derive(Drop)]
+/// A shell. The newest frame is the last.
+#[derive(Debug, Drop)]
 pub struct Shell {
+    frames: Vec<Frame>,
     limit: Code,
     codes: Codes,
 }
 
 impl Model for Shell {
-    ghost use Rattle.ados_machine.specs.Shell.{ShellState};
+    ghost use Rattle.std.specs.Prelude.{reverse};
+    ghost use Rattle.ados_machine.specs.Frames.{ShellState};
 
     ghost Value = { ShellState };
 
-    ghost view = { λ s. record { limit = s.limit; codes = s.codes } };
-}
-
-/// What a turn changes, not moved in yet.
-#[derive(Drop)]
-pub struct Draft {
-    /// The shell behind the turn.
-    pub shell: Shell,
-    /// What the turn prints.
-    pub printed: Vec<u8>,
+    ghost view = { λ s. record { frames = reverse s.frames.items; limit = s.limit; codes = s.codes } };
 }
 
 impl Shell {
-    ghost use Rattle.ados_world.specs.Drafts.{IsDraft};
+    ghost use Rattle.ados_world.specs.Shells.{newest, HasRoom, IsMovedOn};
 
     /// A shell in which nothing has answered yet.
-    pub fn new() -> Shell
+    pub fn new(alloc: Global) -> Shell
         ensures { result ≡ fresh_shell }
     {
         Shell {
+            frames: Vec::new(alloc),
             limit: FIRST_LIMIT,
             codes: Codes::NONE,
         }
+    }
+
+    /// The same shell; its scripts are shared.
+    pub fn share(&self) -> Result<Shell, NoMemory>
+        ensures { IfOk result (λ shell. shell ≡ self.now) }
+    {
+        let mut frames = Vec::with_capacity(*self.frames.allocator(), self.frames.len())?;
+        for frame in &self.frames {
+            frames.push(frame.share()?)?;
+        }
+        Ok(Shell {
+            frames,
+            limit: self.limit,
+            codes: self.codes,
+        })
+    }
+
+    /// The newest frame, if a script runs.
+    pub fn newest(&self) -> Option<&Frame>
+        ensures { option_copied result ≡ newest self.now.frames }
+    {
+        self.frames.last()
     }
 
     /// What the last command answered.
@@ -58,57 +73,69 @@ impl Shell {
         self.codes
     }
 
-    /// What a turn that takes this raw line changes; nothing is changed yet.
-    pub fn turn(&self, alloc: Global, line: &Text) -> Result<Draft, NoMemory>
-        ensures { IfOk result (λ draft. IsDraft draft (turn_of line.now self.now)) }
+    /// The fail limit.
+    pub fn limit(&self) -> Code
+        ensures { result ≡ self.now.limit }
     {
-        let line = meaning(alloc, line.as_bytes())?;
-        self.obey(alloc, &line)
+        self.limit
     }
 
-    /// What a line that asks for this changes.
-    fn obey(&self, alloc: Global, line: &Line) -> Result<Draft, NoMemory>
-        ensures { IfOk result (λ draft. IsDraft draft (obeyed line.now self.now)) }
+    /// No script runs.
+    pub fn is_free(&self) -> bool
+        ensures { result ≡ is_free self.now.frames }
     {
-        match line {
-            Line::Nothing => Ok(Draft {
-                shell: self.answered(self.codes),
-                printed: Vec::new(alloc),
-            }),
-            Line::Fault(fault) => {
-                let codes = Codes {
-                    code: Code::FAIL,
-                    result2: *fault,
-                };
-                self.finish(b"Shell", codes, Vec::new(alloc))
-            }
-            Line::Command(command) => {
-                let effect = Effect::of(alloc, command)?;
-                self.finish(command.word.as_bytes(), effect.codes, effect.output)
-            }
+        self.frames.is_empty()
+    }
+
+    /// A command answered this.
+    pub fn answer(&mut self, answered: Codes)
+        ensures { self.new ≡ record self.old { codes = answered } }
+    {
+        self.codes = answered;
+    }
+
+    /// The fail limit is this.
+    pub fn set_limit(&mut self, limit: Code)
+        ensures { self.new ≡ record self.old { limit = limit } }
+    {
+        self.limit = limit;
+    }
+
+    /// Takes the newest frame off.
+    pub fn pop(&mut self) -> Option<Frame>
+        ensures none { IfNone result ((self.old.frames ≡ []) × (self.new ≡ self.old)) }
+        ensures some { IfSome result (λ frame. self.old ≡ record self.new { frames = frame ∷ self.new.frames }) }
+    {
+        self.frames.pop()
+    }
+
+    /// The newest frame's line was taken.
+    pub fn move_on(&mut self) -> Result<(), NoMemory>
+        requires { HasRoom self.old.frames }
+        ensures { OnOk result (IsMovedOn self.old self.new self.old.frames) }
+    {
+        match self.pop() {
+            None => Ok(()),
+            Some(frame) => self.push(frame.move_on()),
         }
     }
 
-    /// A command has answered, and put this out: the fault's text, and that it failed, come behind.
-    fn finish(&self, word: &[u8], codes: Codes, printed: Vec<u8>) -> Result<Draft, NoMemory>
-        ensures { IfOk result (λ draft. IsDraft draft (finish word.now codes printed.items self.now)) }
+    /// Puts a frame on.
+    pub fn push(&mut self, frame: Frame) -> Result<(), NoMemory>
+        ensures { OnOk result (self.new ≡ record self.old { frames = frame ∷ self.old.frames }) }
     {
-        let mut printed = printed;
-        push_fault(&mut printed, word, codes.result2)?;
-        push_failed(&mut printed, word, codes.code, self.limit)?;
-        Ok(Draft {
-            shell: self.answered(codes),
-            printed,
-        })
+        self.frames.push(frame)?;
+        Ok(())
     }
 
-    /// The shell once this was answered.
-    fn answered(&self, codes: Codes) -> Shell
-        ensures { result ≡ record self.now { codes = codes } }
+    /// The limit comes back at the end of a frame that was taken off.
+    pub fn restore_limit(&mut self, frame: &Frame)
+        ensures { self.new ≡ record self.old { limit = limit_behind frame.now self.old.frames } }
     {
-        Shell {
-            limit: self.limit,
-            codes,
-        }
+        self.limit = if self.frames.is_empty() {
+            FIRST_LIMIT
+        } else {
+            frame.limit()
+        };
     }
 }

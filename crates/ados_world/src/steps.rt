@@ -2,10 +2,14 @@
 ghost use Rattle.std.specs.Prelude.{◌≡◌, [], Some, None, drop, slice_set};
 ghost use Rattle.ados_machine.specs.declared.answers.Answer.{Answer as Reply};
 ghost use Rattle.ados_machine.specs.World.{shell_at};
-ghost use Rattle.ados_machine.specs.Step.{step_of, typed, end_of_input, turned, answered, printing, with_shell};
+ghost use Rattle.ados_machine.specs.Limits.{AllRunOn};
+ghost use Rattle.ados_world.specs.Drafts.{version};
+ghost use Rattle.ados_world.specs.Steps.{IsFreeAt, IsShellNumber, IsGiven, IsTaken};
+ghost use Rattle.ados_machine.specs.Step.{step_of, typed, end_of_input, turned, replied, giving, with_shell};
 ghost use Rattle.ados_machine.specs.Runs.{IsAnswer, world_after};
 
-use crate::shells::Draft;
+use crate::drafts::{Draft, console_draft, script_draft};
+use crate::shared::Shared;
 use crate::worlds::World;
 use ados_machine::{Codes, Event, Out, Refusal};
 use ados_text::Text;
@@ -51,7 +55,7 @@ impl World {
             return Err(Refusal::NoMemory);
         };
         match self.queue.push_back(line) {
-            Ok(()) => Ok(Out::printing(self.alloc, Vec::new(self.alloc))),
+            Ok(()) => Ok(Out::giving(Vec::new(self.alloc), Vec::new(self.alloc))),
             Err(_) => Err(Refusal::NoMemory),
         }
     }
@@ -64,10 +68,29 @@ impl World {
             return Err(Refusal::NotReady);
         }
         self.input_ended = true;
-        Ok(Out::printing(self.alloc, Vec::new(self.alloc)))
+        Ok(Out::giving(Vec::new(self.alloc), Vec::new(self.alloc)))
     }
 
     fn turn(&mut self, number: u8) -> Result<Out, Refusal>
+        ensures answer { IsAnswer (Event.Turn number) result (turned self.old number (shell_at self.old number)) }
+        ensures world { self.new ≡ world_after self.old result (turned self.old number (shell_at self.old number)) }
+    {
+        let Some(shell) = self.shell_at(number) else {
+            return Err(Refusal::NoSuchShell);
+        };
+        if shell.is_free() {
+            return self.console_turn(number);
+        }
+        match script_draft(self.alloc, number, shell, &self.shared) {
+            Ok(draft) => Ok(self.take(number, draft)),
+            Err(_) => Err(Refusal::NoMemory),
+        }
+    }
+
+    /// A turn of a shell that runs no script: shell 1 takes the first line that waits, and ends where
+    /// there is none.
+    fn console_turn(&mut self, number: u8) -> Result<Out, Refusal>
+        requires { IsFreeAt (shell_at self.old number) }
         ensures answer { IsAnswer (Event.Turn number) result (turned self.old number (shell_at self.old number)) }
         ensures world { self.new ≡ world_after self.old result (turned self.old number (shell_at self.old number)) }
     {
@@ -78,8 +101,8 @@ impl World {
             return Err(Refusal::NotReady);
         }
         match self.queue.front() {
-            Some(line) => match shell.turn(self.alloc, line) {
-                Ok(draft) => Ok(self.take_line(draft)),
+            Some(line) => match console_draft(self.alloc, shell, line, &self.shared) {
+                Ok(draft) => Ok(self.take_typed(draft)),
                 Err(_) => Err(Refusal::NoMemory),
             },
             None => {
@@ -90,27 +113,56 @@ impl World {
     }
 
     /// Moves in the draft of a turn that took the first line that waited.
-    fn take_line(&mut self, draft: Draft) -> Out
-        ensures out { result ≡ printing draft.printed.items }
-        ensures world { self.new ≡ record (with_shell self.old 1 (Some draft.shell)) { queue = drop 1 self.old.queue } }
+    fn take_typed(&mut self, draft: Draft) -> Out
+        requires { AllRunOn draft.shell.frames }
+        ensures out { IsGiven 1 draft result }
+        ensures world { IsTaken (record self.old { queue = drop 1 self.old.queue }) 1 draft self.new }
     {
         let _ = self.queue.pop_front();
-        self.shells[0] = Some(draft.shell);
-        Out::printing(self.alloc, draft.printed)
+        self.take(1, draft)
+    }
+
+    /// Moves in the draft of a turn.
+    fn take(&mut self, number: u8, draft: Draft) -> Out
+        requires number { IsShellNumber number }
+        requires runs_on { AllRunOn draft.shell.frames }
+        ensures out { IsGiven number draft result }
+        ensures world { IsTaken self.old number draft self.new }
+    {
+        let Draft {
+            number: _,
+            shell,
+            shared,
+            printed,
+            reports,
+        } = draft;
+        self.shells[number as usize - 1] = Some(shell);
+        self.renew(shared);
+        Out::giving(printed, reports)
+    }
+
+    /// Moves in a new version of the shared parts, where there is one.
+    fn renew(&mut self, new: Option<Shared>)
+        ensures { self.new ≡ record self.old { shared = version self.old.shared new } }
+    {
+        match new {
+            None => {}
+            Some(shared) => self.shared = shared,
+        }
     }
 
     /// Shell 1 ends; these codes of it stay.
     fn end_shell(&mut self, codes: Codes) -> Out
-        ensures out { result ≡ printing [] }
+        ensures out { result ≡ giving [] [] }
         ensures world { self.new ≡ record (with_shell self.old 1 None) { ended = slice_set self.old.ended 0 codes } }
     {
         self.shells[0] = None;
         self.ended[0] = codes;
-        Out::printing(self.alloc, Vec::new(self.alloc))
+        Out::giving(Vec::new(self.alloc), Vec::new(self.alloc))
     }
 
     fn answer(&self, number: u8) -> Result<Out, Refusal>
-        ensures { (answer : Reply) → IsAnswer (Event.Answer number answer) result (answered (shell_at self.now number)) }
+        ensures { (answer : Reply) → IsAnswer (Event.Answer number answer) result (replied (shell_at self.now number)) }
     {
         match self.shell_at(number) {
             Some(_) => Err(Refusal::WrongAnswer),

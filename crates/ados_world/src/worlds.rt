@@ -1,12 +1,17 @@
 // A world, and what it shows.
-ghost use Rattle.std.specs.Prelude.{◌≡◌, ◌≢◌, [], map, is_some, IfOk, IfErr};
+ghost use Rattle.std.specs.Prelude.{◌≡◌, [], map, is_some, IfOk, IfErr, IfSome, MatchBool, OnSome};
 ghost use Rattle.std.specs.List.{list_any};
 ghost use Rattle.std.specs.Option.{option_copied};
-ghost use Rattle.ados_machine.specs.World.{fresh_world, shell_at, is_over, is_ready, has_input, wants_line, codes_at, ended_at, running, pending_of};
+ghost use Rattle.ados_machine.specs.Limits.{AllRunOn};
+ghost use Rattle.ados_world.specs.Hosts.{is_nil};
+ghost use Rattle.ados_world.specs.Steps.{IsShellNumber};
+ghost use Rattle.ados_machine.specs.World.{flatten, numbered, fresh_world, shell_at, is_over, is_ready, has_input, wants_line, codes_at, ended_at, running, pending_of};
 
 use crate::hosts::{HostEntry, NewFault};
+use crate::shared::Shared;
 use crate::shells::Shell;
 use ados_machine::{Codes, Request};
+use ados_ram::Ram;
 use ados_text::Text;
 use std::alloc::Global;
 use std::collections::VecDeque;
@@ -20,31 +25,43 @@ pub struct World {
     pub(crate) ended: [Codes; 20],
     pub(crate) queue: VecDeque<Text>,
     pub(crate) input_ended: bool,
+    pub(crate) shared: Shared,
 }
 
 impl Model for World {
     ghost use Rattle.ados_machine.specs.World.{WorldState};
+    ghost use Rattle.ados_machine.specs.Limits.{IsSane};
+    ghost use Rattle.std.specs.Coded.{codes};
+    ghost use Rattle.ados_ram.specs.Files.{coded_files};
 
     ghost Value = { WorldState };
 
-    ghost view = { λ w. record { shells = w.shells; ended = w.ended; queue = w.queue.items; input_ended = w.input_ended } };
+    ghost coded = { Prim.hlevel (codes, coded_files) };
+
+    ghost view = { λ w. record { shells = w.shells; ended = w.ended; queue = w.queue.items; input_ended = w.input_ended; shared = w.shared } };
+
+    // A frame whose last command reached the limit has ended.
+    ghost invariant = { λ w. IsSane (record { shells = w.shells; ended = w.ended; queue = w.queue.items; input_ended = w.input_ended; shared = w.shared }) };
 }
 
 impl World {
-    /// A world with shell 1 alone, in which nothing was typed.
+    /// A world with shell 1 alone, in which nothing was typed, and the files of the beginning.
     ///
-    /// `TooMany` for any host, since no host's program can be started yet.
+    /// `TooMany` for any host, since no host's program can be started yet; else `NoMemory`.
     pub fn new(alloc: Global, hosts: &[HostEntry]) -> Result<World, NewFault>
         ensures world { IfOk result (λ world. (world ≡ fresh_world) × (hosts.now ≡ [])) }
-        ensures too_many { IfErr result (λ fault. (fault ≡ NewFault.TooMany) × (hosts.now ≢ [])) }
+        ensures too_many { IfErr result (λ fault. MatchBool (is_nil hosts.now) (fault ≡ NewFault.NoMemory) (fault ≡ NewFault.TooMany)) }
     {
         if !hosts.is_empty() {
             return Err(NewFault::TooMany);
         }
+        let Ok(ram) = Ram::new(alloc) else {
+            return Err(NewFault::NoMemory);
+        };
         Ok(World {
             alloc,
             shells: [
-                Some(Shell::new()),
+                Some(Shell::new(alloc)),
                 None,
                 None,
                 None,
@@ -68,6 +85,7 @@ impl World {
             ended: [Codes::NONE; 20],
             queue: VecDeque::new(alloc),
             input_ended: false,
+            shared: Shared { ram },
         })
     }
 
@@ -89,11 +107,15 @@ impl World {
         }
     }
 
-    /// The shell of this number can take a turn.
+    /// The shell of this number can take a turn: it runs a script, or is shell 1 and a line waits or
+    /// the input has ended.
     pub fn ready(&self, number: u8) -> bool
         ensures { result ≡ is_ready self.now number }
     {
-        self.shell_at(number).is_some() && number == 1 && self.has_input()
+        match self.shell_at(number) {
+            None => false,
+            Some(shell) => !shell.is_free() || (number == 1 && self.has_input()),
+        }
     }
 
     /// What the shell of this number asked a launcher for, and waits for.
@@ -106,11 +128,11 @@ impl World {
         None
     }
 
-    /// Shell 1 has nothing to take, and a line can still be typed.
+    /// Shell 1 runs and has nothing to take, and a line can still be typed.
     pub fn wants_line(&self) -> bool
         ensures { result ≡ wants_line self.now }
     {
-        self.shell_at(1).is_some() && !self.has_input()
+        self.shell_at(1).is_some() && !self.ready(1)
     }
 
     pub(crate) fn is_over(&self) -> bool
@@ -126,15 +148,11 @@ impl World {
     }
 
     pub(crate) fn shell_at(&self, number: u8) -> Option<&Shell>
-        ensures { option_copied result ≡ shell_at self.now number }
+        ensures shell { option_copied result ≡ shell_at self.now number }
+        ensures number { OnSome result (IsShellNumber number) }
+        ensures runs_on { IfSome result (λ shell. AllRunOn shell.now.frames) }
     {
-        match number {
-            0 => None,
-            _ => match self.shells.get(number as usize - 1) {
-                Some(Some(shell)) => Some(shell),
-                _ => None,
-            },
-        }
+        find_shell(&self.shells, number)
     }
 
     fn ended_codes(&self, number: u8) -> Codes
@@ -164,4 +182,18 @@ fn taken(shells: &[Option<Shell>; 20]) -> [bool; 20]
         taken[place] = shells[place].is_some();
     }
     taken
+}
+
+/// The shell of a number, which counts from 1.
+fn find_shell(shells: &[Option<Shell>; 20], number: u8) -> Option<&Shell>
+    ensures shell { option_copied result ≡ flatten (numbered shells.now number) }
+    ensures number { OnSome result (IsShellNumber number) }
+{
+    match number {
+        0 => None,
+        _ => match shells.get(number as usize - 1) {
+            Some(Some(shell)) => Some(shell),
+            _ => None,
+        },
+    }
 }

@@ -63,8 +63,9 @@ fn words<R: Env + AllocGlobal>(rt: &R) -> Result<Vec<String>, Fault> {
 
 // Runs the lines of standard input, and gives the exit status that they leave.
 fn drive<R: AllocGlobal + Input + Print>(rt: &R, turns: u64) -> Result<u8, Fault> {
+    // without hosts a world fails only for want of memory
     let Ok(mut world) = World::new(rt.alloc(), &[]) else {
-        unreachable!()
+        return Err(Fault::Memory);
     };
     let mut reader = Counted::new(rt.reader());
     let mut writer = Counted::new(io::writer(rt));

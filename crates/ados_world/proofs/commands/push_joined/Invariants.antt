@@ -1,5 +1,5 @@
 use Rattle.std.proofs.Common.{◌≡◌, ◌++◌, drop}
-use Rattle.ados_machine.specs.Rows.{behind_blanks}
+use Rattle.ados_machine.specs.Commands.{behind_blanks}
 use Rattle.ados_world.proofs.commands.push_joined.Given as goal
 
 abbrev pub invariant-loop-word : goal.invariant-loop-word

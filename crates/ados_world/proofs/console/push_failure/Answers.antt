@@ -1,4 +1,4 @@
-use Rattle.std.proofs.Common.{◌≡◌, ◌++◌, ◌∷◌, [], refl, append_assoc, ap, ◌∙◌, rules}
+use Rattle.std.proofs.Common.{refl, append_assoc}
 use Rattle.ados_world.proofs.console.push_failure.Goals as goal
 
 pub returns : goal.returns

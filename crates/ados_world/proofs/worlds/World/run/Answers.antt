@@ -1,7 +1,10 @@
 use Rattle.std.proofs.Common.{◌≡◌, ◌∙◌, ◌+◌, ◌++◌, ◌∷◌, [], take, ap, sym, arith}
 use Rattle.std.proofs.lemmas.Grind.{common_steps}
 use Rattle.std.proofs.lemmas.List.{take_more}
+use Rattle.ados_machine.specs.Runs.{Runs}
 use Rattle.ados_machine.proofs.RunLemmas.{Runs-more}
+use Rattle.ados_machine.proofs.Traces.{limits-hold}
+use Rattle.ados_machine.proofs.Ends.{reports-hold}
 use Rattle.ados_world.proofs.worlds.World.run.Goals as goal
 
 pub loop-event-preserved : goal.loop-event-preserved
@@ -9,7 +12,7 @@ loop-event-preserved c =
     let events = c.args.events.now in
     let i = c.loop-event.event-index in
     let more : take (i + 1) events ≡ take i events ++ c.event-item.result ∷ [] =
-        take_more events i c.event-item.result c.loop-event-test.true ∙ ap (λ e. take i events ++ e ∷ []) (sym c.event-item.is) in
+    take_more events i c.event-item.result c.loop-event-test.true ∙ ap (λ e. take i events ++ e ∷ []) (sym c.event-item.is) in
     record {
       run =
           rw (more, c.in-Ok-push.ensures.items, c.step-out.ensures.world)
@@ -17,3 +20,15 @@ loop-event-preserved c =
       room = grind (arith, common_steps);
       len = grind (arith, common_steps);
     }
+
+pub returns-clause-limits : goal.returns-clause-limits
+returns-clause-limits c =
+    let all : take c.loop-event.event-index c.args.events.now ≡ c.args.events.now = grind (arith, common_steps) in
+    let run : Runs c.args.self c.args.events.now c.loop-event.outs.items c.loop-event.self = rw all at c.loop-event.invariant.run in
+    rw c.from_vec.ensures (limits-hold c.args.self c.args.events.now c.loop-event.outs.items c.loop-event.self run (rw c.self.view_is at c.self.invariant))
+
+pub returns-clause-reports : goal.returns-clause-reports
+returns-clause-reports c =
+    let all : take c.loop-event.event-index c.args.events.now ≡ c.args.events.now = grind (arith, common_steps) in
+    let run : Runs c.args.self c.args.events.now c.loop-event.outs.items c.loop-event.self = rw all at c.loop-event.invariant.run in
+    rw c.from_vec.ensures (reports-hold c.args.self c.args.events.now c.loop-event.outs.items c.loop-event.self run)

@@ -1,0 +1,135 @@
+-- A turn's trace moves the stack of last records as the turn moves the frames, and no frame that it leaves
+-- has a last record at its limit.
+use Rattle.std.proofs.Common.{◌≡◌, ℕ, suc, List, [], ◌∷◌, Bool, true, false, ◌&&◌, ◌||◌, Option, Some, None, Result, Ok, Err, length, is_none, codes, refl, ap, inl, inr}
+use Rattle.std.specs.List.{AllByRecursion}
+use Rattle.std.proofs.lemmas.Bool.{or_parts, cases_Bool}
+use Rattle.ados_text.specs.declared.codes.Code.{Code}
+use Rattle.ados_text.specs.declared.codes.Result2.{Result2}
+use Rattle.ados_text.specs.declared.codes.TheConstants.Result2.{OBJECT_NOT_FOUND}
+use Rattle.ados_line.specs.declared.faults.LineFault.{LineFault}
+use Rattle.ados_line.specs.declared.lines.Line.{Line}
+use Rattle.ados_line.specs.declared.lines.Expanded.{Expanded}
+use Rattle.ados_line.specs.declared.lines.Expanded.TheVariants.{Nothing, Ready}
+use Rattle.ados_line.specs.Cut.{expanded_of}
+use Rattle.ados_machine.specs.declared.builtins.Builtin.{Builtin}
+use Rattle.ados_machine.specs.declared.codes.Codes.{Codes}
+use Rattle.ados_machine.specs.CodeRule.{is_reached, fault_line, failed, erred}
+use Rattle.ados_machine.specs.Commands.{Action, Answers, Quits, Calls, Called, builtin_of, action_of}
+use Rattle.ados_machine.specs.Frames.{Record, Item, Began, FrameState, SharedState, ShellState, Course, Turned, behind, is_over, limit_behind, last_codes, end_of, printing, told, noted, answered_frame, is_ended, finish, passed}
+use Rattle.ados_machine.specs.Shell.{number_of_fault, Opened, Put, put, opening, called, acted, is_free, ran, sought, obeyed, turn_of}
+use Rattle.ados_machine.specs.Step.{moved, script_turned}
+use Rattle.ados_machine.specs.Limits.{RunsOn, AllRunOn}
+use Rattle.ados_machine.proofs.Follows.{Follows, Follows-append}
+
+-- the last records of frames
+abbrev pub lasts : List FrameState → List (Option Record)
+lasts [] = []
+lasts (frame ∷ frames) = frame.last ∷ lasts frames
+
+pub length-lasts : (frames : List FrameState) → length frames ≡ length (lasts frames)
+length-lasts [] = refl
+length-lasts (frame ∷ frames) = ap suc (length-lasts frames)
+
+pub lasts-run : (frames : List FrameState) → AllRunOn frames → AllByRecursion RunsOn (lasts frames)
+lasts-run [] runs = tt
+lasts-run (frame ∷ frames) runs = (runs.0, lasts-run frames runs.1)
+
+-- a turn's trace leads from a stack of last records to that of the frames it leaves, and each of these runs on
+pub record Goes (start : List (Option Record)) (turned : Turned) : Type 0 where
+  pub follows : Follows start turned.log (lasts turned.shell.frames)
+  pub runs : AllRunOn turned.shell.frames
+
+-- with items before it
+behind-goes : (start mid : List (Option Record)) (items : List Item) (turned : Turned) →
+    Follows start items mid → Goes mid turned → Goes start (behind items turned)
+behind-goes start mid items turned before goes = record {
+  follows = Follows-append start items turned.log mid (lasts turned.shell.frames) before goes.follows;
+  runs = goes.runs;
+}
+
+-- an answer that does not end its frame is below the limit
+below_limit : (quits reached over : Bool) → (quits || (reached || over)) ≡ false → reached ≡ false
+below_limit quits reached over h = (or_parts reached over (or_parts quits (reached || over) h).1).0
+
+finish-goes : (word : List ℕ) (answer : Codes) (quits : Bool) (limit : Code) (frames : List FrameState) (course : Course) →
+    AllRunOn frames → Goes (lasts frames) (finish word answer quits limit frames course)
+finish-goes word answer quits limit [] course runs = record { follows = (refl, refl); runs = tt }
+finish-goes word answer quits limit (frame ∷ frames) course runs =
+    let depth = ap suc (length-lasts frames) in
+    elim (cases_Bool (is_ended quits answer limit frame)) [
+      | inl e ↦ rw e (behind-goes (lasts (frame ∷ frames)) (lasts frames)
+          (noted (frame ∷ frames) answer limit ∷ end_of (suc (length frames)) (answered_frame frame frames answer limit) ∷ [])
+          (finish frame.command answer false (limit_behind frame frames) frames (told word answer limit course))
+          (depth, runs.0, (depth, refl, refl, refl, refl))
+          (finish-goes frame.command answer false (limit_behind frame frames) frames (told word answer limit course) runs.1))
+      | inr e ↦ rw e (record {
+        follows = (depth, runs.0, refl);
+        runs = (below_limit quits (is_reached limit answer.code) (is_over frame) e, runs.1);
+      })
+    ]
+
+passed-goes : (answer : Codes) (limit : Code) (frames : List FrameState) (course : Course) →
+    AllRunOn frames → Goes (lasts frames) (passed answer limit frames course)
+passed-goes answer limit [] course runs = record { follows = refl; runs = tt }
+passed-goes answer limit (frame ∷ frames) course runs =
+    elim (cases_Bool (is_over frame)) [
+      | inl e ↦ rw e (behind-goes (lasts (frame ∷ frames)) (lasts frames) (end_of (suc (length frames)) frame ∷ [])
+          (finish frame.command (last_codes frame.last) false (limit_behind frame frames) frames course)
+          (ap suc (length-lasts frames), refl, refl, refl, refl)
+          (finish-goes frame.command (last_codes frame.last) false (limit_behind frame frames) frames course runs.1))
+      | inr e ↦ rw e (record { follows = refl; runs = runs })
+    ]
+
+called-goes : (word : List ℕ) (script : Called) (shell : ShellState) (course : Course) →
+    AllRunOn shell.frames → Goes (lasts shell.frames) (called word script shell course)
+called-goes word script shell course runs =
+    let frame : FrameState = record { name = script.name; lines = script.lines; position = 0; command = word; limit = shell.limit; last = None } in
+    behind-goes (lasts shell.frames) (None ∷ lasts shell.frames) (Began (suc (length shell.frames)) ∷ [])
+    (passed shell.codes shell.limit (frame ∷ shell.frames) course)
+    (ap suc (length-lasts shell.frames), refl)
+    (passed-goes shell.codes shell.limit (frame ∷ shell.frames) course (tt, runs))
+
+acted-goes : (word : List ℕ) (place : Option (List (List ℕ))) (action : Action) (shell : ShellState) (course : Course) →
+    AllRunOn shell.frames → Goes (lasts shell.frames) (acted word place action shell course)
+acted-goes word place (Answers effect) shell course runs =
+    let done : Put = put place effect.output effect.codes course in
+    finish-goes word done.codes false effect.limit shell.frames (printing (fault_line word done.codes.result2) done.course) runs
+acted-goes word place (Quits code) shell course runs =
+    let answer : Codes = record { code = code; result2 = record { 0 = 0 } } in
+    finish-goes word answer true shell.limit shell.frames (printing (fault_line word answer.result2) course) runs
+acted-goes word place (Calls script) shell course runs = called-goes word script shell course runs
+
+ran-goes : (builtin : Builtin) (line : Line) (shell : ShellState) (course : Course) (opened : Result Opened Result2) →
+    AllRunOn shell.frames → Goes (lasts shell.frames) (ran builtin line shell course opened)
+ran-goes builtin line shell course (Err fault) runs =
+    finish-goes line.command (failed fault) false shell.limit shell.frames (printing (fault_line line.command fault) course) runs
+ran-goes builtin line shell course (Ok opened) runs =
+    acted-goes line.command opened.place (action_of builtin opened.files (is_free shell.frames && is_none opened.place) line.args shell.limit) shell
+    (record course { shared = record { files = opened.files } }) runs
+
+sought-goes : (found : Option Builtin) (line : Line) (shell : ShellState) (course : Course) →
+    AllRunOn shell.frames → Goes (lasts shell.frames) (sought found line shell course)
+sought-goes None line shell course runs =
+    finish-goes line.command (erred OBJECT_NOT_FOUND) false shell.limit shell.frames (printing (fault_line line.command OBJECT_NOT_FOUND) course) runs
+sought-goes (Some builtin) line shell course runs =
+    ran-goes builtin line shell course (opening course.shared.files line.output) runs
+
+obeyed-goes : (expanded : Result Expanded LineFault) (shell : ShellState) (course : Course) →
+    AllRunOn shell.frames → Goes (lasts shell.frames) (obeyed expanded shell course)
+obeyed-goes (Err fault) shell course runs =
+    let answer : Codes = failed (number_of_fault fault) in
+    finish-goes (codes "Shell") answer false shell.limit shell.frames (printing (fault_line (codes "Shell") answer.result2) course) runs
+obeyed-goes (Ok Nothing) shell course runs = passed-goes shell.codes shell.limit shell.frames course runs
+obeyed-goes (Ok (Ready line)) shell course runs = sought-goes (builtin_of line.command) line shell course runs
+
+-- a turn that takes a line
+pub turn-goes : (raw : List ℕ) (shell : ShellState) (shared : SharedState) →
+    AllRunOn shell.frames → Goes (lasts shell.frames) (turn_of raw shell shared)
+turn-goes raw shell shared runs = obeyed-goes (expanded_of raw) shell (record { shared = shared; printed = [] }) runs
+
+-- a turn of a script
+pub script-goes : (shell : ShellState) (frame : FrameState) (frames : List FrameState) (shared : SharedState) (line : Option (List ℕ)) →
+    AllRunOn (frame ∷ frames) → Goes (lasts (frame ∷ frames)) (script_turned shell frame frames shared line)
+script-goes shell frame frames shared None runs =
+    passed-goes shell.codes shell.limit (frame ∷ frames) (record { shared = shared; printed = [] }) runs
+script-goes shell frame frames shared (Some line) runs = turn-goes line (moved shell frame frames) shared runs

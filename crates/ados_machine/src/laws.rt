@@ -1,0 +1,27 @@
+//! The laws: what holds of every run, by the definitions alone.
+
+ghost use Rattle.ados_machine.specs.Laws.{
+  ScriptsEndWhereTheRuleSays,
+  EventsKeepWorldsSane,
+  ReportsAreTheEnds,
+};
+ghost use Rattle.ados_machine.specs.Limits.{IsSane};
+ghost use Rattle.ados_machine.specs.World.{fresh_world};
+
+/// In every run and every shell, each script ends early exactly at its first command whose code
+/// reaches the limit behind it, and reports the line and the code of its last command.
+pub fn scripts_end_where_the_rule_says()
+    ensures { ScriptsEndWhereTheRuleSays }
+{}
+
+/// No script runs on behind a command whose code reached its limit: a fresh world has none that
+/// does, and no event leaves one.
+pub fn no_script_runs_on_behind_a_failure()
+    ensures fresh { IsSane fresh_world }
+    ensures kept { EventsKeepWorldsSane }
+{}
+
+/// The reports of every run are the ends of its scripts, one each and in order.
+pub fn each_end_is_reported_once()
+    ensures { ReportsAreTheEnds }
+{}

@@ -1,0 +1,221 @@
+-- how a draft goes on: what is left to do from a middle draft on does what the whole does from the first on
+use Rattle.std.proofs.Common.{◌≡◌, ◌∙◌, ◌++◌, ◌∷◌, [], List, ℕ, Bool, true, false, Option, None, Result, Ok, Err, length, suc, ap, sym, refl, append_assoc}
+use Rattle.std.specs.Prelude.{if◌then◌else◌}
+use Rattle.ados_text.specs.declared.codes.Code.{Code}
+use Rattle.ados_machine.specs.declared.codes.Codes.{Codes}
+use Rattle.ados_machine.specs.declared.outs.EndReport.{EndReport}
+use Rattle.ados_machine.specs.CodeRule.{fault_line, failed_line}
+use Rattle.ados_machine.specs.Frames.{SharedState, ShellState, FrameState, Course, Turned, Item, behind, told, noted, end_of, limit_behind, answered_frame, is_ended, is_over, last_codes, finish, passed, reports_of}
+use Rattle.ados_machine.specs.Shell.{answered, called, Opened, put, acted, after_put}
+use Rattle.ados_machine.specs.declared.actions.Action.TheVariants.{Answers}
+use Rattle.ados_machine.specs.declared.actions.Effect.{Effect}
+use Rattle.ados_machine.specs.declared.actions.Called.{Called}
+use Rattle.ados_ram.specs.Files.{Files}
+use Rattle.ados_ram.specs.declared.faults.FsFault.TheVariants.{Refused}
+use Rattle.ados_text.specs.declared.codes.Result2.{Result2}
+use Rattle.ados_world.specs.declared.drafts.Draft.{Draft}
+use Rattle.ados_world.specs.Drafts.{GoesOn, IsReported, IsOpened, IsPut, course_of, version}
+use Rattle.ados_world.specs.Frames.{report_of}
+
+pub goes-on : (shared : SharedState) (before mid after : Draft) (t t' : Turned) (rs : List EndReport)
+    → mid.number ≡ before.number → mid.reports.items ≡ before.reports.items ++ rs
+    → t'.shell ≡ t.shell → t'.course ≡ t.course
+    → reports_of before.number t'.log ≡ rs ++ reports_of before.number t.log
+    → GoesOn shared mid after t → GoesOn shared before after t'
+goes-on shared before mid after t t' rs n r s c l g = record {
+  number = g.number ∙ n;
+  shell = g.shell ∙ sym s;
+  course = g.course ∙ sym c;
+  reports = g.reports ∙ ap (λ k. mid.reports.items ++ reports_of k t.log) n
+      ∙ ap (λ x. x ++ reports_of before.number t.log) r
+      ∙ append_assoc before.reports.items rs (reports_of before.number t.log)
+      ∙ ap (λ x. before.reports.items ++ x) (sym l);
+}
+
+-- the same where nothing was reported on the way
+pub goes-same : (shared : SharedState) (before mid after : Draft) (t t' : Turned)
+    → mid.number ≡ before.number → mid.reports.items ≡ before.reports.items → t ≡ t'
+    → GoesOn shared mid after t → GoesOn shared before after t'
+goes-same shared before mid after t t' n r e g = record {
+  number = g.number ∙ n;
+  shell = g.shell ∙ ap (λ x. x.shell) e;
+  course = g.course ∙ ap (λ x. x.course) e;
+  reports = g.reports ∙ ap (λ x. x ++ reports_of mid.number t.log) r
+      ∙ ap (λ k. before.reports.items ++ reports_of k t.log) n
+      ∙ ap (λ x. before.reports.items ++ reports_of before.number x.log) e;
+}
+
+-- what finish does depends on what is printed so far
+finish-printed : (word : List ℕ) (codes : Codes) (quits : Bool) (limit : Code) (frames : List FrameState) (shared : SharedState) (p q : List ℕ)
+    → p ≡ q → finish word codes quits limit frames (record { shared = shared; printed = p }) ≡ finish word codes quits limit frames (record { shared = shared; printed = q })
+finish-printed word codes quits limit frames shared p q e = ap (λ x. finish word codes quits limit frames (record { shared = shared; printed = x })) e
+
+-- a fault's text was printed, and the code rule follows
+pub answer-goes : (shared : SharedState) (before mid after : Draft) (word : List ℕ) (codes : Codes) (quits : Bool)
+    → mid.number ≡ before.number → mid.shell ≡ before.shell → mid.shared ≡ before.shared → mid.reports.items ≡ before.reports.items
+    → mid.printed.items ≡ before.printed.items ++ fault_line word codes.result2
+    → GoesOn shared mid after (finish word codes quits mid.shell.limit mid.shell.frames (course_of shared mid))
+    → GoesOn shared before after (answered word codes quits before.shell (course_of shared before))
+answer-goes shared before mid after word codes quits n s h r p g =
+    goes-same shared before mid after _ _ n r
+    (ap (λ x. finish word codes quits x.limit x.frames (course_of shared mid)) s
+    ∙ ap (λ x. finish word codes quits before.shell.limit before.shell.frames (record { shared = version shared x; printed = mid.printed.items })) h
+    ∙ finish-printed word codes quits before.shell.limit before.shell.frames (version shared before.shared) mid.printed.items _ p)
+    g
+
+-- what a test decides, where it is decided
+then-is : (b : Bool) (x y : Turned) → b ≡ true → x ≡ (if b then x else y)
+then-is b x y e = ap (λ t. if t then x else y) (sym e)
+
+-- a frame was taken off, its end was reported, and its end is the answer of the command that made it
+pub end-goes : (shared : SharedState) (before ended after : Draft) (command : List ℕ) (codes : Codes) (last : FrameState) (frames : List FrameState)
+    (course : Course) (items : List Item) (t' : Turned)
+    → behind items (finish command codes false (limit_behind last frames) frames course) ≡ t'
+    → reports_of before.number (items ++ (finish command codes false (limit_behind last frames) frames course).log)
+    ≡ report_of before.number last ∷ reports_of before.number (finish command codes false (limit_behind last frames) frames course).log
+    → ended.number ≡ before.number → ended.shell.limit ≡ limit_behind last frames → ended.shell.frames ≡ frames
+    → course_of shared ended ≡ course
+    → ended.reports.items ≡ before.reports.items ++ report_of before.number last ∷ []
+    → GoesOn shared ended after (finish command codes false ended.shell.limit ended.shell.frames (course_of shared ended))
+    → GoesOn shared before after t'
+end-goes shared before ended after command codes last frames course items t' e rs n l f c r g =
+    let t = finish command codes false (limit_behind last frames) frames course in
+    let same : finish command codes false ended.shell.limit ended.shell.frames (course_of shared ended) ≡ t =
+    ap (λ x. finish command codes false x ended.shell.frames (course_of shared ended)) l
+    ∙ ap (λ x. finish command codes false (limit_behind last frames) x (course_of shared ended)) f
+    ∙ ap (λ x. finish command codes false (limit_behind last frames) frames x) c in
+    goes-on shared before ended after t t' (report_of before.number last ∷ []) n r
+    (ap (λ x. x.shell) (sym e)) (ap (λ x. x.course) (sym e))
+    (ap (λ x. reports_of before.number x.log) (sym e) ∙ rs)
+    (goes-same shared ended ended after _ t refl refl same g)
+
+-- the code rule at a frame that ends
+pub finish-ends : (shared : SharedState) (before popped ended after : Draft) (held : ShellState) (word : List ℕ) (codes : Codes) (quits : Bool)
+    (frame last : FrameState)
+    → held ≡ record before.shell { codes = codes } → held ≡ record popped.shell { frames = frame ∷ popped.shell.frames }
+    → popped.number ≡ before.number → popped.shared ≡ before.shared → popped.reports.items ≡ before.reports.items
+    → popped.printed.items ≡ before.printed.items ++ failed_line word codes.code before.shell.limit
+    → last ≡ answered_frame frame popped.shell.frames codes before.shell.limit
+    → is_ended quits codes before.shell.limit last ≡ true
+    → IsReported popped ended last
+    → GoesOn shared ended after (finish last.command codes false ended.shell.limit ended.shell.frames (course_of shared ended))
+    → GoesOn shared before after (finish word codes quits before.shell.limit before.shell.frames (course_of shared before))
+finish-ends shared before popped ended after held word codes quits frame last a p n h r out is_last ends reported g =
+    let frames = popped.shell.frames in
+    let limit = before.shell.limit in
+    let course = told word codes limit (course_of shared before) in
+    let there : before.shell.frames ≡ frame ∷ frames = ap (λ s. s.frames) (sym a ∙ p) in
+    let ended_test : is_ended quits codes limit frame ≡ true = ap (is_ended quits codes limit) (sym is_last) ∙ ends in
+    let command_is : last.command ≡ frame.command = ap (λ f. f.command) is_last in
+    let inner = finish last.command codes false (limit_behind last frames) frames course in
+    let items = noted (frame ∷ frames) codes limit ∷ end_of (suc (length frames)) (answered_frame frame frames codes limit) ∷ [] in
+    let number_is : ended.number ≡ before.number = reported.number ∙ n in
+    let shell_frames : ended.shell.frames ≡ frames = ap (λ s. s.frames) reported.shell in
+    let shell_limit : ended.shell.limit ≡ limit_behind last frames = ap (λ s. s.limit) reported.shell in
+    let course_is : course_of shared ended ≡ course =
+    ap (λ x. record { shared = version shared x; printed = ended.printed.items }) (reported.shared ∙ h)
+    ∙ ap (λ x. record { shared = version shared before.shared; printed = x }) (reported.printed ∙ out) in
+    let reports_are : ended.reports.items ≡ before.reports.items ++ report_of before.number last ∷ [] =
+    reported.reports ∙ ap (λ x. x ++ report_of popped.number last ∷ []) r ∙ ap (λ k. before.reports.items ++ report_of k last ∷ []) n in
+    let course0 = course_of shared before in
+    let inner0 = finish frame.command codes false (limit_behind frame frames) frames course in
+    let inner_is : inner ≡ inner0 = ap (λ f. finish f.command codes false (limit_behind f frames) frames course) is_last in
+    let stays : Turned = record {
+      shell = record { frames = answered_frame frame frames codes limit ∷ frames; limit = limit; codes = codes };
+      course = course;
+      log = noted (frame ∷ frames) codes limit ∷ [];
+    } in
+    let e : behind items inner ≡ finish word codes quits limit before.shell.frames course0 =
+    ap (behind items) inner_is
+    ∙ then-is (is_ended quits codes limit frame) (behind items inner0) stays ended_test
+    ∙ ap (λ x. finish word codes quits limit x course0) (sym there) in
+    let rs : reports_of before.number (items ++ inner.log) ≡ report_of before.number last ∷ reports_of before.number inner.log =
+    ap (λ f. report_of before.number f ∷ reports_of before.number inner.log) (sym is_last) in
+    end-goes shared before ended after last.command codes last frames course items _ e rs number_is shell_limit shell_frames course_is reports_are g
+
+-- a line that asked for nothing was the last of its frame
+pub pass-ends : (shared : SharedState) (before popped ended after : Draft) (frame : FrameState)
+    → before.shell ≡ record popped.shell { frames = frame ∷ popped.shell.frames }
+    → popped.number ≡ before.number → popped.shared ≡ before.shared → popped.reports.items ≡ before.reports.items
+    → popped.printed.items ≡ before.printed.items
+    → is_over frame ≡ true
+    → IsReported popped ended frame
+    → GoesOn shared ended after (finish frame.command (last_codes frame.last) false ended.shell.limit ended.shell.frames (course_of shared ended))
+    → GoesOn shared before after (passed before.shell.codes before.shell.limit before.shell.frames (course_of shared before))
+pass-ends shared before popped ended after frame p n h r out over reported g =
+    let frames = popped.shell.frames in
+    let course = course_of shared before in
+    let there : before.shell.frames ≡ frame ∷ frames = ap (λ s. s.frames) p in
+    let items = end_of (suc (length frames)) frame ∷ [] in
+    let inner = finish frame.command (last_codes frame.last) false (limit_behind frame frames) frames course in
+    let number_is : ended.number ≡ before.number = reported.number ∙ n in
+    let shell_frames : ended.shell.frames ≡ frames = ap (λ s. s.frames) reported.shell in
+    let shell_limit : ended.shell.limit ≡ limit_behind frame frames = ap (λ s. s.limit) reported.shell in
+    let course_is : course_of shared ended ≡ course =
+    ap (λ x. record { shared = version shared x; printed = ended.printed.items }) (reported.shared ∙ h)
+    ∙ ap (λ x. record { shared = version shared before.shared; printed = x }) (reported.printed ∙ out) in
+    let reports_are : ended.reports.items ≡ before.reports.items ++ report_of before.number frame ∷ [] =
+    reported.reports ∙ ap (λ x. x ++ report_of popped.number frame ∷ []) r ∙ ap (λ k. before.reports.items ++ report_of k frame ∷ []) n in
+    let stays : Turned = record {
+      shell = record { frames = frame ∷ frames; limit = before.shell.limit; codes = before.shell.codes };
+      course = course;
+      log = [];
+    } in
+    let e : behind items inner ≡ passed before.shell.codes before.shell.limit before.shell.frames course =
+    then-is (is_over frame) (behind items inner) stays over
+    ∙ ap (λ x. passed before.shell.codes before.shell.limit x course) (sym there) in
+    end-goes shared before ended after frame.command (last_codes frame.last) frame frames course items _ e refl number_is shell_limit shell_frames course_is reports_are g
+
+-- a script begins
+pub call-goes : (shared : SharedState) (before mid after : Draft) (word : List ℕ) (script : Called) (frame : FrameState)
+    → mid.number ≡ before.number → mid.shell ≡ record before.shell { frames = frame ∷ before.shell.frames }
+    → mid.shared ≡ before.shared → mid.printed.items ≡ before.printed.items → mid.reports.items ≡ before.reports.items
+    → frame ≡ record { name = script.name; lines = script.lines; position = 0; command = word; limit = before.shell.limit; last = None }
+    → GoesOn shared mid after (passed mid.shell.codes mid.shell.limit mid.shell.frames (course_of shared mid))
+    → GoesOn shared before after (called word script before.shell (course_of shared before))
+call-goes shared before mid after word script frame n s h p r f g =
+    let fresh : FrameState = record { name = script.name; lines = script.lines; position = 0; command = word; limit = before.shell.limit; last = None } in
+    let t = passed before.shell.codes before.shell.limit (fresh ∷ before.shell.frames) (course_of shared before) in
+    let e : passed mid.shell.codes mid.shell.limit mid.shell.frames (course_of shared mid) ≡ t =
+    ap (λ x. passed x.codes x.limit x.frames (course_of shared mid)) s
+    ∙ ap (λ x. passed before.shell.codes before.shell.limit (x ∷ before.shell.frames) (course_of shared mid)) f
+    ∙ ap (λ x. passed before.shell.codes before.shell.limit (fresh ∷ before.shell.frames) (record { shared = version shared x; printed = mid.printed.items })) h
+    ∙ ap (λ x. passed before.shell.codes before.shell.limit (fresh ∷ before.shell.frames) (record { shared = version shared before.shared; printed = x })) p in
+    let on : GoesOn shared before after t = goes-same shared before mid after _ t n r e g in
+    record { number = on.number; shell = on.shell; course = on.course; reports = on.reports }
+
+-- what a refused opening says
+pub opened-err : (files : Files) (opened : Result Opened Result2) (fault : Result2) → IsOpened files (Err (Refused fault)) opened → opened ≡ Err fault
+opened-err files (Ok opened) fault h = absurd h
+opened-err files (Err other) fault h = ap Err (sym h)
+
+-- a command answered, and its output was put
+pub act-goes : (shared : SharedState) (before mid done after : Draft) (word : List ℕ) (place : Option (List (List ℕ))) (effect : Effect) (bytes : List ℕ) (codes : Codes)
+    → mid.number ≡ before.number → mid.shell ≡ record before.shell { limit = effect.limit }
+    → mid.shared ≡ before.shared → mid.printed.items ≡ before.printed.items → mid.reports.items ≡ before.reports.items
+    → bytes ≡ effect.output
+    → IsPut shared mid done codes (put place bytes effect.codes (course_of shared mid))
+    → GoesOn shared done after (answered word codes false done.shell (course_of shared done))
+    → GoesOn shared before after (acted word place (Answers effect) before.shell (course_of shared before))
+act-goes shared before mid done after word place effect bytes codes n s h p r b d g =
+    let held : ShellState = record before.shell { limit = effect.limit } in
+    let course : course_of shared mid ≡ course_of shared before =
+    ap (λ x. record { shared = version shared x; printed = mid.printed.items }) h
+    ∙ ap (λ x. record { shared = version shared before.shared; printed = x }) p in
+    let result = put place bytes effect.codes (course_of shared mid) in
+    let e : answered word codes false done.shell (course_of shared done) ≡ acted word place (Answers effect) before.shell (course_of shared before) =
+    ap (λ x. answered word x false done.shell (course_of shared done)) d.codes_are
+    ∙ ap (λ x. answered word result.codes false x (course_of shared done)) (d.shell ∙ s)
+    ∙ ap (λ x. answered word result.codes false held x) d.course
+    ∙ ap (λ x. after_put word held (put place x effect.codes (course_of shared mid))) b
+    ∙ ap (λ x. after_put word held (put place effect.output effect.codes x)) course in
+    goes-same shared before done after _ _ (d.number ∙ n) (d.reports ∙ r) e g
+
+-- the same by a word and codes that are told apart
+pub answered-goes : (shared : SharedState) (before after : Draft) (word word' : List ℕ) (codes codes' : Codes) (quits : Bool) (shell : ShellState) (course : Course)
+    → word ≡ word' → codes ≡ codes'
+    → GoesOn shared before after (answered word codes quits shell course)
+    → GoesOn shared before after (answered word' codes' quits shell course)
+answered-goes shared before after word word' codes codes' quits shell course w c g =
+    goes-same shared before before after _ _ refl refl
+    (ap (λ x. answered x codes quits shell course) w ∙ ap (λ x. answered word' x quits shell course) c) g

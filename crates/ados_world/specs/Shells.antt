@@ -1,0 +1,18 @@
+-- The frames of a shell.
+use Rattle.std.specs.Prelude.{◌≡◌, ◌+◌, ◌<◌, ◌^◌, List, [], ◌∷◌, Option, Some, None}
+use Rattle.ados_machine.specs.Frames.{FrameState, ShellState}
+use Rattle.ados_machine.specs.Step.{moved}
+
+abbrev pub newest : List FrameState → Option FrameState
+newest [] = None
+newest (frame ∷ frames) = Some frame
+
+-- the newest frame's next line has a number
+abbrev pub HasRoom : List FrameState → Type 0
+HasRoom [] = Unit {0}
+HasRoom (frame ∷ frames) = frame.position + 1 < 2 ^ 64
+
+-- the newest frame's line was taken
+abbrev pub IsMovedOn : ShellState → ShellState → List FrameState → Type 0
+IsMovedOn old new [] = new ≡ old
+IsMovedOn old new (frame ∷ frames) = new ≡ moved old frame frames
