@@ -1,5 +1,5 @@
 use crate::{Pattern, PatternFault};
-use ados_text::Text;
+use ados_text::{NoMemory, Text};
 use std::test::Fail;
 
 #[test]
@@ -137,4 +137,24 @@ fn matches_a_text_of_more_than_64_bytes(rt: HostRuntime) -> Result<(), Fail> {
         }
     }
     Ok(())
+}
+
+// Each allocation may be made to fail in turn.
+#[test]
+fn wants_memory_for_no_fault_and_keeps_the_pattern(rt: HostRuntime) {
+    let Ok(open) = Text::from_bytes(rt.alloc(), b"(a") else {
+        return;
+    };
+    let fault = Pattern::parse(rt.alloc(), &open).err();
+    assert_eq!(rt; fault, Some(PatternFault::BadPattern(0)));
+    let Ok(text) = Text::from_bytes(rt.alloc(), b"~(#?.info)") else {
+        return;
+    };
+    match Pattern::parse(rt.alloc(), &text) {
+        Err(fault) => assert_eq!(rt; fault, PatternFault::NoMemory),
+        Ok(pattern) => match pattern.matches(&text) {
+            Ok(matched) => assert!(rt; matched),
+            Err(NoMemory) => assert_eq!(rt; pattern.matches(&text), Ok(true)),
+        },
+    }
 }
