@@ -15,6 +15,8 @@ mod script_lines;
 mod shared;
 mod shells;
 mod steps;
+#[cfg(test)]
+mod tests;
 mod worlds;
 
 pub use ados_machine::{Answer, Codes, EndReport, Event, Job, Out, Refusal, Reports, Request};
