@@ -5,7 +5,10 @@ use Rattle.std.proofs.lemmas.Bool.{cases_Bool, cases_eq}
 use Rattle.std.proofs.lemmas.Grind.{common_steps}
 use Rattle.ados_machine.specs.World.{WorldState, shell_at, is_ready, is_over, has_input, flatten, numbered}
 use Rattle.ados_machine.specs.Frames.{FrameState, ShellState}
-use Rattle.ados_machine.specs.Step.{step_of, turned, turn_by, console_turn}
+use Rattle.ados_machine.specs.Step.{step_of, turned, turn_by, ready_turn, answered_prompt, console_turn}
+use Rattle.ados_machine.specs.declared.phases.Asking.{Asking as Question}
+use Rattle.ados_machine.specs.declared.phases.Phase.{Phase}
+use Rattle.ados_machine.specs.declared.phases.Phase.TheVariants.{Ready, Asking}
 use Rattle.ados_machine.specs.declared.events.Event.TheVariants.{Typed, EndOfInput, Turn}
 use Rattle.ados_launch.specs.declared.lines.LineKind.{LineKind}
 use Rattle.ados_launch.specs.declared.lines.LineKind.TheVariants.{End, Short, Long, Overlong}
@@ -32,17 +35,29 @@ console-alone : (w : WorldState) (left : List ℕ) (shell : ShellState) (queue :
 console-alone w left shell [] alone k other = others_stay w.shells None k other ∙ alone k other
 console-alone w left shell (line ∷ rest) alone k other = others_stay w.shells _ k other ∙ alone k other
 
-turn_by-alone : (w : WorldState) (left : List ℕ) (shell : ShellState) (frames : List FrameState) → IsAlone w → IsAlone (did_by w left (turn_by w 1 shell frames)).world
-turn_by-alone w left shell (frame ∷ frames) alone = λ k other. others_stay w.shells _ k other ∙ alone k other
-turn_by-alone w left shell [] alone =
+ready-alone : (w : WorldState) (left : List ℕ) (shell : ShellState) (frames : List FrameState) → IsAlone w → IsAlone (did_by w left (ready_turn w 1 shell frames)).world
+ready-alone w left shell (frame ∷ frames) alone = λ k other. others_stay w.shells _ k other ∙ alone k other
+ready-alone w left shell [] alone =
     elim (cases_Bool (has_input w)) [
       | inl some ↦ rw some (console-alone w left shell w.queue alone)
       | inr none ↦ rw none alone
     ]
 
+prompt-alone : (w : WorldState) (left : List ℕ) (shell : ShellState) (question : Question) (queue : List (List ℕ)) → IsAlone w → IsAlone (did_by w left (answered_prompt w 1 shell question queue)).world
+prompt-alone w left shell question [] alone = λ k other. others_stay w.shells _ k other ∙ alone k other
+prompt-alone w left shell question (line ∷ rest) alone = λ k other. others_stay w.shells _ k other ∙ alone k other
+
+turn_by-alone : (w : WorldState) (left : List ℕ) (shell : ShellState) (phase : Phase) → IsAlone w → IsAlone (did_by w left (turn_by w 1 shell phase)).world
+turn_by-alone w left shell Ready alone = ready-alone w left shell shell.frames alone
+turn_by-alone w left shell (Asking question) alone =
+    elim (cases_Bool (has_input w)) [
+      | inl some ↦ rw some (prompt-alone w left shell question w.queue alone)
+      | inr none ↦ rw none alone
+    ]
+
 first-turned-alone : (w : WorldState) (left : List ℕ) (found : Option ShellState) → IsAlone w → IsAlone (did_by w left (turned w 1 found)).world
 first-turned-alone w left None alone = alone
-first-turned-alone w left (Some shell) alone = turn_by-alone w left shell shell.frames alone
+first-turned-alone w left (Some shell) alone = turn_by-alone w left shell shell.phase alone
 
 turned-alone : (w : WorldState) (left : List ℕ) (k : ℕ) → IsAlone w → IsAlone (did_by w left (turned w k (shell_at w k))).world
 turned-alone w left k alone =

@@ -1,11 +1,14 @@
 -- What an event makes of the input: shell 1 ends only where it has ended.
-use Rattle.std.proofs.Common.{◌≡◌, ℕ, zero, suc, ◌-◌, ◌∷◌, List, [], Option, Some, None, Bool, true, not, ◌&&◌, refl, is_some, slice_get, slice_set, ◌⊎◌, inl, inr, ◌==◌, arith}
+use Rattle.std.proofs.Common.{◌≡◌, ℕ, zero, suc, ◌-◌, ◌∷◌, List, [], Option, Some, None, Bool, true, not, ◌&&◌, ◌||◌, refl, is_some, slice_get, slice_set, ◌⊎◌, inl, inr, ◌==◌, arith}
 use Rattle.std.proofs.lemmas.Bool.{cases_Bool, and_parts}
 use Rattle.std.proofs.lemmas.Grind.{common_steps}
 use Rattle.ados_machine.specs.World.{WorldState, shell_at, is_ready, wants_line, is_over, has_input, flatten}
 use Rattle.ados_machine.specs.Frames.{FrameState, ShellState}
-use Rattle.ados_machine.specs.Shell.{turn_of}
-use Rattle.ados_machine.specs.Step.{step_of, turned, turn_by, console_turn, script_turned}
+use Rattle.ados_machine.specs.Shell.{turn_of, resumed}
+use Rattle.ados_machine.specs.Step.{step_of, turned, turn_by, ready_turn, answered_prompt, waiting, console_turn, script_turned}
+use Rattle.ados_machine.specs.declared.phases.Asking.{Asking as Question}
+use Rattle.ados_machine.specs.declared.phases.Phase.{Phase}
+use Rattle.ados_machine.specs.declared.phases.Phase.TheVariants.{Ready, Asking}
 use Rattle.ados_machine.specs.declared.events.Event.TheVariants.{Typed, Turn}
 use Rattle.ados_launch.specs.Schedule.{takes_input, did_by}
 
@@ -25,18 +28,30 @@ console-takes : (w : WorldState) (left : List ℕ) (shell : ShellState) (queue :
 console-takes w left shell [] e q h = absurd (grind (arith, common_steps))
 console-takes w left shell (line ∷ rest) e q h = first_stays w.input_ended w.shells 0 (turn_of line shell w.shared).shell e
 
-turn_by-takes : (w : WorldState) (left : List ℕ) (k : ℕ) (shell : ShellState) (frames : List FrameState) → takes_input w ≡ true → takes_input (did_by w left (turn_by w k shell frames)).world ≡ true
-turn_by-takes w left k shell (frame ∷ frames) e =
+ready-takes : (w : WorldState) (left : List ℕ) (k : ℕ) (shell : ShellState) (frames : List FrameState) → takes_input w ≡ true → takes_input (did_by w left (ready_turn w k shell frames)).world ≡ true
+ready-takes w left k shell (frame ∷ frames) e =
     first_stays w.input_ended w.shells (k - 1) (script_turned shell frame frames w.shared (slice_get frame.lines frame.position)).shell e
-turn_by-takes w left k shell [] e =
+ready-takes w left k shell [] e =
     elim (cases_Bool ((k == 1) && has_input w)) [
       | inl some ↦ rw some (console-takes w left shell w.queue e refl (and_parts (k == 1) (has_input w) some).1)
       | inr none ↦ rw none e
     ]
 
+prompt-takes : (w : WorldState) (left : List ℕ) (k : ℕ) (shell : ShellState) (question : Question) (queue : List (List ℕ)) → takes_input w ≡ true → takes_input (did_by w left (answered_prompt w k shell question queue)).world ≡ true
+prompt-takes w left k shell question [] e = first_stays w.input_ended w.shells (k - 1) (resumed [] question shell w.shared).shell e
+prompt-takes w left k shell question (line ∷ rest) e = first_stays w.input_ended w.shells (k - 1) (resumed line question shell w.shared).shell e
+
+turn_by-takes : (w : WorldState) (left : List ℕ) (k : ℕ) (shell : ShellState) (phase : Phase) → takes_input w ≡ true → takes_input (did_by w left (turn_by w k shell phase)).world ≡ true
+turn_by-takes w left k shell Ready e = ready-takes w left k shell shell.frames e
+turn_by-takes w left k shell (Asking question) e =
+    elim (cases_Bool (not (k == 1) || has_input w)) [
+      | inl some ↦ rw some (prompt-takes w left k shell question (waiting w k) e)
+      | inr none ↦ rw none e
+    ]
+
 turned-takes : (w : WorldState) (left : List ℕ) (k : ℕ) (found : Option ShellState) → takes_input w ≡ true → takes_input (did_by w left (turned w k found)).world ≡ true
 turned-takes w left k None e = e
-turned-takes w left k (Some shell) e = turn_by-takes w left k shell shell.frames e
+turned-takes w left k (Some shell) e = turn_by-takes w left k shell shell.phase e
 
 -- a turn leaves the input as it is, and shell 1 ends only where it has ended
 pub turn-takes : (w : WorldState) (left : List ℕ) (k : ℕ) → takes_input w ≡ true → takes_input (did_by w left (step_of w (Turn k))).world ≡ true

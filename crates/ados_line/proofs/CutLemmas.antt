@@ -1,4 +1,5 @@
--- the cut of a line, one item after another: `step` is what is left of the whole before the item
+-- the cut of a line, one item after another: `step` is what is left of the whole before the item, and `read` what
+-- was read behind it
 use Rattle.std.proofs.Common.{ℕ, ◌≡◌, ◌∙◌, Result, Ok, Err, ap, sym, subst, inl, inr}
 use Rattle.ados_line.specs.declared.faults.LineFault.{LineFault}
 use Rattle.ados_line.specs.declared.cuts.Cut.{Cut}
@@ -8,19 +9,19 @@ use Rattle.ados_line.specs.Steps.{Goes, IsCut}
 
 -- it goes on
 pub cut-onward : (next : ℕ → Cut → Result Cut LineFault) (step whole : Result Cut LineFault) (reading : Reading) (to : ℕ) (read : Cut)
-    → Goes next (Ok reading) step → reading ≡ Onward to read → whole ≡ step → whole ≡ next to read
+    → Goes next (Ok reading) read step → reading ≡ Onward to → whole ≡ step → whole ≡ next to read
 cut-onward next step whole reading to read goes e h =
-    let P : Reading → Type 0 = λ r. Goes next (Ok r) step in
+    let P : Reading → Type 0 = λ r. Goes next (Ok r) read step in
     h ∙ subst P e goes
 
 -- the line ends
 pub cut-done : (next : ℕ → Cut → Result Cut LineFault) (step whole : Result Cut LineFault) (reading : Reading) (read : Cut)
-    → Goes next (Ok reading) step → reading ≡ Done read → whole ≡ step → IsCut (Ok read) whole
+    → Goes next (Ok reading) read step → reading ≡ Done → whole ≡ step → IsCut (Ok read) whole
 cut-done next step whole reading read goes e h =
-    let P : Reading → Type 0 = λ r. Goes next (Ok r) step in
+    let P : Reading → Type 0 = λ r. Goes next (Ok r) read step in
     inr (sym (h ∙ subst P e goes))
 
 -- a fault, or no memory
-pub cut-fault : (next : ℕ → Cut → Result Cut LineFault) (step whole : Result Cut LineFault) (fault : LineFault)
-    → Goes next (Err fault) step → whole ≡ step → IsCut (Err fault) whole
-cut-fault next step whole fault goes h = elim goes [ inl e ↦ inl (ap Err e) | inr e ↦ inr (sym (h ∙ e)) ]
+pub cut-fault : (next : ℕ → Cut → Result Cut LineFault) (step whole : Result Cut LineFault) (fault : LineFault) (read : Cut)
+    → Goes next (Err fault) read step → whole ≡ step → IsCut (Err fault) whole
+cut-fault next step whole fault read goes h = elim goes [ inl e ↦ inl (ap Err e) | inr e ↦ inr (sym (h ∙ e)) ]

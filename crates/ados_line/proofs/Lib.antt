@@ -1,2 +1,3 @@
 pub mod CommentLemmas
 pub mod CutLemmas
+pub mod PieceLemmas

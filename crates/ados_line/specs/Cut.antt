@@ -1,20 +1,18 @@
--- The cut of a line: its command, its arguments, and the redirection of its output. The pieces that are no
--- redirection stay, as they stand, in the arguments.
-use Rattle.std.specs.Prelude.{◌≡◌, ◌⊎◌, ℕ, zero, suc, ◌+◌, ◌-◌, List, [], ◌∷◌, ◌++◌, Bool, true, false, not, ◌==◌, ◌&&◌, nat_lt, Option, Some, None, Result, Ok, Err, length, drop, slice_index, if◌then◌else◌}
+-- The cut of a line: its command, its arguments, and the redirections of its input and its output. The pieces
+-- that are no redirection stay, as they stand, in the arguments.
+use Rattle.std.specs.Prelude.{◌≡◌, ◌⊎◌, ℕ, zero, suc, ◌+◌, List, [], ◌∷◌, ◌++◌, Bool, true, false, nat_lt, Option, Some, None, is_some, Result, Ok, Err, length, drop, if◌then◌else◌}
 use Rattle.ados_items.specs.declared.items.Item.{Item}
 use Rattle.ados_items.specs.declared.items.Item.TheVariants.{Word, Quoted, Equal, End, Unmatched}
 use Rattle.ados_items.specs.Items.{item_at, value_of, bytes_between}
 use Rattle.ados_line.specs.declared.faults.LineFault.{LineFault}
 use Rattle.ados_line.specs.declared.faults.LineFault.TheVariants.{ArgumentMissing, TooManyArguments, UnmatchedQuotes, LineTooLong, NotImplemented, NoMemory}
+use Rattle.ados_line.specs.declared.signs.Sign.{Sign}
+use Rattle.ados_line.specs.declared.signs.Sign.TheVariants.{Input, Output, Append}
 use Rattle.ados_line.specs.declared.cuts.Cut.{Cut}
-use Rattle.ados_line.specs.declared.lines.Redirection.{Redirection}
 use Rattle.ados_line.specs.declared.lines.Expanded.{Expanded}
 use Rattle.ados_line.specs.declared.lines.Expanded.TheVariants.{Nothing, Ready}
 use Rattle.ados_line.specs.Comment.{without_comment}
-
--- the byte at a place is this one, at the start of a word: a byte behind `=` goes on with a word
-abbrev pub begins : List ℕ → ℕ → ℕ → Bool
-begins line sign place = (slice_index line place == sign) && not (nat_lt 0 place && (slice_index line (place - 1) == 61))
+use Rattle.ados_line.specs.Signs.{is_both, sign_at, width_of}
 
 -- the first item is the command, and each further piece of the line joins the arguments
 abbrev pub with_piece : Option (List ℕ) → List ℕ → List ℕ → Cut → Cut
@@ -26,32 +24,39 @@ abbrev pub with_blanks : Option (List ℕ) → List ℕ → Cut → Cut
 with_blanks None blanks read = read
 with_blanks (Some command) blanks read = record read { args = read.args ++ blanks }
 
--- `>>` at a place
-abbrev pub is_append : List ℕ → ℕ → Bool
-is_append line place = slice_index line (place + 1) == 62
+-- the name of an input or an output
+abbrev pub with_name : Sign → List ℕ → Cut → Cut
+with_name Input name read = record read { input = Some name }
+with_name Output name read = record read { output = Some (record { name = name; append = false }) }
+with_name Append name read = record read { output = Some (record { name = name; append = true }) }
 
--- the place behind `>` or `>>`
-abbrev pub behind_sign : List ℕ → ℕ → ℕ
-behind_sign line place = if is_append line place then place + 2 else place + 1
+-- a redirection by the item behind its sign: a quoted item, or a run up to a blank or `;`
+abbrev pub named : (ℕ → Cut → Result Cut LineFault) → List ℕ → Sign → Cut → Item → Result Cut LineFault
+named next line sign read (Word from to) = next to (with_name sign (value_of line (Word from to)) read)
+named next line sign read (Quoted from to) = next (to + 1) (with_name sign (value_of line (Quoted from to)) read)
+named next line sign read (Unmatched from) = Err UnmatchedQuotes
+named next line sign read _ = Err ArgumentMissing
 
--- the redirection by the item behind its sign: a quoted item, or a run up to a blank or `;`
-abbrev pub named : (ℕ → Cut → Result Cut LineFault) → List ℕ → Bool → Cut → Item → Result Cut LineFault
-named next line append read (Word from to) = next to (record read { output = Some (record { name = value_of line (Word from to); append = append }) })
-named next line append read (Quoted from to) = next (to + 1) (record read { output = Some (record { name = value_of line (Quoted from to); append = append }) })
-named next line append read (Unmatched from) = Err UnmatchedQuotes
-named next line append read _ = Err ArgumentMissing
+-- one input and one output are taken
+abbrev pub is_taken : Sign → Cut → Bool
+is_taken Input read = is_some read.input
+is_taken Output read = is_some read.output
+is_taken Append read = is_some read.output
 
--- a redirection at a place; one alone is taken
-abbrev pub redirected : (ℕ → Cut → Result Cut LineFault) → List ℕ → ℕ → Cut → Option Redirection → Result Cut LineFault
-redirected next line place read None = named next line (is_append line place) read (item_at false line (behind_sign line place))
-redirected next line place read (Some output) = Err TooManyArguments
+-- the redirection whose sign stands at a place; the blanks in front of it were read
+abbrev pub redirected : (ℕ → Cut → Result Cut LineFault) → List ℕ → ℕ → Cut → Sign → Result Cut LineFault
+redirected next line place read sign =
+    if is_taken sign read then Err TooManyArguments else named next line sign read (item_at false line (place + width_of sign))
 
--- a word: an input, an output, or a piece
+-- a word that may begin with a sign: a redirection, or a piece
+abbrev pub by_sign : (ℕ → Cut → Result Cut LineFault) → List ℕ → ℕ → Cut → ℕ → ℕ → Option Sign → Result Cut LineFault
+by_sign next line place read from to (Some sign) = redirected next line from (with_blanks read.command (bytes_between line place from) read) sign
+by_sign next line place read from to None = next to (with_piece read.command (value_of line (Word from to)) (bytes_between line place to) read)
+
+-- a word
 abbrev pub cut_word : (ℕ → Cut → Result Cut LineFault) → List ℕ → ℕ → Cut → ℕ → ℕ → Result Cut LineFault
 cut_word next line place read from to =
-    if begins line 60 from then Err NotImplemented else
-    (if begins line 62 from then redirected next line from (with_blanks read.command (bytes_between line place from) read) read.output else
-    next to (with_piece read.command (value_of line (Word from to)) (bytes_between line place to) read))
+    if is_both line from then Err NotImplemented else by_sign next line place read from to (sign_at line from)
 
 -- an item of the line, behind a place up to which this was read
 abbrev pub cut_item : (ℕ → Cut → Result Cut LineFault) → List ℕ → ℕ → Cut → Item → Result Cut LineFault
@@ -69,7 +74,7 @@ cut_from zero line place read = Ok read
 cut_from (suc count) line place read = cut_item (cut_from count line) line place read (item_at true line place)
 
 abbrev pub nothing_read : Cut
-nothing_read = record { command = None; args = []; output = None }
+nothing_read = record { command = None; args = []; input = None; output = None }
 
 -- the cut of a line, or the fault that stands first in it; a line has no more items than bytes
 abbrev pub cut_of : List ℕ → Result Cut LineFault
@@ -78,7 +83,7 @@ cut_of line = cut_from (length line + 1) line 0 nothing_read
 -- a line without a command asks for nothing
 abbrev pub came_to : Option (List ℕ) → Cut → Expanded
 came_to None read = Nothing
-came_to (Some command) read = Ready (record { command = command; args = read.args; output = read.output })
+came_to (Some command) read = Ready (record { command = command; args = read.args; input = read.input; output = read.output })
 
 abbrev pub expanded_by : Result Cut LineFault → Result Expanded LineFault
 expanded_by (Ok read) = Ok (came_to read.command read)

@@ -1,3 +1,5 @@
 pub mod Comment
 pub mod Cut
+pub mod Pieces
+pub mod Signs
 pub mod Steps

@@ -6,11 +6,12 @@ use Rattle.ados_line.specs.declared.cuts.Cut.{Cut}
 use Rattle.ados_line.specs.declared.cuts.Reading.{Reading}
 use Rattle.ados_line.specs.declared.cuts.Reading.TheVariants.{Onward, Done}
 
--- the cut goes on with `next` from a place, or is done, or has this fault, unless memory was wanting
-abbrev pub Goes : (ℕ → Cut → Result Cut LineFault) → Result Reading LineFault → Result Cut LineFault → Type 0
-Goes next (Ok (Onward to read)) whole = whole ≡ next to read
-Goes next (Ok (Done read)) whole = whole ≡ Ok read
-Goes next (Err fault) whole = (fault ≡ NoMemory) ⊎ (whole ≡ Err fault)
+-- with what was read, the cut goes on with `next` from a place, or is done, or has this fault, unless memory was
+-- wanting
+abbrev pub Goes : (ℕ → Cut → Result Cut LineFault) → Result Reading LineFault → Cut → Result Cut LineFault → Type 0
+Goes next (Ok (Onward to)) read whole = whole ≡ next to read
+Goes next (Ok Done) read whole = whole ≡ Ok read
+Goes next (Err fault) read whole = (fault ≡ NoMemory) ⊎ (whole ≡ Err fault)
 
 -- the answer is this cut or this fault, or memory was wanting
 abbrev pub IsCut : Result Cut LineFault → Result Cut LineFault → Type 0

@@ -6,10 +6,14 @@ use ados_items::{Item, next_item};
 /// A line without its comment, which begins at the first `;` outside quotes.
 ///
 /// A quote that none closes takes the rest of the line, so that no comment begins behind it. It
-/// takes no memory.
+/// takes no memory. A line without any `;`, as nearly all are, is not looked at further.
+#[tactic(auto, using(crate::proofs::CommentLemmas::whole))]
 pub fn without_comment(line: &[u8]) -> &[u8]
     ensures { result.now ≡ without_comment line.now }
 {
+    if !line.contains(&b';') {
+        return line;
+    }
     &line[..comment_start(line).min(line.len())]
 }
 

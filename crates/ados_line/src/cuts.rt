@@ -1,13 +1,14 @@
-ghost use Rattle.std.specs.Prelude.{◌≡◌, ℕ, ◌≤◌, true, length, slice_index, Result, IfOk};
+ghost use Rattle.std.specs.Prelude.{◌≡◌, ℕ, ◌≤◌, true, length, Result, OnOk};
 ghost use Rattle.ados_text.specs.Text.{IsText};
 ghost use Rattle.ados_items.specs.Items.{item_at, value_of, bytes_between, IsWithin};
 ghost use Rattle.ados_line.specs.declared.faults.LineFault.{LineFault};
 ghost use Rattle.ados_line.specs.declared.cuts.Cut.{Cut};
-ghost use Rattle.ados_line.specs.Cut.{begins, with_piece, with_blanks, named, redirected, cut_word, cut_item, cut_of};
+ghost use Rattle.ados_line.specs.Cut.{with_piece, with_blanks, with_name, named, is_taken, redirected, cut_word, cut_item, cut_of};
 ghost use Rattle.ados_line.specs.Steps.{Goes, IsCut};
 
 use crate::faults::LineFault;
 use crate::lines::Redirection;
+use crate::signs::{Sign, is_both, sign_at};
 use ados_items::{Item, next_item, next_word, value};
 use ados_text::{NoMemory, Text};
 use std::alloc::Global;
@@ -19,80 +20,91 @@ pub struct Cut {
     pub command: Option<Text>,
     /// The pieces behind the command that are no redirection, as they stand.
     pub args: Text,
+    /// The name of the input.
+    pub input: Option<Text>,
     /// Where the output goes.
     pub output: Option<Redirection>,
 }
 
 /// Where reading goes on behind an item.
-#[derive(Debug, Drop)]
+#[derive(Clone, Copy, Debug, PartialEq, Eq)]
 pub enum Reading {
-    /// At this place, with what was read up to it.
-    Onward(usize, Cut),
-    /// Nowhere: this is the line's cut.
-    Done(Cut),
+    /// At this place.
+    Onward(usize),
+    /// Nowhere: the line is read.
+    Done,
 }
 
 impl Cut {
     // The first item is the command, and each further piece of the line joins the arguments; the
     // piece goes from `place` up to `to`.
-    fn with_piece(
-        mut self,
+    fn take_piece(
+        &mut self,
         alloc: Global,
         line: &[u8],
         item: &Item,
         place: usize,
         to: usize,
-    ) -> Result<Cut, NoMemory>
+    ) -> Result<(), NoMemory>
         requires { IsText line.now }
-        ensures { IfOk result (λ cut. cut ≡ with_piece self.command (value_of line.now item.now) (bytes_between line.now place to) self) }
+        ensures { OnOk result (self.new ≡ with_piece self.old.command (value_of line.now item.now) (bytes_between line.now place to) self.old) }
     {
         match self.command {
             None => {
                 self.command = Some(value(alloc, line, item)?);
-                Ok(self)
+                self.args.reserve(line.len().saturating_sub(to))?;
+                Ok(())
             }
-            Some(_) => {
-                self.args.push_bytes(piece(line, place, to))?;
-                Ok(self)
-            }
+            Some(_) => self.args.push_bytes(piece(line, place, to)),
         }
     }
 
     // Blanks in front of the command are dropped.
-    fn with_blanks(mut self, blanks: &[u8]) -> Result<Cut, NoMemory>
+    fn take_blanks(&mut self, blanks: &[u8]) -> Result<(), NoMemory>
         requires { IsText blanks.now }
-        ensures { IfOk result (λ cut. cut ≡ with_blanks self.command blanks.now self) }
+        ensures { OnOk result (self.new ≡ with_blanks self.old.command blanks.now self.old) }
     {
         match self.command {
-            None => Ok(self),
-            Some(_) => {
-                self.args.push_bytes(blanks)?;
-                Ok(self)
+            None => Ok(()),
+            Some(_) => self.args.push_bytes(blanks),
+        }
+    }
+
+    // The name of an input or an output.
+    fn take_name(&mut self, sign: Sign, name: Text)
+        ensures { self.new ≡ with_name sign name self.old }
+    {
+        match sign {
+            Sign::Input => self.input = Some(name),
+            Sign::Output => {
+                self.output = Some(Redirection {
+                    name,
+                    append: false,
+                })
             }
+            Sign::Append => self.output = Some(Redirection { name, append: true }),
         }
     }
 
     // The redirection by the item behind its sign.
-    fn named(
-        mut self,
+    fn take_named(
+        &mut self,
         alloc: Global,
         line: &[u8],
-        append: bool,
+        sign: Sign,
         item: &Item,
     ) -> Result<Reading, LineFault>
         requires { IsWithin line.now item.now }
-        ensures { (next : ℕ → Cut → Result Cut LineFault) → Goes next result (named next line.now append self item.now) }
+        ensures { (next : ℕ → Cut → Result Cut LineFault) → Goes next result self.new (named next line.now sign self.old item.now) }
     {
         match *item {
             Item::Word { to, .. } => {
-                let name = value(alloc, line, item)?;
-                self.output = Some(Redirection { name, append });
-                Ok(Reading::Onward(to, self))
+                self.take_name(sign, value(alloc, line, item)?);
+                Ok(Reading::Onward(to))
             }
             Item::Quoted { to, .. } => {
-                let name = value(alloc, line, item)?;
-                self.output = Some(Redirection { name, append });
-                Ok(Reading::Onward(to + 1, self))
+                self.take_name(sign, value(alloc, line, item)?);
+                Ok(Reading::Onward(to + 1))
             }
             Item::Unmatched(_) => Err(LineFault::UnmatchedQuotes),
             Item::Equal(_) => Err(LineFault::ArgumentMissing),
@@ -100,33 +112,38 @@ impl Cut {
         }
     }
 
-    // The redirection whose sign stands at `from`; the line was read up to `place`.
-    fn redirected(
-        self,
-        alloc: Global,
-        line: &[u8],
-        place: usize,
-        from: usize,
-    ) -> Result<Reading, LineFault>
-        requires ascii { IsText line.now }
-        requires within { from ≤ length line.now }
-        ensures { (next : ℕ → Cut → Result Cut LineFault) →
-            Goes next result (redirected next line.now from (with_blanks self.command (bytes_between line.now place from) self) self.output) }
+    // A line takes one input and one output.
+    fn is_taken(&self, sign: Sign) -> bool
+        ensures { result ≡ is_taken sign self.now }
     {
-        match self.output {
-            Some(_) => Err(LineFault::TooManyArguments),
-            None => {
-                let read = self.with_blanks(piece(line, place, from))?;
-                let append = byte_at(line, from + 1) == b'>';
-                let behind = if append { from + 2 } else { from + 1 };
-                read.named(alloc, line, append, &next_word(line, behind))
-            }
+        match sign {
+            Sign::Input => self.input.is_some(),
+            Sign::Output => self.output.is_some(),
+            Sign::Append => self.output.is_some(),
         }
     }
 
+    // The redirection whose sign stands at `place`; the blanks in front of it were read.
+    fn take_redirection(
+        &mut self,
+        alloc: Global,
+        line: &[u8],
+        place: usize,
+        sign: Sign,
+    ) -> Result<Reading, LineFault>
+        requires { place ≤ length line.now }
+        ensures { (next : ℕ → Cut → Result Cut LineFault) → Goes next result self.new (redirected next line.now place self.old sign) }
+    {
+        if self.is_taken(sign) {
+            return Err(LineFault::TooManyArguments);
+        }
+        let item = next_word(line, place + sign.width());
+        self.take_named(alloc, line, sign, &item)
+    }
+
     // A word, from one place up to another: an input, an output, or a piece.
-    fn with_word(
-        self,
+    fn take_word(
+        &mut self,
         alloc: Global,
         line: &[u8],
         place: usize,
@@ -135,38 +152,43 @@ impl Cut {
     ) -> Result<Reading, LineFault>
         requires ascii { IsText line.now }
         requires within { from ≤ length line.now }
-        ensures { (next : ℕ → Cut → Result Cut LineFault) → Goes next result (cut_word next line.now place self from to) }
+        ensures { (next : ℕ → Cut → Result Cut LineFault) → Goes next result self.new (cut_word next line.now place self.old from to) }
     {
-        if begins(line, b'<', from) {
+        if is_both(line, from) {
             return Err(LineFault::NotImplemented);
         }
-        if begins(line, b'>', from) {
-            return self.redirected(alloc, line, place, from);
+        match sign_at(line, from) {
+            Some(sign) => {
+                self.take_blanks(piece(line, place, from))?;
+                self.take_redirection(alloc, line, from, sign)
+            }
+            None => {
+                self.take_piece(alloc, line, &Item::Word { from, to }, place, to)?;
+                Ok(Reading::Onward(to))
+            }
         }
-        let read = self.with_piece(alloc, line, &Item::Word { from, to }, place, to)?;
-        Ok(Reading::Onward(to, read))
     }
 
     // The item at a place up to which the line was read.
-    fn with_item(self, alloc: Global, line: &[u8], place: usize) -> Result<Reading, LineFault>
+    fn take_item(&mut self, alloc: Global, line: &[u8], place: usize) -> Result<Reading, LineFault>
         requires { IsText line.now }
         ensures { (next : ℕ → Cut → Result Cut LineFault) →
-            Goes next result (cut_item next line.now place self (item_at true line.now place)) }
+            Goes next result self.new (cut_item next line.now place self.old (item_at true line.now place)) }
     {
         let item = next_item(line, place);
         match item {
-            Item::Word { from, to } => self.with_word(alloc, line, place, from, to),
+            Item::Word { from, to } => self.take_word(alloc, line, place, from, to),
             Item::Quoted { to, .. } => {
-                let read = self.with_piece(alloc, line, &item, place, to + 1)?;
-                Ok(Reading::Onward(to + 1, read))
+                self.take_piece(alloc, line, &item, place, to + 1)?;
+                Ok(Reading::Onward(to + 1))
             }
             Item::Equal(at) => {
-                let read = self.with_piece(alloc, line, &item, place, at + 1)?;
-                Ok(Reading::Onward(at + 1, read))
+                self.take_piece(alloc, line, &item, place, at + 1)?;
+                Ok(Reading::Onward(at + 1))
             }
             Item::End(_) => {
-                let read = self.with_blanks(piece(line, place, line.len()))?;
-                Ok(Reading::Done(read))
+                self.take_blanks(piece(line, place, line.len()))?;
+                Ok(Reading::Done)
             }
             Item::Unmatched(_) => Err(LineFault::UnmatchedQuotes),
         }
@@ -180,37 +202,18 @@ pub fn cut_line(alloc: Global, line: &[u8]) -> Result<Cut, LineFault>
 {
     let mut read = Cut {
         command: None,
-        args: Text::from_bytes(alloc, b"")?,
+        args: Text::new(alloc),
+        input: None,
         output: None,
     };
     let mut place = 0;
     for step in 0..line.len() + 1 {
-        match read.with_item(alloc, line, place)? {
-            Reading::Onward(to, more) => {
-                place = to;
-                read = more;
-            }
-            Reading::Done(read) => return Ok(read),
+        match read.take_item(alloc, line, place)? {
+            Reading::Onward(to) => place = to,
+            Reading::Done => return Ok(read),
         }
     }
     Ok(read)
-}
-
-// The byte at a place is this sign, at the start of a word: a byte behind `=` goes on with a word.
-fn begins(line: &[u8], sign: u8, place: usize) -> bool
-    ensures { result ≡ begins line.now sign place }
-{
-    byte_at(line, place) == sign && !(0 < place && byte_at(line, place - 1) == b'=')
-}
-
-// The byte at a place of a line; 0 past its end.
-fn byte_at(line: &[u8], place: usize) -> u8
-    ensures { result ≡ slice_index line.now place }
-{
-    match line.get(place) {
-        Some(byte) => *byte,
-        None => 0,
-    }
 }
 
 // The bytes of a line from one place up to another; none where the places are the other way round.

@@ -10,7 +10,7 @@ pub enum LineFault {
     /// A redirection without a name.
     #[error("required argument missing")]
     ArgumentMissing,
-    /// A second redirection of the output.
+    /// A second input or a second output.
     #[error("too many arguments")]
     TooManyArguments,
     /// A quote that none closes.
@@ -19,7 +19,7 @@ pub enum LineFault {
     /// More than 512 bytes.
     #[error("line too long")]
     LineTooLong,
-    /// An input, `<`, which can't be redirected yet.
+    /// `<>`, an input and an output in one.
     #[error("not implemented")]
     NotImplemented,
     /// There was no memory for what the line says.

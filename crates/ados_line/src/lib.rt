@@ -1,11 +1,12 @@
 #![tactic(auto)]
 //! What a raw line asks for: its comment is dropped, and what is left is cut into the command, its
-//! arguments and the redirection of its output.
+//! arguments and the redirections of its input and its output.
 
 mod comments;
 mod cuts;
 mod faults;
 mod lines;
+mod signs;
 #[cfg(test)]
 mod tests;
 

@@ -1,10 +1,11 @@
-ghost use Rattle.std.specs.Prelude.{◌≡◌};
+ghost use Rattle.std.specs.Prelude.{◌≡◌, IfOk};
 ghost use Rattle.ados_line.specs.Cut.{IsExpanded};
+ghost use Rattle.ados_line.specs.Pieces.{IsInPieces};
 
 use crate::comments::without_comment;
 use crate::cuts::{Cut, cut_line};
 use crate::faults::LineFault;
-use ados_text::Text;
+use ados_text::{NoMemory, Text};
 use std::alloc::Global;
 
 // A raw line has no more bytes than this.
@@ -19,6 +20,18 @@ pub struct Redirection {
     pub append: bool,
 }
 
+impl Redirection {
+    /// An equal redirection.
+    pub fn copy(&self) -> Result<Redirection, NoMemory>
+        ensures { IfOk result (λ output. output ≡ self.now) }
+    {
+        Ok(Redirection {
+            name: self.name.copy()?,
+            append: self.append,
+        })
+    }
+}
+
 /// A line, cut.
 #[derive(Debug, Drop)]
 pub struct Line {
@@ -26,8 +39,32 @@ pub struct Line {
     pub command: Text,
     /// The text behind the command, without the redirections.
     pub args: Text,
+    /// The name of the file that the input comes from, as it stands in the line.
+    pub input: Option<Text>,
     /// Where the output goes.
     pub output: Option<Redirection>,
+}
+
+impl Line {
+    /// An equal line.
+    pub fn copy(&self) -> Result<Line, NoMemory>
+        ensures { IfOk result (λ line. line ≡ self.now) }
+    {
+        let input = match &self.input {
+            None => None,
+            Some(name) => Some(name.copy()?),
+        };
+        let output = match &self.output {
+            None => None,
+            Some(output) => Some(output.copy()?),
+        };
+        Ok(Line {
+            command: self.command.copy()?,
+            args: self.args.copy()?,
+            input,
+            output,
+        })
+    }
 }
 
 /// What a raw line came to.
@@ -42,9 +79,12 @@ pub enum Expanded {
 /// What a raw line comes to: it has at most 512 bytes, its comment is dropped, and the rest is cut.
 ///
 /// `LineTooLong` comes first; of the other faults the one that stands first in the line. At one
-/// place a second redirection comes before a missing name.
+/// place a second input or output comes before a missing name, and that before an open quote; `<>`
+/// counts as neither and is not implemented. The arguments are pieces of the line as they stand: the
+/// line is these, the command and the redirections, in order.
 pub fn expand(alloc: Global, raw: &Text) -> Result<Expanded, LineFault>
-    ensures { IsExpanded result raw.now }
+    ensures value { IsExpanded result raw.now }
+    ensures pieces { IfOk result (IsInPieces raw.now) }
 {
     if raw.as_bytes().len() > LINE_BYTES {
         return Err(LineFault::LineTooLong);
@@ -52,6 +92,7 @@ pub fn expand(alloc: Global, raw: &Text) -> Result<Expanded, LineFault>
     let Cut {
         command,
         args,
+        input,
         output,
     } = cut_line(alloc, without_comment(raw.as_bytes()))?;
     match command {
@@ -59,6 +100,7 @@ pub fn expand(alloc: Global, raw: &Text) -> Result<Expanded, LineFault>
         Some(command) => Ok(Expanded::Ready(Line {
             command,
             args,
+            input,
             output,
         })),
     }

@@ -5,6 +5,14 @@ use std::alloc::Global;
 // What a line came to: its command, its arguments, and the output's name and whether it appends.
 type Want<'a> = (&'a [u8], &'a [u8], Option<(&'a [u8], bool)>);
 
+fn is_input(line: &Line, want: Option<&[u8]>) -> bool {
+    match (&line.input, want) {
+        (None, None) => true,
+        (Some(name), Some(want)) => name.as_bytes() == want,
+        _ => false,
+    }
+}
+
 fn expand_bytes(alloc: Global, raw: &[u8]) -> Result<Expanded, LineFault> {
     expand(alloc, &Text::from_bytes(alloc, raw)?)
 }
@@ -21,8 +29,12 @@ fn is_line(line: &Line, (command, args, output): Want) -> bool {
 }
 
 fn is_ready(found: &Expanded, want: Want) -> bool {
+    reads(found, None, want)
+}
+
+fn reads(found: &Expanded, input: Option<&[u8]>, want: Want) -> bool {
     match found {
-        Expanded::Ready(line) => is_line(line, want),
+        Expanded::Ready(line) => is_input(line, input) && is_line(line, want),
         Expanded::Nothing => false,
     }
 }
@@ -76,6 +88,26 @@ fn redirections_are_taken_out(rt: HostRuntime) -> Result<(), LineFault> {
 }
 
 #[test]
+fn inputs_are_taken_out(rt: HostRuntime) -> Result<(), LineFault> {
+    let alloc = rt.alloc();
+    let cases: [(&[u8], &[u8], Want); 5] = [
+        (b"Eval ? <a", b"a", (b"Eval", b" ? ", None)),
+        (
+            b"<a=b Eval >>d ?",
+            b"a=b",
+            (b"Eval", b"  ?", Some((b"d", true))),
+        ),
+        (b"Eval < \"a b\"?", b"a b", (b"Eval", b" ?", None)),
+        (b"Eval < >f", b">f", (b"Eval", b" ", None)),
+        (b"Eval <<f a<b", b"<f", (b"Eval", b"  a<b", None)),
+    ];
+    for (raw, input, want) in cases {
+        assert!(rt; reads(&expand_bytes(alloc, raw)?, Some(input), want));
+    }
+    Ok(())
+}
+
+#[test]
 fn lines_without_a_command_ask_for_nothing(rt: HostRuntime) -> Result<(), LineFault> {
     let alloc = rt.alloc();
     let cases: [&[u8]; 4] = [b"", b" \t", b" ; Echo \"", b" >f ; Echo"];
@@ -88,7 +120,7 @@ fn lines_without_a_command_ask_for_nothing(rt: HostRuntime) -> Result<(), LineFa
 #[test]
 fn the_first_fault_holds(rt: HostRuntime) {
     let alloc = rt.alloc();
-    let cases: [(&[u8], LineFault); 12] = [
+    let cases: [(&[u8], LineFault); 15] = [
         (b"Echo >a >>b", LineFault::TooManyArguments),
         (b"Echo >a >", LineFault::TooManyArguments),
         (b"Echo >", LineFault::ArgumentMissing),
@@ -98,9 +130,12 @@ fn the_first_fault_holds(rt: HostRuntime) {
         (b"Echo > \"a", LineFault::UnmatchedQuotes),
         (b"Echo >\"a;b\" x", LineFault::UnmatchedQuotes),
         (b"Echo \"a <f", LineFault::UnmatchedQuotes),
-        (b"Echo <f \"a", LineFault::NotImplemented),
-        (b"\"a\"<f", LineFault::NotImplemented),
-        (b"<", LineFault::NotImplemented),
+        (b"Echo <f \"a", LineFault::UnmatchedQuotes),
+        (b"Echo <a <", LineFault::TooManyArguments),
+        (b"<", LineFault::ArgumentMissing),
+        (b"Echo < \"a", LineFault::UnmatchedQuotes),
+        (b"Echo <a <>", LineFault::NotImplemented),
+        (b"\"a\"<> <a <b", LineFault::NotImplemented),
     ];
     for (raw, want) in cases {
         match expand_bytes(alloc, raw) {

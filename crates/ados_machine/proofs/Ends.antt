@@ -1,5 +1,5 @@
 -- The reports of a run are the ends in its trace.
-use Rattle.std.proofs.Common.{◌≡◌, ℕ, List, [], ◌∷◌, ◌++◌, Option, Some, None, Result, Ok, Err, length, refl, ap, inl, inr, ◌==◌, ◌&&◌, nat_lt}
+use Rattle.std.proofs.Common.{◌≡◌, ℕ, List, [], ◌∷◌, ◌++◌, Option, Some, None, Result, Ok, Err, length, refl, ap, inl, inr, ◌==◌, ◌&&◌, ◌||◌, not, nat_lt}
 use Rattle.std.proofs.lemmas.Bool.{cases_Bool, eqb-true, and_parts}
 use Rattle.ados_machine.specs.declared.events.Event.{Event}
 use Rattle.ados_machine.specs.declared.events.Event.TheVariants.{Typed, EndOfInput, Turn, Answer}
@@ -7,7 +7,10 @@ use Rattle.ados_machine.specs.declared.outs.Out.{Out}
 use Rattle.ados_machine.specs.declared.refusals.Refusal.{Refusal}
 use Rattle.ados_machine.specs.Frames.{Item, Began, Answered, Ended, FrameState, ShellState, reports_of}
 use Rattle.ados_machine.specs.World.{WorldState, shell_at, is_over, has_input}
-use Rattle.ados_machine.specs.Step.{Response, Refused, Accepted, console_turn, turn_by, turned, typed, end_of_input, happened, replied, step_of}
+use Rattle.ados_machine.specs.declared.phases.Asking.{Asking as Question}
+use Rattle.ados_machine.specs.declared.phases.Phase.{Phase}
+use Rattle.ados_machine.specs.declared.phases.Phase.TheVariants.{Ready, Asking}
+use Rattle.ados_machine.specs.Step.{Response, Refused, Accepted, console_turn, ready_turn, answered_prompt, waiting, turn_by, turned, typed, end_of_input, happened, replied, step_of}
 use Rattle.ados_machine.specs.Runs.{world_after, IsAnswer, Runs}
 use Rattle.ados_machine.specs.Trace.{shell_of, log_after, of_shell, trace, ends_in, reports_in}
 use Rattle.ados_machine.specs.Limits.{ReportsHold}
@@ -35,17 +38,30 @@ console-reports : (w : WorldState) (shell : ShellState) (queue : List (List ℕ)
 console-reports w shell [] = refl
 console-reports w shell (line ∷ rest) = refl
 
-turn-reports : (w : WorldState) (k : ℕ) (shell : ShellState) (frames : List FrameState) → Reports k (turn_by w k shell frames)
-turn-reports w k shell (frame ∷ frames) = refl
-turn-reports w k shell [] =
+ready-reports : (w : WorldState) (k : ℕ) (shell : ShellState) (frames : List FrameState) → Reports k (ready_turn w k shell frames)
+ready-reports w k shell (frame ∷ frames) = refl
+ready-reports w k shell [] =
     elim (cases_Bool ((k == 1) && has_input w)) [
       | inl e ↦ rw e (rw (eqb-true k 1 (and_parts (k == 1) (has_input w) e).0) (console-reports w shell w.queue))
       | inr e ↦ rw e tt
     ]
 
+prompt-reports : (w : WorldState) (k : ℕ) (shell : ShellState) (question : Question) (queue : List (List ℕ)) →
+    Reports k (answered_prompt w k shell question queue)
+prompt-reports w k shell question [] = refl
+prompt-reports w k shell question (line ∷ rest) = refl
+
+turn-reports : (w : WorldState) (k : ℕ) (shell : ShellState) (phase : Phase) → Reports k (turn_by w k shell phase)
+turn-reports w k shell Ready = ready-reports w k shell shell.frames
+turn-reports w k shell (Asking question) =
+    elim (cases_Bool (not (k == 1) || has_input w)) [
+      | inl e ↦ rw e (prompt-reports w k shell question (waiting w k))
+      | inr e ↦ rw e tt
+    ]
+
 turned-reports : (w : WorldState) (k : ℕ) (found : Option ShellState) → Reports k (turned w k found)
 turned-reports w k None = tt
-turned-reports w k (Some shell) = turn-reports w k shell shell.frames
+turned-reports w k (Some shell) = turn-reports w k shell shell.phase
 
 replied-reports : (k : ℕ) (found : Option ShellState) → Reports k (replied found)
 replied-reports k None = tt

@@ -2,7 +2,7 @@
 use Rattle.std.proofs.Common.{◌≡◌, ℕ, suc, List, [], ◌∷◌, ◌++◌, Bool, false, ◌==◌, Option, Some, None, length, arith, length-append}
 use Rattle.std.specs.List.{AllByRecursion}
 use Rattle.std.proofs.lemmas.Bool.{eq-eqb, ne_eqb}
-use Rattle.ados_machine.specs.declared.codes.Codes.{Codes}
+use Rattle.ados_find.specs.declared.codes.Codes.{Codes}
 use Rattle.ados_machine.specs.Frames.{Record, Item, Began, Answered, Ended, last_line, last_codes, is_at_limit}
 use Rattle.ados_machine.specs.Limits.{records_at, end_at, End, ObeysLimit, kept, RunsOn}
 

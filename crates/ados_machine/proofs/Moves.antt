@@ -1,5 +1,5 @@
 -- A step moves each shell's frames by what its own trace gets.
-use Rattle.std.proofs.Common.{◌≡◌, ◌≢◌, ℕ, ◌<◌, zero, suc, ◌-◌, List, [], ◌∷◌, Option, Some, None, Result, Ok, Err, length, refl, ap, arith, inl, inr, ◌==◌, ◌&&◌, nat_lt}
+use Rattle.std.proofs.Common.{◌≡◌, ◌≢◌, ℕ, ◌<◌, zero, suc, ◌-◌, List, [], ◌∷◌, Option, Some, None, Result, Ok, Err, length, refl, ap, arith, inl, inr, ◌==◌, ◌&&◌, ◌||◌, not, nat_lt}
 use Rattle.std.specs.List.{slice_get, slice_set}
 use Rattle.std.proofs.lemmas.Bool.{eq-eqb, ne_eqb, cases_eq, cases_Bool, eqb-true, and_parts}
 use Rattle.std.proofs.lemmas.Grind.{common_steps}
@@ -9,14 +9,17 @@ use Rattle.ados_machine.specs.declared.events.Event.TheVariants.{Typed, EndOfInp
 use Rattle.ados_machine.specs.declared.outs.Out.{Out}
 use Rattle.ados_machine.specs.declared.refusals.Refusal.{Refusal}
 use Rattle.ados_machine.specs.Frames.{Item, FrameState, ShellState, Turned}
-use Rattle.ados_machine.specs.Shell.{turn_of}
+use Rattle.ados_machine.specs.declared.phases.Asking.{Asking as Question}
+use Rattle.ados_machine.specs.declared.phases.Phase.{Phase}
+use Rattle.ados_machine.specs.declared.phases.Phase.TheVariants.{Ready, Asking}
+use Rattle.ados_machine.specs.Shell.{turn_of, resumed}
 use Rattle.ados_machine.specs.World.{WorldState, flatten, numbered, shell_at, is_over, has_input}
-use Rattle.ados_machine.specs.Step.{Response, Refused, Accepted, with_shell, took, script_turned, console_turn, turn_by, turned, typed, end_of_input, happened, replied, step_of}
+use Rattle.ados_machine.specs.Step.{Response, Refused, Accepted, with_shell, took, script_turned, console_turn, ready_turn, answered_prompt, waiting, turn_by, turned, typed, end_of_input, happened, replied, step_of}
 use Rattle.ados_machine.specs.Runs.{world_after}
 use Rattle.ados_machine.specs.Trace.{shell_of, log_after, of_shell, own, frames_in}
 use Rattle.ados_machine.specs.Limits.{AllRunOn, IsSane}
 use Rattle.ados_machine.proofs.Follows.{Follows}
-use Rattle.ados_machine.proofs.Turns.{lasts, Goes, turn-goes, script-goes}
+use Rattle.ados_machine.proofs.Turns.{lasts, Goes, turn-goes, resumed-goes, script-goes}
 
 slice_get-set_other : {X : Type 0} (xs : List X) (i : ℕ) (x : X) (k : ℕ) → k ≢ i → slice_get (slice_set xs i x) k ≡ slice_get xs k
 slice_get-set_other xs i x k ne = grind (arith, common_steps, gets)
@@ -90,12 +93,16 @@ console-leads w shell [] sane found is runs = moves-with w 1 shell None [] sane 
 console-leads w shell (line ∷ rest) sane found is runs =
     took-leads w 1 shell (turn_of line shell w.shared) sane found (turn-goes line shell w.shared runs)
 
-turn-leads : (w : WorldState) (k : ℕ) (shell : ShellState) (frames : List FrameState) → IsSane w → shell_at w k ≡ Some shell →
-    shell.frames ≡ frames → AllRunOn shell.frames → Leads w k (turn_by w k shell frames)
-turn-leads w k shell (frame ∷ frames) sane found is runs =
+lasts-along : (these those : List FrameState) (t : Turned) → these ≡ those → Goes (lasts those) t → Goes (lasts these) t
+lasts-along these those t e goes = rw e goes
+
+ready-leads : (w : WorldState) (k : ℕ) (shell : ShellState) (frames : List FrameState) → IsSane w → shell_at w k ≡ Some shell →
+    shell.frames ≡ frames → AllRunOn shell.frames → Leads w k (ready_turn w k shell frames)
+ready-leads w k shell (frame ∷ frames) sane found is runs =
     took-leads w k shell (script_turned shell frame frames w.shared (slice_get frame.lines frame.position)) sane found
-    (rw is (script-goes shell frame frames w.shared (slice_get frame.lines frame.position) (rw is at runs)))
-turn-leads w k shell [] sane found is runs =
+    (lasts-along shell.frames (frame ∷ frames) (script_turned shell frame frames w.shared (slice_get frame.lines frame.position)) is
+    (script-goes shell frame frames w.shared (slice_get frame.lines frame.position) is (rw is at runs)))
+ready-leads w k shell [] sane found is runs =
     elim (cases_Bool ((k == 1) && has_input w)) [
       | inl e ↦ rw e
           (let first : k ≡ 1 = eqb-true k 1 (and_parts (k == 1) (has_input w) e).0 in
@@ -103,9 +110,25 @@ turn-leads w k shell [] sane found is runs =
       | inr e ↦ rw e tt
     ]
 
+prompt-leads : (w : WorldState) (k : ℕ) (shell : ShellState) (question : Question) (queue : List (List ℕ)) → IsSane w →
+    shell_at w k ≡ Some shell → AllRunOn shell.frames → Leads w k (answered_prompt w k shell question queue)
+prompt-leads w k shell question [] sane found runs =
+    took-leads w k shell (resumed [] question shell w.shared) sane found (resumed-goes [] question shell w.shared runs)
+prompt-leads w k shell question (line ∷ rest) sane found runs =
+    took-leads w k shell (resumed line question shell w.shared) sane found (resumed-goes line question shell w.shared runs)
+
+turn-leads : (w : WorldState) (k : ℕ) (shell : ShellState) (phase : Phase) → IsSane w → shell_at w k ≡ Some shell →
+    AllRunOn shell.frames → Leads w k (turn_by w k shell phase)
+turn-leads w k shell Ready sane found runs = ready-leads w k shell shell.frames sane found refl runs
+turn-leads w k shell (Asking question) sane found runs =
+    elim (cases_Bool (not (k == 1) || has_input w)) [
+      | inl e ↦ rw e (prompt-leads w k shell question (waiting w k) sane found runs)
+      | inr e ↦ rw e tt
+    ]
+
 pub turned-leads : (w : WorldState) (k : ℕ) (found : Option ShellState) → IsSane w → shell_at w k ≡ found → Leads w k (turned w k found)
 turned-leads w k None sane e = tt
-turned-leads w k (Some shell) sane e = turn-leads w k shell shell.frames sane e refl (rw e at (sane.each k))
+turned-leads w k (Some shell) sane e = turn-leads w k shell shell.phase sane e (rw e at (sane.each k))
 
 replied-leads : (w : WorldState) (k : ℕ) (found : Option ShellState) → Leads w k (replied found)
 replied-leads w k None = tt

@@ -2,18 +2,20 @@
 use Rattle.std.proofs.Common.{◌≡◌, ℕ, zero, suc, ◌-◌, List, [], ◌∷◌, Option, Some, None, Result, refl}
 use Rattle.std.specs.List.{slice_get, slice_set}
 use Rattle.std.proofs.Math.ListN.{replicate}
-use Rattle.ados_machine.specs.declared.codes.Codes.{Codes}
+use Rattle.ados_find.specs.declared.codes.Codes.{Codes}
 use Rattle.ados_machine.specs.declared.events.Event.{Event}
 use Rattle.ados_machine.specs.declared.outs.Out.{Out}
 use Rattle.ados_machine.specs.declared.refusals.Refusal.{Refusal}
-use Rattle.ados_machine.specs.Frames.{Item, FrameState, ShellState, SharedState, Turned}
-use Rattle.ados_machine.specs.Shell.{turn_of}
+use Rattle.ados_machine.specs.Frames.{Item, FrameState, ShellState, Turned}
+use Rattle.ados_find.specs.Shared.{SharedState}
+use Rattle.ados_machine.specs.declared.phases.Asking.{Asking as Question}
+use Rattle.ados_machine.specs.Shell.{turn_of, resumed}
 use Rattle.ados_machine.specs.World.{WorldState, fresh_world, flatten, shell_at}
 use Rattle.ados_machine.specs.Step.{Response, Refused, Accepted, with_shell, script_turned, turned, step_of}
 use Rattle.ados_machine.specs.Runs.{world_after}
 use Rattle.ados_machine.specs.Trace.{shell_of, frames_in, frames_of}
 use Rattle.ados_machine.specs.Limits.{AllRunOn, IsSane}
-use Rattle.ados_machine.proofs.Turns.{turn-goes, script-goes}
+use Rattle.ados_machine.proofs.Turns.{turn-goes, resumed-goes, script-goes}
 use Rattle.ados_machine.proofs.Moves.{Leads, step-leads, step-moves, turned-leads}
 
 -- it is a fact of the shells alone
@@ -52,10 +54,15 @@ pub turn-runs : (raw : List ℕ) (shell : ShellState) (shared : SharedState) →
     AllRunOn (turn_of raw shell shared).shell.frames
 turn-runs raw shell shared runs = (turn-goes raw shell shared runs).runs
 
+-- what a turn that takes the answer to a prompt leaves
+pub resumed-runs : (raw : List ℕ) (question : Question) (shell : ShellState) (shared : SharedState) → AllRunOn shell.frames →
+    AllRunOn (resumed raw question shell shared).shell.frames
+resumed-runs raw question shell shared runs = (resumed-goes raw question shell shared runs).runs
+
 -- what a turn of a script leaves
 pub script-runs : (shell : ShellState) (frame : FrameState) (frames : List FrameState) (shared : SharedState) (line : Option (List ℕ)) →
-    AllRunOn (frame ∷ frames) → AllRunOn (script_turned shell frame frames shared line).shell.frames
-script-runs shell frame frames shared line runs = (script-goes shell frame frames shared line runs).runs
+    shell.frames ≡ frame ∷ frames → AllRunOn (frame ∷ frames) → AllRunOn (script_turned shell frame frames shared line).shell.frames
+script-runs shell frame frames shared line is runs = (script-goes shell frame frames shared line is runs).runs
 
 -- a shell of a sane world
 pub sane-shell : (w : WorldState) (k : ℕ) (shell : ShellState) → IsSane w → shell_at w k ≡ Some shell → AllRunOn shell.frames

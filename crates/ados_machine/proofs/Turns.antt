@@ -12,11 +12,15 @@ use Rattle.ados_line.specs.declared.lines.Expanded.{Expanded}
 use Rattle.ados_line.specs.declared.lines.Expanded.TheVariants.{Nothing, Ready}
 use Rattle.ados_line.specs.Cut.{expanded_of}
 use Rattle.ados_machine.specs.declared.builtins.Builtin.{Builtin}
-use Rattle.ados_machine.specs.declared.codes.Codes.{Codes}
-use Rattle.ados_machine.specs.CodeRule.{is_reached, fault_line, failed, erred}
+use Rattle.ados_find.specs.declared.codes.Codes.{Codes}
+use Rattle.ados_find.specs.Codes.{failed, erred}
+use Rattle.ados_find.specs.Shared.{SharedState}
+use Rattle.ados_machine.specs.declared.phases.Asking.{Asking as Question}
+use Rattle.ados_machine.specs.declared.phases.Phase.TheVariants.{Ready as Free}
+use Rattle.ados_machine.specs.CodeRule.{is_reached, fault_line}
 use Rattle.ados_machine.specs.Commands.{Action, Answers, Quits, Calls, Called, builtin_of, action_of}
-use Rattle.ados_machine.specs.Frames.{Record, Item, Began, FrameState, SharedState, ShellState, Course, Turned, behind, is_over, limit_behind, last_codes, end_of, printing, told, noted, answered_frame, is_ended, finish, passed}
-use Rattle.ados_machine.specs.Shell.{number_of_fault, Opened, Put, put, opening, called, acted, is_free, ran, sought, obeyed, turn_of}
+use Rattle.ados_machine.specs.Frames.{Record, Item, Began, FrameState, ShellState, Course, Turned, behind, is_over, limit_behind, last_codes, end_of, printing, told, noted, answered_frame, is_ended, finish, passed_by, passed}
+use Rattle.ados_machine.specs.Shell.{number_of_fault, Opened, Put, put, opening, called, acted, is_free, view_of, ran, begun, with_args, asks, prompt, asked, prepared, input_of, sought, obeyed, quietly, turn_of, resumed}
 use Rattle.ados_machine.specs.Step.{moved, script_turned}
 use Rattle.ados_machine.specs.Limits.{RunsOn, AllRunOn}
 use Rattle.ados_machine.proofs.Follows.{Follows, Follows-append}
@@ -68,31 +72,32 @@ finish-goes word answer quits limit (frame ∷ frames) course runs =
       })
     ]
 
-passed-goes : (answer : Codes) (limit : Code) (frames : List FrameState) (course : Course) →
-    AllRunOn frames → Goes (lasts frames) (passed answer limit frames course)
-passed-goes answer limit [] course runs = record { follows = refl; runs = tt }
-passed-goes answer limit (frame ∷ frames) course runs =
+passed-goes : (shell : ShellState) (frames : List FrameState) (course : Course) → shell.frames ≡ frames →
+    AllRunOn frames → Goes (lasts frames) (passed_by shell frames course)
+passed-goes shell [] course is runs = record { follows = rw is refl; runs = rw is tt }
+passed-goes shell (frame ∷ frames) course is runs =
     elim (cases_Bool (is_over frame)) [
       | inl e ↦ rw e (behind-goes (lasts (frame ∷ frames)) (lasts frames) (end_of (suc (length frames)) frame ∷ [])
           (finish frame.command (last_codes frame.last) false (limit_behind frame frames) frames course)
           (ap suc (length-lasts frames), refl, refl, refl, refl)
           (finish-goes frame.command (last_codes frame.last) false (limit_behind frame frames) frames course runs.1))
-      | inr e ↦ rw e (record { follows = refl; runs = runs })
+      | inr e ↦ rw e (record { follows = rw is refl; runs = rw is runs })
     ]
 
 called-goes : (word : List ℕ) (script : Called) (shell : ShellState) (course : Course) →
     AllRunOn shell.frames → Goes (lasts shell.frames) (called word script shell course)
 called-goes word script shell course runs =
     let frame : FrameState = record { name = script.name; lines = script.lines; position = 0; command = word; limit = shell.limit; last = None } in
+    let deeper : ShellState = record shell { frames = frame ∷ shell.frames } in
     behind-goes (lasts shell.frames) (None ∷ lasts shell.frames) (Began (suc (length shell.frames)) ∷ [])
-    (passed shell.codes shell.limit (frame ∷ shell.frames) course)
+    (passed deeper course)
     (ap suc (length-lasts shell.frames), refl)
-    (passed-goes shell.codes shell.limit (frame ∷ shell.frames) course (tt, runs))
+    (passed-goes deeper (frame ∷ shell.frames) course refl (tt, runs))
 
 acted-goes : (word : List ℕ) (place : Option (List (List ℕ))) (action : Action) (shell : ShellState) (course : Course) →
     AllRunOn shell.frames → Goes (lasts shell.frames) (acted word place action shell course)
 acted-goes word place (Answers effect) shell course runs =
-    let done : Put = put place effect.output effect.codes course in
+    let done : Put = put place effect.output effect.codes (record course { shared = effect.shared }) in
     finish-goes word done.codes false effect.limit shell.frames (printing (fault_line word done.codes.result2) done.course) runs
 acted-goes word place (Quits code) shell course runs =
     let answer : Codes = record { code = code; result2 = record { 0 = 0 } } in
@@ -104,32 +109,58 @@ ran-goes : (builtin : Builtin) (line : Line) (shell : ShellState) (course : Cour
 ran-goes builtin line shell course (Err fault) runs =
     finish-goes line.command (failed fault) false shell.limit shell.frames (printing (fault_line line.command fault) course) runs
 ran-goes builtin line shell course (Ok opened) runs =
-    acted-goes line.command opened.place (action_of builtin opened.files (is_free shell.frames && is_none opened.place) line.args shell.limit) shell
-    (record course { shared = record { files = opened.files } }) runs
+    acted-goes line.command opened.place
+    (action_of builtin (is_free shell.frames && is_none opened.place) opened.shared (view_of shell) line.args) shell
+    (record course { shared = opened.shared }) runs
+
+begun-goes : (builtin : Builtin) (line : Line) (shell : ShellState) (course : Course) →
+    AllRunOn shell.frames → Goes (lasts shell.frames) (begun builtin line shell course)
+begun-goes builtin line shell course runs = ran-goes builtin line shell course (opening course.shared line.output) runs
+
+asked-goes : (builtin : Builtin) (line : Line) (shell : ShellState) (course : Course) (answer : Option (List ℕ)) →
+    AllRunOn shell.frames → Goes (lasts shell.frames) (asked builtin line shell course answer)
+asked-goes builtin line shell course None runs = record { follows = refl; runs = runs }
+asked-goes builtin line shell course (Some answer) runs =
+    begun-goes builtin (with_args line answer) shell (printing (prompt builtin) course) runs
+
+prepared-goes : (builtin : Builtin) (line : Line) (shell : ShellState) (course : Course) (answer : Result (Option (List ℕ)) Result2) →
+    AllRunOn shell.frames → Goes (lasts shell.frames) (prepared builtin line shell course answer)
+prepared-goes builtin line shell course (Err fault) runs =
+    finish-goes line.command (failed fault) false shell.limit shell.frames (printing (fault_line line.command fault) course) runs
+prepared-goes builtin line shell course (Ok answer) runs =
+    elim (cases_Bool (asks line.args)) [
+      | inl e ↦ rw e (asked-goes builtin line shell course answer runs)
+      | inr e ↦ rw e (begun-goes builtin line shell course runs)
+    ]
 
 sought-goes : (found : Option Builtin) (line : Line) (shell : ShellState) (course : Course) →
     AllRunOn shell.frames → Goes (lasts shell.frames) (sought found line shell course)
 sought-goes None line shell course runs =
     finish-goes line.command (erred OBJECT_NOT_FOUND) false shell.limit shell.frames (printing (fault_line line.command OBJECT_NOT_FOUND) course) runs
 sought-goes (Some builtin) line shell course runs =
-    ran-goes builtin line shell course (opening course.shared.files line.output) runs
+    prepared-goes builtin line shell course (input_of course.shared line.input) runs
 
 obeyed-goes : (expanded : Result Expanded LineFault) (shell : ShellState) (course : Course) →
     AllRunOn shell.frames → Goes (lasts shell.frames) (obeyed expanded shell course)
 obeyed-goes (Err fault) shell course runs =
     let answer : Codes = failed (number_of_fault fault) in
     finish-goes (codes "Shell") answer false shell.limit shell.frames (printing (fault_line (codes "Shell") answer.result2) course) runs
-obeyed-goes (Ok Nothing) shell course runs = passed-goes shell.codes shell.limit shell.frames course runs
+obeyed-goes (Ok Nothing) shell course runs = passed-goes shell shell.frames course refl runs
 obeyed-goes (Ok (Ready line)) shell course runs = sought-goes (builtin_of line.command) line shell course runs
 
 -- a turn that takes a line
 pub turn-goes : (raw : List ℕ) (shell : ShellState) (shared : SharedState) →
     AllRunOn shell.frames → Goes (lasts shell.frames) (turn_of raw shell shared)
-turn-goes raw shell shared runs = obeyed-goes (expanded_of raw) shell (record { shared = shared; printed = [] }) runs
+turn-goes raw shell shared runs = obeyed-goes (expanded_of raw) shell (quietly shared) runs
+
+-- a turn that takes the answer to a prompt
+pub resumed-goes : (raw : List ℕ) (question : Question) (shell : ShellState) (shared : SharedState) →
+    AllRunOn shell.frames → Goes (lasts shell.frames) (resumed raw question shell shared)
+resumed-goes raw question shell shared runs =
+    begun-goes question.builtin (with_args question.line raw) (record shell { phase = Free }) (quietly shared) runs
 
 -- a turn of a script
 pub script-goes : (shell : ShellState) (frame : FrameState) (frames : List FrameState) (shared : SharedState) (line : Option (List ℕ)) →
-    AllRunOn (frame ∷ frames) → Goes (lasts (frame ∷ frames)) (script_turned shell frame frames shared line)
-script-goes shell frame frames shared None runs =
-    passed-goes shell.codes shell.limit (frame ∷ frames) (record { shared = shared; printed = [] }) runs
-script-goes shell frame frames shared (Some line) runs = turn-goes line (moved shell frame frames) shared runs
+    shell.frames ≡ frame ∷ frames → AllRunOn (frame ∷ frames) → Goes (lasts (frame ∷ frames)) (script_turned shell frame frames shared line)
+script-goes shell frame frames shared None is runs = passed-goes shell (frame ∷ frames) (quietly shared) is runs
+script-goes shell frame frames shared (Some line) is runs = turn-goes line (moved shell frame frames) shared runs

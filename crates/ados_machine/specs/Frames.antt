@@ -2,11 +2,14 @@
 use Rattle.std.specs.Prelude.{ℕ, zero, suc, ◌+◌, pos, List, [], ◌∷◌, ◌++◌, length, Bool, true, false, ◌||◌, nat_le, Option, Some, None, slice_get, if◌then◌else◌}
 use Rattle.ados_text.specs.declared.codes.Code.{Code}
 use Rattle.ados_text.specs.declared.codes.TheConstants.Code.{ERROR}
-use Rattle.ados_ram.specs.Files.{Files}
-use Rattle.ados_machine.specs.declared.codes.Codes.{Codes}
+use Rattle.ados_find.specs.declared.codes.Codes.{Codes}
+use Rattle.ados_find.specs.Codes.{went_well}
+use Rattle.ados_find.specs.Shared.{SharedState}
 use Rattle.ados_machine.specs.declared.outs.EndReport.{EndReport}
 pub use Rattle.ados_machine.specs.declared.records.Record.{Record}
-use Rattle.ados_machine.specs.CodeRule.{went_well, is_reached, fault_line, failed_line}
+use Rattle.ados_machine.specs.declared.phases.Phase.{Phase}
+use Rattle.ados_machine.specs.declared.phases.Phase.TheVariants.{Ready}
+use Rattle.ados_machine.specs.CodeRule.{is_reached, fault_line, failed_line}
 
 -- what the trace of a shell says, at a depth (0 is the console, 1 the outermost frame): a frame began, a
 -- command of it answered or a line of it was at fault, it ended
@@ -25,10 +28,6 @@ pub record FrameState : Type 0 where
   pub limit : Code
   pub last : Option Record
 
--- what all shells share
-pub record SharedState : Type 0 where
-  pub files : Files
-
 -- what an event hands through: the shared parts, and what is printed on the console
 pub record Course : Type 0 where
   pub shared : SharedState
@@ -46,9 +45,10 @@ pub record ShellState : Type 0 where
   pub frames : List FrameState
   pub limit : Code
   pub codes : Codes
+  pub phase : Phase
 
 abbrev pub fresh_shell : ShellState
-fresh_shell = record { frames = []; limit = first_limit; codes = went_well }
+fresh_shell = record { frames = []; limit = first_limit; codes = went_well; phase = Ready }
 
 -- what an event leaves of its shell, what it hands on, and what the shell's trace gets
 pub record Turned : Type 0 where
@@ -115,7 +115,7 @@ is_ended quits answered limit frame = quits || (is_reached limit answered.code |
 -- answer of the command that made it, and so on down
 abbrev pub finish : List ℕ → Codes → Bool → Code → List FrameState → Course → Turned
 finish word answered quits limit [] course = record {
-  shell = record { frames = []; limit = limit; codes = answered };
+  shell = record { frames = []; limit = limit; codes = answered; phase = Ready };
   course = told word answered limit course;
   log = noted [] answered limit ∷ [];
 }
@@ -124,18 +124,21 @@ finish word answered quits limit (frame ∷ frames) course =
     then behind (noted (frame ∷ frames) answered limit ∷ end_of (suc (length frames)) (answered_frame frame frames answered limit) ∷ [])
     (finish frame.command answered false (limit_behind frame frames) frames (told word answered limit course))
     else record {
-      shell = record { frames = answered_frame frame frames answered limit ∷ frames; limit = limit; codes = answered };
+      shell = record { frames = answered_frame frame frames answered limit ∷ frames; limit = limit; codes = answered; phase = Ready };
       course = told word answered limit course;
       log = noted (frame ∷ frames) answered limit ∷ [];
     }
 
--- no command was there to answer: the newest frame ends where no line is left
-abbrev pub passed : Codes → Code → List FrameState → Course → Turned
-passed codes limit [] course = record { shell = record { frames = []; limit = limit; codes = codes }; course = course; log = [] }
-passed codes limit (frame ∷ frames) course =
+abbrev pub passed_by : ShellState → List FrameState → Course → Turned
+passed_by shell [] course = record { shell = shell; course = course; log = [] }
+passed_by shell (frame ∷ frames) course =
     if is_over frame
     then behind (end_of (suc (length frames)) frame ∷ []) (finish frame.command (last_codes frame.last) false (limit_behind frame frames) frames course)
-    else record { shell = record { frames = frame ∷ frames; limit = limit; codes = codes }; course = course; log = [] }
+    else record { shell = shell; course = course; log = [] }
+
+-- no command was there to answer: the newest frame ends where no line is left
+abbrev pub passed : ShellState → Course → Turned
+passed shell course = passed_by shell shell.frames course
 
 -- the ends in the trace of a shell
 abbrev pub reports_of : ℕ → List Item → List EndReport

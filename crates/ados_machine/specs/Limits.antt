@@ -1,11 +1,12 @@
 -- Each script ends early exactly at its first command whose code reaches its limit: a law of a shell's trace.
 use Rattle.std.specs.Prelude.{◌≡◌, ℕ, zero, suc, List, [], ◌∷◌, ◌++◌, Bool, true, false, if◌then◌else◌, ◌==◌, Option, Some, None, length, Result}
 use Rattle.ados_text.specs.declared.codes.Code.{Code}
-use Rattle.ados_machine.specs.declared.codes.Codes.{Codes}
+use Rattle.ados_find.specs.declared.codes.Codes.{Codes}
 use Rattle.ados_machine.specs.declared.events.Event.{Event}
 use Rattle.ados_machine.specs.declared.outs.Out.{Out}
 use Rattle.ados_machine.specs.declared.refusals.Refusal.{Refusal}
-use Rattle.ados_machine.specs.CodeRule.{is_reached, went_well}
+use Rattle.ados_find.specs.Codes.{went_well}
+use Rattle.ados_machine.specs.CodeRule.{is_reached}
 use Rattle.ados_machine.specs.Frames.{Record, Item, Began, Answered, Ended, FrameState}
 use Rattle.ados_machine.specs.World.{WorldState}
 use Rattle.ados_machine.specs.Trace.{trace, own, frames_of, ends_in, reports_in}

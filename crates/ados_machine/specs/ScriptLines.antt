@@ -1,5 +1,5 @@
 -- The lines of a script, and where its file stands.
-use Rattle.std.specs.Prelude.{◌≡◌, ℕ, List, [], ◌∷◌, ◌++◌, map, Bool, true, false, ◌==◌, Option, Some, None, codes, if◌then◌else◌}
+use Rattle.std.specs.Prelude.{◌≡◌, ℕ, List, [], ◌∷◌, ◌++◌, map, take, position, Bool, true, false, ◌==◌, Option, Some, None, codes, if◌then◌else◌}
 use Rattle.std.specs.FinMap as finite
 use Rattle.ados_text.specs.Text.{to_ascii}
 use Rattle.ados_ram.specs.Place.{key_of}
@@ -19,6 +19,18 @@ lines_behind line (byte ∷ bytes) = if byte == 10 then line ∷ lines_behind []
 -- the lines of a file's bytes
 abbrev pub lines_of : List ℕ → List (List ℕ)
 lines_of bytes = lines_behind [] bytes
+
+-- the bytes up to a place, or all of them
+abbrev pub up_to : Option ℕ → List ℕ → List ℕ
+up_to None bytes = bytes
+up_to (Some place) bytes = take place bytes
+
+abbrev pub is_newline : ℕ → Bool
+is_newline byte = byte == 10
+
+-- the first line of a file's bytes; of none it is empty
+abbrev pub first_line : List ℕ → List ℕ
+first_line bytes = map to_ascii (up_to (position is_newline bytes) bytes)
 
 -- the name of what stands at a place, as it is written there; else as it is asked for
 abbrev pub spelled : Option Entry → List ℕ → List ℕ

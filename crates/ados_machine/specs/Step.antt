@@ -1,13 +1,17 @@
 -- The step: what an event makes of a world.
-use Rattle.std.specs.Prelude.{ℕ, suc, ◌+◌, List, [], ◌∷◌, ◌++◌, length, Bool, true, not, ◌&&◌, nat_lt, ◌==◌, ◌-◌, Option, Some, None, slice_get, slice_set, if◌then◌else◌}
+use Rattle.std.specs.Prelude.{ℕ, suc, ◌+◌, List, [], ◌∷◌, ◌++◌, length, Bool, true, not, ◌&&◌, ◌||◌, nat_lt, ◌==◌, ◌-◌, Option, Some, None, slice_get, slice_set, if◌then◌else◌}
 use Rattle.ados_machine.specs.declared.events.Event.{Event}
 use Rattle.ados_machine.specs.declared.events.Event.TheVariants.{Typed, EndOfInput, Turn, Answer}
 use Rattle.ados_machine.specs.declared.outs.Out.{Out}
 use Rattle.ados_machine.specs.declared.outs.EndReport.{EndReport}
 use Rattle.ados_machine.specs.declared.refusals.Refusal.{Refusal}
 use Rattle.ados_machine.specs.declared.refusals.Refusal.TheVariants.{Over, NoSuchShell, NotReady, WrongAnswer, QueueFull, LineTooLong}
-use Rattle.ados_machine.specs.Frames.{Item, FrameState, ShellState, SharedState, Turned, passed, reports_of}
-use Rattle.ados_machine.specs.Shell.{turn_of}
+use Rattle.ados_find.specs.Shared.{SharedState}
+use Rattle.ados_machine.specs.declared.phases.Asking.{Asking as Question}
+use Rattle.ados_machine.specs.declared.phases.Phase.{Phase}
+use Rattle.ados_machine.specs.declared.phases.Phase.TheVariants.{Ready, Asking}
+use Rattle.ados_machine.specs.Frames.{Item, FrameState, ShellState, Turned, passed_by, reports_of}
+use Rattle.ados_machine.specs.Shell.{quietly, turn_of, resumed}
 use Rattle.ados_machine.specs.World.{WorldState, shell_at, is_over, has_input}
 
 -- what an event is answered: the first refusal that holds, or the world behind it, what it gives, and what
@@ -41,7 +45,7 @@ moved shell frame frames = record shell { frames = record frame { position = fra
 
 -- a turn that takes the next line of the newest script; one without a line ends
 abbrev pub script_turned : ShellState → FrameState → List FrameState → SharedState → Option (List ℕ) → Turned
-script_turned shell frame frames shared None = passed shell.codes shell.limit (frame ∷ frames) (record { shared = shared; printed = [] })
+script_turned shell frame frames shared None = passed_by shell (frame ∷ frames) (quietly shared)
 script_turned shell frame frames shared (Some line) = turn_of line (moved shell frame frames) shared
 
 -- shell 1 takes the first line that waits, and ends where there is none
@@ -49,15 +53,29 @@ abbrev pub console_turn : WorldState → ShellState → List (List ℕ) → Resp
 console_turn w shell [] = shell_ended w shell
 console_turn w shell (line ∷ rest) = took (record w { queue = rest }) 1 (turn_of line shell w.shared)
 
--- a turn of a shell: a line of its newest frame, else, for shell 1, one that was typed
-abbrev pub turn_by : WorldState → ℕ → ShellState → List FrameState → Response
-turn_by w k shell (frame ∷ frames) = took w k (script_turned shell frame frames w.shared (slice_get frame.lines frame.position))
-turn_by w k shell [] = if (k == 1) && has_input w then console_turn w shell w.queue else Refused NotReady
+-- a turn of a shell that is ready: a line of its newest frame, else, for shell 1, one that was typed
+abbrev pub ready_turn : WorldState → ℕ → ShellState → List FrameState → Response
+ready_turn w k shell (frame ∷ frames) = took w k (script_turned shell frame frames w.shared (slice_get frame.lines frame.position))
+ready_turn w k shell [] = if (k == 1) && has_input w then console_turn w shell w.queue else Refused NotReady
+
+-- a prompt is answered by the first line that waits, and by an empty one at the end of input
+abbrev pub answered_prompt : WorldState → ℕ → ShellState → Question → List (List ℕ) → Response
+answered_prompt w k shell question [] = took w k (resumed [] question shell w.shared)
+answered_prompt w k shell question (line ∷ rest) = took (record w { queue = rest }) k (resumed line question shell w.shared)
+
+-- the lines that a shell may take of its input: a background shell's is at its end
+abbrev pub waiting : WorldState → ℕ → List (List ℕ)
+waiting w k = if k == 1 then w.queue else []
+
+abbrev pub turn_by : WorldState → ℕ → ShellState → Phase → Response
+turn_by w k shell Ready = ready_turn w k shell shell.frames
+turn_by w k shell (Asking question) =
+    if not (k == 1) || has_input w then answered_prompt w k shell question (waiting w k) else Refused NotReady
 
 -- a turn of the shell of this number, if it runs
 abbrev pub turned : WorldState → ℕ → Option ShellState → Response
 turned w k None = Refused NoSuchShell
-turned w k (Some shell) = turn_by w k shell shell.frames
+turned w k (Some shell) = turn_by w k shell shell.phase
 
 -- an answer for the shell of this number, if it runs: no shell waits for one yet
 abbrev pub replied : Option ShellState → Response

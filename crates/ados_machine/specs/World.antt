@@ -3,10 +3,13 @@ use Rattle.std.specs.Prelude.{ℕ, zero, suc, List, [], ◌∷◌, length, map, 
 use Rattle.std.proofs.Math.ListN.{replicate}
 use Rattle.std.specs.List.{list_any}
 use Rattle.ados_ram.specs.Files.{first_files}
-use Rattle.ados_machine.specs.declared.codes.Codes.{Codes}
+use Rattle.ados_find.specs.declared.codes.Codes.{Codes}
 use Rattle.ados_machine.specs.declared.requests.Request.{Request}
-use Rattle.ados_machine.specs.CodeRule.{went_well}
-use Rattle.ados_machine.specs.Frames.{FrameState, ShellState, SharedState, fresh_shell}
+use Rattle.ados_find.specs.Codes.{went_well}
+use Rattle.ados_find.specs.Shared.{SharedState}
+use Rattle.ados_machine.specs.declared.phases.Phase.{Phase}
+use Rattle.ados_machine.specs.declared.phases.Phase.TheVariants.{Ready, Asking}
+use Rattle.ados_machine.specs.Frames.{FrameState, ShellState, fresh_shell}
 
 pub record WorldState : Type 0 where
   -- the shells that run, by number from 1 to 20
@@ -56,10 +59,15 @@ abbrev pub has_frame : List FrameState → Bool
 has_frame [] = false
 has_frame (frame ∷ frames) = true
 
--- a shell has something to take: a line of its script, or, for shell 1, one that was typed or the input's end
+-- something is there to take: a line of its newest frame, or, for shell 1, one that was typed or the input's
+-- end; the answer to a prompt is such a line too, and a background shell's input is at its end
+abbrev pub can_take : WorldState → ℕ → List FrameState → Phase → Bool
+can_take w k frames Ready = has_frame frames || ((k == 1) && has_input w)
+can_take w k frames (Asking question) = not (k == 1) || has_input w
+
 abbrev pub can_turn : WorldState → ℕ → Option ShellState → Bool
 can_turn w k None = false
-can_turn w k (Some shell) = has_frame shell.frames || ((k == 1) && has_input w)
+can_turn w k (Some shell) = can_take w k shell.frames shell.phase
 
 -- a shell can take a turn
 abbrev pub is_ready : WorldState → ℕ → Bool

@@ -5,26 +5,27 @@
 //! what an event makes of a world, and what a run of events is. The crates above hold the bodies
 //! that meet them.
 
-mod actions;
 mod answers;
 mod builtins;
-mod codes;
+mod called;
 mod events;
 mod laws;
 mod outs;
+mod phases;
 mod records;
 mod refusals;
 mod requests;
 
-pub use actions::{Action, Called, Effect};
+pub use ados_find::Codes;
 pub use answers::Answer;
 pub use builtins::Builtin;
-pub use codes::Codes;
+pub use called::Called;
 pub use events::Event;
 pub use laws::{
     each_end_is_reported_once, no_script_runs_on_behind_a_failure, scripts_end_where_the_rule_says,
 };
 pub use outs::{EndReport, Out, Reports};
+pub use phases::{Asking, Phase};
 pub use records::Record;
 pub use refusals::Refusal;
 pub use requests::{Job, Request};

@@ -1,4 +1,4 @@
-use crate::codes::Codes;
+use ados_find::Codes;
 use ados_text::Code;
 
 /// What a command of a frame answered, or a line fault of it.

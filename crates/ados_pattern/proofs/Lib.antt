@@ -8,3 +8,12 @@ pub mod Pieces
 pub mod Ranges
 pub mod Places
 pub mod RuleLemmas
+pub mod ClassReads
+pub mod ClassTexts
+pub mod Views
+pub mod FaultPlaces
+pub mod FirstFaults
+pub mod GrammarReads
+pub mod GrammarBuilds
+pub mod GrammarNames
+pub mod ParseLaws

@@ -10,3 +10,6 @@ pub mod CharTest
 pub mod Table
 pub mod Reach
 pub mod Range
+pub mod Signs
+pub mod Grammar
+pub mod FaultPlace

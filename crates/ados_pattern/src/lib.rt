@@ -5,6 +5,7 @@ mod builds;
 mod bytes;
 mod errors;
 mod faults;
+mod grammar;
 mod literals;
 mod matching;
 mod parts;
@@ -15,6 +16,7 @@ mod tokens;
 mod words;
 
 pub use errors::PatternFault;
+pub use grammar::one_reading;
 pub use patterns::Pattern;
 
 #[cfg(test)]

@@ -30,9 +30,12 @@ impl Model for Pattern {
 }
 
 impl Pattern {
-    ghost use Rattle.std.specs.Prelude.{◌≡◌, IfOk, IsOkUnless, MatchOption, is_some, option_copied};
+    ghost use Rattle.std.specs.Prelude.{◌≡◌, ◌<◌, ◌≤◌, ◌↔◌, ℕ, length, IfOk, IsOkUnless, MatchOption, is_some, option_copied};
     ghost use Rattle.ados_pattern.specs.Fault.{fault_of};
-    ghost use Rattle.ados_pattern.specs.Form.{form_of};
+    ghost use Rattle.ados_pattern.specs.FaultPlace.{IsFirstFault};
+    ghost use Rattle.ados_pattern.specs.Form.{Form, form_of};
+    ghost use Rattle.ados_pattern.specs.Grammar.{IsPattern};
+    ghost use Rattle.ados_pattern.specs.Literal.{name_in};
     ghost use Rattle.ados_pattern.specs.Meaning.{meaning_of};
 
     /// The pattern that a text is.
@@ -40,6 +43,19 @@ impl Pattern {
     /// `TooLong` where it has more than 255 bytes; then `BadPattern` with the least place, from 0,
     /// at which a fault stands. `NoMemory` stands only where nothing else is refused.
     pub fn parse(alloc: Global, text: &Text) -> Result<Pattern, PatternFault>
+        ensures long { (result ≡ Err PatternFault.TooLong) ↔ (255 < length text.now) }
+        ensures bad { (place : ℕ) → (result ≡ Err (PatternFault.BadPattern place)) ↔ (length text.now ≤ 255) × IsFirstFault text.now place }
+        ensures pattern { IfOk result (λ pattern. IsPattern text.now pattern.form × (pattern.name ≡ name_in pattern.form)) }
+        ensures only { (form : Form) → IsPattern text.now form → length text.now ≤ 255 → IsOkUnless result PatternFault.NoMemory × IfOk result (λ pattern. pattern.form ≡ form) }
+        ensures computed_fault { MatchOption (fault_of text.now)
+            (IsOkUnless result PatternFault.NoMemory)
+            (λ fault. result ≡ Err fault) }
+        ensures computed { IfOk result (λ pattern. pattern ≡ meaning_of text.now) }
+    {
+        Pattern::parsed(alloc, text)
+    }
+
+    fn parsed(alloc: Global, text: &Text) -> Result<Pattern, PatternFault>
         ensures fault { MatchOption (fault_of text.now)
             (IsOkUnless result PatternFault.NoMemory)
             (λ fault. result ≡ Err fault) }

@@ -1,26 +1,28 @@
 -- What is put where the way is clear leaves files: a tree of directories within the limits.
-use Rattle.std.proofs.Common.{◌≡◌, ℕ, Bool, true, false, cond, T, List, [], ◌∷◌, ◌++◌, Option, Some, None, IsSome, IsTrue, refl, sym, ap, ◌∙◌, subst, append_assoc, ◌+◌, ◌≤◌, ◌&&◌, ◌||◌, nat_le, length, arith}
+use Rattle.std.proofs.Common.{◌≡◌, ℕ, Bool, true, false, cond, not, T, List, [], ◌∷◌, ◌++◌, Option, Some, None, IsSome, IsTrue, refl, sym, ap, ◌∙◌, subst, append_assoc, ◌+◌, ◌≤◌, ◌&&◌, ◌||◌, nat_le, length, arith, ◌<◌, take, drop, get_or, drop-cons, add-one}
 use Rattle.std.proofs.lemmas.Bool.{leb-true}
-use Rattle.std.proofs.lemmas.List.{append-nil}
-use Rattle.std.specs.Ordering.{is_eq, eq_by_cmp}
+use Rattle.std.proofs.lemmas.List.{append-nil, take_more, map-append}
+use Rattle.ados_text.specs.Text.{folded}
+use Rattle.std.specs.Ordering.{is_eq}
 use Rattle.std.specs.declared.cmp.Ordering.{Ordering}
 use Rattle.std.specs.declared.cmp.Ordering.TheVariants.{Less, Equal, Greater}
 use Rattle.std.specs.Option.{option_or}
 use Rattle.std.specs.FinMap as map
-use Rattle.std.specs.FinMap.{find, get-insert, get-remove, get-entries, len-entries, entries-insert, entries_sorted}
+use Rattle.std.specs.FinMap.{find, get-insert, get-remove, get-entries, len-entries}
 use Rattle.std.specs.Cmp.{eq_by_cmp_equiv}
 use Rattle.ados_text.specs.declared.codes.Result2.{Result2}
 use Rattle.ados_text.specs.declared.codes.TheConstants.Result2.{OBJECT_IN_USE, WRONG_TYPE, DIRECTORY_NOT_EMPTY, DISK_FULL, DELETE_PROTECTED}
 use Rattle.ados_ram.specs.declared.entries.Entry.{Entry}
-use Rattle.ados_ram.specs.Place.{name_cmp_total, place_cmp, place_cmp_total, place_cmp_exact, is_same_key, is_root, behind, has_names, is_below}
-use Rattle.ados_ram.specs.Entry.{is_directory, is_directory_body, bytes_of_body, size_of, written, new_directory}
-use Rattle.ados_ram.specs.Files.{Files, Rows, AreFiles, is_some_directory, bytes_at, total_of, file_limit, bytes_limit, objects_limit}
-use Rattle.ados_ram.specs.FileOperations.{on_the_way, way_fault, write_target_fault, full_fault, limit_fault, write_of, write_fault, free_fault, make_dir_of, make_dir_fault, changed, any_below, delete_target_fault, delete_fault}
+use Rattle.ados_ram.specs.Place.{key_of, name_cmp_total, place_cmp, place_cmp_total, place_cmp_exact, is_same_key, is_root, behind, has_names, is_below}
+use Rattle.ados_ram.specs.Entry.{is_directory, is_directory_body, bytes_of_body, fresh_bits, size_of, written, written_as, new_directory}
+use Rattle.ados_ram.specs.Files.{Files, Rows, AreFiles, is_some_directory, is_some_file, bytes_at, total_of, file_limit, bytes_limit, objects_limit}
+use Rattle.ados_ram.specs.FileOperations.{on_the_way, way_fault, write_target_fault, full_fault, limit_fault, write_of, write_fault, write_as_of, append_of, is_put, put_open_of, put_open_fault, free_fault, make_dir_of, make_dir_fault, any_below, delete_target_fault, delete_fault}
 use Rattle.ados_ram.specs.InUse.{is_in_use}
+use Rattle.ados_ram.specs.declared.entries.Bits.{Bits}
 use Rattle.ados_ram.specs.declared.in_use.Busy.{Busy}
 use Rattle.ados_ram.specs.Rows.{rows_without}
 use Rattle.ados_ram.specs.declared.entries.Body.{Body}
-use Rattle.ados_ram.proofs.RowsLemmas.{AreRowsOf, size-written, own_rows, entries_rows, deleted_rows, total-put, length-put_without, total-without, length-without, total-found, length-found}
+use Rattle.ados_ram.proofs.RowsLemmas.{AreRowsOf, size-written, own_rows, entries_rows, deleted_rows, total-insert, len-insert, total-without, length-without, total-found, length-found}
 
 pub equal : (r : Ordering) → is_eq r ≡ true → r ≡ Equal
 equal Less p = absurd (subst T (sym p) tt)
@@ -45,6 +47,13 @@ dir_rest false rest h = cc
 clear_rest : (o : Option Entry) (rest : Option Result2) → on_the_way o rest ≡ None → rest ≡ None
 clear_rest None rest h = cc
 clear_rest (Some e) rest h = dir_rest (is_directory e) rest h
+
+-- one place further on the way
+pub way_step : (m : Files) (names : List (List ℕ)) (i : ℕ) → i < length names → way_fault m (key_of (take i names)) (key_of (drop i names)) ≡ on_the_way (map.get m (key_of (take i names))) (way_fault m (key_of (take (i + 1) names)) (key_of (drop (i + 1) names)))
+way_step m names i h =
+    let d : drop i names ≡ get_or names i [] ∷ drop (i + 1) names = rw add-one (drop-cons names i [] h) in
+    let k : key_of (take (i + 1) names) ≡ key_of (take i names) ++ folded (get_or names i []) ∷ [] = ap key_of (take_more names i [] h) ∙ map-append folded (take i names) (get_or names i [] ∷ []) in
+    ap (λ d. way_fault m (key_of (take i names)) (key_of d)) d ∙ ap (λ a. on_the_way (map.get m (key_of (take i names))) (way_fault m a (key_of (drop (i + 1) names)))) (sym k)
 
 -- no fault on the way: a directory stands at each place above
 pub way_clear : (m : Files) (above rest : List (List ℕ)) (n : List ℕ) (more : List (List ℕ)) → way_fault m above (rest ++ n ∷ more) ≡ None → IsTrue (is_some_directory (map.get m (above ++ rest)))
@@ -120,19 +129,6 @@ no_limit_fault size total count h =
     let all : AllHold (nat_le size file_limit) (nat_le total bytes_limit) (nat_le count objects_limit) = all_hold _ _ _ h in
     record { size = leb-true _ _ all.first; total = leb-true _ _ all.second; count = leb-true _ _ all.third }
 
--- after a write that is not refused
-pub written_files : {m : Files} (is_open : Bool) (key : List (List ℕ)) (name bytes : List ℕ) → AreFiles m → write_fault is_open m key name bytes ≡ None → AreFiles (write_of m key name bytes)
-written_files {m} is_open key name bytes files e =
-    let new = written (map.get m key) name bytes in
-    let way = or_first (way_fault m [] key) _ e in
-    let rest = or_second (way_fault m [] key) _ e in
-    let within = no_limit_fault _ _ _ (or_second (write_target_fault is_open (map.get m key)) _ rest) in
-    put_files key new files
-    (λ place n more t. way_clear m [] place n more (subst (λ (q : List (List ℕ)). way_fault m [] q ≡ None) (sym t) way))
-    (λ d. absurd (no_directory is_open (map.get m key) (or_first (write_target_fault is_open (map.get m key)) _ rest) d))
-    (subst (λ (n : ℕ). n ≤ file_limit) (sym (size-written (map.get m key) name bytes)) within.size)
-    within.total within.count
-
 pub clash : {A : Type 0} → false ≡ true → A
 clash e = absurd (subst T (sym e) tt)
 
@@ -145,11 +141,56 @@ behind-append [] way = refl
 behind-append (n ∷ ns) way =
     ap (λ b. cond b (behind ns (ns ++ way)) None) ((eq_by_cmp_equiv name_cmp_total).refl n) ∙ behind-append ns way
 
-pub total-insert : (m : Files) (key : List (List ℕ)) (new : Entry) → total_of (map.entries (map.insert m key new)) ≡ size_of new + total_of (rows_without key (map.entries m))
-total-insert m key new = ap total_of (entries-insert place_cmp_total m key new) ∙ total-put key new (map.entries m) (entries_sorted m)
+-- which bits a new file takes has no part in the sizes
+same_total : (m : Files) (key : List (List ℕ)) (name bytes : List ℕ) (bits : Bits) → total_of (map.entries (write_of m key name bytes)) ≡ total_of (map.entries (write_as_of m key name bytes bits))
+same_total m key name bytes bits =
+    total-insert m key _
+    ∙ ap (λ s. s + total_of (rows_without key (map.entries m))) (size-written fresh_bits (map.get m key) name bytes ∙ sym (size-written bits (map.get m key) name bytes))
+    ∙ sym (total-insert m key _)
 
-pub len-insert : (m : Files) (key : List (List ℕ)) (new : Entry) → map.len (map.insert m key new) ≡ 1 + length (rows_without key (map.entries m))
-len-insert m key new = len-entries _ ∙ ap length (entries-insert place_cmp_total m key new) ∙ length-put_without key new (map.entries m) (entries_sorted m)
+-- after a write that is not refused
+pub written_files : {m : Files} (is_open : Bool) (key : List (List ℕ)) (name bytes : List ℕ) (bits : Bits) → AreFiles m → write_fault is_open m key name bytes ≡ None → AreFiles (write_as_of m key name bytes bits)
+written_files {m} is_open key name bytes bits files e =
+    let new = written_as bits (map.get m key) name bytes in
+    let way = or_first (way_fault m [] key) _ e in
+    let rest = or_second (way_fault m [] key) _ e in
+    let within = no_limit_fault _ _ _ (or_second (write_target_fault is_open (map.get m key)) _ rest) in
+    put_files key new files
+    (λ place n more t. way_clear m [] place n more (subst (λ (q : List (List ℕ)). way_fault m [] q ≡ None) (sym t) way))
+    (λ d. absurd (no_directory is_open (map.get m key) (or_first (write_target_fault is_open (map.get m key)) _ rest) d))
+    (subst (λ (n : ℕ). n ≤ file_limit) (sym (size-written bits (map.get m key) name bytes)) within.size)
+    (subst (λ (n : ℕ). n ≤ bytes_limit) (same_total m key name bytes bits) within.total)
+    (subst (λ (n : ℕ). n ≤ objects_limit) (len-insert m key _ ∙ sym (len-insert m key new)) within.count)
+
+not_both : (b : Bool) → not b ≡ true → IsTrue b → ⊥
+not_both true h t = clash h
+not_both false h t = clash t
+
+a_file : (o : Option Entry) (more : Bool) → (is_some_file o && more) ≡ true → IsTrue (is_some_directory o) → ⊥
+a_file None more h d = clash d
+a_file (Some e) more h d = not_both (is_directory e) (first_of (not (is_directory e)) more h) d
+  where
+    first_of : (a b : Bool) → (a && b) ≡ true → a ≡ true
+    first_of true b h = refl
+    first_of false b h = h
+
+there : (o : Option Entry) (more : Bool) → (is_some_file o && more) ≡ true → IsSome o
+there None more h = clash h
+there (Some e) more h = refl
+
+-- after bytes were put to an open output, where that is not refused
+pub put_open_files : {m : Files} (key : List (List ℕ)) (name bytes : List ℕ) → AreFiles m → put_open_fault m key name bytes ≡ None → AreFiles (put_open_of m key name bytes)
+put_open_files {m} key name bytes files e =
+    elim (is_put (map.get m key) bytes) as (λ b. is_put (map.get m key) bytes ≡ b → cond b (full_fault (length (bytes_at (map.get m key) ++ bytes)) (append_of m key name bytes)) None ≡ None → AreFiles (cond b (append_of m key name bytes) m)) [
+      | true ↦ λ t g.
+          let within = no_limit_fault _ _ _ g in
+          put_files key (written (map.get m key) name (bytes_at (map.get m key) ++ bytes)) files
+          (λ place n more p. files.above place n more (subst (λ (q : List (List ℕ)). IsSome (map.get m q)) (sym p) (there (map.get m key) _ t)))
+          (λ d. absurd (a_file (map.get m key) _ t d))
+          (subst (λ (n : ℕ). n ≤ file_limit) (sym (size-written fresh_bits (map.get m key) name (bytes_at (map.get m key) ++ bytes))) within.size)
+          within.total within.count
+      | false ↦ λ t g. files
+    ] refl e
 
 -- after a directory was made that is not refused
 pub made_files : {m : Files} (key : List (List ℕ)) (name : List ℕ) → AreFiles m → make_dir_fault m key name ≡ None → AreFiles (make_dir_of m key name)
@@ -162,7 +203,7 @@ made_files {m} key name files e =
     (λ d. refl) (omega arith) within.total within.count
 
 -- after an entry was changed, but not what it holds
-pub changed_files : {m : Files} (key : List (List ℕ)) (change : Entry → Entry) (e : Entry) → AreFiles m → map.get m key ≡ Some e → (change e).body ≡ e.body → AreFiles (changed m key change (map.get m key))
+pub changed_files : {m : Files} (key : List (List ℕ)) (change : Entry → Entry) (e : Entry) → AreFiles m → map.get m key ≡ Some e → (change e).body ≡ e.body → AreFiles (map.insert m key (change e))
 changed_files {m} key change e files found body =
     let r = own_rows m in
     let there : find place_cmp key (map.entries m) ≡ Some e = sym (get-entries m key) ∙ found in
@@ -172,13 +213,12 @@ changed_files {m} key change e files found body =
     let count = files.objects in
     let total : total_of (map.entries (map.insert m key (change e))) ≡ size_of (change e) + total_of (rows_without key (map.entries m)) = total-insert m key (change e) in
     let number : map.len (map.insert m key (change e)) ≡ 1 + length (rows_without key (map.entries m)) = len-insert m key (change e) in
-    subst (λ (o : Option Entry). AreFiles (changed m key change o)) (sym found)
-    (put_files key (change e) files
+    put_files key (change e) files
     (λ place name rest t. files.above place name rest (subst (λ (o : Option Entry). IsSome o) (sym (ap (map.get m) t ∙ found)) refl))
     (λ d. subst (λ (b : Body). IsTrue (is_directory_body b)) (sym body) (subst (λ (o : Option Entry). IsTrue (is_some_directory o)) found d))
     (omega arith)
     (omega (arith, total-found key e (map.entries m) there))
-    (omega (arith, length-found key e (map.entries m) there, len-entries m)))
+    (omega (arith, length-found key e (map.entries m) there, len-entries m))
 
 -- what is there is below a place where one of the rows is
 any_below-there : (key q : List (List ℕ)) (es : Rows) → any_below key es ≡ false → is_below key q ≡ true → find place_cmp q es ≡ None

@@ -1,13 +1,13 @@
 -- The first rows are those of the first files.
-use Rattle.std.proofs.Common.{◌≡◌, ℕ, ◌≤◌, Bool, true, false, T, cond, List, [], ◌∷◌, ◌++◌, Option, Some, None, IsSome, IsTrue, refl, sym, ap, ◌∙◌, subst, codes, length, length-append, arith}
+use Rattle.std.proofs.Common.{◌≡◌, ℕ, ◌≤◌, Bool, true, false, cond, List, [], ◌∷◌, ◌++◌, Option, Some, IsSome, IsTrue, refl, sym, ap, ◌∙◌, subst, codes, length, length-append, arith}
 use Rattle.std.specs.FinMap as map
 use Rattle.std.specs.FinMap.{get-insert, get-from_entries, len-entries}
 use Rattle.ados_ram.specs.declared.entries.Entry.{Entry}
 use Rattle.ados_ram.specs.Place.{key_of, place_cmp, place_cmp_total, is_same_key}
 use Rattle.ados_ram.specs.Entry.{new_directory}
 use Rattle.ados_ram.specs.Files.{Files, Rows, AreFiles, is_some_directory, bytes_at, total_of, directory_row, first_files, file_limit, bytes_limit, objects_limit}
-use Rattle.ados_ram.specs.Rows.{AreRows, first_rows, sorted_of}
-use Rattle.ados_ram.proofs.RowsLemmas.{AreRowsOf, sorted_of_rows, entries_rows}
+use Rattle.ados_ram.specs.Rows.{AreRows, first_rows}
+use Rattle.ados_ram.proofs.RowsLemmas.{sorted_of, sorted_of_rows, entries_rows}
 use Rattle.ados_ram.proofs.FilesLemmas.{put_files, clash, nothing}
 
 abbrev root_rows : Rows
@@ -53,7 +53,7 @@ with_directory es name files total count =
     put_files (key_of (name ∷ [])) (new_directory name) files (top_clear _ files _) (λ d. refl) (omega arith)
     (total_rows (directory_row name ∷ es) total) (count_rows (directory_row name ∷ es) count)
 
-all_files : AreFiles first_files
+pub all_files : AreFiles first_files
 all_files =
     let r1 = directory_row (codes "Env") ∷ root_rows in
     let r2 = directory_row (codes "T") ∷ r1 in
@@ -63,8 +63,5 @@ all_files =
 pub first_is : map.from_sorted first_rows ≡ first_files
 first_is = (sorted_of_rows (directory_row (codes "C") ∷ directory_row (codes "S") ∷ directory_row (codes "T") ∷ directory_row (codes "Env") ∷ root_rows)).is
 
-pub first_are : AreRows first_rows
-first_are = record {
-  sorted = refl;
-  files = subst AreFiles (sym first_is) all_files;
-}
+pub first_are : AreRows first_rows 0
+first_are = record { sorted = refl; counted = refl; fits = omega arith }

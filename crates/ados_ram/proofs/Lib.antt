@@ -1,3 +1,4 @@
+pub mod PositionLemmas
 pub mod RowsLemmas
 pub mod FilesLemmas
 pub mod FirstLemmas

@@ -1,12 +1,11 @@
 -- A rename leaves files: what is looked up after it, and that directories are still above what is there.
-use Rattle.std.proofs.Common.{◌≡◌, ℕ, ◌+◌, ◌≤◌, Bool, true, false, cond, not, ◌&&◌, ◌||◌, T, List, [], ◌∷◌, ◌++◌, Option, Some, None, is_some, unwrap_or, IsSome, IsTrue, refl, sym, ap, ◌∙◌, subst, append_assoc, length, arith}
+use Rattle.std.proofs.Common.{◌≡◌, ℕ, ◌+◌, ◌≤◌, Bool, true, false, cond, not, ◌&&◌, ◌||◌, List, [], ◌∷◌, ◌++◌, Option, Some, None, is_some, unwrap_or, IsSome, IsTrue, refl, sym, ap, ◌∙◌, subst, append_assoc, length, arith}
 use Rattle.std.proofs.lemmas.List.{append-nil}
-use Rattle.std.specs.Ordering.{is_eq, eq_by_cmp}
+use Rattle.std.specs.Ordering.{is_eq}
 use Rattle.std.specs.Cmp.{eq_by_cmp_equiv}
-use Rattle.std.specs.Option.{option_or, option_map}
+use Rattle.std.specs.Option.{option_map}
 use Rattle.std.specs.FinMap as map
 use Rattle.std.specs.FinMap.{find, get-entries, get-from_entries, len-entries}
-use Rattle.ados_text.specs.declared.codes.Result2.{Result2}
 use Rattle.ados_text.specs.declared.codes.TheConstants.Result2.{OBJECT_IN_USE, OBJECT_EXISTS}
 use Rattle.ados_ram.specs.declared.in_use.Busy.{Busy}
 use Rattle.ados_ram.specs.declared.entries.Entry.{Entry}
@@ -15,8 +14,7 @@ use Rattle.ados_ram.specs.Entry.{size_of, renamed}
 use Rattle.ados_ram.specs.InUse.{holds_output}
 use Rattle.ados_ram.specs.Files.{Files, Rows, AreFiles, is_some_directory, bytes_at, total_of, file_limit, bytes_limit, objects_limit}
 use Rattle.ados_ram.specs.FileOperations.{way_fault, moved_row, moved_rows, rename_of, rename_target_fault, rename_fault}
-use Rattle.ados_ram.specs.Rows.{sorted_of}
-use Rattle.ados_ram.proofs.RowsLemmas.{AreRowsOf, own_rows, entries_rows, renamed_rows, total-sorted_of, length-sorted_of}
+use Rattle.ados_ram.proofs.RowsLemmas.{sorted_of, AreRowsOf, own_rows, entries_rows, renamed_rows, total-sorted_of, length-sorted_of}
 use Rattle.ados_ram.proofs.FilesLemmas.{equal, same, way_clear, or_first, or_second, clash, nothing, behind-append}
 
 same_way : (a b : List (List ℕ)) → Some a ≡ Some b → a ≡ b
@@ -136,7 +134,7 @@ there-renamed : (name : List ℕ) (way : List (List ℕ)) (o : Option Entry) →
 there-renamed name way None h = h
 there-renamed name way (Some e) h = refl
 
-total-moved_rows : (from to : List (List ℕ)) (name : List ℕ) (es : Rows) → total_of (moved_rows from to name es) ≡ total_of es
+pub total-moved_rows : (from to : List (List ℕ)) (name : List ℕ) (es : Rows) → total_of (moved_rows from to name es) ≡ total_of es
 total-moved_rows from to name [] = refl
 total-moved_rows from to name (e ∷ es) =
     elim (behind from e.0) as (λ o. size_of (moved_row to name e.0 e.1 o).1 + total_of (moved_rows from to name es) ≡ size_of e.1 + total_of es) [

@@ -1,25 +1,19 @@
 -- Entries in order, and the map that they make.
-use Rattle.std.proofs.Common.{◌≡◌, ℕ, List, [], ◌∷◌, ◌++◌, sym, ap, ◌∙◌, subst, IsTrue, Bool, true, T, cond, Option, Some, None, ◌+◌, ◌<◌, ◌≤◌, length, take, drop, get_or, drop-cons, add-one, refl, ◌&&◌, false, arith, length-append, not, unwrap_or, nat_le}
-use Rattle.std.specs.declared.cmp.Ordering.{Ordering}
+use Rattle.std.proofs.Common.{◌≡◌, ℕ, List, [], ◌∷◌, sym, ap, ◌∙◌, subst, IsTrue, Bool, true, false, T, cond, not, Option, Some, None, is_some, ◌+◌, ◌-◌, ◌≤◌, length, refl, unwrap_or, arith}
 use Rattle.std.specs.declared.cmp.Ordering.TheVariants.{Less, Equal, Greater}
-use Rattle.std.proofs.lemmas.Bool.{leb-true, le-leb}
-use Rattle.std.proofs.lemmas.List.{take_more, map-append}
-use Rattle.std.specs.Ordering.{eq_by_cmp, is_eq, is_lt}
+use Rattle.std.specs.Ordering.{eq_by_cmp, is_eq}
 use Rattle.std.specs.Cmp.{alike_right, eq_by_cmp_equiv}
-use Rattle.std.specs.Option.{option_or}
 use Rattle.std.specs.FinMap as map
 use Rattle.std.specs.FinMap.{is_sorted, find, put, get-from_sorted, entries-from_sorted, entries-insert, same_entries_map, len-entries, entries_sorted, same_map, get-remove}
-use Rattle.std.specs.FinMap.Entries.{is_sorted-put, is_sorted-where_key, find-where_key, where_key, below_all, by_order}
-use Rattle.ados_text.specs.declared.codes.Result2.{Result2}
-use Rattle.ados_text.specs.declared.codes.TheConstants.Result2.{COMMENT_TOO_LONG}
-use Rattle.ados_text.specs.Text.{folded}
+use Rattle.std.specs.FinMap.Entries.{is_sorted-put, is_sorted-where_key, find-where_key, where_key, by_order}
 use Rattle.ados_ram.specs.declared.entries.Entry.{Entry}
-use Rattle.ados_ram.specs.Place.{key_of, place_cmp, place_cmp_total, place_cmp_exact, is_same_key}
-use Rattle.ados_ram.specs.Entry.{written, size_of, new_directory}
-use Rattle.ados_ram.specs.Files.{Files, Rows, total_of}
-use Rattle.ados_ram.specs.FileOperations.{on_the_way, way_fault, write_target_fault, limit_fault, full_fault, write_of, write_fault, free_fault, make_dir_of, make_dir_fault, delete_target_fault, delete_fault, moved_rows, rename_of, rename_target_fault, rename_fault, changed, change_fault, comment_fault}
-use Rattle.ados_ram.specs.declared.in_use.Busy.{Busy}
-use Rattle.ados_ram.specs.Rows.{rows_without, rows_way_fault, rows_write, rows_write_fault, rows_make_dir_fault, rows_rename_fault, sorted_of}
+use Rattle.ados_ram.specs.declared.entries.Bits.{Bits}
+use Rattle.ados_ram.specs.Place.{place_cmp, place_cmp_total, place_cmp_exact, is_same_key}
+use Rattle.ados_ram.specs.Entry.{written_as, size_of}
+use Rattle.ados_ram.specs.Files.{Files, Rows, bytes_at, total_of}
+use Rattle.ados_ram.specs.FileOperations.{moved_rows, rename_of}
+use Rattle.ados_ram.specs.Rows.{rows_without}
+use Rattle.ados_ram.proofs.PositionLemmas.{first, second, above_all, tied_all}
 
 holds : (b : Bool) → IsTrue b → T b
 holds b h = subst T (sym h) tt
@@ -39,41 +33,6 @@ put_rows es k v e sorted = same_entries_map _ _
     (entries-from_sorted place_cmp _ (is_sorted-put place_cmp place_cmp_total k v es (holds _ sorted))
     ∙ ap (put place_cmp k v) (sym (ap map.entries (sym e) ∙ entries-from_sorted place_cmp es (holds _ sorted)))
     ∙ sym (entries-insert place_cmp_total _ k v))
-
--- one place further on the way
-pub way_step : (es : Rows) (names : List (List ℕ)) (i : ℕ) → i < length names → rows_way_fault es (key_of (take i names)) (key_of (drop i names)) ≡ on_the_way (find place_cmp (key_of (take i names)) es) (rows_way_fault es (key_of (take (i + 1) names)) (key_of (drop (i + 1) names)))
-way_step es names i h =
-    let d : drop i names ≡ get_or names i [] ∷ drop (i + 1) names = rw add-one (drop-cons names i [] h) in
-    let k : key_of (take (i + 1) names) ≡ key_of (take i names) ++ folded (get_or names i []) ∷ [] = ap key_of (take_more names i [] h) ∙ map-append folded (take i names) (get_or names i [] ∷ []) in
-    ap (λ d. rows_way_fault es (key_of (take i names)) (key_of d)) d ∙ ap (λ a. on_the_way (find place_cmp (key_of (take i names)) es) (rows_way_fault es a (key_of (drop (i + 1) names)))) (sym k)
-
--- the way in the map is that in its rows
-pub way_rows : {m : Files} (es : Rows) (above rest : List (List ℕ)) → map.from_sorted es ≡ m → IsTrue (is_sorted place_cmp es) → way_fault m above rest ≡ rows_way_fault es above rest
-way_rows es above [] e sorted = refl
-way_rows {m} es above (n ∷ rest) e sorted = ap (λ f. on_the_way f (way_fault m (above ++ n ∷ []) rest)) (get_rows es above e sorted) ∙ ap (on_the_way (find place_cmp above es)) (way_rows es (above ++ n ∷ []) rest e sorted)
-
-second : (a b : Bool) → T (a && b) → T b
-second true b p = p
-second false b p = absurd p
-
-first : (a b : Bool) → T (a && b) → T a
-first true b p = tt
-first false b p = p
-
-less : (o : Ordering) → T (is_lt o) → o ≡ Less
-less Less p = refl
-less Equal p = absurd p
-less Greater p = absurd p
-
-above_all : (k q : List (List ℕ)) (es : Rows) → place_cmp k q ≡ Less → T (below_all place_cmp q es) → rows_without k es ≡ es
-above_all k q [] p h = refl
-above_all k q (e ∷ es) p h =
-    ap (λ r. cond (is_eq r) (rows_without k es) (e ∷ rows_without k es)) (place_cmp_total.trans k q e.0 p (less _ (first _ _ h))) ∙ ap (λ (r : Rows). e ∷ r) (above_all k q es p (second _ _ h))
-
-tied_all : (k q : List (List ℕ)) (es : Rows) → place_cmp k q ≡ Equal → T (below_all place_cmp q es) → rows_without k es ≡ es
-tied_all k q [] p h = refl
-tied_all k q (e ∷ es) p h =
-    ap (λ r. cond (is_eq r) (rows_without k es) (e ∷ rows_without k es)) (place_cmp_total.congr k q e.0 p ∙ less _ (first _ _ h)) ∙ ap (λ (r : Rows). e ∷ r) (tied_all k q es p (second _ _ h))
 
 past : (a b n m : ℕ) → n ≡ b + m → a + n ≡ b + (a + m)
 past a b n m e = omega arith
@@ -104,59 +63,15 @@ is_true false h = absurd h
 pub sorted_put : (k : List (List ℕ)) (v : Entry) (es : Rows) → IsTrue (is_sorted place_cmp es) → IsTrue (is_sorted place_cmp (put place_cmp k v es))
 sorted_put k v es h = is_true _ (is_sorted-put place_cmp place_cmp_total k v es (holds _ h))
 
-or_assoc : {A : Type 0} (a b c : Option A) → option_or (option_or a b) c ≡ option_or a (option_or b c)
-or_assoc None b c = refl
-or_assoc (Some x) b c = refl
-
 -- the map's entries after a put
-entries_put : {m : Files} (es : Rows) (k : List (List ℕ)) (v : Entry) → map.from_sorted es ≡ m → IsTrue (is_sorted place_cmp es) → map.entries (map.insert m k v) ≡ put place_cmp k v es
+pub entries_put : {m : Files} (es : Rows) (k : List (List ℕ)) (v : Entry) → map.from_sorted es ≡ m → IsTrue (is_sorted place_cmp es) → map.entries (map.insert m k v) ≡ put place_cmp k v es
 entries_put es k v e sorted =
     entries-insert place_cmp_total _ k v ∙ ap (put place_cmp k v) (ap map.entries (sym e) ∙ entries-from_sorted place_cmp es (holds _ sorted))
 
-pub write_rows : {m : Files} (es : Rows) (key : List (List ℕ)) (name bytes : List ℕ) → map.from_sorted es ≡ m → IsTrue (is_sorted place_cmp es) → map.from_sorted (rows_write es key name bytes) ≡ write_of m key name bytes
-write_rows {m} es key name bytes e sorted =
-    put_rows es key _ e sorted ∙ ap (λ o. map.insert m key (written o name bytes)) (sym (get_rows es key e sorted))
-
 -- a file that is written has the size of what is written
-pub size-written : (o : Option Entry) (name bytes : List ℕ) → size_of (written o name bytes) ≡ length bytes
-size-written None name bytes = refl
-size-written (Some e) name bytes = refl
-
--- the limits of files in which an entry was put
-pub full_rows : {m : Files} (es : Rows) (key : List (List ℕ)) (new : Entry) (size : ℕ) → AreRowsOf es m → full_fault size (map.insert m key new) ≡ limit_fault size (size_of new + total_of (rows_without key es)) (1 + length (rows_without key es))
-full_rows {m} es key new size r =
-    let total : total_of (map.entries (map.insert m key new)) ≡ size_of new + total_of (rows_without key es) =
-    ap total_of (entries_put es key new r.is r.sorted) ∙ total-put key new es (holds _ r.sorted) in
-    let count : map.len (map.insert m key new) ≡ 1 + length (rows_without key es) =
-    len-entries _ ∙ ap length (entries_put es key new r.is r.sorted) ∙ length-put_without key new es (holds _ r.sorted) in
-    ap (λ t. limit_fault size t (map.len (map.insert m key new))) total
-    ∙ ap (λ n. limit_fault size (size_of new + total_of (rows_without key es)) n) count
-
--- the faults of the way, of what stands there, and of the limits, by the rows
-three_faults : {m : Files} (es : Rows) (key : List (List ℕ)) (target : Option Entry → Option Result2) (full limit : Option Result2) → AreRowsOf es m → full ≡ limit
-    → option_or (way_fault m [] key) (option_or (target (map.get m key)) full) ≡ option_or (option_or (rows_way_fault es [] key) (target (find place_cmp key es))) limit
-three_faults {m} es key target full limit r e =
-    ap (λ w. option_or w (option_or (target (map.get m key)) full)) (way_rows es [] key r.is r.sorted)
-    ∙ sym (or_assoc (rows_way_fault es [] key) (target (map.get m key)) full)
-    ∙ ap (λ o. option_or (option_or (rows_way_fault es [] key) (target o)) full) (get_rows es key r.is r.sorted)
-    ∙ ap (option_or (option_or (rows_way_fault es [] key) (target (find place_cmp key es)))) e
-
-pub write_fault_rows : {m : Files} (is_open : Bool) (es : Rows) (key : List (List ℕ)) (name bytes : List ℕ) → AreRowsOf es m → write_fault is_open m key name bytes ≡ rows_write_fault is_open es key (length bytes)
-write_fault_rows {m} is_open es key name bytes r =
-    let new = written (map.get m key) name bytes in
-    three_faults es key (write_target_fault is_open) _ _ r
-    (full_rows es key new (length bytes) r ∙ ap (λ s. limit_fault (length bytes) (s + total_of (rows_without key es)) (1 + length (rows_without key es))) (size-written (map.get m key) name bytes))
-
--- the rows after a write are those of the map after it
-pub written_rows : {m : Files} {es new : Rows} (key : List (List ℕ)) (name bytes : List ℕ) → AreRowsOf es m → new ≡ rows_write es key name bytes → AreRowsOf new (write_of m key name bytes)
-written_rows {m} {es} {new} key name bytes r e = record {
-  is = ap map.from_sorted e ∙ write_rows es key name bytes r.is r.sorted;
-  sorted = rw e (sorted_put key _ es r.sorted);
-}
-
--- a refusal by the rows is the fault by the map
-pub refused_rows : {m : Files} {es : Rows} {fault : Option Result2} (is_open : Bool) (key : List (List ℕ)) (name bytes : List ℕ) → AreRowsOf es m → fault ≡ rows_write_fault is_open es key (length bytes) → write_fault is_open m key name bytes ≡ fault
-refused_rows {m} {es} is_open key name bytes r e = write_fault_rows is_open es key name bytes r ∙ sym e
+pub size-written : (bits : Bits) (o : Option Entry) (name bytes : List ℕ) → size_of (written_as bits o name bytes) ≡ length bytes
+size-written bits None name bytes = refl
+size-written bits (Some e) name bytes = refl
 
 as_filter : (k : List (List ℕ)) (es : Rows) → rows_without k es ≡ where_key place_cmp (λ x. not (eq_by_cmp place_cmp k x)) es
 as_filter k [] = refl
@@ -172,6 +87,11 @@ sorted_without k es h = is_true _ (subst (λ (r : Rows). T (is_sorted place_cmp 
 pub entries_rows : {m : Files} (es : Rows) → AreRowsOf es m → map.entries m ≡ es
 entries_rows es r = ap map.entries (sym r.is) ∙ entries-from_sorted place_cmp es (holds _ r.sorted)
 
+-- rows put in order one by one
+abbrev pub sorted_of : Rows → Rows
+sorted_of [] = []
+sorted_of (e ∷ es) = put place_cmp e.0 e.1 (sorted_of es)
+
 pub sorted_of_rows : (es : Rows) → AreRowsOf (sorted_of es) (map.from_entries es)
 sorted_of_rows [] = record {
   is = map.empty_of_len _ (len-entries _ ∙ ap length (entries-from_sorted place_cmp [] tt));
@@ -183,6 +103,29 @@ sorted_of_rows (e ∷ es) =
       is = put_rows (sorted_of es) e.0 e.1 r.is r.sorted;
       sorted = sorted_put e.0 e.1 (sorted_of es) r.sorted;
     }
+
+-- what stands at a place and the others are all there is
+pub total-rest : (k : List (List ℕ)) (es : Rows) → T (is_sorted place_cmp es) → length (bytes_at (find place_cmp k es)) + total_of (rows_without k es) ≡ total_of es
+total-rest k [] h = refl
+total-rest k (e ∷ es) h =
+    elim (place_cmp k e.0) as (λ r. place_cmp k e.0 ≡ r → length (bytes_at (cond (is_eq r) (Some e.1) (find place_cmp k es))) + total_of (cond (is_eq r) (rows_without k es) (e ∷ rows_without k es)) ≡ size_of e.1 + total_of es) [
+      | Less ↦ λ p. omega (arith, total-rest k es (second _ _ h))
+      | Equal ↦ λ p. ap (λ (xs : Rows). size_of e.1 + total_of xs) (tied_all k e.0 es p (first _ _ h))
+      | Greater ↦ λ p. omega (arith, total-rest k es (second _ _ h))
+    ] refl
+
+abbrev pub one_if : Bool → ℕ
+one_if true = 1
+one_if false = 0
+
+pub length-rest : (k : List (List ℕ)) (es : Rows) → T (is_sorted place_cmp es) → one_if (is_some (find place_cmp k es)) + length (rows_without k es) ≡ length es
+length-rest k [] h = omega arith
+length-rest k (e ∷ es) h =
+    elim (place_cmp k e.0) as (λ r. place_cmp k e.0 ≡ r → one_if (is_some (cond (is_eq r) (Some e.1) (find place_cmp k es))) + length (cond (is_eq r) (rows_without k es) (e ∷ rows_without k es)) ≡ length (e ∷ es)) [
+      | Less ↦ λ p. omega (arith, length-rest k es (second _ _ h))
+      | Equal ↦ λ p. let e = ap length (tied_all k e.0 es p (first _ _ h)) in omega arith
+      | Greater ↦ λ p. omega (arith, length-rest k es (second _ _ h))
+    ] refl
 
 -- the rows of a map
 pub own_rows : (m : Files) → AreRowsOf (map.entries m) m
@@ -206,16 +149,6 @@ without_rows es k e sorted = same_map place_cmp_total place_cmp_exact _ _ (λ q.
     ∙ ap (cond (eq_by_cmp place_cmp q k) None) (sym (get_rows es q e sorted))
     ∙ sym (get-remove place_cmp_total _ k q))
 
--- the rows with a new directory
-pub made_rows : {m : Files} {es new : Rows} (key : List (List ℕ)) (name : List ℕ) → AreRowsOf es m → new ≡ put place_cmp key (new_directory name) es → AreRowsOf new (make_dir_of m key name)
-made_rows {m} {es} {new} key name r e = record {
-  is = ap map.from_sorted e ∙ put_rows es key (new_directory name) r.is r.sorted;
-  sorted = rw e (sorted_put key _ es r.sorted);
-}
-
-pub made_fault_rows : {m : Files} {es : Rows} {fault : Option Result2} (key : List (List ℕ)) (name : List ℕ) → AreRowsOf es m → fault ≡ rows_make_dir_fault es key → make_dir_fault m key name ≡ fault
-made_fault_rows {m} {es} key name r e = three_faults es key free_fault _ _ r (full_rows es key (new_directory name) 0 r) ∙ sym e
-
 -- the rows without a place
 pub deleted_rows : {m : Files} {es new : Rows} (key : List (List ℕ)) → AreRowsOf es m → new ≡ rows_without key es → AreRowsOf new (map.remove m key)
 deleted_rows {m} {es} {new} key r e = record {
@@ -223,11 +156,34 @@ deleted_rows {m} {es} {new} key r e = record {
   sorted = rw e (sorted_without key es r.sorted);
 }
 
-pub delete_fault_rows : {m : Files} {es : Rows} {fault : Option Result2} (busy : Busy) (key : List (List ℕ)) → AreRowsOf es m → fault ≡ delete_target_fault busy es key (find place_cmp key es) → delete_fault busy m key ≡ fault
-delete_fault_rows {m} {es} busy key r e =
-    ap (λ (xs : Rows). delete_target_fault busy xs key (map.get m key)) (entries_rows es r)
-    ∙ ap (λ o. delete_target_fault busy es key o) (get_rows es key r.is r.sorted)
-    ∙ sym e
+-- the size and number of the rows of a map with an entry put in
+pub total-insert : (m : Files) (key : List (List ℕ)) (new : Entry) → total_of (map.entries (map.insert m key new)) ≡ size_of new + total_of (rows_without key (map.entries m))
+total-insert m key new = ap total_of (entries-insert place_cmp_total m key new) ∙ total-put key new (map.entries m) (entries_sorted m)
+
+pub len-insert : (m : Files) (key : List (List ℕ)) (new : Entry) → map.len (map.insert m key new) ≡ 1 + length (rows_without key (map.entries m))
+len-insert m key new = len-entries _ ∙ ap length (entries-insert place_cmp_total m key new) ∙ length-put_without key new (map.entries m) (entries_sorted m)
+
+-- the same, by what was there
+pub total-beside : {m : Files} (es : Rows) (key : List (List ℕ)) (new : Entry) → AreRowsOf es m → total_of (map.entries (map.insert m key new)) ≡ size_of new + (total_of es - length (bytes_at (map.get m key)))
+total-beside {m} es key new r =
+    let all = entries_rows es r in
+    let rest : length (bytes_at (find place_cmp key es)) + total_of (rows_without key es) ≡ total_of es = total-rest key es (holds _ r.sorted) in
+    let found : length (bytes_at (map.get m key)) ≡ length (bytes_at (find place_cmp key es)) = ap (λ (o : Option Entry). length (bytes_at o)) (get_rows es key r.is r.sorted) in
+    let sum : total_of (map.entries (map.insert m key new)) ≡ size_of new + total_of (rows_without key es) = total-insert m key new ∙ ap (λ (xs : Rows). size_of new + total_of (rows_without key xs)) all in
+    omega arith
+
+pub bytes-within : {m : Files} (es : Rows) (key : List (List ℕ)) → AreRowsOf es m → length (bytes_at (map.get m key)) ≤ total_of es
+bytes-within {m} es key r =
+    let rest : length (bytes_at (find place_cmp key es)) + total_of (rows_without key es) ≡ total_of es = total-rest key es (holds _ r.sorted) in
+    let found : length (bytes_at (map.get m key)) ≡ length (bytes_at (find place_cmp key es)) = ap (λ (o : Option Entry). length (bytes_at o)) (get_rows es key r.is r.sorted) in
+    omega arith
+
+pub len-beside : {m : Files} (es : Rows) (key : List (List ℕ)) (new : Entry) → AreRowsOf es m → one_if (is_some (map.get m key)) + map.len (map.insert m key new) ≡ 1 + length es
+len-beside {m} es key new r =
+    let rest : one_if (is_some (find place_cmp key es)) + length (rows_without key es) ≡ length es = length-rest key es (holds _ r.sorted) in
+    let found : one_if (is_some (map.get m key)) ≡ one_if (is_some (find place_cmp key es)) = ap (λ (o : Option Entry). one_if (is_some o)) (get_rows es key r.is r.sorted) in
+    let count : map.len (map.insert m key new) ≡ 1 + length (rows_without key es) = len-insert m key new ∙ ap (λ (xs : Rows). 1 + length (rows_without key xs)) (entries_rows es r) in
+    omega arith
 
 -- the rows after a rename
 pub renamed_rows : {m : Files} {es new : Rows} (from to : List (List ℕ)) (name : List ℕ) → AreRowsOf es m → new ≡ sorted_of (moved_rows from to name es) → AreRowsOf new (rename_of m from to name)
@@ -237,20 +193,6 @@ renamed_rows {m} {es} {new} from to name r e =
       is = ap map.from_sorted e ∙ s.is ∙ ap (λ (xs : Rows). map.from_entries (moved_rows from to name xs)) (sym (entries_rows es r));
       sorted = rw e s.sorted;
     }
-
-pub rename_fault_rows : {m : Files} {es : Rows} {fault : Option Result2} (busy : Busy) (from to : List (List ℕ)) → AreRowsOf es m → fault ≡ rows_rename_fault busy es from to → rename_fault busy m from to ≡ fault
-rename_fault_rows {m} {es} busy from to r e =
-    ap (λ w. option_or w (rename_target_fault busy from to (map.get m from) (map.get m to))) (way_rows es [] to r.is r.sorted)
-    ∙ ap (λ o. option_or (rows_way_fault es [] to) (rename_target_fault busy from to o (map.get m to))) (get_rows es from r.is r.sorted)
-    ∙ ap (λ o. option_or (rows_way_fault es [] to) (rename_target_fault busy from to (find place_cmp from es) o)) (get_rows es to r.is r.sorted)
-    ∙ sym e
-
--- the rows with an entry changed
-pub changed_rows : {m : Files} {es new : Rows} (key : List (List ℕ)) (change : Entry → Entry) (e : Entry) → AreRowsOf es m → map.get m key ≡ Some e → new ≡ put place_cmp key (change e) es → AreRowsOf new (changed m key change (map.get m key))
-changed_rows {m} {es} {new} key change e r found h = record {
-  is = ap map.from_sorted h ∙ put_rows es key (change e) r.is r.sorted ∙ ap (changed m key change) (sym found);
-  sorted = rw h (sorted_put key _ es r.sorted);
-}
 
 some_same : (a b : Entry) → Some a ≡ Some b → a ≡ b
 some_same a b e = ap (λ (o : Option Entry). unwrap_or o a) e
@@ -301,15 +243,6 @@ length-sorted_of (e ∷ es) =
     let r = sorted_of_rows es in
     omega (arith, length-put_without e.0 e.1 (sorted_of es) (holds _ r.sorted), length-without e.0 (sorted_of es), length-sorted_of es)
 
-pub comment_fault_of : (m : Files) {fault : Option Result2} (key : List (List ℕ)) (comment : List ℕ) → change_fault key (map.get m key) ≡ fault → comment_fault m key comment ≡ option_or fault (cond (nat_le (length comment) 79) None (Some COMMENT_TOO_LONG))
-comment_fault_of m key comment e = ap (λ o. option_or o (cond (nat_le (length comment) 79) None (Some COMMENT_TOO_LONG))) e
-
-pub long_comment : (comment : List ℕ) → 79 < length comment → cond (nat_le (length comment) 79) None (Some COMMENT_TOO_LONG) ≡ Some COMMENT_TOO_LONG
-long_comment comment h =
-    elim (nat_le (length comment) 79) as (λ b. nat_le (length comment) 79 ≡ b → cond b None (Some COMMENT_TOO_LONG) ≡ Some COMMENT_TOO_LONG) [
-      | true ↦ λ t. absurd (omega (arith, leb-true (length comment) 79 t, h))
-      | false ↦ λ t. refl
-    ] refl
-
-pub short_comment : (comment : List ℕ) → length comment ≤ 79 → cond (nat_le (length comment) 79) None (Some COMMENT_TOO_LONG) ≡ None
-short_comment comment h = ap (λ b. cond b None (Some COMMENT_TOO_LONG)) (le-leb (length comment) 79 h)
+-- the size of rows put in order one by one
+pub total-from_entries : (es : Rows) → total_of (map.entries (map.from_entries {R = place_cmp} es)) ≤ total_of es
+total-from_entries es = subst (λ (xs : Rows). total_of xs ≤ total_of es) (sym (entries_rows (sorted_of es) (sorted_of_rows es))) (total-sorted_of es)

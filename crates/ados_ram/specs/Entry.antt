@@ -36,10 +36,14 @@ unarchived b = record b { archive = false }
 abbrev pub new_directory : List ℕ → Entry
 new_directory name = record { name = name; body = Directory; bits = fresh_bits; comment = [] }
 
--- a file that holds the bytes: a new one of the name, or the old one, which keeps its name, comment and bits but for a
+-- a file that holds the bytes: a new one of the name and the bits, or the old one, which keeps its name, comment and bits but for a
+abbrev pub written_as : Bits → Option Entry → List ℕ → List ℕ → Entry
+written_as bits None name bytes = record { name = name; body = File bytes; bits = bits; comment = [] }
+written_as bits (Some e) name bytes = record e { body = File bytes; bits = unarchived e.bits }
+
+-- the same, where a new one has the bits of a new object
 abbrev pub written : Option Entry → List ℕ → List ℕ → Entry
-written None name bytes = record { name = name; body = File bytes; bits = fresh_bits; comment = [] }
-written (Some e) name bytes = record e { body = File bytes; bits = unarchived e.bits }
+written o name bytes = written_as fresh_bits o name bytes
 
 -- an entry with other bits, another comment
 abbrev pub with_bits : Bits → Entry → Entry

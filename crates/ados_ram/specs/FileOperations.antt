@@ -1,13 +1,13 @@
 -- File operations: for each the fault, which is the first of its row that holds, and what it gives.
 -- `is_open` says that a place is an open output; `name` is the name that a new object takes.
-use Rattle.std.specs.Prelude.{◌≡◌, ◌+◌, ℕ, Bool, false, cond, not, ◌&&◌, ◌||◌, nat_le, List, [], ◌∷◌, ◌++◌, length, Option, Some, None, is_some, Result, Ok, Err}
+use Rattle.std.specs.Prelude.{◌≡◌, ℕ, Bool, false, cond, not, ◌&&◌, ◌||◌, nat_le, nat_lt, List, [], ◌∷◌, ◌++◌, length, Option, Some, None, is_some, Result, Ok, Err}
 use Rattle.std.specs.Option.{option_or}
 use Rattle.std.specs.FinMap as map
 use Rattle.ados_text.specs.declared.codes.Result2.{Result2}
 use Rattle.ados_text.specs.declared.codes.TheConstants.Result2.{OBJECT_IN_USE, OBJECT_EXISTS, DIRECTORY_NOT_FOUND, OBJECT_NOT_FOUND, WRONG_TYPE, DIRECTORY_NOT_EMPTY, COMMENT_TOO_LONG, DISK_FULL, DELETE_PROTECTED, WRITE_PROTECTED, READ_PROTECTED}
 use Rattle.ados_ram.specs.Place.{is_root, is_same_key, behind, is_below, is_child}
-use Rattle.ados_ram.specs.Entry.{is_directory, new_directory, written, with_bits, with_comment, renamed}
-use Rattle.ados_ram.specs.Files.{Files, Rows, bytes_at, total_of, file_limit, bytes_limit, objects_limit}
+use Rattle.ados_ram.specs.Entry.{is_directory, new_directory, written, written_as, with_bits, with_comment, renamed}
+use Rattle.ados_ram.specs.Files.{Files, Rows, is_some_file, bytes_at, total_of, file_limit, bytes_limit, objects_limit}
 use Rattle.ados_ram.specs.InUse.{is_in_use, holds_output}
 use Rattle.ados_ram.specs.declared.entries.Bits.{Bits}
 use Rattle.ados_ram.specs.declared.entries.Entry.{Entry}
@@ -69,12 +69,28 @@ write_fault is_open m key name bytes =
     option_or (way_fault m [] key)
     (option_or (write_target_fault is_open (map.get m key)) (full_fault (length bytes) (write_of m key name bytes)))
 
+-- Write, where a new file takes other bits; the faults are those of writing
+abbrev pub write_as_of : Files → List (List ℕ) → List ℕ → List ℕ → Bits → Files
+write_as_of m key name bytes bits = map.insert m key (written_as bits (map.get m key) name bytes)
+
 -- Append: to write what stands there with the bytes behind it
 abbrev pub append_of : Files → List (List ℕ) → List ℕ → List ℕ → Files
 append_of m key name bytes = write_of m key name (bytes_at (map.get m key) ++ bytes)
 
 abbrev pub append_fault : Bool → Files → List (List ℕ) → List ℕ → List ℕ → Option Result2
 append_fault is_open m key name bytes = write_fault is_open m key name (bytes_at (map.get m key) ++ bytes)
+
+-- Put bytes to an open output: append them, whatever its bits say, where there is one byte or more and a file stands
+-- there. The limits alone refuse it
+abbrev pub is_put : Option Entry → List ℕ → Bool
+is_put there bytes = is_some_file there && nat_lt 0 (length bytes)
+
+abbrev pub put_open_of : Files → List (List ℕ) → List ℕ → List ℕ → Files
+put_open_of m key name bytes = cond (is_put (map.get m key) bytes) (append_of m key name bytes) m
+
+abbrev pub put_open_fault : Files → List (List ℕ) → List ℕ → List ℕ → Option Result2
+put_open_fault m key name bytes =
+    cond (is_put (map.get m key) bytes) (full_fault (length (bytes_at (map.get m key) ++ bytes)) (append_of m key name bytes)) None
 
 -- Make a directory: of the limits only the number of objects can be passed
 abbrev pub make_dir_of : Files → List (List ℕ) → List ℕ → Files

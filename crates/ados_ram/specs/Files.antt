@@ -1,6 +1,6 @@
 -- Files: a finite map from places to entries. The root is there and is a directory, each place above one that is there
 -- is a directory, and the limits hold.
-use Rattle.std.specs.Prelude.{◌≡◌, ◌+◌, ◌≤◌, ℕ, Bool, false, List, [], ◌∷◌, ◌++◌, Option, Some, None, IsSome, IsTrue, codes, length}
+use Rattle.std.specs.Prelude.{◌+◌, ◌≤◌, ℕ, Bool, false, not, List, [], ◌∷◌, ◌++◌, Option, Some, None, IsSome, IsTrue, codes, length}
 use Rattle.std.specs.Coded.{Coded, coded_list, coded_ℕ}
 use Rattle.std.specs.FinMap as map
 use Rattle.ados_ram.specs.Place.{key_of, place_cmp}
@@ -21,6 +21,11 @@ Rows = List (List (List ℕ) × Entry)
 abbrev pub is_some_directory : Option Entry → Bool
 is_some_directory None = false
 is_some_directory (Some e) = is_directory e
+
+-- a file stands there
+abbrev pub is_some_file : Option Entry → Bool
+is_some_file None = false
+is_some_file (Some e) = not (is_directory e)
 
 -- the bytes that stand there; none where there is no file
 abbrev pub bytes_at : Option Entry → List ℕ

@@ -4,3 +4,5 @@ pub mod InUse
 pub mod Files
 pub mod FileOperations
 pub mod Rows
+pub mod Contents
+pub mod Written

@@ -1,5 +1,5 @@
 -- Places: lists of names. The folded names tell which place it is, and their order is the order of places.
-use Rattle.std.specs.Prelude.{ℕ, ◌-◌, Bool, true, false, not, ◌||◌, List, [], ◌∷◌, length, take, map, cond, nat_eq, Option, Some, None, is_some, slice_index_or}
+use Rattle.std.specs.Prelude.{ℕ, ◌-◌, Bool, true, false, not, ◌||◌, List, [], ◌∷◌, ◌++◌, length, take, drop, map, cond, nat_eq, Option, Some, None, is_some, slice_index_or}
 use Rattle.std.specs.declared.cmp.Ordering.{Ordering}
 use Rattle.std.specs.Ordering.{nat_cmp, is_eq, eq_by_cmp}
 use Rattle.std.specs.Cmp.{IsTotalOrder, nat_cmp_total}
@@ -79,6 +79,10 @@ is_below directory place = has_names (behind directory place)
 -- the second place is the first or below it
 abbrev pub is_at_or_below : List (List ℕ) → List (List ℕ) → Bool
 is_at_or_below directory place = is_some (behind directory place)
+
+-- where a place is after a rename: what is at the old place or below it moves along
+abbrev pub carried : List (List ℕ) → List (List ℕ) → List (List ℕ) → List (List ℕ)
+carried from to place = cond (is_at_or_below (key_of from) (key_of place)) (to ++ drop (length from) place) place
 
 -- one of the places is that of the key
 abbrev pub any_same : List (List (List ℕ)) → List (List ℕ) → Bool

@@ -1,14 +1,15 @@
 ghost use Rattle.std.specs.Prelude.{◌≡◌, [], IfOk};
 ghost use Rattle.std.specs.Option.{option_copied};
 
-use ados_text::{Name, NoMemory, Octets, Text};
+use crate::file_bytes::FileBytes;
+use ados_text::{Name, NoMemory, Text};
 use std::alloc::Global;
 
 /// What stands at a place: a directory, or a file with its bytes.
 #[derive(Clone, Debug, Drop)]
 pub enum Body {
     Directory,
-    File(Octets),
+    File(FileBytes),
 }
 
 /// The protection bits, in their order: h s p a r w e d.
@@ -68,7 +69,7 @@ pub struct Entry {
 }
 
 impl Entry {
-    ghost use Rattle.ados_ram.specs.Entry.{is_directory, bytes_of, new_directory, written, with_bits, with_comment, renamed};
+    ghost use Rattle.ados_ram.specs.Entry.{is_directory, bytes_of, new_directory, written_as, with_bits, with_comment, renamed};
 
     /// It is a directory.
     pub fn is_directory(&self) -> bool
@@ -102,20 +103,22 @@ impl Entry {
         })
     }
 
-    /// A new file of a name, or an old one after it was written: of it name, comment and bits stay, but for bit a.
+    /// A new file of a name with these bits, or an old one after it was written: of it name, comment and bits stay,
+    /// but for bit a.
     pub fn written(
         alloc: Global,
         old: Option<&Entry>,
         name: Name,
-        bytes: Octets,
+        bytes: FileBytes,
+        bits: Bits,
     ) -> Result<Entry, NoMemory>
-        ensures { IfOk result (λ entry. entry ≡ written (option_copied old.entry) name bytes) }
+        ensures { IfOk result (λ entry. entry ≡ written_as bits (option_copied old.entry) name bytes) }
     {
         match old {
             None => Ok(Entry {
                 name,
                 body: Body::File(bytes),
-                bits: Bits::FRESH,
+                bits,
                 comment: Text::from_bytes(alloc, &[])?,
             }),
             Some(entry) => Ok(Entry {
@@ -125,6 +128,13 @@ impl Entry {
                 comment: entry.comment.copy()?,
             }),
         }
+    }
+
+    /// An equal entry; its bytes are shared.
+    pub fn copy(&self) -> Result<Entry, NoMemory>
+        ensures { IfOk result (λ entry. entry ≡ self.now) }
+    {
+        Ok(self.clone()?)
     }
 
     /// The entry under another name.

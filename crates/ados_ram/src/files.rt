@@ -2,24 +2,27 @@ ghost use Rattle.std.specs.Prelude.{◌≡◌, ◌++◌, IfOk};
 ghost use Rattle.std.specs.Option.{option_copied};
 ghost use Rattle.std.specs.Result.{result_err};
 ghost use Rattle.std.specs.FinMap as map;
-ghost use Rattle.ados_ram.specs.Place.{key_of, last_name, place_cmp};
-ghost use Rattle.ados_ram.specs.Entry.{new_directory, with_bits, with_comment};
+ghost use Rattle.ados_ram.specs.Place.{key_of, last_name};
 ghost use Rattle.ados_ram.specs.Files.{AreFiles, bytes_at, first_files};
 ghost use Rattle.ados_ram.specs.InUse.{is_output};
-ghost use Rattle.ados_ram.specs.FileOperations.{Answers, read_fault, list_fault, names_in, write_of, write_fault, append_of, append_fault};
-ghost use Rattle.ados_ram.specs.FileOperations.{make_dir_of, make_dir_fault, delete_fault, moved_rows, rename_of, rename_fault, protect_of, protect_fault, comment_of, comment_fault};
-ghost use Rattle.ados_ram.specs.Rows.{rows_write, sorted_of};
+ghost use Rattle.ados_ram.specs.FileOperations.{Answers, read_fault, list_fault, names_in, write_of, write_fault, write_as_of, append_of, append_fault, put_open_of, put_open_fault};
+ghost use Rattle.ados_ram.specs.FileOperations.{make_dir_of, make_dir_fault, delete_fault, rename_of, rename_fault, protect_of, protect_fault, comment_of, comment_fault};
+ghost use Rattle.ados_ram.specs.Contents.{children, contents, files_below};
+ghost use Rattle.ados_ram.specs.Written.{written_place, full_path};
 
+use crate::contents::{children, contents, files_below, names_in};
 use crate::entries::{Bits, Entry};
 use crate::faults::FsFault;
+use crate::file_bytes::FileBytes;
 use crate::in_use::Busy;
 use crate::places::Place;
 use crate::refusals::{
-    changeable, delete_refusal, list_refusal, make_dir_refusal, read_refusal, rename_refusal,
-    write_refusal,
+    changeable, delete_refusal, is_put, list_refusal, make_dir_refusal, put_refusal, read_refusal,
+    rename_refusal, write_refusal,
 };
-use crate::rows::{Row, find, first_rows, moved, names_in, with_entry, without};
-use ados_text::{Name, NoMemory, Octets, Result2, Text};
+use crate::table::{Table, bytes_at};
+use crate::written::{push_names, written_below};
+use ados_text::{Name, NoMemory, Result2, Text};
 use std::alloc::Global;
 use std::marker::Model;
 
@@ -30,21 +33,20 @@ const COMMENT_LIMIT: usize = 79;
 /// leaves alone is shared by both.
 #[derive(Debug, Drop)]
 pub struct Ram {
-    rows: Vec<Row>,
+    table: Table,
+    alloc: Global,
 }
 
 impl Model for Ram {
-    ghost use Rattle.std.specs.FinMap as map;
-    ghost use Rattle.ados_ram.specs.Files.{Files, coded_files};
-    ghost use Rattle.ados_ram.specs.Rows.{AreRows};
+    ghost use Rattle.ados_ram.specs.Files.{Files, AreFiles, coded_files};
 
     ghost Value = { Files };
 
     ghost coded = { coded_files };
 
-    ghost view = { λ r. map.from_sorted r.rows.items };
+    ghost view = { λ r. r.table };
 
-    ghost invariant = { λ r. AreRows r.rows.items };
+    ghost invariant = { λ r. AreFiles r.table };
 }
 
 impl Ram {
@@ -53,7 +55,8 @@ impl Ram {
         ensures { IfOk result (λ files. files ≡ first_files) }
     {
         Ok(Ram {
-            rows: first_rows(alloc)?,
+            table: Table::first(alloc)?,
+            alloc,
         })
     }
 
@@ -62,7 +65,7 @@ impl Ram {
         ensures entry { option_copied result ≡ map.get self.now (key_of place.now) }
         ensures files { AreFiles self.now }
     {
-        find(&self.rows, place.names())
+        self.table.find(place.names())
     }
 
     /// The bytes of a file. Takes no memory.
@@ -72,7 +75,7 @@ impl Ram {
         ensures ok { IfOk result (λ bytes. bytes.now ≡ bytes_at (map.get self.now (key_of place.now))) }
         ensures fault { result_err result ≡ read_fault (is_output busy.now (key_of place.now)) (map.get self.now (key_of place.now)) }
     {
-        let entry = find(&self.rows, place.names());
+        let entry = self.table.find(place.names());
         match read_refusal(busy.is_output(place.names()), entry) {
             Some(fault) => Err(fault),
             None => Ok(bytes_at(entry)),
@@ -86,12 +89,9 @@ impl Ram {
         ensures ok { IfOk result (λ names. names.items ≡ names_in (key_of place.now) (map.entries self.now)) }
         ensures fault { Answers result (list_fault (map.get self.now (key_of place.now))) }
     {
-        match list_refusal(find(&self.rows, place.names())) {
+        match list_refusal(self.table.find(place.names())) {
             Some(fault) => Err(FsFault::Refused(fault)),
-            None => match names_in(*self.rows.allocator(), &self.rows, place.names()) {
-                Ok(names) => Ok(names),
-                Err(_) => Err(FsFault::NoMemory),
-            },
+            None => Ok(names_in(self.alloc, self.table.rows(), place.names())?),
         }
     }
 
@@ -105,7 +105,23 @@ impl Ram {
         ensures ok { IfOk result (λ new. new ≡ write_of self.now (key_of place.now) (last_name place.now) bytes.now) }
         ensures fault { Answers result (write_fault (is_output busy.now (key_of place.now)) self.now (key_of place.now) (last_name place.now) bytes.now) }
     {
-        self.put(busy, place, &[], bytes)
+        self.put(busy, place, &[], bytes, Bits::FRESH)
+    }
+
+    /// The files with bytes as a file, as by `write`, but a new one takes these bits.
+    ///
+    /// The refusals are those of `write`.
+    pub fn write_as(
+        &self,
+        busy: &Busy,
+        place: &Place,
+        bytes: &[u8],
+        bits: Bits,
+    ) -> Result<Ram, FsFault>
+        ensures ok { IfOk result (λ new. new ≡ write_as_of self.now (key_of place.now) (last_name place.now) bytes.now bits) }
+        ensures fault { Answers result (write_fault (is_output busy.now (key_of place.now)) self.now (key_of place.now) (last_name place.now) bytes.now) }
+    {
+        self.put(busy, place, &[], bytes, bits)
     }
 
     /// The files with bytes behind those of a file; a file that is not there is made.
@@ -118,9 +134,24 @@ impl Ram {
         self.put(
             busy,
             place,
-            bytes_at(find(&self.rows, place.names())),
+            bytes_at(self.table.find(place.names())),
             bytes,
+            Bits::FRESH,
         )
+    }
+
+    /// The files with bytes behind those of an output that is open, whatever its bits have become. Its bit a is
+    /// cleared by one byte or more; no bytes change nothing, and where no file stands they go nowhere.
+    ///
+    /// 221 as in `write`, for the bytes that the file would then hold.
+    pub fn put_open(&self, place: &Place, bytes: &[u8]) -> Result<Ram, FsFault>
+        ensures ok { IfOk result (λ new. new ≡ put_open_of self.now (key_of place.now) (last_name place.now) bytes.now) }
+        ensures fault { Answers result (put_open_fault self.now (key_of place.now) (last_name place.now) bytes.now) }
+    {
+        match put_refusal(&self.table, place.names(), bytes) {
+            Some(fault) => Err(FsFault::Refused(fault)),
+            None => Ok(self.with_put(place, bytes)?),
+        }
     }
 
     /// The files with a new directory, which takes the name as it is written here and the bits `----rwed`.
@@ -131,12 +162,12 @@ impl Ram {
         ensures ok { IfOk result (λ new. new ≡ make_dir_of self.now (key_of place.now) (last_name place.now)) }
         ensures fault { Answers result (make_dir_fault self.now (key_of place.now) (last_name place.now)) }
     {
-        match make_dir_refusal(&self.rows, place.names()) {
+        match make_dir_refusal(&self.table, place.names()) {
             Some(fault) => Err(FsFault::Refused(fault)),
-            None => match with_directory(*self.rows.allocator(), &self.rows, place) {
-                Ok(rows) => Ok(Ram { rows }),
-                Err(_) => Err(FsFault::NoMemory),
-            },
+            None => {
+                let entry = Entry::directory(self.alloc, place.last_name()?)?;
+                Ok(self.with(place, entry)?)
+            }
         }
     }
 
@@ -148,12 +179,12 @@ impl Ram {
         ensures ok { IfOk result (λ new. new ≡ map.remove self.now (key_of place.now)) }
         ensures fault { Answers result (delete_fault busy.now self.now (key_of place.now)) }
     {
-        match delete_refusal(busy, &self.rows, place.names()) {
+        match delete_refusal(busy, &self.table, place.names()) {
             Some(fault) => Err(FsFault::Refused(fault)),
-            None => match without(*self.rows.allocator(), &self.rows, place.names()) {
-                Ok(rows) => Ok(Ram { rows }),
-                Err(_) => Err(FsFault::NoMemory),
-            },
+            None => Ok(Ram {
+                table: self.table.without(place.names())?,
+                alloc: self.alloc,
+            }),
         }
     }
 
@@ -167,12 +198,15 @@ impl Ram {
         ensures ok { IfOk result (λ new. new ≡ rename_of self.now (key_of from.now) (key_of to.now) (last_name to.now)) }
         ensures fault { Answers result (rename_fault busy.now self.now (key_of from.now) (key_of to.now)) }
     {
-        match rename_refusal(busy, &self.rows, from.names(), to.names()) {
+        match rename_refusal(busy, &self.table, from.names(), to.names()) {
             Some(fault) => Err(FsFault::Refused(fault)),
-            None => match renamed(*self.rows.allocator(), &self.rows, from, to) {
-                Ok(rows) => Ok(Ram { rows }),
-                Err(_) => Err(FsFault::NoMemory),
-            },
+            None => {
+                let name = to.last_name()?;
+                Ok(Ram {
+                    table: self.table.moved(from.names(), to, &name)?,
+                    alloc: self.alloc,
+                })
+            }
         }
     }
 
@@ -183,12 +217,9 @@ impl Ram {
         ensures ok { IfOk result (λ new. new ≡ protect_of self.now (key_of place.now) bits) }
         ensures fault { Answers result (protect_fault self.now (key_of place.now)) }
     {
-        match changeable(&self.rows, place.names()) {
+        match changeable(&self.table, place.names()) {
             Err(fault) => Err(FsFault::Refused(fault)),
-            Ok(entry) => match protected(*self.rows.allocator(), &self.rows, place, entry, bits) {
-                Ok(rows) => Ok(Ram { rows }),
-                Err(_) => Err(FsFault::NoMemory),
-            },
+            Ok(entry) => Ok(self.with(place, entry.with_bits(bits)?)?),
         }
     }
 
@@ -199,109 +230,120 @@ impl Ram {
         ensures ok { IfOk result (λ new. new ≡ comment_of self.now (key_of place.now) comment.now) }
         ensures fault { Answers result (comment_fault self.now (key_of place.now) comment.now) }
     {
-        match changeable(&self.rows, place.names()) {
+        match changeable(&self.table, place.names()) {
             Err(fault) => Err(FsFault::Refused(fault)),
             Ok(_) if comment.as_bytes().len() > COMMENT_LIMIT => Err(FsFault::Refused(
                 Result2::COMMENT_TOO_LONG,
             )),
-            Ok(entry) => match commented(
-                *self.rows.allocator(),
-                &self.rows,
-                place,
-                entry,
-                comment,
-            ) {
-                Ok(rows) => Ok(Ram { rows }),
-                Err(_) => Err(FsFault::NoMemory),
-            },
+            Ok(entry) => Ok(self.with(place, entry.with_comment(comment)?)?),
         }
     }
 
-    // The files with a file of the bytes that are kept and more.
-    fn put(&self, busy: &Busy, place: &Place, kept: &[u8], more: &[u8]) -> Result<Ram, FsFault>
-        ensures ok { IfOk result (λ new. new ≡ write_of self.now (key_of place.now) (last_name place.now) (kept.now ++ more.now)) }
+    /// The places directly in a directory, in lower case and in order. Where no directory is there are none.
+    pub fn children(&self, place: &Place) -> Result<Vec<Place>, NoMemory>
+        ensures { IfOk result (λ places. places.items ≡ children (key_of place.now) (map.entries self.now)) }
+    {
+        children(self.alloc, self.table.rows(), place.names())
+    }
+
+    /// The places below a directory, in lower case and in order, but each directory behind what is in it.
+    pub fn contents(&self, place: &Place) -> Result<Vec<Place>, NoMemory>
+        ensures { IfOk result (λ places. places.items ≡ contents (key_of place.now) (map.entries self.now)) }
+    {
+        contents(self.alloc, self.table.rows(), place.names())
+    }
+
+    /// The places of the files directly in a directory, or of all that are below it, in lower case and in order.
+    pub fn files_below(&self, place: &Place, all: bool) -> Result<Vec<Place>, NoMemory>
+        ensures { IfOk result (λ places. places.items ≡ files_below all (key_of place.now) (map.entries self.now)) }
+    {
+        files_below(self.alloc, self.table.rows(), place.names(), all)
+    }
+
+    /// A place with its names as they are written in the files; what is not there stays as it is asked for.
+    pub fn written(&self, place: &Place) -> Result<Place, NoMemory>
+        ensures { IfOk result (λ written. written ≡ written_place self.now place.now) }
+    {
+        let root = Place::root(self.alloc);
+        written_below(self, Place::root(self.alloc), root, place.names())
+    }
+
+    /// The full path of a place, as `RAM:a/b`, with its names as they are written in the files.
+    pub fn full_path(&self, place: &Place) -> Result<Text, NoMemory>
+        ensures { IfOk result (λ path. path ≡ full_path self.now place.now) }
+    {
+        let mut path = Text::from_bytes(self.alloc, b"RAM:")?;
+        push_names(&mut path, self.written(place)?.names())?;
+        Ok(path)
+    }
+
+    /// The same version once more; all of it is shared.
+    pub fn copy(&self) -> Result<Ram, NoMemory>
+        ensures { IfOk result (λ new. new ≡ self.now) }
+    {
+        Ok(Ram {
+            table: self.table.copy()?,
+            alloc: self.alloc,
+        })
+    }
+
+    // The files with a file of the bytes that are kept and more; a new one takes the bits.
+    fn put(
+        &self,
+        busy: &Busy,
+        place: &Place,
+        kept: &[u8],
+        more: &[u8],
+        bits: Bits,
+    ) -> Result<Ram, FsFault>
+        ensures ok { IfOk result (λ new. new ≡ write_as_of self.now (key_of place.now) (last_name place.now) (kept.now ++ more.now) bits) }
         ensures fault { Answers result (write_fault (is_output busy.now (key_of place.now)) self.now (key_of place.now) (last_name place.now) (kept.now ++ more.now)) }
     {
         let open = busy.is_output(place.names());
-        match write_refusal(open, &self.rows, place.names(), kept.len(), more.len()) {
+        match write_refusal(open, &self.table, place.names(), kept.len(), more.len()) {
             Some(fault) => Err(FsFault::Refused(fault)),
-            None => match with_bytes(*self.rows.allocator(), &self.rows, place, kept, more) {
-                Ok(rows) => Ok(Ram { rows }),
-                Err(_) => Err(FsFault::NoMemory),
-            },
+            None => Ok(self.with_bytes(place, kept, more, bits)?),
         }
     }
-}
 
-// The bytes that stand at a place.
-fn bytes_at(entry: Option<&Entry>) -> &[u8]
-    ensures { result.now ≡ bytes_at (option_copied entry.entry) }
-{
-    match entry {
-        None => &[],
-        Some(entry) => entry.bytes(),
+    // The files with bytes put to an open output.
+    fn with_put(&self, place: &Place, bytes: &[u8]) -> Result<Ram, NoMemory>
+        requires { AreFiles (put_open_of self.now (key_of place.now) (last_name place.now) bytes.now) }
+        ensures { IfOk result (λ new. new ≡ put_open_of self.now (key_of place.now) (last_name place.now) bytes.now) }
+    {
+        let old = self.table.find(place.names());
+        if is_put(old, bytes) {
+            self.with_bytes(place, bytes_at(old), bytes, Bits::FRESH)
+        } else {
+            self.copy()
+        }
     }
-}
 
-// The rows with a file of the bytes that are kept and more.
-fn with_bytes(
-    alloc: Global,
-    rows: &[Row],
-    place: &Place,
-    kept: &[u8],
-    more: &[u8],
-) -> Result<Vec<Row>, NoMemory>
-    ensures { IfOk result (λ new. new.items ≡ rows_write rows.now (key_of place.now) (last_name place.now) (kept.now ++ more.now)) }
-{
-    let mut bytes = Vec::from_slice(alloc, kept)?;
-    bytes.extend_from_slice(more)?;
-    let entry = Entry::written(
-        alloc,
-        find(rows, place.names()),
-        place.last_name()?,
-        Octets::from_vec(bytes),
-    )?;
-    with_entry(alloc, rows, place, entry)
-}
+    // The files with a file written, which holds the bytes that are kept and more; a new one takes the bits.
+    fn with_bytes(
+        &self,
+        place: &Place,
+        kept: &[u8],
+        more: &[u8],
+        bits: Bits,
+    ) -> Result<Ram, NoMemory>
+        requires { AreFiles (write_as_of self.now (key_of place.now) (last_name place.now) (kept.now ++ more.now) bits) }
+        ensures { IfOk result (λ new. new ≡ write_as_of self.now (key_of place.now) (last_name place.now) (kept.now ++ more.now) bits) }
+    {
+        let bytes = FileBytes::joined(self.alloc, kept, more)?;
+        let old = self.table.find(place.names());
+        let entry = Entry::written(self.alloc, old, place.last_name()?, bytes, bits)?;
+        self.with(place, entry)
+    }
 
-// The rows with a new directory.
-fn with_directory(alloc: Global, rows: &[Row], place: &Place) -> Result<Vec<Row>, NoMemory>
-    ensures { IfOk result (λ new. new.items ≡ map.put place_cmp (key_of place.now) (new_directory (last_name place.now)) rows.now) }
-{
-    let entry = Entry::directory(alloc, place.last_name()?)?;
-    with_entry(alloc, rows, place, entry)
-}
-
-// The rows after a rename.
-fn renamed(alloc: Global, rows: &[Row], from: &Place, to: &Place) -> Result<Vec<Row>, NoMemory>
-    ensures { IfOk result (λ new. new.items ≡ sorted_of (moved_rows (key_of from.now) (key_of to.now) (last_name to.now) rows.now)) }
-{
-    let name = to.last_name()?;
-    moved(alloc, rows, from.names(), to, &name)
-}
-
-// The rows with other bits for an entry.
-fn protected(
-    alloc: Global,
-    rows: &[Row],
-    place: &Place,
-    entry: &Entry,
-    bits: Bits,
-) -> Result<Vec<Row>, NoMemory>
-    ensures { IfOk result (λ new. new.items ≡ map.put place_cmp (key_of place.now) (with_bits bits entry.now) rows.now) }
-{
-    with_entry(alloc, rows, place, entry.with_bits(bits)?)
-}
-
-// The rows with another comment for an entry.
-fn commented(
-    alloc: Global,
-    rows: &[Row],
-    place: &Place,
-    entry: &Entry,
-    comment: &Text,
-) -> Result<Vec<Row>, NoMemory>
-    ensures { IfOk result (λ new. new.items ≡ map.put place_cmp (key_of place.now) (with_comment comment.now entry.now) rows.now) }
-{
-    with_entry(alloc, rows, place, entry.with_comment(comment)?)
+    // The files with an entry at a place.
+    fn with(&self, place: &Place, entry: Entry) -> Result<Ram, NoMemory>
+        requires { AreFiles (map.insert self.now (key_of place.now) entry) }
+        ensures { IfOk result (λ new. new ≡ map.insert self.now (key_of place.now) entry) }
+    {
+        Ok(Ram {
+            table: self.table.with(place, entry)?,
+            alloc: self.alloc,
+        })
+    }
 }

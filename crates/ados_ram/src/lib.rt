@@ -1,18 +1,23 @@
 #![tactic(auto)]
 //! The files of the RAM disk: places, entries, and a filing system of which each change is a new version.
 
+mod contents;
 mod entries;
 mod faults;
+mod file_bytes;
 mod files;
 mod in_use;
 mod places;
 mod refusals;
 mod rows;
+mod table;
 #[cfg(test)]
 mod tests;
+mod written;
 
 pub use entries::{Bits, Body, Entry};
 pub use faults::FsFault;
+pub use file_bytes::FileBytes;
 pub use files::Ram;
 pub use in_use::Busy;
 pub use places::Place;

@@ -1,9 +1,9 @@
-ghost use Rattle.std.specs.Prelude.{◌≡◌, IfOk, OnOk, [], ◌++◌, ◌∷◌};
+ghost use Rattle.std.specs.Prelude.{◌≡◌, IfOk, OnOk, [], ◌++◌, ◌∷◌, length, drop};
 ghost use Rattle.std.specs.Option.{option_copied, option_map};
 ghost use Rattle.std.specs.Cmp.{partial_equiv_from_equiv};
 ghost use Rattle.std.proofs.lemmas.Cmp.{on_equiv, eq_by_cmp_equiv};
 ghost use Rattle.ados_text.specs.Text.{folded};
-ghost use Rattle.ados_ram.specs.Place.{key_of, name_cmp, place_cmp, place_cmp_total, is_same_place, last_name, parent_of, behind, is_below, any_same, any_at_or_below};
+ghost use Rattle.ados_ram.specs.Place.{key_of, name_cmp, place_cmp, place_cmp_total, is_same_place, last_name, parent_of, behind, is_below, carried, any_same, any_at_or_below};
 
 use ados_text::{Name, NoMemory, Text, fold};
 use std::alloc::Global;
@@ -81,6 +81,44 @@ impl Place {
         copy_into(&mut joined, &self.names)?;
         copy_into(&mut joined, names)?;
         Ok(Place { names: joined })
+    }
+
+    /// This place is below another, directly or further down.
+    pub fn is_below(&self, directory: &Place) -> bool
+        ensures { result ≡ is_below (key_of directory.now) (key_of self.now) }
+    {
+        is_below(&directory.names, &self.names)
+    }
+
+    /// The names behind those that another place has; none where this one has no more.
+    pub fn names_behind(&self, directory: &Place) -> &[Name]
+        ensures { result.now ≡ drop (length directory.now) self.now }
+    {
+        let count = directory.names.len().min(self.names.len());
+        &self.names[count..]
+    }
+
+    /// Where this place is after a rename: what is at the old place or below it moves along.
+    pub fn carried(&self, from: &Place, to: &Place) -> Result<Place, NoMemory>
+        ensures { IfOk result (λ place. place ≡ carried from.now to.now self.now) }
+    {
+        if behind(&from.names, &self.names).is_some() {
+            to.joined(self.names_behind(from))
+        } else {
+            self.copy()
+        }
+    }
+
+    /// The place in lower case.
+    pub fn folded(&self) -> Result<Place, NoMemory>
+        ensures { IfOk result (λ place. place ≡ key_of self.now) }
+    {
+        let alloc = *self.names.allocator();
+        let mut names = Vec::new(alloc);
+        for name in &self.names {
+            names.push(folded(alloc, name)?)?;
+        }
+        Ok(Place { names })
     }
 
     /// An equal place, spelled alike.
@@ -193,6 +231,18 @@ pub fn any_at_or_below(places: &[Place], names: &[Name]) -> bool
         }
     }
     false
+}
+
+// A name in lower case.
+fn folded(alloc: Global, name: &Name) -> Result<Name, NoMemory>
+    ensures { IfOk result (λ low. low ≡ folded name.now) }
+{
+    let bytes = name.text().as_bytes();
+    let mut text = Text::new(alloc);
+    for byte in bytes {
+        text.push(fold(*byte))?;
+    }
+    Ok(Name::new(text))
 }
 
 // The names behind those of a list.

@@ -1,16 +1,18 @@
-ghost use Rattle.std.specs.Prelude.{◌≡◌, ◌+◌, [], length, Some, IfOk};
+// Why the files refuse something: of each row of refusals the first that holds.
+ghost use Rattle.std.specs.Prelude.{◌≡◌, ◌+◌, ℕ, List, [], length, Some, IfOk};
 ghost use Rattle.std.specs.Option.{option_copied};
 ghost use Rattle.std.specs.Result.{result_err};
 ghost use Rattle.std.specs.FinMap as map;
-ghost use Rattle.ados_ram.specs.Place.{key_of, place_cmp};
-ghost use Rattle.ados_ram.specs.Files.{total_of};
-ghost use Rattle.ados_ram.specs.FileOperations.{read_fault, list_fault, write_target_fault, limit_fault, free_fault, delete_target_fault, rename_target_fault, change_fault};
-ghost use Rattle.ados_ram.specs.Rows.{rows_without, rows_way_fault, rows_write_fault, rows_make_dir_fault, rows_rename_fault};
+ghost use Rattle.ados_ram.specs.declared.entries.Entry.{Entry};
+ghost use Rattle.ados_ram.specs.Place.{key_of};
+ghost use Rattle.ados_ram.specs.Entry.{size_of};
+ghost use Rattle.ados_ram.specs.FileOperations.{read_fault, list_fault, way_fault, write_target_fault, write_fault, full_fault, is_put, put_open_fault, free_fault, make_dir_fault, delete_fault, rename_target_fault, rename_fault, change_fault};
 
+use crate::contents::any_below;
 use crate::entries::Entry;
 use crate::in_use::Busy;
 use crate::places::{is_below, order};
-use crate::rows::{Row, any_below, find};
+use crate::table::{Table, bytes_at};
 use ados_text::{Name, Result2};
 use std::cmp::Ordering;
 
@@ -55,32 +57,54 @@ pub fn list_refusal(entry: Option<&Entry>) -> Option<Result2>
 /// Why bytes are not written at a place behind those that are kept there; `is_open` says that it is an open output.
 pub fn write_refusal(
     is_open: bool,
-    rows: &[Row],
+    table: &Table,
     names: &[Name],
     kept: usize,
     more: usize,
 ) -> Option<Result2>
-    ensures { result ≡ rows_write_fault is_open rows.now (key_of names.now) (kept + more) }
+    ensures { (name bytes : List ℕ) → length bytes ≡ kept + more → result ≡ write_fault is_open table.now (key_of names.now) name bytes }
 {
-    way(rows, names)
-        .or(write_target(is_open, find(rows, names)))
-        .or(limits(rows, names, kept, more))
+    way(table, names)
+        .or(write_target(is_open, table.find(names)))
+        .or(limits(table, names, kept, more))
+}
+
+/// Bytes that are put to an open output change something: there is one or more, and a file stands there.
+pub fn is_put(entry: Option<&Entry>, bytes: &[u8]) -> bool
+    ensures { result ≡ is_put (option_copied entry.entry) bytes.now }
+{
+    match entry {
+        None => false,
+        Some(entry) => !entry.is_directory() && !bytes.is_empty(),
+    }
+}
+
+/// Why bytes are not put to an open output.
+pub fn put_refusal(table: &Table, names: &[Name], bytes: &[u8]) -> Option<Result2>
+    ensures { (name : List ℕ) → result ≡ put_open_fault table.now (key_of names.now) name bytes.now }
+{
+    let entry = table.find(names);
+    if is_put(entry, bytes) {
+        limits(table, names, bytes_at(entry).len(), bytes.len())
+    } else {
+        None
+    }
 }
 
 /// Why a directory is not made.
-pub fn make_dir_refusal(rows: &[Row], names: &[Name]) -> Option<Result2>
-    ensures { result ≡ rows_make_dir_fault rows.now (key_of names.now) }
+pub fn make_dir_refusal(table: &Table, names: &[Name]) -> Option<Result2>
+    ensures { (name : List ℕ) → result ≡ make_dir_fault table.now (key_of names.now) name }
 {
-    way(rows, names)
-        .or(free(find(rows, names)))
-        .or(limits(rows, names, 0, 0))
+    way(table, names)
+        .or(free(table.find(names)))
+        .or(limits(table, names, 0, 0))
 }
 
 /// Why an object is not deleted.
-pub fn delete_refusal(busy: &Busy, rows: &[Row], names: &[Name]) -> Option<Result2>
-    ensures { result ≡ delete_target_fault busy.now rows.now (key_of names.now) (map.find place_cmp (key_of names.now) rows.now) }
+pub fn delete_refusal(busy: &Busy, table: &Table, names: &[Name]) -> Option<Result2>
+    ensures { result ≡ delete_fault busy.now table.now (key_of names.now) }
 {
-    let Some(entry) = find(rows, names) else {
+    let Some(entry) = table.find(names) else {
         return Some(Result2::OBJECT_NOT_FOUND);
     };
     if busy.holds(names) || names.is_empty() {
@@ -89,25 +113,25 @@ pub fn delete_refusal(busy: &Busy, rows: &[Row], names: &[Name]) -> Option<Resul
     if !entry.bits.delete {
         return Some(Result2::DELETE_PROTECTED);
     }
-    if any_below(rows, names) {
+    if any_below(table.rows(), names) {
         return Some(Result2::DIRECTORY_NOT_EMPTY);
     }
     None
 }
 
 /// Why an object is not renamed.
-pub fn rename_refusal(busy: &Busy, rows: &[Row], from: &[Name], to: &[Name]) -> Option<Result2>
-    ensures { result ≡ rows_rename_fault busy.now rows.now (key_of from.now) (key_of to.now) }
+pub fn rename_refusal(busy: &Busy, table: &Table, from: &[Name], to: &[Name]) -> Option<Result2>
+    ensures { result ≡ rename_fault busy.now table.now (key_of from.now) (key_of to.now) }
 {
-    way(rows, to).or(rename_target(busy, rows, from, to))
+    way(table, to).or(rename_target(busy, table, from, to))
 }
 
 /// The entry that is to be changed, or why it is not.
-pub fn changeable<'a>(rows: &'a [Row], names: &[Name]) -> Result<&'a Entry, Result2>
-    ensures ok { IfOk result (λ entry. map.find place_cmp (key_of names.now) rows.now ≡ Some entry.now) }
-    ensures fault { result_err result ≡ change_fault (key_of names.now) (map.find place_cmp (key_of names.now) rows.now) }
+pub fn changeable<'a>(table: &'a Table, names: &[Name]) -> Result<&'a Entry, Result2>
+    ensures ok { IfOk result (λ entry. map.get table.now (key_of names.now) ≡ Some entry.now) }
+    ensures fault { result_err result ≡ change_fault (key_of names.now) (map.get table.now (key_of names.now)) }
 {
-    let Some(entry) = find(rows, names) else {
+    let Some(entry) = table.find(names) else {
         return Err(Result2::OBJECT_NOT_FOUND);
     };
     if names.is_empty() {
@@ -125,27 +149,27 @@ fn free(entry: Option<&Entry>) -> Option<Result2>
     }
 }
 
-fn rename_target(busy: &Busy, rows: &[Row], from: &[Name], to: &[Name]) -> Option<Result2>
-    ensures { result ≡ rename_target_fault busy.now (key_of from.now) (key_of to.now) (map.find place_cmp (key_of from.now) rows.now) (map.find place_cmp (key_of to.now) rows.now) }
+fn rename_target(busy: &Busy, table: &Table, from: &[Name], to: &[Name]) -> Option<Result2>
+    ensures { result ≡ rename_target_fault busy.now (key_of from.now) (key_of to.now) (map.get table.now (key_of from.now)) (map.get table.now (key_of to.now)) }
 {
-    if find(rows, from).is_none() {
+    if table.find(from).is_none() {
         return Some(Result2::OBJECT_NOT_FOUND);
     }
     if busy.holds_output(from) || from.is_empty() || is_below(from, to) {
         return Some(Result2::OBJECT_IN_USE);
     }
-    if find(rows, to).is_some() && order(from, to) != Ordering::Equal {
+    if table.find(to).is_some() && order(from, to) != Ordering::Equal {
         return Some(Result2::OBJECT_EXISTS);
     }
     None
 }
 
 // The fault of the places above a place.
-fn way(rows: &[Row], names: &[Name]) -> Option<Result2>
-    ensures { result ≡ rows_way_fault rows.now [] (key_of names.now) }
+fn way(table: &Table, names: &[Name]) -> Option<Result2>
+    ensures { result ≡ way_fault table.now [] (key_of names.now) }
 {
     for i in 0..names.len() {
-        match find(rows, &names[..i]) {
+        match table.find(&names[..i]) {
             None => return Some(Result2::DIRECTORY_NOT_FOUND),
             Some(entry) => {
                 if !entry.is_directory() {
@@ -177,27 +201,18 @@ fn write_target(is_open: bool, entry: Option<&Entry>) -> Option<Result2>
     }
 }
 
-// The fault of the limits, where the file at a place gets the bytes that are kept and more.
-fn limits(rows: &[Row], names: &[Name], kept: usize, more: usize) -> Option<Result2>
-    ensures { result ≡ limit_fault (kept + more) (kept + more + total_of (rows_without (key_of names.now) rows.now)) (1 + length (rows_without (key_of names.now) rows.now)) }
+// The fault of the limits, where what stands at a place then holds the bytes that are kept and more.
+fn limits(table: &Table, names: &[Name], kept: usize, more: usize) -> Option<Result2>
+    ensures { (new : Entry) → size_of new ≡ kept + more → result ≡ full_fault (kept + more) (map.insert table.now (key_of names.now) new) }
 {
     if kept > FILE_LIMIT || more > FILE_LIMIT - kept {
         return Some(Result2::DISK_FULL);
     }
-    let mut total: usize = kept + more;
-    let mut count: usize = 1;
-    for row in rows {
-        match row.order(names) {
-            Ordering::Equal => {}
-            _ => {
-                let size = row.entry().bytes().len();
-                if count >= OBJECTS_LIMIT || size > BYTES_LIMIT - total {
-                    return Some(Result2::DISK_FULL);
-                }
-                count += 1;
-                total += size;
-            }
-        }
+    if kept + more > BYTES_LIMIT - table.bytes_beside(names) {
+        return Some(Result2::DISK_FULL);
+    }
+    if table.objects_with(names) > OBJECTS_LIMIT {
+        return Some(Result2::DISK_FULL);
     }
     None
 }

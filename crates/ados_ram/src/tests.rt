@@ -40,15 +40,6 @@ fn append(alloc: Global, ram: &Ram, names: &[&str], bytes: &[u8]) -> Result<Ram,
     Ok(ram.append(&Busy::none(alloc), &place(alloc, names)?, bytes)?)
 }
 
-fn delete(alloc: Global, ram: &Ram, names: &[&str]) -> Result<Ram, Fail> {
-    Ok(ram.delete(&Busy::none(alloc), &place(alloc, names)?)?)
-}
-
-fn rename(alloc: Global, ram: &Ram, from: &[&str], to: &[&str]) -> Result<Ram, Fail> {
-    let to = place(alloc, to)?;
-    Ok(ram.rename(&Busy::none(alloc), &place(alloc, from)?, &to)?)
-}
-
 fn holds(alloc: Global, ram: &Ram, names: &[&str], bytes: &[u8]) -> Result<bool, Fail> {
     match ram.read(&Busy::none(alloc), &place(alloc, names)?) {
         Ok(found) => Ok(found == bytes),
@@ -78,18 +69,6 @@ fn fault<T: Drop>(answer: Result<T, FsFault>) -> u16 {
         Err(FsFault::Refused(number)) => number.0,
         Err(FsFault::NoMemory) => Result2::NO_FREE_STORE.0,
     }
-}
-
-// The faults of reading, listing, writing, appending, making and deleting at a place.
-fn faults(ram: &Ram, busy: &Busy, place: &Place) -> [u16; 6] {
-    [
-        fault(ram.read(busy, place).map(|_| ()).map_err(FsFault::Refused)),
-        fault(ram.list(place)),
-        fault(ram.write(busy, place, b"x")),
-        fault(ram.append(busy, place, b"x")),
-        fault(ram.make_dir(place)),
-        fault(ram.delete(busy, place)),
-    ]
 }
 
 #[test]
@@ -127,84 +106,6 @@ fn a_second_spelling_is_the_same_file(rt: HostRuntime) -> Result<(), Fail> {
 }
 
 #[test]
-fn refuses_with_the_first_fault(rt: HostRuntime) -> Result<(), Fail> {
-    let alloc = rt.alloc();
-    let idle = Busy::none(alloc);
-    let ram = write(alloc, &Ram::new(alloc)?, &["S", "f"], b"x")?;
-    assert_eq!(rt;
-        faults(&ram, &idle, &place(alloc, &[])?),
-        [212, 0, 212, 212, 203, 202]
-    );
-    assert_eq!(rt;
-        faults(&ram, &idle, &place(alloc, &["s"])?),
-        [212, 0, 212, 212, 203, 216]
-    );
-    assert_eq!(rt;
-        faults(&ram, &idle, &place(alloc, &["g"])?),
-        [205, 205, 0, 0, 0, 205]
-    );
-    assert_eq!(rt;
-        faults(&ram, &idle, &place(alloc, &["g", "h"])?),
-        [205, 205, 204, 204, 204, 205]
-    );
-    assert_eq!(rt;
-        faults(&ram, &idle, &place(alloc, &["S", "f"])?),
-        [0, 212, 0, 0, 203, 0]
-    );
-    assert_eq!(rt;
-        faults(&ram, &idle, &place(alloc, &["S", "f", "h"])?),
-        [205, 205, 212, 212, 212, 205]
-    );
-    Ok(())
-}
-
-#[test]
-fn what_is_in_use_stands(rt: HostRuntime) -> Result<(), Fail> {
-    let alloc = rt.alloc();
-    let mut busy = Busy::none(alloc);
-    busy.dirs.push(place(alloc, &["t"])?)?;
-    busy.outputs.push(place(alloc, &["s", "F"])?)?;
-    let ram = write(alloc, &Ram::new(alloc)?, &["S", "f"], b"x")?;
-    assert_eq!(rt;
-        faults(&ram, &busy, &place(alloc, &["S", "f"])?),
-        [202, 212, 202, 202, 203, 202]
-    );
-    assert_eq!(rt;
-        faults(&ram, &busy, &place(alloc, &["S"])?),
-        [212, 0, 212, 212, 203, 202]
-    );
-    assert_eq!(rt;
-        faults(&ram, &busy, &place(alloc, &["T"])?),
-        [212, 0, 212, 212, 203, 202]
-    );
-    let other = place(alloc, &["g"])?;
-    assert_eq!(rt;
-        fault(ram.rename(&busy, &place(alloc, &["S"])?, &other)),
-        202
-    );
-    assert_eq!(rt; fault(ram.rename(&busy, &place(alloc, &["T"])?, &other)), 0);
-    Ok(())
-}
-
-#[test]
-fn bits_forbid(rt: HostRuntime) -> Result<(), Fail> {
-    let alloc = rt.alloc();
-    let idle = Busy::none(alloc);
-    let file = place(alloc, &["f"])?;
-    let bits = Bits {
-        read: false,
-        write: false,
-        delete: false,
-        ..Bits::FRESH
-    };
-    let ram = write(alloc, &Ram::new(alloc)?, &["f"], b"x")?.protect(&file, bits)?;
-    assert_eq!(rt; faults(&ram, &idle, &file), [224, 212, 223, 223, 203, 222]);
-    assert_eq!(rt; fault(ram.protect(&Place::root(alloc), bits)), 212);
-    assert_eq!(rt; fault(ram.protect(&place(alloc, &["g"])?, bits)), 205);
-    Ok(())
-}
-
-#[test]
 fn a_write_clears_the_archive_bit(rt: HostRuntime) -> Result<(), Fail> {
     let alloc = rt.alloc();
     let file = place(alloc, &["f"])?;
@@ -236,48 +137,6 @@ fn a_comment_has_79_bytes(rt: HostRuntime) -> Result<(), Fail> {
     assert_eq!(rt;
         ram.look(&file).map(|entry| entry.comment.as_bytes().len()),
         Some(79)
-    );
-    Ok(())
-}
-
-#[test]
-fn a_rename_carries_what_is_below(rt: HostRuntime) -> Result<(), Fail> {
-    let alloc = rt.alloc();
-    let ram = Ram::new(alloc)?.make_dir(&place(alloc, &["d"])?)?;
-    let ram = write(alloc, &ram, &["d", "f"], b"x")?;
-    let ram = rename(alloc, &ram, &["D"], &["T", "Down"])?;
-    assert!(rt; lists(alloc, &ram, &[], &["C", "Env", "S", "T"])?);
-    assert!(rt; lists(alloc, &ram, &["T"], &["Down"])?);
-    assert!(rt; holds(alloc, &ram, &["t", "down", "F"], b"x")?);
-    let ram = rename(alloc, &ram, &["T", "Down"], &["t", "DOWN"])?;
-    assert!(rt; lists(alloc, &ram, &["T"], &["DOWN"])?);
-    let ram = delete(
-        alloc,
-        &delete(alloc, &ram, &["T", "Down", "f"])?,
-        &["T", "Down"],
-    )?;
-    assert!(rt; lists(alloc, &ram, &["T"], &[])?);
-    Ok(())
-}
-
-#[test]
-fn refuses_a_rename(rt: HostRuntime) -> Result<(), Fail> {
-    let alloc = rt.alloc();
-    let idle = Busy::none(alloc);
-    let ram = write(alloc, &Ram::new(alloc)?, &["S", "f"], b"x")?;
-    let gone = place(alloc, &["g"])?;
-    let directory = place(alloc, &["S"])?;
-    let file = place(alloc, &["S", "f"])?;
-    assert_eq!(rt; fault(ram.rename(&idle, &gone, &directory)), 205);
-    assert_eq!(rt; fault(ram.rename(&idle, &Place::root(alloc), &gone)), 202);
-    assert_eq!(rt;
-        fault(ram.rename(&idle, &directory, &place(alloc, &["S", "x"])?)),
-        202
-    );
-    assert_eq!(rt; fault(ram.rename(&idle, &file, &directory)), 203);
-    assert_eq!(rt;
-        fault(ram.rename(&idle, &file, &place(alloc, &["g", "h"])?)),
-        204
     );
     Ok(())
 }
@@ -325,21 +184,6 @@ fn there_are_1_024_objects(rt: HostRuntime) -> Result<(), Fail> {
     assert_eq!(rt; fault(ram.write(&idle, &place(alloc, &["g"])?, b"")), 221);
     assert_eq!(rt; fault(ram.make_dir(&place(alloc, &["g"])?)), 221);
     assert_eq!(rt; fault(ram.write(&idle, &numbered(alloc, 1_019)?, b"y")), 0);
-    Ok(())
-}
-
-#[test]
-fn an_old_version_stands(rt: HostRuntime) -> Result<(), Fail> {
-    let alloc = rt.alloc();
-    let kept = write(alloc, &Ram::new(alloc)?, &["f"], b"old")?;
-    let mut last = append(alloc, &kept, &["f"], b"er")?;
-    for _ in 0..100 {
-        last = append(alloc, &last, &["f"], b"!")?;
-    }
-    let last = rename(alloc, &last, &["f"], &["g"])?;
-    assert!(rt; holds(alloc, &kept, &["f"], b"old")?);
-    assert!(rt; lists(alloc, &kept, &[], &["C", "Env", "f", "S", "T"])?);
-    assert!(rt; lists(alloc, &last, &[], &["C", "Env", "g", "S", "T"])?);
     Ok(())
 }
 

@@ -1,5 +1,6 @@
-use Rattle.std.specs.Prelude.{ℕ, ◌+◌, ◌%◌, ◌==◌, nat_lt, List, [], ◌∷◌, Bool, true, false, Option, map, slice_get, if◌then◌else◌}
-use Rattle.std.specs.Option.{option_and_then}
+use Rattle.std.specs.Prelude.{ℕ, ℤ, ◌+◌, ◌%◌, ◌==◌, nat_lt, List, [], ◌∷◌, Bool, true, false, Option, Some, None, map, slice_get, if◌then◌else◌}
+use Rattle.std.specs.Option.{option_and_then, option_map_or}
+use Rattle.ados_text.specs.Number.{number_of}
 use Rattle.ados_items.specs.Items.{value_of}
 use Rattle.ados_items.specs.declared.items.Item.{Item}
 use Rattle.ados_readargs.specs.declared.options.Qualifiers.{Qualifiers}
@@ -57,3 +58,38 @@ texts_in (Many texts) = texts
 -- the argument of the option that has the name
 abbrev pub arg_named : List ℕ → List TemplateOption → List Arg → Option Arg
 arg_named name options args = option_and_then (slice_get args) (place_named name options)
+
+-- the argument is on
+abbrev pub is_set : Arg → Bool
+is_set Absent = false
+is_set On = true
+is_set (One text) = false
+is_set (Many texts) = false
+
+-- the text of an argument without /M
+abbrev pub text_in : Arg → Option (List ℕ)
+text_in Absent = None
+text_in On = None
+text_in (One text) = Some text
+text_in (Many texts) = None
+
+-- the texts of an argument, if there is one
+abbrev pub texts_or_none : Option Arg → List (List ℕ)
+texts_or_none None = []
+texts_or_none (Some arg) = texts_in arg
+
+-- the option at a place is on
+abbrev pub is_on : List Arg → ℕ → Bool
+is_on args place = option_map_or is_set (slice_get args place) false
+
+-- the text of the option at a place
+abbrev pub text_at : List Arg → ℕ → Option (List ℕ)
+text_at args place = option_and_then text_in (slice_get args place)
+
+-- the texts of the option at a place
+abbrev pub texts_at : List Arg → ℕ → List (List ℕ)
+texts_at args place = texts_or_none (slice_get args place)
+
+-- the number of the option at a place
+abbrev pub number_at : List Arg → ℕ → Option ℤ
+number_at args place = option_and_then number_of (text_at args place)

@@ -4,14 +4,14 @@ ghost use Rattle.ados_text.specs.Number.{IsNumber, value_of as number_value_of};
 ghost use Rattle.ados_items.specs.Items.{value_of};
 ghost use Rattle.ados_readargs.specs.Template.{options_of};
 ghost use Rattle.ados_readargs.specs.Readings.{plain_items};
-ghost use Rattle.ados_readargs.specs.Args.{on_where, many_of, one_of, arg_by, arg_at, args_of, texts_in, arg_named};
+ghost use Rattle.ados_readargs.specs.Args.{on_where, many_of, one_of, arg_by, arg_at, args_of, texts_in, arg_named, is_on, text_at, texts_at, number_at};
 
 use crate::options::{Qualifiers, TemplateOption};
 use crate::readings::{Reading, named_count};
 use crate::shares::held_items;
 use crate::template::Template;
 use ados_items::{Item, value};
-use ados_text::{NoMemory, Text, Texts, number};
+use ados_text::{NoMemory, Text, Texts, number, number_in};
 use std::alloc::Global;
 use std::marker::Model;
 
@@ -96,6 +96,45 @@ impl Args {
         ensures { option_copied result ≡ arg_named name.now (options_of template.now) self.now }
     {
         self.get(template.place_named(name)?)
+    }
+
+    /// The switch or toggle at a place is on.
+    pub fn is_on(&self, place: usize) -> bool
+        ensures { result ≡ is_on self.now place }
+    {
+        match self.get(place) {
+            Some(Arg::On) => true,
+            _ => false,
+        }
+    }
+
+    /// The text of the option without `/M` at a place; `None` where it was given none.
+    pub fn text(&self, place: usize) -> Option<&Text>
+        ensures { option_copied result ≡ text_at self.now place }
+    {
+        match self.get(place) {
+            Some(Arg::One(text)) => Some(text),
+            _ => None,
+        }
+    }
+
+    /// The texts of the option at a place, in order; none where it was given none.
+    pub fn texts(&self, place: usize) -> &[Text]
+        ensures { result.now ≡ texts_at self.now place }
+    {
+        match self.get(place) {
+            Some(Arg::One(text)) => std::slice::from_ref(text),
+            Some(Arg::Many(texts)) => texts.as_slice(),
+            _ => &[],
+        }
+    }
+
+    /// The number of the option without `/M` at a place; `None` where it was given none, or where
+    /// its text is no number: with `/N` it is one.
+    pub fn number(&self, place: usize) -> Option<i32>
+        ensures { result ≡ number_at self.now place }
+    {
+        number_in(self.text(place)?.as_bytes())
     }
 }
 

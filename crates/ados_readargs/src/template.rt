@@ -51,6 +51,22 @@ impl Template {
         })
     }
 
+    /// The template of a text that is known to be one; `NoMemory` only where a growth was refused.
+    pub fn known(alloc: Global, text: &str) -> Result<Template, NoMemory>
+        requires ascii { map to_ascii text.now ≡ text.now }
+        requires template { IsTemplate text.now }
+        ensures { IfOk result (λ template. template ≡ text.now) }
+    {
+        let text = Text::from_bytes(alloc, text.as_bytes())?;
+        match Template::parse(alloc, &text) {
+            Ok(template) => Ok(template),
+            Err(fault) => match fault {
+                ArgFault::NoMemory => Err(NoMemory),
+                _ => unreachable!(),
+            },
+        }
+    }
+
     /// The text that it was parsed from, as a prompt prints it.
     pub fn text(&self) -> &Text
         ensures { result.now ≡ self.now }

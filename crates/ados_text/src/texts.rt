@@ -2,7 +2,7 @@ ghost use Rattle.std.specs.Prelude.{◌≡◌, ◌<◌, ◌≤◌, ◌-◌, ◌+
 ghost use Rattle.ados_text.specs.Text.{fold_of, folded, is_past_ascii, is_same, to_ascii, IsText};
 
 use crate::errors::{NoMemory, TextFault};
-use std::alloc::Global;
+use std::alloc::{AllocError, Global};
 use std::marker::Model;
 
 /// ASCII text: bytes below 128.
@@ -46,7 +46,7 @@ impl Text {
     pub fn from_bytes(alloc: Global, bytes: &[u8]) -> Result<Text, NoMemory>
         ensures { IfOk result (λ t. t ≡ map to_ascii bytes.now) }
     {
-        let bytes = bytes.iter().map(|b| ascii(*b)).collect(alloc)?;
+        let bytes = ascii_bytes(alloc, bytes)?;
         Ok(Text { bytes })
     }
 
@@ -57,6 +57,14 @@ impl Text {
         Text {
             bytes: Vec::new(alloc),
         }
+    }
+
+    /// Makes room for so many more bytes; the text stays as it is.
+    pub fn reserve(&mut self, more: usize) -> Result<(), NoMemory>
+        ensures { self.new ≡ self.old }
+    {
+        self.bytes.reserve(more)?;
+        Ok(())
     }
 
     /// Adds a byte at the end, `?` in place of one past ASCII; at `NoMemory` the text is as before.
@@ -149,6 +157,20 @@ fn ascii(byte: u8) -> u8
     ensures { result ≡ to_ascii byte }
 {
     if byte < 128 { byte } else { b'?' }
+}
+
+// The bytes with `?` in place of each past ASCII: nearly always there is none, and they are copied as
+// they stand.
+#[tactic(auto, using(crate::proofs::TextLemmas::ascii_kept))]
+fn ascii_bytes(alloc: Global, bytes: &[u8]) -> Result<Vec<u8>, AllocError>
+    ensures value { IfOk result (λ copied. copied.items ≡ map to_ascii bytes.now) }
+    ensures text { IfOk result (λ copied. IsText copied.items) }
+{
+    if bytes.is_ascii() {
+        Vec::from_slice(alloc, bytes)
+    } else {
+        bytes.iter().map(|b| ascii(*b)).collect(alloc)
+    }
 }
 
 // The first place whose byte is no ASCII.

@@ -2,19 +2,22 @@
 use Rattle.std.proofs.Common.{◌≡◌, ◌∙◌, ◌++◌, ◌∷◌, [], List, ℕ, Bool, true, false, Option, None, Result, Ok, Err, length, suc, ap, sym, refl, append_assoc}
 use Rattle.std.specs.Prelude.{if◌then◌else◌}
 use Rattle.ados_text.specs.declared.codes.Code.{Code}
-use Rattle.ados_machine.specs.declared.codes.Codes.{Codes}
+use Rattle.ados_find.specs.declared.codes.Codes.{Codes}
+use Rattle.ados_find.specs.Effects.{Effect}
+use Rattle.ados_find.specs.Shared.{SharedState, version}
+use Rattle.ados_line.specs.declared.lines.Line.{Line}
+use Rattle.ados_machine.specs.declared.builtins.Builtin.{Builtin}
+use Rattle.ados_machine.specs.declared.phases.Phase.TheVariants.{Ready}
 use Rattle.ados_machine.specs.declared.outs.EndReport.{EndReport}
 use Rattle.ados_machine.specs.CodeRule.{fault_line, failed_line}
-use Rattle.ados_machine.specs.Frames.{SharedState, ShellState, FrameState, Course, Turned, Item, behind, told, noted, end_of, limit_behind, answered_frame, is_ended, is_over, last_codes, finish, passed, reports_of}
-use Rattle.ados_machine.specs.Shell.{answered, called, Opened, put, acted, after_put}
-use Rattle.ados_machine.specs.declared.actions.Action.TheVariants.{Answers}
-use Rattle.ados_machine.specs.declared.actions.Effect.{Effect}
-use Rattle.ados_machine.specs.declared.actions.Called.{Called}
-use Rattle.ados_ram.specs.Files.{Files}
+use Rattle.ados_machine.specs.Frames.{ShellState, FrameState, Course, Turned, Item, behind, told, noted, end_of, limit_behind, answered_frame, is_ended, is_over, last_codes, finish, passed_by, passed, printing, reports_of}
+use Rattle.ados_machine.specs.Commands.{Answers}
+use Rattle.ados_machine.specs.declared.called.Called.{Called}
+use Rattle.ados_machine.specs.Shell.{answered, asked, begun, called, Opened, prompt, put, acted, after_put, with_args}
 use Rattle.ados_ram.specs.declared.faults.FsFault.TheVariants.{Refused}
 use Rattle.ados_text.specs.declared.codes.Result2.{Result2}
 use Rattle.ados_world.specs.declared.drafts.Draft.{Draft}
-use Rattle.ados_world.specs.Drafts.{GoesOn, IsReported, IsOpened, IsPut, course_of, version}
+use Rattle.ados_world.specs.Drafts.{GoesOn, IsReported, IsOpened, IsPut, course_of}
 use Rattle.ados_world.specs.Frames.{report_of}
 
 pub goes-on : (shared : SharedState) (before mid after : Draft) (t t' : Turned) (rs : List EndReport)
@@ -92,7 +95,7 @@ end-goes shared before ended after command codes last frames course items t' e r
 -- the code rule at a frame that ends
 pub finish-ends : (shared : SharedState) (before popped ended after : Draft) (held : ShellState) (word : List ℕ) (codes : Codes) (quits : Bool)
     (frame last : FrameState)
-    → held ≡ record before.shell { codes = codes } → held ≡ record popped.shell { frames = frame ∷ popped.shell.frames }
+    → held ≡ record before.shell { codes = codes; phase = Ready } → held ≡ record popped.shell { frames = frame ∷ popped.shell.frames }
     → popped.number ≡ before.number → popped.shared ≡ before.shared → popped.reports.items ≡ before.reports.items
     → popped.printed.items ≡ before.printed.items ++ failed_line word codes.code before.shell.limit
     → last ≡ answered_frame frame popped.shell.frames codes before.shell.limit
@@ -121,7 +124,7 @@ finish-ends shared before popped ended after held word codes quits frame last a 
     let inner0 = finish frame.command codes false (limit_behind frame frames) frames course in
     let inner_is : inner ≡ inner0 = ap (λ f. finish f.command codes false (limit_behind f frames) frames course) is_last in
     let stays : Turned = record {
-      shell = record { frames = answered_frame frame frames codes limit ∷ frames; limit = limit; codes = codes };
+      shell = record { frames = answered_frame frame frames codes limit ∷ frames; limit = limit; codes = codes; phase = Ready };
       course = course;
       log = noted (frame ∷ frames) codes limit ∷ [];
     } in
@@ -141,7 +144,7 @@ pub pass-ends : (shared : SharedState) (before popped ended after : Draft) (fram
     → is_over frame ≡ true
     → IsReported popped ended frame
     → GoesOn shared ended after (finish frame.command (last_codes frame.last) false ended.shell.limit ended.shell.frames (course_of shared ended))
-    → GoesOn shared before after (passed before.shell.codes before.shell.limit before.shell.frames (course_of shared before))
+    → GoesOn shared before after (passed before.shell (course_of shared before))
 pass-ends shared before popped ended after frame p n h r out over reported g =
     let frames = popped.shell.frames in
     let course = course_of shared before in
@@ -156,14 +159,10 @@ pass-ends shared before popped ended after frame p n h r out over reported g =
     ∙ ap (λ x. record { shared = version shared before.shared; printed = x }) (reported.printed ∙ out) in
     let reports_are : ended.reports.items ≡ before.reports.items ++ report_of before.number frame ∷ [] =
     reported.reports ∙ ap (λ x. x ++ report_of popped.number frame ∷ []) r ∙ ap (λ k. before.reports.items ++ report_of k frame ∷ []) n in
-    let stays : Turned = record {
-      shell = record { frames = frame ∷ frames; limit = before.shell.limit; codes = before.shell.codes };
-      course = course;
-      log = [];
-    } in
-    let e : behind items inner ≡ passed before.shell.codes before.shell.limit before.shell.frames course =
+    let stays : Turned = record { shell = before.shell; course = course; log = [] } in
+    let e : behind items inner ≡ passed before.shell course =
     then-is (is_over frame) (behind items inner) stays over
-    ∙ ap (λ x. passed before.shell.codes before.shell.limit x course) (sym there) in
+    ∙ ap (λ x. passed_by before.shell x course) (sym there) in
     end-goes shared before ended after frame.command (last_codes frame.last) frame frames course items _ e refl number_is shell_limit shell_frames course_is reports_are g
 
 -- a script begins
@@ -171,37 +170,39 @@ pub call-goes : (shared : SharedState) (before mid after : Draft) (word : List �
     → mid.number ≡ before.number → mid.shell ≡ record before.shell { frames = frame ∷ before.shell.frames }
     → mid.shared ≡ before.shared → mid.printed.items ≡ before.printed.items → mid.reports.items ≡ before.reports.items
     → frame ≡ record { name = script.name; lines = script.lines; position = 0; command = word; limit = before.shell.limit; last = None }
-    → GoesOn shared mid after (passed mid.shell.codes mid.shell.limit mid.shell.frames (course_of shared mid))
+    → GoesOn shared mid after (passed mid.shell (course_of shared mid))
     → GoesOn shared before after (called word script before.shell (course_of shared before))
 call-goes shared before mid after word script frame n s h p r f g =
     let fresh : FrameState = record { name = script.name; lines = script.lines; position = 0; command = word; limit = before.shell.limit; last = None } in
-    let t = passed before.shell.codes before.shell.limit (fresh ∷ before.shell.frames) (course_of shared before) in
-    let e : passed mid.shell.codes mid.shell.limit mid.shell.frames (course_of shared mid) ≡ t =
-    ap (λ x. passed x.codes x.limit x.frames (course_of shared mid)) s
-    ∙ ap (λ x. passed before.shell.codes before.shell.limit (x ∷ before.shell.frames) (course_of shared mid)) f
-    ∙ ap (λ x. passed before.shell.codes before.shell.limit (fresh ∷ before.shell.frames) (record { shared = version shared x; printed = mid.printed.items })) h
-    ∙ ap (λ x. passed before.shell.codes before.shell.limit (fresh ∷ before.shell.frames) (record { shared = version shared before.shared; printed = x })) p in
+    let deeper : ShellState = record before.shell { frames = fresh ∷ before.shell.frames } in
+    let t = passed deeper (course_of shared before) in
+    let e : passed mid.shell (course_of shared mid) ≡ t =
+    ap (λ x. passed x (course_of shared mid)) s
+    ∙ ap (λ x. passed (record before.shell { frames = x ∷ before.shell.frames }) (course_of shared mid)) f
+    ∙ ap (λ x. passed deeper (record { shared = version shared x; printed = mid.printed.items })) h
+    ∙ ap (λ x. passed deeper (record { shared = version shared before.shared; printed = x })) p in
     let on : GoesOn shared before after t = goes-same shared before mid after _ t n r e g in
     record { number = on.number; shell = on.shell; course = on.course; reports = on.reports }
 
 -- what a refused opening says
-pub opened-err : (files : Files) (opened : Result Opened Result2) (fault : Result2) → IsOpened files (Err (Refused fault)) opened → opened ≡ Err fault
-opened-err files (Ok opened) fault h = absurd h
-opened-err files (Err other) fault h = ap Err (sym h)
+pub opened-err : (shared : SharedState) (opened : Result Opened Result2) (fault : Result2) → IsOpened shared (Err (Refused fault)) opened → opened ≡ Err fault
+opened-err shared (Ok opened) fault h = absurd h
+opened-err shared (Err other) fault h = ap Err (sym h)
 
--- a command answered, and its output was put
+-- a command answered: its changes were moved in, and its output was put
 pub act-goes : (shared : SharedState) (before mid done after : Draft) (word : List ℕ) (place : Option (List (List ℕ))) (effect : Effect) (bytes : List ℕ) (codes : Codes)
     → mid.number ≡ before.number → mid.shell ≡ record before.shell { limit = effect.limit }
-    → mid.shared ≡ before.shared → mid.printed.items ≡ before.printed.items → mid.reports.items ≡ before.reports.items
+    → version shared mid.shared ≡ effect.shared → mid.printed.items ≡ before.printed.items → mid.reports.items ≡ before.reports.items
     → bytes ≡ effect.output
     → IsPut shared mid done codes (put place bytes effect.codes (course_of shared mid))
     → GoesOn shared done after (answered word codes false done.shell (course_of shared done))
     → GoesOn shared before after (acted word place (Answers effect) before.shell (course_of shared before))
 act-goes shared before mid done after word place effect bytes codes n s h p r b d g =
     let held : ShellState = record before.shell { limit = effect.limit } in
-    let course : course_of shared mid ≡ course_of shared before =
-    ap (λ x. record { shared = version shared x; printed = mid.printed.items }) h
-    ∙ ap (λ x. record { shared = version shared before.shared; printed = x }) p in
+    let moved : Course = record (course_of shared before) { shared = effect.shared } in
+    let course : course_of shared mid ≡ moved =
+    ap (λ x. record { shared = x; printed = mid.printed.items }) h
+    ∙ ap (λ x. record { shared = effect.shared; printed = x }) p in
     let result = put place bytes effect.codes (course_of shared mid) in
     let e : answered word codes false done.shell (course_of shared done) ≡ acted word place (Answers effect) before.shell (course_of shared before) =
     ap (λ x. answered word x false done.shell (course_of shared done)) d.codes_are
@@ -210,6 +211,20 @@ act-goes shared before mid done after word place effect bytes codes n s h p r b 
     ∙ ap (λ x. after_put word held (put place x effect.codes (course_of shared mid))) b
     ∙ ap (λ x. after_put word held (put place effect.output effect.codes x)) course in
     goes-same shared before done after _ _ (d.number ∙ n) (d.reports ∙ r) e g
+
+-- a prompt was printed, and its answer is at hand
+pub ask-goes : (shared : SharedState) (before mid after : Draft) (builtin : Builtin) (line : Line) (answer : List ℕ)
+    → mid.number ≡ before.number → mid.shell ≡ before.shell → mid.shared ≡ before.shared → mid.reports.items ≡ before.reports.items
+    → mid.printed.items ≡ before.printed.items ++ prompt builtin
+    → GoesOn shared mid after (begun builtin (with_args line answer) mid.shell (course_of shared mid))
+    → GoesOn shared before after (begun builtin (with_args line answer) before.shell (printing (prompt builtin) (course_of shared before)))
+ask-goes shared before mid after builtin line answer n s h r p g =
+    let given = with_args line answer in
+    goes-same shared before mid after _ _ n r
+    (ap (λ x. begun builtin given x (course_of shared mid)) s
+    ∙ ap (λ x. begun builtin given before.shell (record { shared = version shared x; printed = mid.printed.items })) h
+    ∙ ap (λ x. begun builtin given before.shell (record { shared = version shared before.shared; printed = x })) p)
+    g
 
 -- the same by a word and codes that are told apart
 pub answered-goes : (shared : SharedState) (before after : Draft) (word word' : List ℕ) (codes codes' : Codes) (quits : Bool) (shell : ShellState) (course : Course)

@@ -1,3 +1,4 @@
 mod FlagLemmas
 mod DraftLemmas
 pub mod RunsOnLemmas
+mod CommandLemmas

@@ -1,21 +1,16 @@
 -- What is drafted, by the machine's definitions.
 use Rattle.std.specs.Prelude.{◌≡◌, ℕ, [], ◌∷◌, ◌++◌, List, Option, Some, None, Result, Ok, Err, slice_get}
 use Rattle.ados_text.specs.declared.codes.Result2.{Result2}
-use Rattle.ados_ram.specs.Files.{Files}
 use Rattle.ados_ram.specs.declared.faults.FsFault.{FsFault}
 use Rattle.ados_ram.specs.declared.faults.FsFault.TheVariants.{Refused, NoMemory}
-use Rattle.ados_machine.specs.declared.codes.Codes.{Codes}
-use Rattle.ados_machine.specs.Frames.{SharedState, ShellState, FrameState, Course, Turned, limit_behind, reports_of}
+use Rattle.ados_find.specs.declared.codes.Codes.{Codes}
+use Rattle.ados_find.specs.Shared.{SharedState, version}
+use Rattle.ados_machine.specs.Frames.{ShellState, FrameState, Course, Turned, limit_behind, reports_of}
 use Rattle.ados_world.specs.Frames.{report_of}
 use Rattle.ados_machine.specs.Shell as shell
 use Rattle.ados_machine.specs.Step.{script_turned}
 use Rattle.ados_world.specs.declared.drafts.Draft.{Draft}
 use Rattle.ados_world.specs.declared.outputs.Opened.{Opened}
-
--- the shared parts behind a draft: those before, unless it has a new version
-abbrev pub version : SharedState → Option SharedState → SharedState
-version old None = old
-version old (Some new) = new
 
 -- what a draft hands on
 abbrev pub course_of : SharedState → Draft → Course
@@ -58,13 +53,21 @@ pub record GoesOn (old : SharedState) (before after : Draft) (turned : Turned) :
   pub course : course_of old after ≡ turned.course
   pub reports : after.reports.items ≡ before.reports.items ++ reports_of before.number turned.log
 
--- an output was opened: a new version of the files and a place, or nothing for the console
-abbrev pub IsOpened : Files → Result (Option Opened) FsFault → Result shell.Opened Result2 → Type 0
-IsOpened files (Ok None) (Ok opened) = opened ≡ record { files = files; place = None }
-IsOpened files (Ok (Some new)) (Ok opened) = opened ≡ record { files = new.ram; place = Some new.place }
-IsOpened files (Err (Refused fault)) (Err other) = fault ≡ other
-IsOpened files (Err NoMemory) opened = Unit {0}
-IsOpened files _ _ = ⊥
+-- an output was opened: a new version of the shared parts and a place, or nothing for the console
+abbrev pub IsOpened : SharedState → Result (Option Opened) FsFault → Result shell.Opened Result2 → Type 0
+IsOpened shared (Ok None) (Ok opened) = opened ≡ record { shared = shared; place = None }
+IsOpened shared (Ok (Some new)) (Ok opened) = opened ≡ record { shared = new.shared; place = Some new.place }
+IsOpened shared (Err (Refused fault)) (Err other) = fault ≡ other
+IsOpened shared (Err NoMemory) opened = Unit {0}
+IsOpened shared _ _ = ⊥
+
+-- a new version of the shared parts, where there is one, was moved in
+pub record IsRenewed (before after : Draft) (new : Option SharedState) : Type 0 where
+  pub number : after.number ≡ before.number
+  pub shell : after.shell ≡ before.shell
+  pub shared : (old : SharedState) → version old after.shared ≡ version (version old before.shared) new
+  pub printed : after.printed.items ≡ before.printed.items
+  pub reports : after.reports.items ≡ before.reports.items
 
 -- a draft after output was put, and what the command answers then
 pub record IsPut (old : SharedState) (before after : Draft) (codes : Codes) (done : shell.Put) : Type 0 where

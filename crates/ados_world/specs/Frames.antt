@@ -1,7 +1,7 @@
 -- The parts of a frame, by the machine's definitions.
 use Rattle.std.specs.Prelude.{ℕ, None}
 use Rattle.ados_text.specs.declared.codes.Code.{Code}
-use Rattle.ados_machine.specs.declared.codes.Codes.{Codes}
+use Rattle.ados_find.specs.declared.codes.Codes.{Codes}
 use Rattle.ados_machine.specs.declared.outs.EndReport.{EndReport}
 use Rattle.ados_machine.specs.declared.records.Record.{Record}
 use Rattle.ados_machine.specs.Frames.{FrameState, last_line, last_codes, is_at_limit}

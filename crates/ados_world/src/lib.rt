@@ -2,6 +2,7 @@
 //! The world of shells: it takes events one by one, and answers what is printed and which scripts
 //! ended.
 
+mod actions;
 mod commands;
 mod console;
 mod drafts;
@@ -9,14 +10,17 @@ mod file_names;
 mod files;
 mod frames;
 mod hosts;
+mod inputs;
 mod outputs;
 mod runs;
 mod script_lines;
-mod shared;
+mod scripts;
 mod shells;
 mod steps;
 #[cfg(test)]
 mod tests;
+mod turns;
+mod type_files;
 mod worlds;
 
 pub use ados_machine::{Answer, Codes, EndReport, Event, Job, Out, Refusal, Reports, Request};

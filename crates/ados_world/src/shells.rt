@@ -2,10 +2,12 @@
 ghost use Rattle.std.specs.Prelude.{◌≡◌, [], ◌∷◌, IfOk, IfNone, IfSome, OnOk, reverse};
 ghost use Rattle.std.specs.Option.{option_copied};
 ghost use Rattle.ados_machine.specs.Frames.{fresh_shell, limit_behind};
-ghost use Rattle.ados_machine.specs.Shell.{is_free};
+ghost use Rattle.ados_machine.specs.Shell.{is_free, view_of};
+ghost use Rattle.ados_machine.specs.declared.phases.Phase.TheVariants.{Ready, Asking as Waits};
 
 use crate::frames::Frame;
-use ados_machine::Codes;
+use ados_find::{Codes, ShellView};
+use ados_machine::{Asking, Phase};
 use ados_text::{Code, NoMemory};
 use std::alloc::Global;
 use std::marker::Model;
@@ -19,6 +21,7 @@ pub struct Shell {
     frames: Vec<Frame>,
     limit: Code,
     codes: Codes,
+    phase: Phase,
 }
 
 impl Model for Shell {
@@ -27,7 +30,7 @@ impl Model for Shell {
 
     ghost Value = { ShellState };
 
-    ghost view = { λ s. record { frames = reverse s.frames.items; limit = s.limit; codes = s.codes } };
+    ghost view = { λ s. record { frames = reverse s.frames.items; limit = s.limit; codes = s.codes; phase = s.phase } };
 }
 
 impl Shell {
@@ -41,6 +44,7 @@ impl Shell {
             frames: Vec::new(alloc),
             limit: FIRST_LIMIT,
             codes: Codes::NONE,
+            phase: Phase::Ready,
         }
     }
 
@@ -56,6 +60,7 @@ impl Shell {
             frames,
             limit: self.limit,
             codes: self.codes,
+            phase: copy_of(&self.phase)?,
         })
     }
 
@@ -87,11 +92,43 @@ impl Shell {
         self.frames.is_empty()
     }
 
-    /// A command answered this.
+    /// What the shell waits for.
+    pub fn phase(&self) -> &Phase
+        ensures { result.now ≡ self.now.phase }
+    {
+        &self.phase
+    }
+
+    /// What commands read of the shell.
+    pub fn view(&self) -> ShellView
+        ensures { result ≡ view_of self.now }
+    {
+        ShellView {
+            limit: self.limit,
+            codes: self.codes,
+        }
+    }
+
+    /// A command answered this, and the shell is ready.
     pub fn answer(&mut self, answered: Codes)
-        ensures { self.new ≡ record self.old { codes = answered } }
+        ensures { self.new ≡ record self.old { codes = answered; phase = Ready } }
     {
         self.codes = answered;
+        self.phase = Phase::Ready;
+    }
+
+    /// A command asked for its arguments.
+    pub fn ask(&mut self, question: Asking)
+        ensures { self.new ≡ record self.old { phase = Waits question } }
+    {
+        self.phase = Phase::Asking(question);
+    }
+
+    /// The answer to a prompt was taken.
+    pub fn be_ready(&mut self)
+        ensures { self.new ≡ record self.old { phase = Ready } }
+    {
+        self.phase = Phase::Ready;
     }
 
     /// The fail limit is this.
@@ -137,5 +174,18 @@ impl Shell {
         } else {
             frame.limit()
         };
+    }
+}
+
+/// An equal phase.
+fn copy_of(phase: &Phase) -> Result<Phase, NoMemory>
+    ensures { IfOk result (λ same. same ≡ phase.now) }
+{
+    match phase {
+        Phase::Ready => Ok(Phase::Ready),
+        Phase::Asking(question) => Ok(Phase::Asking(Asking {
+            builtin: question.builtin,
+            line: question.line.copy()?,
+        })),
     }
 }

@@ -1,17 +1,19 @@
 // The step: what an event makes of a world.
-ghost use Rattle.std.specs.Prelude.{◌≡◌, [], Some, None, drop, slice_set};
+ghost use Rattle.std.specs.Prelude.{◌≡◌, [], Some, None, OnSome, drop, slice_set};
+ghost use Rattle.std.specs.Option.{option_copied};
 ghost use Rattle.ados_machine.specs.declared.answers.Answer.{Answer as Reply};
 ghost use Rattle.ados_machine.specs.World.{shell_at};
 ghost use Rattle.ados_machine.specs.Limits.{AllRunOn};
-ghost use Rattle.ados_world.specs.Drafts.{version};
-ghost use Rattle.ados_world.specs.Steps.{IsFreeAt, IsShellNumber, IsGiven, IsTaken};
-ghost use Rattle.ados_machine.specs.Step.{step_of, typed, end_of_input, turned, replied, giving, with_shell};
+ghost use Rattle.ados_find.specs.Shared.{version};
+ghost use Rattle.ados_world.specs.Steps.{AsksAt, IsFirst, IsFreeAt, IsShellNumber, IsGiven, IsTaken};
+ghost use Rattle.ados_machine.specs.Step.{step_of, typed, end_of_input, turned, waiting, replied, giving, with_shell};
 ghost use Rattle.ados_machine.specs.Runs.{IsAnswer, world_after};
 
-use crate::drafts::{Draft, console_draft, script_draft};
-use crate::shared::Shared;
+use crate::drafts::Draft;
+use crate::turns::{console_draft, prompt_draft, script_draft};
 use crate::worlds::World;
-use ados_machine::{Codes, Event, Out, Refusal};
+use ados_find::{Codes, Shared};
+use ados_machine::{Event, Out, Phase, Refusal};
 use ados_text::Text;
 
 const QUEUE_LINES: usize = 256;
@@ -78,16 +80,78 @@ impl World {
         let Some(shell) = self.shell_at(number) else {
             return Err(Refusal::NoSuchShell);
         };
+        if let Phase::Asking(question) = shell.phase() {
+            return self.prompt_turn(number);
+        }
         if shell.is_free() {
             return self.console_turn(number);
         }
-        match script_draft(self.alloc, number, shell, &self.shared) {
+        match script_draft(self.alloc, &self.commands, number, shell, &self.shared) {
             Ok(draft) => Ok(self.take(number, draft)),
             Err(_) => Err(Refusal::NoMemory),
         }
     }
 
-    /// A turn of a shell that runs no script: shell 1 takes the first line that waits, and ends where
+    /// A turn of a shell that waits for the answer to a prompt: the first line that waits, and an
+    /// empty one at the end of its input.
+    fn prompt_turn(&mut self, number: u8) -> Result<Out, Refusal>
+        requires { AsksAt (shell_at self.old number) }
+        ensures answer { IsAnswer (Event.Turn number) result (turned self.old number (shell_at self.old number)) }
+        ensures world { self.new ≡ world_after self.old result (turned self.old number (shell_at self.old number)) }
+    {
+        let Some(shell) = self.shell_at(number) else {
+            return Err(Refusal::NoSuchShell);
+        };
+        let Phase::Asking(question) = shell.phase() else {
+            return Err(Refusal::NotReady);
+        };
+        if number == 1 && !self.has_input() {
+            return Err(Refusal::NotReady);
+        }
+        match self.waiting_line(number) {
+            None => {
+                let empty = Text::new(self.alloc);
+                match prompt_draft(
+                    self.alloc,
+                    &self.commands,
+                    number,
+                    shell,
+                    question,
+                    &empty,
+                    &self.shared,
+                ) {
+                    Ok(draft) => Ok(self.take(number, draft)),
+                    Err(_) => Err(Refusal::NoMemory),
+                }
+            }
+            Some(line) => match prompt_draft(
+                self.alloc,
+                &self.commands,
+                number,
+                shell,
+                question,
+                line,
+                &self.shared,
+            ) {
+                Ok(draft) => Ok(self.take_typed(draft)),
+                Err(_) => Err(Refusal::NoMemory),
+            },
+        }
+    }
+
+    /// The line that waits for the shell of this number: a background shell's input is at its end.
+    fn waiting_line(&self, number: u8) -> Option<&Text>
+        ensures line { IsFirst (option_copied result) (waiting self.now number) }
+        ensures number { OnSome result (number ≡ 1) }
+    {
+        if number == 1 {
+            self.queue.front()
+        } else {
+            None
+        }
+    }
+
+    /// A turn of a ready shell that runs no script: shell 1 takes the first line that waits, and ends where
     /// there is none.
     fn console_turn(&mut self, number: u8) -> Result<Out, Refusal>
         requires { IsFreeAt (shell_at self.old number) }
@@ -101,7 +165,13 @@ impl World {
             return Err(Refusal::NotReady);
         }
         match self.queue.front() {
-            Some(line) => match console_draft(self.alloc, shell, line, &self.shared) {
+            Some(line) => match console_draft(
+                self.alloc,
+                &self.commands,
+                shell,
+                line,
+                &self.shared,
+            ) {
                 Ok(draft) => Ok(self.take_typed(draft)),
                 Err(_) => Err(Refusal::NoMemory),
             },

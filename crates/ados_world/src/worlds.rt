@@ -7,10 +7,11 @@ ghost use Rattle.ados_world.specs.Hosts.{is_nil};
 ghost use Rattle.ados_world.specs.Steps.{IsShellNumber};
 ghost use Rattle.ados_machine.specs.World.{flatten, numbered, fresh_world, shell_at, is_over, is_ready, has_input, wants_line, codes_at, ended_at, running, pending_of};
 
+use crate::commands::Commands;
 use crate::hosts::{HostEntry, NewFault};
-use crate::shared::Shared;
 use crate::shells::Shell;
-use ados_machine::{Codes, Request};
+use ados_find::{Codes, Shared};
+use ados_machine::{Phase, Request};
 use ados_ram::Ram;
 use ados_text::Text;
 use std::alloc::Global;
@@ -21,6 +22,7 @@ use std::marker::Model;
 #[derive(Drop)]
 pub struct World {
     pub(crate) alloc: Global,
+    pub(crate) commands: Commands,
     pub(crate) shells: [Option<Shell>; 20],
     pub(crate) ended: [Codes; 20],
     pub(crate) queue: VecDeque<Text>,
@@ -55,11 +57,15 @@ impl World {
         if !hosts.is_empty() {
             return Err(NewFault::TooMany);
         }
+        let Ok(commands) = Commands::new(alloc) else {
+            return Err(NewFault::NoMemory);
+        };
         let Ok(ram) = Ram::new(alloc) else {
             return Err(NewFault::NoMemory);
         };
         Ok(World {
             alloc,
+            commands,
             shells: [
                 Some(Shell::new(alloc)),
                 None,
@@ -108,13 +114,16 @@ impl World {
     }
 
     /// The shell of this number can take a turn: it runs a script, or is shell 1 and a line waits or
-    /// the input has ended.
+    /// the input has ended; one that waits for the answer to a prompt takes that line alone.
     pub fn ready(&self, number: u8) -> bool
         ensures { result ≡ is_ready self.now number }
     {
         match self.shell_at(number) {
             None => false,
-            Some(shell) => !shell.is_free() || (number == 1 && self.has_input()),
+            Some(shell) => match shell.phase() {
+                Phase::Ready => !shell.is_free() || (number == 1 && self.has_input()),
+                Phase::Asking(_) => number != 1 || self.has_input(),
+            },
         }
     }
 

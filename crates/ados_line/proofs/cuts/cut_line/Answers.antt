@@ -7,8 +7,8 @@ use Rattle.ados_line.proofs.cuts.cut_line.Goals as goal
 pub returns-in_err-to : goal.returns-in_err-to
 returns-in_err-to c =
     let n = length c.args.line.now - c.loop-step.step in
-    let p = err_from_is_err_and c.from_residual-in_err-to.result c.from_residual-in_err-to.ensures.1 in
-    rw (p.1, p.2) (cut-fault (cut_from n c.args.line.now) _ _ _ (c.in_err-to.ensures (cut_from n c.args.line.now))
+    let p = err_from_is_err_and c.from_residual.result c.from_residual.ensures.1 in
+    rw (p.1, p.2) (cut-fault (cut_from n c.args.line.now) _ _ _ c.loop-step.read (c.in_err-to.ensures (cut_from n c.args.line.now))
     (c.loop-step.invariant (suc n) (omega arith)))
 
 pub returns-in-Done : goal.returns-in-Done

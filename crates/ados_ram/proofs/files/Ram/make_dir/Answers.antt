@@ -1,34 +1,17 @@
-use Rattle.std.proofs.Common.{◌≡◌, ◌∙◌, refl, sym, subst}
-use Rattle.ados_ram.specs.Place.{key_of, last_name}
-use Rattle.ados_ram.specs.Files.{AreFiles}
-use Rattle.ados_ram.proofs.RowsLemmas.{AreRowsOf, made_rows, made_fault_rows}
+use Rattle.std.proofs.Common.{◌≡◌, ℕ, List, None, sym, ap, ◌∙◌, subst}
+use Rattle.std.specs.FinMap as map
+use Rattle.ados_ram.specs.declared.entries.Entry.{Entry}
+use Rattle.ados_ram.specs.Place.{key_of}
+use Rattle.ados_ram.specs.Files.{Files, AreFiles}
+use Rattle.ados_ram.specs.FileOperations.{make_dir_fault}
 use Rattle.ados_ram.proofs.FilesLemmas.{made_files}
 use Rattle.ados_ram.proofs.files.Ram.make_dir.Goals as goal
 
-pub invariant_of-result : goal.invariant_of-result
-invariant_of-result c =
-    let r : AreRowsOf c.self.inside.rows.items c.args.self.now = record { is = c.self.view_is; sorted = c.self.invariant.sorted } in
-    let files : AreFiles c.args.self.now = subst AreFiles c.self.view_is c.self.invariant.files in
-    let new = made_rows (key_of c.args.place.now) (last_name c.args.place.now) r (c.in-Ok.ensures ∙ rw c.deref-in-None.ensures.value refl) in
-    let free = made_fault_rows (key_of c.args.place.now) (last_name c.args.place.now) r (c.make_dir_refusal.ensures ∙ rw (c.deref.ensures.value, c.names.ensures) refl) ∙ c.in-None.is in
-    record { sorted = new.sorted; files = subst AreFiles (sym new.is) (made_files (key_of c.args.place.now) (last_name c.args.place.now) files free) }
-
-pub returns-in-Ok-clause-ok : goal.returns-in-Ok-clause-ok
-returns-in-Ok-clause-ok c =
-    let r : AreRowsOf c.self.inside.rows.items c.args.self.now = record { is = c.self.view_is; sorted = c.self.invariant.sorted } in
-    (made_rows (key_of c.args.place.now) (last_name c.args.place.now) r (c.in-Ok.ensures ∙ rw c.deref-in-None.ensures.value refl)).is
-
-pub returns-in-Some-clause-fault : goal.returns-in-Some-clause-fault
-returns-in-Some-clause-fault c =
-    let r : AreRowsOf c.self.inside.rows.items c.args.self.now = record { is = c.self.view_is; sorted = c.self.invariant.sorted } in
-    made_fault_rows (key_of c.args.place.now) (last_name c.args.place.now) r (c.make_dir_refusal.ensures ∙ rw (c.deref.ensures.value, c.names.ensures) refl) ∙ c.in-Some.is
-
-pub returns-in-Ok-clause-fault : goal.returns-in-Ok-clause-fault
-returns-in-Ok-clause-fault c =
-    let r : AreRowsOf c.self.inside.rows.items c.args.self.now = record { is = c.self.view_is; sorted = c.self.invariant.sorted } in
-    made_fault_rows (key_of c.args.place.now) (last_name c.args.place.now) r (c.make_dir_refusal.ensures ∙ rw (c.deref.ensures.value, c.names.ensures) refl) ∙ c.in-None.is
-
-pub returns-in-Err-clause-fault : goal.returns-in-Err-clause-fault
-returns-in-Err-clause-fault c =
-    let r : AreRowsOf c.self.inside.rows.items c.args.self.now = record { is = c.self.view_is; sorted = c.self.invariant.sorted } in
-    made_fault_rows (key_of c.args.place.now) (last_name c.args.place.now) r (c.make_dir_refusal.ensures ∙ rw (c.deref.ensures.value, c.names.ensures) refl) ∙ c.in-None.is
+pub with-requires : goal.with-requires
+with-requires c =
+    let name = c.in_ok-last_name-in-None.field-0 in
+    let free : make_dir_fault c.self.inside.table (key_of c.args.place.now) name ≡ None =
+    ap (λ (k : List (List ℕ)). make_dir_fault c.self.inside.table (key_of k) name) (sym c.names.ensures) ∙ sym (c.make_dir_refusal.ensures name) ∙ c.in-None.is in
+    let files : AreFiles (map.insert c.self.inside.table (key_of c.args.place.now) c.in_ok-entry-in-None.entry) =
+    subst (λ (e : Entry). AreFiles (map.insert c.self.inside.table (key_of c.args.place.now) e)) (sym c.in_ok-entry-in-None.ensures) (made_files (key_of c.args.place.now) name c.self.invariant free) in
+    subst (λ (m : Files). AreFiles (map.insert m (key_of c.args.place.now) c.in_ok-entry-in-None.entry)) c.self.view_is files

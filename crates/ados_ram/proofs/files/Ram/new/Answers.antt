@@ -1,11 +1,7 @@
-use Rattle.std.proofs.Common.{◌≡◌, sym, ap, ◌∙◌, subst}
-use Rattle.std.specs.FinMap as map
-use Rattle.ados_ram.specs.Rows.{AreRows}
-use Rattle.ados_ram.proofs.FirstLemmas.{first_is, first_are}
+use Rattle.std.proofs.Common.{sym, subst}
+use Rattle.ados_ram.specs.Files.{AreFiles}
+use Rattle.ados_ram.proofs.FirstLemmas.{all_files}
 use Rattle.ados_ram.proofs.files.Ram.new.Goals as goal
 
 pub invariant_of-result : goal.invariant_of-result
-invariant_of-result c = subst AreRows (sym c.in_ok-first_rows.ensures) first_are
-
-pub returns : goal.returns
-returns c = ap map.from_sorted c.in_ok-first_rows.ensures ∙ first_is
+invariant_of-result c = subst AreFiles (sym c.in_ok-first.ensures) all_files

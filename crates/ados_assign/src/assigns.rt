@@ -1,0 +1,159 @@
+ghost use Rattle.std.specs.Prelude.{◌≡◌, ◌++◌, [], List, ℕ, IfOk};
+ghost use Rattle.std.specs.Option.{option_copied};
+ghost use Rattle.std.specs.FinMap as map;
+ghost use Rattle.ados_text.specs.Text.{folded};
+ghost use Rattle.ados_ram.specs.Place.{key_of};
+
+use crate::faults::AssignFault;
+use crate::rows::{carried_rows, find, first_rows, holders, push_directories, with_name, without};
+use ados_ram::{Busy, Place};
+use ados_text::{Name, NoMemory};
+use std::alloc::Global;
+use std::marker::Model;
+
+/// An assign: its name, as it was first written, and the directory that it stands for.
+#[derive(Clone, Debug, Drop)]
+pub struct Assign {
+    pub name: Name,
+    pub directory: Place,
+}
+
+impl Assign {
+    /// An equal assign, spelled alike.
+    pub fn copy(&self) -> Result<Assign, NoMemory>
+        ensures { IfOk result (λ assign. assign ≡ self.now) }
+    {
+        Ok(Assign {
+            name: self.name.copy()?,
+            directory: self.directory.copy()?,
+        })
+    }
+}
+
+/// One version of the assigns, by their names, where case is ignored. A change gives a new version, and the old one
+/// stands.
+#[derive(Clone, Debug, Drop)]
+pub struct Assigns {
+    rows: Vec<Assign>,
+}
+
+impl Model for Assigns {
+    ghost use Rattle.std.specs.Prelude.{IsTrue};
+    ghost use Rattle.std.specs.FinMap as map;
+    ghost use Rattle.ados_ram.specs.Place.{name_cmp};
+    ghost use Rattle.ados_assign.specs.Assigns.{AssignMap, coded_assigns, keyed};
+
+    ghost Value = { AssignMap };
+
+    ghost coded = { coded_assigns };
+
+    ghost view = { λ a. map.from_sorted (keyed a.rows.items) };
+
+    ghost invariant = { λ a. IsTrue (map.is_sorted name_cmp (keyed a.rows.items)) };
+}
+
+impl Assigns {
+    ghost use Rattle.ados_assign.specs.Assigns.{first_assigns, set_of, Removes, carry_of, holders_in};
+    ghost use Rattle.ados_assign.specs.InUse.{held_by, is_in_use};
+    ghost use Rattle.ados_ram.specs.InUse.{is_in_use as is_busy};
+
+    /// The assigns at first: C, ENV, S, SYS, which is the RAM disk itself, and T.
+    pub fn first(alloc: Global) -> Result<Assigns, NoMemory>
+        ensures { IfOk result (λ assigns. assigns ≡ first_assigns) }
+    {
+        Ok(Assigns {
+            rows: first_rows(alloc)?,
+        })
+    }
+
+    /// The assigns with a name bound to a directory. A name that is bound already keeps its first spelling.
+    pub fn set(&self, name: Name, directory: Place) -> Result<Assigns, NoMemory>
+        ensures { IfOk result (λ new. new ≡ set_of self.now name directory) }
+    {
+        Ok(Assigns {
+            rows: with_name(*self.rows.allocator(), &self.rows, name, directory)?,
+        })
+    }
+
+    /// The assigns without a name.
+    ///
+    /// `NotFound` where none has it; `NoMemory` only where one has it.
+    pub fn remove(&self, name: &Name) -> Result<Assigns, AssignFault>
+        ensures ok { IfOk result (λ new. new ≡ map.remove self.now (folded name.now)) }
+        ensures fault { Removes result (map.get self.now (folded name.now)) }
+    {
+        match find(&self.rows, name) {
+            None => Err(AssignFault::NotFound),
+            Some(_) => match without(*self.rows.allocator(), &self.rows, name) {
+                Ok(rows) => Ok(Assigns { rows }),
+                Err(_) => Err(AssignFault::NoMemory),
+            },
+        }
+    }
+
+    /// The assigns after the object at `from` was renamed to be at `to`: a directory that was at it or below it is
+    /// carried along.
+    pub fn carry(&self, from: &Place, to: &Place) -> Result<Assigns, NoMemory>
+        ensures { IfOk result (λ new. new ≡ carry_of from.now to.now self.now) }
+    {
+        Ok(Assigns {
+            rows: carried_rows(*self.rows.allocator(), &self.rows, from, to)?,
+        })
+    }
+
+    /// The assign of a name. Takes no memory.
+    pub fn get(&self, name: &Name) -> Option<&Assign>
+        ensures { option_copied result ≡ map.get self.now (folded name.now) }
+    {
+        find(&self.rows, name)
+    }
+
+    /// All assigns, in the order of their folded names.
+    pub fn list(&self) -> &[Assign]
+        ensures { result.now ≡ map.values self.now }
+    {
+        self.rows.as_slice()
+    }
+
+    /// The names, as they are written, that are bound to a place, in the order of the folded names.
+    pub fn holders(&self, place: &Place) -> Result<Vec<Name>, NoMemory>
+        ensures { IfOk result (λ names. names.items ≡ holders_in (key_of place.now) (map.values self.now)) }
+    {
+        holders(*self.rows.allocator(), &self.rows, place)
+    }
+
+    /// The directories of all assigns, in the order of the folded names.
+    pub fn held(&self) -> Result<Vec<Place>, NoMemory>
+        ensures { IfOk result (λ places. places.items ≡ held_by self.now) }
+    {
+        let mut places = Vec::new(*self.rows.allocator());
+        push_directories(&mut places, &self.rows)?;
+        Ok(places)
+    }
+
+    /// What is in use, for shells with these current directories.
+    pub fn busy(&self, current: Vec<Place>) -> Result<Busy, NoMemory>
+        ensures in_use { IfOk result (λ busy. (key : List (List ℕ)) → is_busy busy key ≡ is_in_use current.items self.now key) }
+        ensures dirs { IfOk result (λ busy. busy.dirs.items ≡ current.items ++ held_by self.now) }
+        ensures outputs { IfOk result (λ busy. busy.outputs.items ≡ []) }
+    {
+        let mut dirs = current;
+        push_directories(&mut dirs, &self.rows)?;
+        let outputs = Vec::new(*self.rows.allocator());
+        Ok(Busy { dirs, outputs })
+    }
+
+    /// An equal version.
+    pub fn copy(&self) -> Result<Assigns, NoMemory>
+        ensures { IfOk result (λ assigns. assigns ≡ self.now) }
+    {
+        Ok(self.clone()?)
+    }
+
+    /// The root, for a path on the RAM disk.
+    pub(crate) fn root(&self) -> Place
+        ensures { result ≡ [] }
+    {
+        Place::root(*self.rows.allocator())
+    }
+}

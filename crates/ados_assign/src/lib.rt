@@ -1,0 +1,16 @@
+#![tactic(auto)]
+//! Assigns, which give names to directories, and the resolving of paths by them.
+
+mod assigns;
+mod carry;
+mod faults;
+mod order;
+mod resolve;
+mod rows;
+#[cfg(test)]
+mod tests;
+
+pub use assigns::{Assign, Assigns};
+pub use carry::carried;
+pub use faults::{AssignFault, ResolveFault};
+pub use resolve::is_on_nil;

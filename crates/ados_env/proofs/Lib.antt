@@ -1,0 +1,2 @@
+pub mod EchoLemmas
+pub mod TemplatesLemmas

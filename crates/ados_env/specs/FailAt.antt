@@ -1,0 +1,24 @@
+-- FailAt: the limit at which a script ends.
+use Rattle.std.specs.Prelude.{ℕ, ℤ, pos, int_le, List, [], ◌∷◌, ◌++◌, Option, Some, None, codes, if◌then◌else◌}
+use Rattle.std.specs.Fmt.{signed_decimal}
+use Rattle.ados_text.specs.declared.codes.Code.{Code}
+use Rattle.ados_text.specs.declared.codes.TheConstants.Result2.{BAD_NUMBER}
+use Rattle.ados_find.specs.declared.views.ShellView.{ShellView}
+use Rattle.ados_find.specs.Codes.{went_well, failed}
+use Rattle.ados_find.specs.Shared.{SharedState}
+use Rattle.ados_find.specs.Effects.{Effect, answering, putting}
+use Rattle.ados_readargs.specs.declared.args.Arg.{Arg}
+use Rattle.ados_readargs.specs.Args.{number_at}
+
+-- the text of a limit
+abbrev pub limit_line : Code → List ℕ
+limit_line limit = codes "Fail limit: " ++ signed_decimal limit.0 ++ 10 ∷ []
+
+-- a limit that is given is told by none, and is not negative
+abbrev pub limited : SharedState → Code → Option ℤ → Effect
+limited shared limit None = putting shared limit (limit_line limit)
+limited shared limit (Some number) =
+    if int_le (pos 0) number then answering shared (record { 0 = number }) went_well else answering shared limit (failed BAD_NUMBER)
+
+abbrev pub fail_at_row : SharedState → ShellView → List Arg → Effect
+fail_at_row shared view args = limited shared view.limit (number_at args 0)

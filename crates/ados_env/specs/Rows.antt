@@ -1,0 +1,21 @@
+-- What each command makes, by the shared parts, its shell's view and its arguments.
+use Rattle.std.specs.Prelude.{List}
+use Rattle.ados_find.specs.declared.views.ShellView.{ShellView}
+use Rattle.ados_find.specs.Shared.{SharedState}
+use Rattle.ados_find.specs.Effects.{Effect}
+use Rattle.ados_readargs.specs.declared.args.Arg.{Arg}
+use Rattle.ados_env.specs.declared.commands.Command.{Command}
+use Rattle.ados_env.specs.declared.commands.Command.TheVariants.{Echo, Eval, FailAt, Fault, Why}
+use Rattle.ados_env.specs.Echo.{echo_row}
+use Rattle.ados_env.specs.Eval.{eval_row}
+use Rattle.ados_env.specs.FailAt.{fail_at_row}
+use Rattle.ados_env.specs.Fault.{fault_row}
+use Rattle.ados_env.specs.Why.{why_row}
+
+-- the row of a command
+abbrev pub row_of : Command → SharedState → ShellView → List Arg → Effect
+row_of Echo shared view args = echo_row shared view args
+row_of Eval shared view args = eval_row shared view args
+row_of FailAt shared view args = fail_at_row shared view args
+row_of Fault shared view args = fault_row shared view args
+row_of Why shared view args = why_row shared view

@@ -1,0 +1,18 @@
+#![tactic(auto)]
+//! The commands that print and set: Echo, Eval, FailAt, Fault and Why.
+
+mod commands;
+mod echo;
+mod eval;
+mod fail_at;
+mod fault;
+mod operators;
+mod rows;
+mod templates;
+#[cfg(test)]
+mod tests;
+mod why;
+
+pub use commands::Command;
+pub use rows::run;
+pub use templates::Templates;

@@ -1,0 +1,9 @@
+use Rattle.std.proofs.Common.{rules, Ok}
+use Rattle.ados_line.specs.declared.lines.Expanded.TheVariants.{Ready}
+use Rattle.ados_line.proofs.PieceLemmas.{in_pieces}
+use Rattle.ados_line.proofs.lines.expand.Goals as goal
+
+pub returns-in-Some-clause-pieces : goal.returns-in-Some-clause-pieces
+returns-in-Some-clause-pieces c =
+    let read = c.in_ok-command.field-0 in
+    in_pieces (Ok (Ready (record { command = c.in-Some.command; args = read.args; input = read.input; output = read.output }))) c.args.raw.now (search rules)

@@ -1,0 +1,4 @@
+pub mod Names
+pub mod Path
+pub mod Fault
+pub mod Lengths

@@ -1,0 +1,16 @@
+#![tactic(auto)]
+//! Names, and the paths that are made of them.
+
+mod faults;
+mod names;
+mod paths;
+mod pieces;
+mod steps;
+#[cfg(test)]
+mod tests;
+
+pub use faults::NameFault;
+pub use names::is_name;
+pub use paths::Path;
+pub use pieces::last_piece;
+pub use steps::Step;

@@ -1,0 +1,175 @@
+ghost use Rattle.std.specs.Prelude.{◌≡◌, ◌≤◌, ◌+◌, ◌&&◌, true, nat_le, Ok, IfOk, length};
+ghost use Rattle.std.specs.Option.{option_copied};
+ghost use Rattle.ados_names.specs.Names.{is_name};
+ghost use Rattle.ados_names.specs.Path.{parts_of, are_parts, path_limit, path_of, device_text, text_of, longer, joined, Gives};
+ghost use Rattle.ados_names.specs.Lengths.{pieces_len};
+
+use crate::faults::NameFault;
+use crate::names::is_name;
+use crate::pieces::{are_pieces, colon, is_piece, steps};
+use crate::steps::Step;
+use ados_text::{NoMemory, Text};
+use smallvec::SmallVec;
+use std::alloc::Global;
+use std::marker::Model;
+
+// How many bytes the text of a path may have.
+const PATH_LIMIT: usize = 255;
+
+/// A path: a device text, if one is named, and steps. Each path can be written as a text of at most 255 bytes.
+#[derive(Clone, Debug, Drop)]
+pub struct Path {
+    device: Option<Text>,
+    steps: SmallVec<Step, 8>,
+}
+
+impl Model for Path {
+    ghost use Rattle.ados_names.specs.Path.{PathParts, IsPath};
+
+    ghost Value = { PathParts };
+
+    ghost view = { λ p. record { device = p.device; steps = p.steps.items } };
+
+    ghost invariant = { λ p. IsPath (record { device = p.device; steps = p.steps.items }) };
+}
+
+impl Path {
+    /// The path that a text names. Before the first colon stands a device; what is behind is cut at each slash into
+    /// pieces. An empty piece that is not the last goes up one directory, an empty last piece is nothing, and each
+    /// other piece is the name of a step.
+    ///
+    /// `Invalid` for a text of more than 255 bytes, and where a device text that is not empty, or a piece, is no name;
+    /// `NoMemory` only where there is a path.
+    pub fn parse(alloc: Global, text: &Text) -> Result<Path, NameFault>
+        ensures { Gives result (path_of text.now) }
+    {
+        if !names_a_path(text.as_bytes()) {
+            return Err(NameFault::Invalid);
+        }
+        match read(alloc, text) {
+            Ok(path) => Ok(path),
+            Err(_) => Err(NameFault::NoMemory),
+        }
+    }
+
+    /// The path with one step more, into a name.
+    ///
+    /// `Invalid` where the text is no name, and where the path's text would have more than 255 bytes; `NoMemory` only
+    /// where there is a path.
+    pub fn join(&self, name: &Text) -> Result<Path, NameFault>
+        ensures { Gives result (joined self.now name.now) }
+    {
+        if !is_name(name) || self.joined_len(name) > PATH_LIMIT {
+            return Err(NameFault::Invalid);
+        }
+        match self.longer(name) {
+            Ok(path) => Ok(path),
+            Err(_) => Err(NameFault::NoMemory),
+        }
+    }
+
+    /// The text before the first colon; `None` where the path has no colon.
+    pub fn device(&self) -> Option<&Text>
+        ensures { option_copied result ≡ self.now.device }
+    {
+        self.device.as_ref()
+    }
+
+    /// The steps, in order.
+    pub fn steps(&self) -> &[Step]
+        ensures { result.now ≡ self.now.steps }
+    {
+        self.steps.as_slice()
+    }
+
+    /// An equal path.
+    pub fn copy(&self) -> Result<Path, NoMemory>
+        ensures { IfOk result (λ path. path ≡ self.now) }
+    {
+        Ok(self.clone()?)
+    }
+
+    /// A law: the text of a path names that path.
+    pub fn is_named_by_its_text(&self)
+        ensures { path_of (text_of self.now) ≡ Ok self.now }
+    {
+        let _ = &self.device;
+    }
+}
+
+impl Path {
+    // How many bytes the text of the path has with one name more.
+    fn joined_len(&self, name: &Text) -> usize
+        requires { is_name name.now ≡ true }
+        ensures { result ≡ length (text_of (longer self.now name.now)) }
+    {
+        device_len(&self.device) + pieces_len(&self.steps) + name.as_bytes().len()
+    }
+
+    // The path with one name more.
+    fn longer(&self, name: &Text) -> Result<Path, NoMemory>
+        requires name { is_name name.now ≡ true }
+        requires fits { length (text_of (longer self.now name.now)) ≤ path_limit }
+        ensures { IfOk result (λ path. path ≡ longer self.now name.now) }
+    {
+        let mut path = self.copy()?;
+        path.steps.push(Step::Name(name.copy()?))?;
+        Ok(path)
+    }
+}
+
+// The bytes are the text of a path.
+fn names_a_path(text: &[u8]) -> bool
+    ensures { result ≡ (nat_le (length text.now) path_limit && are_parts (parts_of text.now)) }
+{
+    if text.len() > PATH_LIMIT {
+        return false;
+    }
+    match colon(text) {
+        None => are_pieces(text),
+        Some(place) => is_piece(&text[..place]) && are_pieces(&text[place + 1..]),
+    }
+}
+
+// The path of a text that names one.
+fn read(alloc: Global, text: &Text) -> Result<Path, NoMemory>
+    requires parts { are_parts (parts_of text.now) ≡ true }
+    requires fits { length text.now ≤ path_limit }
+    ensures { IfOk result (λ path. path ≡ parts_of text.now) }
+{
+    match colon(text.as_bytes()) {
+        None => Ok(Path {
+            device: None,
+            steps: steps(alloc, text, 0)?,
+        }),
+        Some(place) => Ok(Path {
+            device: Some(text.part(0, place)?),
+            steps: steps(alloc, text, place + 1)?,
+        }),
+    }
+}
+
+// How many bytes a device text has with its colon.
+fn device_len(device: &Option<Text>) -> usize
+    requires { length (device_text device.now) ≤ path_limit }
+    ensures { result ≡ length (device_text device.now) }
+{
+    match device {
+        None => 0,
+        Some(text) => text.as_bytes().len() + 1,
+    }
+}
+
+// How many bytes steps have where each is followed by a slash.
+fn pieces_len(steps: &[Step]) -> usize
+    requires { pieces_len steps.now ≤ path_limit + 1 }
+    ensures { result ≡ pieces_len steps.now }
+{
+    let Some((step, rest)) = steps.split_first() else {
+        return 0;
+    };
+    match step {
+        Step::Up => 1 + pieces_len(rest),
+        Step::Name(name) => name.as_bytes().len() + 1 + pieces_len(rest),
+    }
+}

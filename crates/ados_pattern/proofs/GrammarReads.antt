@@ -1,0 +1,237 @@
+-- What the grammar writes has no fault, and its tokens say what the grammar says.
+use Rattle.std.proofs.Common.{◌≡◌, ℕ, ◌+◌, ◌-◌, List, [], ◌∷◌, ◌++◌, length, Bool, true, false, ◌==◌, if◌then◌else◌, Option, Some, None, refl, sym, ◌∙◌, ap, arith, append_assoc, length-append}
+use Rattle.std.proofs.Math.Bool.{not}
+use Rattle.std.proofs.lemmas.List.{append-nil}
+use Rattle.ados_pattern.specs.declared.tokens.Token.{Token}
+use Rattle.ados_pattern.specs.declared.tokens.Mode.TheVariants.{Plain, Begun}
+use Rattle.ados_pattern.specs.Tokens.{tokens_from, tokens_of}
+use Rattle.ados_pattern.specs.Fault.{closes, fault_from, has_nothing, is_bad_class}
+use Rattle.ados_pattern.specs.Form.{Form, Empty, Char, Any, Many, Other, Then, Either}
+use Rattle.ados_pattern.specs.Build.{Level, built_of, closed_at, item_many, item_other, on_row, parted_at, whole_at, whole_of, whole_row, with_item}
+use Rattle.ados_pattern.specs.Grammar.{IsClass, IsPattern, Kind, Says, Alternatives, Row, Item, character, quoted, any, nothing, many, other, group, class, end, item, one, either}
+use Rattle.ados_pattern.specs.Signs.{bar, close_class, close_group, hash, is_sign, open_class, open_group, percent, question, quote, tilde}
+use Rattle.ados_pattern.proofs.ClassReads.{if-false}
+use Rattle.ados_pattern.proofs.ClassTexts.{class-built, class-good, class-text, text-closes, text-fault}
+use Rattle.ados_pattern.proofs.FaultPlaces.{close-not-first}
+use Rattle.ados_pattern.proofs.Views.{char-tokens}
+
+-- tokens of the text add so to the levels, show no fault and close no group
+pub record Passes (text : List ℕ) (change : List Level → List Level) : Type 0 where
+  pub built : (rest : List ℕ) → built_of (tokens_from Plain (text ++ rest)) ≡ change (built_of (tokens_from Plain rest))
+  pub kept : (d place : ℕ) (rest : List ℕ) → fault_from d place (tokens_from Plain (text ++ rest)) ≡ fault_from d (place + length text) (tokens_from Plain rest)
+  pub level : (d : ℕ) (rest : List ℕ) → closes d (tokens_from Plain (text ++ rest)) ≡ closes d (tokens_from Plain rest)
+
+pub record ReadsItem (text : List ℕ) (form : Form) : Type 0 where
+  pub passes : Passes text (with_item form)
+  pub begins : (rest : List ℕ) → has_nothing (tokens_from Plain (text ++ rest)) ≡ false
+
+-- a row in front of a row
+abbrev pub row_before : Form → Form → Form
+row_before (Then i row) behind = Then i (row_before row behind)
+row_before form behind = behind
+
+pub record ReadsRow (text : List ℕ) (form : Form) : Type 0 where
+  pub passes : Passes text (on_row (row_before form))
+  pub ends : row_before form Empty ≡ form
+
+-- alternatives in front of the end of a group, or of the text
+pub record IsLevel (text rest : List ℕ) (form : Form) (below : List Level) : Type 0 where
+  pub level : Level
+  pub built : built_of (tokens_from Plain (text ++ rest)) ≡ level ∷ below
+  pub whole : whole_row level.0 level.1 ≡ form
+
+pub record ReadsAlternatives (text : List ℕ) (form : Form) : Type 0 where
+  pub built : (rest : List ℕ) (below : List Level) → built_of (tokens_from Plain rest) ≡ (Empty, None) ∷ below → IsLevel text rest form below
+  pub kept : (d place : ℕ) (rest : List ℕ) → fault_from d place (tokens_from Plain (text ++ rest)) ≡ fault_from d (place + length text) (tokens_from Plain rest)
+  pub level : (d : ℕ) (rest : List ℕ) → closes d (tokens_from Plain (text ++ rest)) ≡ closes d (tokens_from Plain rest)
+
+abbrev pub Reads : Kind → List ℕ → Form → Type 0
+Reads Alternatives text form = ReadsAlternatives text form
+Reads Row text form = ReadsRow text form
+Reads Item text form = ReadsItem text form
+
+pub at-place : (d a b : ℕ) (ts : List Token) → a ≡ b → fault_from d a ts ≡ fault_from d b ts
+at-place d a b ts e = ap (λ p. fault_from d p ts) e
+
+pub no-fault : (b : Bool) (place : ℕ) (behind : Option ℕ) → b ≡ false → (if b then Some place else behind) ≡ behind
+no-fault b place behind e = if-false b (Some place) behind e
+
+pub reads-char : (c : ℕ) → is_sign c ≡ false → ReadsItem (c ∷ []) (Char c)
+reads-char c e = record {
+  passes = record {
+    built = λ rest. ap built_of (char-tokens c rest e);
+    kept = λ d place rest. ap (fault_from d place) (char-tokens c rest e);
+    level = λ d rest. ap (closes d) (char-tokens c rest e);
+  };
+  begins = λ rest. ap has_nothing (char-tokens c rest e);
+}
+
+pub reads-quoted : (c : ℕ) → ReadsItem (quote ∷ c ∷ []) (Char c)
+reads-quoted c = record {
+  passes = record {
+    built = λ rest. refl;
+    kept = λ d place rest. at-place d (place + 1 + 1) (place + length (quote ∷ c ∷ [])) (tokens_from Plain rest) (omega arith);
+    level = λ d rest. refl;
+  };
+  begins = λ rest. refl;
+}
+
+pub reads-any : ReadsItem (question ∷ []) Any
+reads-any = record { passes = record { built = λ rest. refl; kept = λ d place rest. refl; level = λ d rest. refl }; begins = λ rest. refl }
+
+pub reads-nothing : ReadsItem (percent ∷ []) Empty
+reads-nothing = record { passes = record { built = λ rest. refl; kept = λ d place rest. refl; level = λ d rest. refl }; begins = λ rest. refl }
+
+pub many-first : (f : Form) (ls : List Level) → on_row item_many (with_item f ls) ≡ with_item (Many f) ls
+many-first f [] = refl
+many-first f (l ∷ ls) = refl
+
+pub other-first : (f : Form) (ls : List Level) → on_row item_other (with_item f ls) ≡ with_item (Other f) ls
+other-first f [] = refl
+other-first f (l ∷ ls) = refl
+
+pub reads-many : (t : List ℕ) (f : Form) → ReadsItem t f → ReadsItem (hash ∷ t) (Many f)
+reads-many t f i = record {
+  passes = record {
+    built = λ rest. ap (on_row item_many) (i.passes.built rest) ∙ many-first f (built_of (tokens_from Plain rest));
+    kept = λ d place rest.
+        no-fault (has_nothing (tokens_from Plain (t ++ rest))) place (fault_from d (place + 1) (tokens_from Plain (t ++ rest))) (i.begins rest)
+        ∙ i.passes.kept d (place + 1) rest ∙ at-place d (place + 1 + length t) (place + length (hash ∷ t)) (tokens_from Plain rest) (omega arith);
+    level = i.passes.level;
+  };
+  begins = λ rest. refl;
+}
+
+pub reads-other : (t : List ℕ) (f : Form) → ReadsItem t f → ReadsItem (tilde ∷ t) (Other f)
+reads-other t f i = record {
+  passes = record {
+    built = λ rest. ap (on_row item_other) (i.passes.built rest) ∙ other-first f (built_of (tokens_from Plain rest));
+    kept = λ d place rest.
+        no-fault (has_nothing (tokens_from Plain (t ++ rest))) place (fault_from d (place + 1) (tokens_from Plain (t ++ rest))) (i.begins rest)
+        ∙ i.passes.kept d (place + 1) rest ∙ at-place d (place + 1 + length t) (place + length (tilde ∷ t)) (tokens_from Plain rest) (omega arith);
+    level = i.passes.level;
+  };
+  begins = λ rest. refl;
+}
+
+-- a closing bracket behind a text
+pub close-level : (d : ℕ) (rest : List ℕ) → closes (d + 1) (tokens_from Plain (close_group ∷ rest)) ≡ closes d (tokens_from Plain rest)
+close-level d rest = if-false (d + 1 == 0) true (closes (d + 1 - 1) (tokens_from Plain rest)) (close-not-first d) ∙ (let f : d + 1 - 1 ≡ d = omega arith in ap (λ k. closes k (tokens_from Plain rest)) f)
+
+pub close-kept : (d place : ℕ) (rest : List ℕ) → fault_from (d + 1) place (tokens_from Plain (close_group ∷ rest)) ≡ fault_from d (place + 1) (tokens_from Plain rest)
+close-kept d place rest = no-fault (d + 1 == 0) place (fault_from (d + 1 - 1) (place + 1) (tokens_from Plain rest)) (close-not-first d) ∙ (let f : d + 1 - 1 ≡ d = omega arith in ap (λ k. fault_from k (place + 1) (tokens_from Plain rest)) f)
+
+pub reads-group : (t : List ℕ) (f : Form) → ReadsAlternatives t f → ReadsItem (open_group ∷ t ++ close_group ∷ []) f
+reads-group t f a = record {
+  passes = record {
+    built = λ rest.
+        let w = a.built (close_group ∷ rest) (built_of (tokens_from Plain rest)) refl in
+        ap (λ x. closed_at (built_of (tokens_from Plain x))) (append_assoc t (close_group ∷ []) rest) ∙ ap closed_at w.built ∙ ap (λ g. with_item g (built_of (tokens_from Plain rest))) w.whole;
+    kept = λ d place rest.
+        let e = append_assoc t (close_group ∷ []) rest in
+        no-fault (not (closes 0 (tokens_from Plain ((t ++ close_group ∷ []) ++ rest)))) place (fault_from (d + 1) (place + 1) (tokens_from Plain ((t ++ close_group ∷ []) ++ rest))) (ap not (ap (λ x. closes 0 (tokens_from Plain x)) e ∙ a.level 0 (close_group ∷ rest)))
+        ∙ ap (λ x. fault_from (d + 1) (place + 1) (tokens_from Plain x)) e ∙ a.kept (d + 1) (place + 1) (close_group ∷ rest) ∙ close-kept d (place + 1 + length t) rest
+        ∙ at-place d (place + 1 + length t + 1) (place + length (open_group ∷ t ++ close_group ∷ [])) (tokens_from Plain rest) (omega (arith, length-append t (close_group ∷ [])));
+    level = λ d rest. ap (λ x. closes (d + 1) (tokens_from Plain x)) (append_assoc t (close_group ∷ []) rest) ∙ a.level (d + 1) (close_group ∷ rest) ∙ close-level d rest;
+  };
+  begins = λ rest. refl;
+}
+
+pub reads-class : (t : List ℕ) (f : Form) → IsClass t f → ReadsItem (open_class ∷ t ++ close_class ∷ []) f
+reads-class t f c = record {
+  passes = record {
+    built = λ rest. ap (λ x. closed_at (built_of (tokens_from Begun x))) (append_assoc t (close_class ∷ []) rest) ∙ ap closed_at (class-built c rest);
+    kept = λ d place rest.
+        let e = append_assoc t (close_class ∷ []) rest in
+        no-fault (is_bad_class false (tokens_from Begun ((t ++ close_class ∷ []) ++ rest))) place (fault_from d (place + 1) (tokens_from Begun ((t ++ close_class ∷ []) ++ rest))) (ap (λ x. is_bad_class false (tokens_from Begun x)) e ∙ class-good c rest)
+        ∙ ap (λ x. fault_from d (place + 1) (tokens_from Begun x)) e ∙ text-fault (class-text c) d (place + 1) rest
+        ∙ at-place d (place + 1 + length t + 1) (place + length (open_class ∷ t ++ close_class ∷ [])) (tokens_from Plain rest) (omega (arith, length-append t (close_class ∷ [])));
+    level = λ d rest. ap (λ x. closes d (tokens_from Begun x)) (append_assoc t (close_class ∷ []) rest) ∙ text-closes (class-text c) d rest;
+  };
+  begins = λ rest. refl;
+}
+
+pub row-none : (ls : List Level) → on_row (row_before Empty) ls ≡ ls
+row-none [] = refl
+row-none (l ∷ ls) = refl
+
+pub row-more : (f g : Form) (ls : List Level) → with_item f (on_row (row_before g) ls) ≡ on_row (row_before (Then f g)) ls
+row-more f g [] = refl
+row-more f g (l ∷ ls) = refl
+
+pub reads-end : ReadsRow [] Empty
+reads-end = record {
+  passes = record {
+    built = λ rest. sym (row-none (built_of (tokens_from Plain rest)));
+    kept = λ d place rest. at-place d place (place + 0) (tokens_from Plain rest) (omega arith);
+    level = λ d rest. refl;
+  };
+  ends = refl;
+}
+
+pub reads-more : (s t : List ℕ) (f g : Form) → ReadsItem s f → ReadsRow t g → ReadsRow (s ++ t) (Then f g)
+reads-more s t f g i r = record {
+  passes = record {
+    built = λ rest. ap (λ x. built_of (tokens_from Plain x)) (append_assoc s t rest) ∙ i.passes.built (t ++ rest) ∙ ap (with_item f) (r.passes.built rest) ∙ row-more f g (built_of (tokens_from Plain rest));
+    kept = λ d place rest.
+        ap (λ x. fault_from d place (tokens_from Plain x)) (append_assoc s t rest) ∙ i.passes.kept d place (t ++ rest) ∙ r.passes.kept d (place + length s) rest
+        ∙ at-place d (place + length s + length t) (place + length (s ++ t)) (tokens_from Plain rest) (omega (arith, length-append s t));
+    level = λ d rest. ap (λ x. closes d (tokens_from Plain x)) (append_assoc s t rest) ∙ i.passes.level d (t ++ rest) ∙ r.passes.level d rest;
+  };
+  ends = ap (Then f) r.ends;
+}
+
+pub reads-one : (t : List ℕ) (f : Form) → ReadsRow t f → ReadsAlternatives t f
+reads-one t f r = record {
+  built = λ rest below e. record { level = (row_before f Empty, None); built = r.passes.built rest ∙ ap (on_row (row_before f)) e; whole = r.ends };
+  kept = r.passes.kept;
+  level = r.passes.level;
+}
+
+pub reads-either : (s t : List ℕ) (f g : Form) → ReadsRow s f → ReadsAlternatives t g → ReadsAlternatives (s ++ bar ∷ t) (Either f g)
+reads-either s t f g r a = record {
+  built = λ rest below e.
+      let w = a.built rest below e in
+      record {
+        level = (row_before f Empty, Some (whole_row w.level.0 w.level.1));
+        built = ap (λ x. built_of (tokens_from Plain x)) (append_assoc s (bar ∷ t) rest) ∙ r.passes.built (bar ∷ (t ++ rest)) ∙ ap (λ ls. on_row (row_before f) (parted_at ls)) w.built;
+        whole = ap (λ x. Either x (whole_row w.level.0 w.level.1)) r.ends ∙ ap (Either f) w.whole;
+      };
+  kept = λ d place rest.
+      ap (λ x. fault_from d place (tokens_from Plain x)) (append_assoc s (bar ∷ t) rest) ∙ r.passes.kept d place (bar ∷ (t ++ rest)) ∙ a.kept d (place + length s + 1) rest
+      ∙ at-place d (place + length s + 1 + length t) (place + length (s ++ bar ∷ t)) (tokens_from Plain rest) (omega (arith, length-append s (bar ∷ t)));
+  level = λ d rest. ap (λ x. closes d (tokens_from Plain x)) (append_assoc s (bar ∷ t) rest) ∙ r.passes.level d (bar ∷ (t ++ rest)) ∙ a.level d rest;
+}
+
+pub says-reads : {k : Kind} {text : List ℕ} {form : Form} → Says k text form → Reads k text form
+says-reads (character c e) = reads-char c e
+says-reads (quoted c) = reads-quoted c
+says-reads any = reads-any
+says-reads nothing = reads-nothing
+says-reads (many t f i) = reads-many t f (says-reads i)
+says-reads (other t f i) = reads-other t f (says-reads i)
+says-reads (group t f a) = reads-group t f (says-reads a)
+says-reads (class t f c) = reads-class t f c
+says-reads end = reads-end
+says-reads (item s t f g i r) = reads-more s t f g (says-reads i) (says-reads r)
+says-reads (one t f r) = reads-one t f (says-reads r)
+says-reads (either s t f g r a) = reads-either s t f g (says-reads r) (says-reads a)
+
+-- a pattern's tokens say its form
+pub pattern-form : (text : List ℕ) (form : Form) → IsPattern text form → whole_of (tokens_of text) ≡ form
+pattern-form text form p =
+    let a : ReadsAlternatives text form = says-reads p in
+    let w = a.built [] [] refl in
+    ap (λ x. whole_of (tokens_of x)) (sym (append-nil text)) ∙ ap whole_at w.built ∙ w.whole
+
+-- a pattern has no fault
+pub pattern-kept : (text : List ℕ) (form : Form) → IsPattern text form → fault_from 0 0 (tokens_of text) ≡ None
+pattern-kept text form p =
+    let a : ReadsAlternatives text form = says-reads p in
+    ap (λ x. fault_from 0 0 (tokens_of x)) (sym (append-nil text)) ∙ a.kept 0 0 []
+
+-- a pattern closes no group around it
+pub pattern-level : (text : List ℕ) (form : Form) → IsPattern text form → closes 0 (tokens_of text) ≡ false
+pattern-level text form p =
+    let a : ReadsAlternatives text form = says-reads p in
+    ap (λ x. closes 0 (tokens_of x)) (sym (append-nil text)) ∙ a.level 0 []

@@ -1,0 +1,63 @@
+use crate::{
+    BadNumber, Name, NoMemory, Octets, Text, TextFault, Texts, number, number_in, push_number,
+};
+
+#[test]
+fn a_byte_past_ascii_is_named_or_replaced(rt: HostRuntime) -> Result<(), NoMemory> {
+    let alloc = rt.alloc();
+    match Text::of(alloc, b"a\xC8") {
+        Err(fault) => assert_eq!(rt; fault, TextFault::NotAscii(1)),
+        Ok(_) => panic!(rt; "a byte past ASCII is text"),
+    }
+    let text = Text::from_bytes(alloc, b"a\xC8")?;
+    assert_eq!(rt; text.as_bytes(), b"a?".as_slice());
+    Ok(())
+}
+
+#[test]
+fn texts_are_made_grown_and_parted(rt: HostRuntime) -> Result<(), TextFault> {
+    let alloc = rt.alloc();
+    let mut text = Text::of(alloc, b"RAM")?;
+    text.push(b':')?;
+    text.push(b'\x80')?;
+    text.push_bytes(b"ab")?;
+    assert_eq!(rt; text.as_bytes(), b"RAM:?ab".as_slice());
+    assert_eq!(rt; text.part(3, 5)?.as_bytes(), b":?".as_slice());
+    let same = text.copy()?;
+    assert!(rt; same == text);
+    let joined = text.part(0, 4)?.join(&Text::from_bytes(alloc, b"S")?)?;
+    assert_eq!(rt; joined.as_bytes(), b"RAM:S".as_slice());
+    Ok(())
+}
+
+#[test]
+fn lists_names_and_octets_are_copied(rt: HostRuntime) -> Result<(), NoMemory> {
+    let alloc = rt.alloc();
+    let mut texts = Texts::new(alloc);
+    texts.push(Text::from_bytes(alloc, b"one")?)?;
+    texts.push(Text::from_bytes(alloc, b"two")?)?;
+    let copied = texts.copy()?;
+    assert_eq!(rt; copied.len(), 2);
+    assert!(rt; copied.get(0) == texts.get(0) && copied.get(1) == texts.get(1));
+    let name = Name::new(Text::from_bytes(alloc, b"Echo")?);
+    assert_eq!(rt; name.copy()?.text().as_bytes(), b"Echo".as_slice());
+    assert!(rt; name == Name::new(Text::from_bytes(alloc, b"eCHO")?));
+    let octets = Octets::from_vec(Vec::from_slice(alloc, b"\x00\xFF")?);
+    assert_eq!(rt; octets.copy()?.as_bytes(), b"\x00\xFF".as_slice());
+    Ok(())
+}
+
+#[test]
+fn numbers_have_the_range_of_i32(rt: HostRuntime) -> Result<(), NoMemory> {
+    assert_eq!(rt; number(b"2147483647"), Ok(i32::MAX));
+    assert_eq!(rt; number(b"-2147483648"), Ok(i32::MIN));
+    assert_eq!(rt; number(b"2147483648"), Err(BadNumber));
+    assert_eq!(rt; number(b"-2147483649"), Err(BadNumber));
+    assert_eq!(rt; number_in(b"-0"), Some(0));
+    assert_eq!(rt; number_in(b"+1"), None);
+    let mut out = Vec::new(rt.alloc());
+    push_number(&mut out, i32::MIN)?;
+    push_number(&mut out, i32::MAX)?;
+    assert_eq!(rt; out.as_slice(), b"-21474836482147483647".as_slice());
+    Ok(())
+}

@@ -1,6 +1,0 @@
-use Rattle.std.proofs.Common.{◌≡◌, ◌++◌, drop}
-use Rattle.ados_machine.specs.Commands.{behind_blanks}
-use Rattle.ados_world.proofs.commands.push_joined.Given as goal
-
-abbrev pub invariant-loop-word : goal.invariant-loop-word
-invariant-loop-word l = l.output.items ++ behind_blanks (drop l.word-index l.rest) ≡ l.initial.output.items ++ behind_blanks l.rest

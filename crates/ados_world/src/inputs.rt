@@ -1,0 +1,81 @@
+// The input of a command, and the arguments that it is asked for.
+ghost use Rattle.std.specs.Prelude.{◌≡◌, ◌<◌, length, position, IfOk, IfSome};
+ghost use Rattle.std.specs.Option.{option_copied};
+ghost use Rattle.ados_items.specs.Items.{IsWithin};
+ghost use Rattle.ados_machine.specs.ScriptLines.{first_line, is_newline};
+ghost use Rattle.ados_machine.specs.Shell.{asks, is_question, is_end, input_of};
+ghost use Rattle.ados_world.specs.Answers.{Gives};
+
+use crate::file_names::place;
+use crate::files::read;
+use ados_find::Shared;
+use ados_items::{Item, next_item};
+use ados_ram::FsFault;
+use ados_text::{NoMemory, Text};
+use std::alloc::Global;
+
+/// The line that an input, where there is one, answers a prompt with: its first.
+///
+/// The faults are those of the name and of reading.
+pub fn input_line(
+    alloc: Global,
+    shared: &Shared,
+    name: Option<&Text>,
+) -> Result<Option<Text>, FsFault>
+    ensures { Gives result (input_of shared.now (option_copied name.entry)) }
+{
+    let Some(name) = name else {
+        return Ok(None);
+    };
+    let place = place(alloc, name)?;
+    match read(alloc, &shared.ram, &place) {
+        Ok(bytes) => Ok(Some(first_line(alloc, bytes)?)),
+        Err(fault) => Err(FsFault::Refused(fault)),
+    }
+}
+
+/// The first line of a file's bytes; of none it is empty.
+fn first_line(alloc: Global, bytes: &[u8]) -> Result<Text, NoMemory>
+    ensures { IfOk result (λ line. line ≡ first_line bytes.now) }
+{
+    match newline(bytes) {
+        None => Text::from_bytes(alloc, bytes),
+        Some(end) => Text::from_bytes(alloc, &bytes[..end]),
+    }
+}
+
+fn newline(bytes: &[u8]) -> Option<usize>
+    ensures place { result ≡ position is_newline bytes.now }
+    ensures within { IfSome result (λ place. place < length bytes.now) }
+{
+    bytes.iter().position(|byte| *byte == b'\n')
+}
+
+/// The arguments ask for others: they are the single unquoted word `?`.
+pub fn asks(args: &Text) -> bool
+    ensures { result ≡ asks args.now }
+{
+    let args = args.as_bytes();
+    is_question(args, next_item(args, 0))
+}
+
+fn is_question(args: &[u8], item: Item) -> bool
+    requires { IsWithin args.now item }
+    ensures { result ≡ is_question args.now item }
+{
+    match item {
+        Item::Word { from, to } => {
+            to - from == 1 && args[from] == b'?' && is_end(next_item(args, to))
+        }
+        _ => false,
+    }
+}
+
+fn is_end(item: Item) -> bool
+    ensures { result ≡ is_end item }
+{
+    match item {
+        Item::End(_) => true,
+        _ => false,
+    }
+}
