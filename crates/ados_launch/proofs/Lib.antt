@@ -1,4 +1,5 @@
 pub mod Scanning
+pub mod HeldLines
 pub mod Appending
 pub mod Runs
 pub mod Inputs

@@ -1,18 +1,21 @@
 -- The lines of an input.
-use Rattle.std.specs.Prelude.{◌≡◌, ℕ, Option, Some, List, [], ◌∷◌, length, nat_le, ◌==◌, if◌then◌else◌}
+use Rattle.std.specs.Prelude.{◌≡◌, ℕ, Bool, Option, Some, List, [], ◌∷◌, length, nat_le, ◌==◌, if◌then◌else◌}
 use Rattle.std.specs.Io.KnownBytes.{prepend_known}
 use Rattle.ados_launch.specs.declared.lines.LineKind.{LineKind}
 use Rattle.ados_launch.specs.declared.lines.LineKind.TheVariants.{End, Short, Long, Overlong}
 
+abbrev pub is_newline : ℕ → Bool
+is_newline byte = byte == 10
+
 -- the bytes up to the first byte 10, or all of them
 abbrev pub line_of : List ℕ → List ℕ
 line_of [] = []
-line_of (byte ∷ bytes) = if byte == 10 then [] else byte ∷ line_of bytes
+line_of (byte ∷ bytes) = if is_newline byte then [] else byte ∷ line_of bytes
 
 -- the bytes behind the first byte 10
 abbrev pub rest_of : List ℕ → List ℕ
 rest_of [] = []
-rest_of (byte ∷ bytes) = if byte == 10 then bytes else rest_of bytes
+rest_of (byte ∷ bytes) = if is_newline byte then bytes else rest_of bytes
 
 -- the kind of a line of this length
 abbrev pub kind_of_length : ℕ → LineKind

@@ -1,5 +1,5 @@
-ghost use Rattle.std.specs.Prelude.{◌≡◌, ◌<◌, ◌≤◌, vec_len, ◌^◌, ◌-◌, ◌+◌, [], ◌∷◌, ◌++◌, take, IfOk, OnOk, IsErrOf};
-ghost use Rattle.ados_launch.specs.Lines.{ahead, kind_of_length, Known, TakesLine};
+ghost use Rattle.std.specs.Prelude.{◌≡◌, ◌<◌, ◌≤◌, ℕ, List, Option, true, false, vec_len, length, position, ◌^◌, ◌-◌, ◌+◌, [], ◌∷◌, ◌++◌, take, IfOk, IfSome, OnOk, IsErrOf};
+ghost use Rattle.ados_launch.specs.Lines.{ahead, is_newline, kind_of_length, Known, TakesLine};
 ghost use Rattle.ados_launch.specs.declared.lines.LineFault.TheVariants.{NoMemory as OutOfMemory};
 
 use crate::Source;
@@ -65,6 +65,9 @@ pub fn next_line<S: Source>(
     ensures others { (IsErrOf result LineFault.Read → ⊥) → S.faults source.new ≡ S.faults source.old }
 {
     line.clear();
+    if take_held(held, line)? {
+        return Ok(LineKind::Short);
+    }
     for length in 0..=INPUT_LINE_BYTES {
         match held.next(source) {
             Err(_) => return Err(LineFault::Read),
@@ -82,6 +85,32 @@ pub fn next_line<S: Source>(
         }
     }
     Ok(LineKind::Overlong)
+}
+
+// Takes a short line that was read ahead whole, and the byte 10 behind it; where there is none nothing
+// is taken.
+fn take_held(held: &mut ReadAhead, line: &mut Vec<u8>) -> Result<bool, AllocError>
+    requires { line.old.items ≡ [] }
+    ensures taken { IfOk result (λ is_taken. is_taken ≡ true → (left : Option (List ℕ)) → Known (ahead held.old left) (λ bytes.
+        TakesLine bytes LineKind.Short line.new.items (ahead held.new left))) }
+    ensures none { IfOk result (λ is_taken. is_taken ≡ false → (held.new ≡ held.old) × (line.new.items ≡ [])) }
+    ensures short { vec_len line.new ≤ 512 }
+{
+    let bytes = held.bytes();
+    let Some(length) = newline_at(&bytes[..bytes.len().min(LINE_BYTES + 1)]) else {
+        return Ok(false);
+    };
+    line.extend_from_slice(&bytes[..length])?;
+    held.skip(length + 1);
+    Ok(true)
+}
+
+// The place of the first byte 10.
+fn newline_at(bytes: &[u8]) -> Option<usize>
+    ensures value { result ≡ position is_newline bytes.now }
+    ensures within { IfSome result (λ place. place < length bytes.now) }
+{
+    bytes.iter().position(|byte| *byte == b'\n')
 }
 
 // Keeps one more byte of a line, if there is room.

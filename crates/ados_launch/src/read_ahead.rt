@@ -59,6 +59,21 @@ impl ReadAhead {
         Ok(Some(self.pop()))
     }
 
+    /// The bytes that were read ahead.
+    pub fn bytes(&self) -> &[u8]
+        ensures { result.now ≡ self.now }
+    {
+        &self.buffer[self.from..self.to]
+    }
+
+    /// Takes so many of the bytes that were read ahead.
+    pub fn skip(&mut self, count: usize)
+        requires { count ≤ length self.old }
+        ensures { self.new ≡ drop count self.old }
+    {
+        self.from += count;
+    }
+
     // Takes the first of the bytes read ahead.
     fn pop(&mut self) -> u8
         requires { 0 < length self.old }

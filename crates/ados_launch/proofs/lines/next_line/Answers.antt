@@ -30,3 +30,6 @@ loop-length-preserved g c =
       scanned = λ bytes e. scanned_more bytes c.loop-length.length _ _ _ _ c.in-Ok-Some.byte (c.loop-length.invariant.scanned bytes e) h c.in-Ok-Some.byte-test.1
           c.in_ok-keep-in-Ok-Some.ensures.kept;
     }
+
+pub returns-then-branch-clause-taken : goal.returns-then-branch-clause-taken
+returns-then-branch-clause-taken g c bytes e = c.in_ok-take_held.ensures.taken c.if-branch.true (g.S.Source.left c.args.source.now) bytes e
