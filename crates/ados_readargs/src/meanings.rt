@@ -14,7 +14,7 @@ use ados_items::Item;
 use std::alloc::Global;
 
 /// Whether an option waits for its value.
-#[derive(Clone, Copy, Debug, PartialEq, Eq)]
+#[derive(Clone, Copy)]
 pub enum Pending {
     /// None does.
     Free,
@@ -23,7 +23,7 @@ pub enum Pending {
 }
 
 /// What a word of a line says.
-#[derive(Clone, Copy, Debug, PartialEq, Eq)]
+#[derive(Clone, Copy)]
 pub enum Meaning {
     /// It is read so.
     Read(Reading),
