@@ -1,6 +1,5 @@
 use Rattle.std.proofs.Common.{◌∙◌, sym}
 use Rattle.std.proofs.lemmas.Result.{IfOk-weaker}
-use Rattle.ados_readargs.specs.Args.{arg_by, arg_at}
 use Rattle.ados_readargs.proofs.GivenLemmas.{arg-unfilled}
 use Rattle.ados_readargs.proofs.args.arg_at.Goals as goal
 
