@@ -1,13 +1,13 @@
 """A slow reading of patterns, apart from the crate: it tries all cuts.
 
-It writes what the program `bench_pattern` must print:
+It writes what the program `bench_pattern` must print, where that reads the same lines:
 
-    python3 bench/slow_patterns.py > crates/bench_pattern/stdout
+    python3 bench/slow_patterns.py < crates/bench_pattern/stdin > crates/bench_pattern/stdout
 
 parse(text) gives ('ok', alternatives) or ('bad', place).
 Items: ('c', x) ('?',) ('%',) ('#', i) ('~', i) ('g', alts) ('[', negated, [(lo, hi)])
 """
-import itertools
+import functools, itertools
 
 def fold(c):
     return c.lower() if 'A' <= c <= 'Z' else c
@@ -78,6 +78,9 @@ def faults(toks):
                 bad.append(place)
     return bad + opens
 
+def frozen(x):
+    return tuple(frozen(i) for i in x) if isinstance(x, (list, tuple)) else x
+
 def parse(t):
     toks = tokens(t)
     bad = faults(toks)
@@ -100,8 +103,9 @@ def parse(t):
         return toks[k][2], k + 1
     rows, k = alts(0)
     assert k == len(toks)
-    return 'ok', rows
+    return 'ok', frozen(rows)
 
+@functools.lru_cache(None)
 def item_matches(i, s):
     k = i[0]
     if k == 'c': return len(s) == 1 and fold(s) == fold(i[1])
@@ -117,6 +121,7 @@ def item_matches(i, s):
         return held != i[1]
     raise ValueError(i)
 
+@functools.lru_cache(None)
 def row_matches(row, s):
     if not row: return s == ''
     return any(item_matches(row[0], s[:n]) and row_matches(row[1:], s[n:]) for n in range(len(s) + 1))
@@ -160,6 +165,17 @@ def table():
         lines.append(f"{L}: {patterns} patterns, {bad} bad, {literals} literal, {pairs} matches, digest {digest}")
     return '\n'.join(lines) + '\n'
 
+# what the program answers to a line
+def answer(line):
+    pattern, _, name = line.partition(' ')
+    if len(pattern) > 255:
+        return 'pattern too long'
+    kind, r = parse(pattern)
+    return f'bad pattern at {r}' if kind == 'bad' else 'yes' if matches(r, name) else 'no'
+
 if __name__ == '__main__':
     import sys
+    sys.setrecursionlimit(100000)
     sys.stdout.write(table())
+    for line in sys.stdin.read().splitlines():
+        print(f'{line}: {answer(line)}')

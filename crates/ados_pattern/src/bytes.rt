@@ -10,7 +10,7 @@ use crate::parts::Part;
 use ados_text::fold;
 
 /// A part that matches one character, by a test of it.
-#[derive(Clone, Copy, Debug, PartialEq, Eq)]
+#[derive(Clone, Copy)]
 pub enum CharTest {
     /// The character.
     Is(u8),

@@ -18,6 +18,3 @@ mod words;
 pub use errors::PatternFault;
 pub use grammar::one_reading;
 pub use patterns::Pattern;
-
-#[cfg(test)]
-mod tests;

@@ -4,7 +4,7 @@ ghost use Rattle.std.specs.Prelude.{◌≡◌};
 ghost use Rattle.ados_pattern.specs.Tokens.{begins_range, class_mode, class_token, member_mode, member_token, next_mode, plain_token, token_of};
 
 /// What one byte of a pattern's text is.
-#[derive(Clone, Copy, Debug, PartialEq, Eq)]
+#[derive(Clone, Copy)]
 pub enum Token {
     /// A part of the token behind it: a quote, or the beginning of a range.
     Silent,
@@ -37,7 +37,7 @@ pub enum Token {
 }
 
 /// What stands in front of a byte.
-#[derive(Clone, Copy, Debug, PartialEq, Eq)]
+#[derive(Clone, Copy)]
 pub enum Mode {
     /// No class and no quote.
     Plain,

@@ -1,5 +1,5 @@
 -- Of the text of a template nothing but memory can be wanting.
-use Rattle.std.proofs.Common.{◌≡◌, ◌≢◌, ℕ, List, refl, Bool, false, ap}
+use Rattle.std.proofs.Common.{◌≡◌, ◌≢◌, ℕ, List, refl, false, ap}
 use Rattle.std.specs.Option.{is_some}
 use Rattle.ados_readargs.specs.Template.{template_of, IsTemplate}
 use Rattle.ados_readargs.specs.Faults.{IsBadTemplate}

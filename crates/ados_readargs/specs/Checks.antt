@@ -1,7 +1,6 @@
-use Rattle.std.specs.Prelude.{ℕ, ◌+◌, ◌^◌, nat_lt, List, [], ◌∷◌, Bool, true, false, ◌&&◌, ◌||◌, not, length, if◌then◌else◌}
-use Rattle.std.specs.List.{list_any, list_all}
-use Rattle.std.specs.Char.{is_ascii_digit}
-use Rattle.ados_text.specs.Number.{digits_of, weight_of, is_negative}
+use Rattle.std.specs.Prelude.{ℕ, List, [], ◌∷◌, Bool, true, false, ◌&&◌, ◌||◌, not}
+use Rattle.std.specs.List.{list_any}
+use Rattle.ados_text.specs.Number.{is_number}
 use Rattle.ados_readargs.specs.declared.options.TemplateOption.{TemplateOption}
 use Rattle.ados_readargs.specs.declared.args.Arg.{Arg}
 use Rattle.ados_readargs.specs.declared.args.Arg.TheVariants.{Absent, On, One, Many}
@@ -22,12 +21,6 @@ abbrev pub lacks : List TemplateOption → List Arg → Bool
 lacks [] args = false
 lacks (option ∷ options) [] = false
 lacks (option ∷ options) (arg ∷ args) = is_lacking option arg || lacks options args
-
--- the text is a number in the range of i32
-unfoldable pub is_number : List ℕ → Bool
-is_number text =
-    nat_lt 0 (length (digits_of text)) && (list_all is_ascii_digit (digits_of text) &&
-    nat_lt (weight_of (digits_of text)) (if is_negative text then 2 ^ 31 + 1 else 2 ^ 31))
 
 -- the text is no number
 abbrev pub is_bad_text : List ℕ → Bool

@@ -7,8 +7,8 @@ ghost use Rattle.ados_readargs.specs.Readings.{plain_items};
 ghost use Rattle.ados_readargs.specs.Args.{on_where, many_of, one_of, arg_by, arg_at, args_of, texts_in, arg_named, is_on, text_at, texts_at, number_at};
 
 use crate::options::{Qualifiers, TemplateOption};
-use crate::readings::{Reading, named_count};
-use crate::shares::held_items;
+use crate::readings::{Reading, is_filled, named_count};
+use crate::shares::{held_items, share};
 use crate::template::Template;
 use ados_items::{Item, value};
 use ados_text::{NoMemory, Text, Texts, number, number_in};
@@ -211,14 +211,15 @@ fn arg_at(
     requires plain { plain.now ≡ plain_items readings.now }
     ensures { IfOk result (λ arg. arg ≡ arg_at options.now line.now readings.now place q) }
 {
-    let items = held_items(alloc, options, readings, plain, place)?;
-    arg_by(
-        alloc,
-        q,
-        named_count(readings, place),
-        line,
-        items.as_slice(),
-    )
+    let named = named_count(readings, place);
+    if is_filled(readings, place) {
+        let items = held_items(alloc, options, readings, plain, place)?;
+        arg_by(alloc, q, named, line, items.as_slice())
+    } else {
+        // it holds no more than its plain words, which are copied into no vector
+        let items = share(options, readings, plain, place);
+        arg_by(alloc, q, named, line, items)
+    }
 }
 
 /// The arguments of the options, by what the words of the line were read as.
@@ -233,7 +234,7 @@ pub fn args_of(
     ensures args { IfOk result (λ args. args.items ≡ args_of options.now line.now readings.now) }
     ensures len { IfOk result (λ args. length args.items ≡ length options.now) }
 {
-    let mut args = Vec::new(alloc);
+    let mut args = Vec::with_capacity(alloc, options.len())?;
     for place in 0..options.len() {
         let q = options[place].qualifiers;
         args.push(arg_at(alloc, options, line, readings, plain, place, q)?)?;

@@ -1,10 +1,10 @@
 ghost use Rattle.std.specs.Prelude.{◌≡◌, length};
 ghost use Rattle.std.specs.List.{list_any};
-ghost use Rattle.ados_readargs.specs.Checks.{is_absent, is_lacking, lacks, is_number, is_bad_text, has_bad_number, is_bad, has_bad};
+ghost use Rattle.ados_readargs.specs.Checks.{is_absent, is_lacking, lacks, is_bad_text, has_bad_number, is_bad, has_bad};
 
 use crate::args::Arg;
 use crate::options::TemplateOption;
-use ados_text::{Text, number};
+use ados_text::{Text, number_in};
 
 fn is_absent(arg: &Arg) -> bool
     ensures { result ≡ is_absent arg.now }
@@ -36,16 +36,10 @@ pub fn lacks(options: &[TemplateOption], args: &[Arg]) -> bool
     false
 }
 
-fn is_number(text: &[u8]) -> bool
-    ensures { result ≡ is_number text.now }
-{
-    number(text).is_ok()
-}
-
 fn is_bad_text(text: &Text) -> bool
     ensures { result ≡ is_bad_text text.now }
 {
-    !is_number(text.as_bytes())
+    number_in(text.as_bytes()).is_none()
 }
 
 fn has_bad_text(texts: &[Text]) -> bool

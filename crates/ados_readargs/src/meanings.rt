@@ -14,7 +14,7 @@ use ados_items::Item;
 use std::alloc::Global;
 
 /// Whether an option waits for its value.
-#[derive(Clone, Copy, Debug, PartialEq, Eq)]
+#[derive(Clone, Copy)]
 pub enum Pending {
     /// None does.
     Free,
@@ -23,7 +23,7 @@ pub enum Pending {
 }
 
 /// What a word of a line says.
-#[derive(Clone, Copy, Debug, PartialEq, Eq)]
+#[derive(Clone, Copy)]
 pub enum Meaning {
     /// It is read so.
     Read(Reading),
@@ -278,7 +278,7 @@ fn read_words(
     ensures ok { IfOk result (λ readings. read_from options.now line.now [] Free words.now ≡ Ok readings.items) }
     ensures fault { IfErr result (λ e. IsFaultOf (read_from options.now line.now [] Free words.now) e) }
 {
-    let mut readings = Vec::new(alloc);
+    let mut readings = Vec::with_capacity(alloc, words.len())?;
     let mut pending = Pending::Free;
     for word in words {
         match meaning_of(options, line, readings.as_slice(), pending, *word) {

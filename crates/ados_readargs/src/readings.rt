@@ -7,7 +7,7 @@ use ados_text::NoMemory;
 use std::alloc::Global;
 
 /// What words of a line were read as.
-#[derive(Clone, Copy, Debug, PartialEq, Eq)]
+#[derive(Clone, Copy)]
 pub enum Reading {
     /// The option at a place, a switch or a toggle, is named.
     Named(usize),

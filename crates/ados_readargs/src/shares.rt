@@ -122,8 +122,8 @@ fn back_share<'a>(
     }
 }
 
-// The plain words that the option at a place takes.
-fn share<'a>(
+/// The plain words that the option at a place takes.
+pub fn share<'a>(
     options: &[TemplateOption],
     readings: &[Reading],
     plain: &'a [Item],

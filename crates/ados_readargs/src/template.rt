@@ -159,25 +159,11 @@ fn letters_of(pieces: &[&[u8]]) -> Option<Qualifiers>
     Some(q)
 }
 
-// The pieces of a text, which commas part.
-fn at_commas(alloc: Global, text: &[u8]) -> Result<Vec<&[u8]>, AllocError>
-    ensures { IfOk result (λ pieces. map (λ p. p.now) pieces.items ≡ slice_split (is_byte 44) text.now) }
+// The pieces of a text, which a sign parts.
+fn pieces_at(alloc: Global, sign: u8, text: &[u8]) -> Result<Vec<&[u8]>, AllocError>
+    ensures { IfOk result (λ pieces. map (λ p. p.now) pieces.items ≡ slice_split (is_byte sign) text.now) }
 {
-    text.split(|b| *b == b',').collect(alloc)
-}
-
-// The pieces of a text, which slashes part.
-fn at_slashes(alloc: Global, text: &[u8]) -> Result<Vec<&[u8]>, AllocError>
-    ensures { IfOk result (λ pieces. map (λ p. p.now) pieces.items ≡ slice_split (is_byte 47) text.now) }
-{
-    text.split(|b| *b == b'/').collect(alloc)
-}
-
-// The pieces of a text, which equal signs part.
-fn at_equals(alloc: Global, text: &[u8]) -> Result<Vec<&[u8]>, AllocError>
-    ensures { IfOk result (λ pieces. map (λ p. p.now) pieces.items ≡ slice_split (is_byte 61) text.now) }
-{
-    text.split(|b| *b == b'=').collect(alloc)
+    text.split(|b| *b == sign).collect(alloc)
 }
 
 // The pieces as texts.
@@ -195,14 +181,14 @@ fn texts_of(alloc: Global, pieces: &[&[u8]]) -> Result<Texts, NoMemory>
 fn names_of(alloc: Global, text: &[u8]) -> Result<Texts, NoMemory>
     ensures { IfOk result (λ texts. texts ≡ names_of text.now) }
 {
-    texts_of(alloc, at_equals(alloc, text)?.as_slice())
+    texts_of(alloc, pieces_at(alloc, b'=', text)?.as_slice())
 }
 
 // The option of a text; None where there is none.
 fn option_of(alloc: Global, text: &[u8]) -> Result<Option<TemplateOption>, NoMemory>
     ensures { IfOk result (λ option. option ≡ option_of text.now) }
 {
-    let pieces = at_slashes(alloc, text)?;
+    let pieces = pieces_at(alloc, b'/', text)?;
     match pieces.as_slice() {
         [] => Ok(None),
         [names, rest @ ..] => match qualifiers_from(rest) {
@@ -302,7 +288,7 @@ fn parse_options(alloc: Global, text: &[u8]) -> Result<Vec<TemplateOption>, ArgF
     if text.is_empty() {
         return Ok(Vec::new(alloc));
     }
-    let options = options_from(alloc, at_commas(alloc, text)?.as_slice())?;
+    let options = options_from(alloc, pieces_at(alloc, b',', text)?.as_slice())?;
     if !is_template(options.as_slice()) {
         return Err(ArgFault::BadTemplate);
     }

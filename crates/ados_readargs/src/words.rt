@@ -6,7 +6,7 @@ use ados_text::NoMemory;
 use std::alloc::Global;
 
 /// A word of a line, by its places; bytes count from 0, and `to` is the place behind the last.
-#[derive(Clone, Copy, Debug, PartialEq, Eq)]
+#[derive(Clone, Copy)]
 pub enum LineWord {
     /// Touching Word and Equal items. `key` is where the Word that they begin with ends: `from`
     /// where they begin with an equal sign.
