@@ -8,8 +8,6 @@ mod command;
 mod faults;
 mod reading;
 mod request;
-#[cfg(test)]
-mod tests;
 
 use ados_launch::{Counted, drive_lines};
 use ados_text::Code;
