@@ -7,7 +7,6 @@ ghost use Rattle.ados_assign.specs.Assigns.{keyed, binding, holders_in};
 ghost use Rattle.ados_assign.specs.Rows.{first_rows, rows_with, rows_without, carried_assign};
 
 use crate::assigns::Assign;
-use crate::carry::carried;
 use crate::order::order;
 use ados_ram::Place;
 use ados_text::{Name, NoMemory, Text};
@@ -141,7 +140,7 @@ pub fn carried_rows(
     for row in rows {
         new.push(Assign {
             name: row.name.copy()?,
-            directory: carried(from, to, &row.directory)?,
+            directory: row.directory.carried(from, to)?,
         })?;
     }
     Ok(new)

@@ -1,4 +1,4 @@
-use crate::{AssignFault, Assigns, ResolveFault, carried, is_on_nil};
+use crate::{AssignFault, Assigns, ResolveFault, is_on_nil};
 use ados_names::{NameFault, Path};
 use ados_ram::{Busy, Place, Ram};
 use ados_text::{Name, NoMemory, Result2, Text};
@@ -152,15 +152,6 @@ fn directories_of_assigns_are_in_use(rt: HostRuntime) -> Result<(), NoMemory> {
     let busy = assigns.busy(Vec::new(alloc))?;
     assert!(rt; busy.holds(at(alloc, b"c")?.names()));
     assert!(rt; !busy.holds(at(alloc, b"D")?.names()));
-    Ok(())
-}
-
-#[test]
-fn a_rename_carries_what_is_below(rt: HostRuntime) -> Result<(), NoMemory> {
-    let alloc = rt.alloc();
-    let from = at(alloc, b"D")?;
-    let moved = carried(&from, &at(alloc, b"new")?, &within(alloc, b"d", b"E")?)?;
-    assert!(rt; moved == within(alloc, b"new", b"e")?);
     Ok(())
 }
 

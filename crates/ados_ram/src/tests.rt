@@ -204,9 +204,18 @@ fn files_below(alloc: Global, ram: &Ram, name: &[u8]) -> Result<usize, NoMemory>
 fn a_rename_moves_what_is_below(rt: HostRuntime) -> Result<(), FsFault> {
     let alloc = rt.alloc();
     let old = with_script(alloc)?;
-    let new = with_moved(alloc, &old)?;
+    let new = with_moved(alloc, &old.copy()?)?;
     assert!(rt; files_below(alloc, &new, b"t")? == 1);
     assert!(rt; files_below(alloc, &old, b"t")? == 0);
+    Ok(())
+}
+
+#[test]
+fn a_place_is_carried_along(rt: HostRuntime) -> Result<(), NoMemory> {
+    let alloc = rt.alloc();
+    let place = script(alloc, b"q")?.carried(&at(alloc, b"S")?, &at(alloc, b"New")?)?;
+    assert!(rt; place.names().len() == 2);
+    assert!(rt; place.names()[0].text().as_bytes() == b"New".as_slice());
     Ok(())
 }
 
