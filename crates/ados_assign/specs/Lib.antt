@@ -1,5 +1,4 @@
 pub mod Assigns
-pub mod Carry
 pub mod InUse
 pub mod Resolve
 pub mod Rows

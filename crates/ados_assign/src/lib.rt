@@ -2,7 +2,6 @@
 //! Assigns, which give names to directories, and the resolving of paths by them.
 
 mod assigns;
-mod carry;
 mod faults;
 mod order;
 mod resolve;
@@ -11,6 +10,5 @@ mod rows;
 mod tests;
 
 pub use assigns::{Assign, Assigns};
-pub use carry::carried;
 pub use faults::{AssignFault, ResolveFault};
 pub use resolve::is_on_nil;

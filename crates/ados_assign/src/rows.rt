@@ -1,13 +1,12 @@
-ghost use Rattle.std.specs.Prelude.{◌≡◌, ◌++◌, IfOk, OnOk, map as each};
+ghost use Rattle.std.specs.Prelude.{◌≡◌, ◌++◌, ◌∷◌, [], IfOk, OnOk, map as each};
 ghost use Rattle.std.specs.Option.{option_copied};
 ghost use Rattle.std.specs.FinMap as map;
 ghost use Rattle.ados_text.specs.Text.{folded, to_ascii};
 ghost use Rattle.ados_ram.specs.Place.{key_of, name_cmp};
-ghost use Rattle.ados_assign.specs.Assigns.{keyed, holders_in};
+ghost use Rattle.ados_assign.specs.Assigns.{keyed, binding, holders_in};
 ghost use Rattle.ados_assign.specs.Rows.{first_rows, rows_with, rows_without, carried_assign};
 
 use crate::assigns::Assign;
-use crate::carry::carried;
 use crate::order::order;
 use ados_ram::Place;
 use ados_text::{Name, NoMemory, Text};
@@ -141,7 +140,7 @@ pub fn carried_rows(
     for row in rows {
         new.push(Assign {
             name: row.name.copy()?,
-            directory: carried(from, to, &row.directory)?,
+            directory: row.directory.carried(from, to)?,
         })?;
     }
     Ok(new)
@@ -151,29 +150,27 @@ pub fn carried_rows(
 pub fn first_rows(alloc: Global) -> Result<Vec<Assign>, NoMemory>
     ensures { IfOk result (λ rows. rows.items ≡ first_rows) }
 {
-    let root = Place::root(alloc);
     let mut rows = Vec::new(alloc);
-    rows.push(Assign {
-        name: name(alloc, b"C")?,
-        directory: root.copy()?.with(name(alloc, b"C")?)?,
-    })?;
-    rows.push(Assign {
-        name: name(alloc, b"ENV")?,
-        directory: root.copy()?.with(name(alloc, b"Env")?)?,
-    })?;
-    rows.push(Assign {
-        name: name(alloc, b"S")?,
-        directory: root.copy()?.with(name(alloc, b"S")?)?,
-    })?;
+    rows.push(to_directory(alloc, b"C", b"C")?)?;
+    rows.push(to_directory(alloc, b"ENV", b"Env")?)?;
+    rows.push(to_directory(alloc, b"S", b"S")?)?;
     rows.push(Assign {
         name: name(alloc, b"SYS")?,
-        directory: root.copy()?,
+        directory: Place::root(alloc),
     })?;
-    rows.push(Assign {
-        name: name(alloc, b"T")?,
-        directory: root.with(name(alloc, b"T")?)?,
-    })?;
+    rows.push(to_directory(alloc, b"T", b"T")?)?;
     Ok(rows)
+}
+
+// A name bound to a directory in the root.
+fn to_directory(alloc: Global, written: &[u8], directory: &[u8]) -> Result<Assign, NoMemory>
+    ensures { IfOk result (λ assign. assign ≡ binding (each to_ascii written.now) (each to_ascii directory.now ∷ [])) }
+{
+    let directory = Place::root(alloc).with(name(alloc, directory)?)?;
+    Ok(Assign {
+        name: name(alloc, written)?,
+        directory,
+    })
 }
 
 // The bytes as a name.

@@ -1,194 +1,166 @@
-use crate::{AssignFault, Assigns, ResolveFault, carried, is_on_nil};
+use crate::{AssignFault, Assigns, ResolveFault, is_on_nil};
 use ados_names::{NameFault, Path};
-use ados_ram::{Busy, FsFault, Place, Ram};
+use ados_ram::{Busy, Place, Ram};
 use ados_text::{Name, NoMemory, Result2, Text};
 use std::alloc::Global;
-use std::test::Fail;
+use std::process::Abort;
 
-fn name(alloc: Global, written: &str) -> Result<Name, NoMemory> {
-    Ok(Name::new(Text::from_bytes(alloc, written.as_bytes())?))
+// Each function here makes few calls, since the proof of a long one is slow.
+
+fn name(alloc: Global, bytes: &[u8]) -> Result<Name, NoMemory> {
+    Ok(Name::new(Text::from_bytes(alloc, bytes)?))
 }
 
-// A place from its names.
-fn place(alloc: Global, names: &[&str]) -> Result<Place, NoMemory> {
-    let mut place = Place::root(alloc);
-    for written in names {
-        place = place.with(name(alloc, written)?)?;
-    }
-    Ok(place)
+// The place of a name in the root.
+fn at(alloc: Global, bytes: &[u8]) -> Result<Place, NoMemory> {
+    Place::root(alloc).with(name(alloc, bytes)?)
 }
 
-fn path(alloc: Global, written: &str) -> Result<Path, NameFault> {
-    Path::parse(alloc, &Text::from_bytes(alloc, written.as_bytes())?)
+// The place of a name in a directory of the root.
+fn within(alloc: Global, directory: &[u8], bytes: &[u8]) -> Result<Place, NoMemory> {
+    at(alloc, directory)?.with(name(alloc, bytes)?)
 }
 
-// Files with a directory `d`, in it a directory `e` and a file `f`, and in `e` a directory `a`.
-fn files(alloc: Global) -> Result<Ram, Fail> {
-    let ram = Ram::new(alloc)?.make_dir(&place(alloc, &["d"])?)?;
-    let ram = ram.make_dir(&place(alloc, &["d", "e"])?)?;
-    let ram = ram.make_dir(&place(alloc, &["d", "e", "a"])?)?;
-    Ok(ram.write(&Busy::none(alloc), &place(alloc, &["d", "f"])?, b"x")?)
+fn path(alloc: Global, bytes: &[u8]) -> Result<Path, NameFault> {
+    Path::parse(alloc, &Text::from_bytes(alloc, bytes)?)
 }
 
-// The number of the fault of a path from `d/e`, with the assigns at first; 0 where it leads to a place, and 1 where it
-// leads to another.
-fn outcome(alloc: Global, ram: &Ram, written: &str, names: &[&str]) -> Result<u16, Fail> {
-    let current = place(alloc, &["d", "e"])?;
-    let path = path(alloc, written)?;
-    match Assigns::first(alloc)?.resolve(&path, &current, ram) {
-        Ok(found) => Ok(u16::from(found != place(alloc, names)?)),
-        Err(ResolveFault::Refused(number)) => Ok(number.0),
-        Err(ResolveFault::NoMemory) => Ok(Result2::NO_FREE_STORE.0),
+// The files at first and an empty file `S/q`.
+fn files(alloc: Global) -> Result<Ram, NameFault> {
+    let file = within(alloc, b"S", b"q")?;
+    match Ram::new(alloc)?.write(&Busy::none(alloc), &file, b"") {
+        Ok(ram) => Ok(ram),
+        Err(_) => Err(NameFault::NoMemory),
     }
 }
 
-// The names that are bound to a place are spelled as these.
-fn holds(assigns: &Assigns, place: &Place, expected: &[&str]) -> Result<bool, Fail> {
-    let names = assigns.holders(place)?;
-    let mut same = names.len() == expected.len();
-    for (name, text) in names.iter().zip(expected.iter()) {
-        if name.text().as_bytes() != text.as_bytes() {
-            same = false;
-        }
+// Where a path leads from the directory S, or the number of its fault. Want of memory is handed on.
+fn resolved(alloc: Global, path: &Path) -> Result<Result<Place, Result2>, NameFault> {
+    let ram = files(alloc)?;
+    let current = at(alloc, b"S")?;
+    match Assigns::first(alloc)?.resolve(path, &current, &ram) {
+        Ok(place) => Ok(Ok(place)),
+        Err(ResolveFault::Refused(number)) => Ok(Err(number)),
+        Err(ResolveFault::NoMemory) => Err(NameFault::NoMemory),
     }
-    Ok(same)
 }
 
-// The number of the fault of a deletion, 0 where there is none.
-fn deleted(alloc: Global, busy: &Busy, written: &str) -> Result<u16, Fail> {
-    let place = place(alloc, &[written])?;
-    match files(alloc)?.delete(busy, &place) {
+fn leads_to(alloc: Global, written: &[u8], place: Place) -> Result<bool, NameFault> {
+    match resolved(alloc, &path(alloc, written)?)? {
+        Ok(found) => Ok(found == place),
+        Err(_) => Ok(false),
+    }
+}
+
+fn refused(alloc: Global, written: &[u8]) -> Result<u16, NameFault> {
+    match resolved(alloc, &path(alloc, written)?)? {
         Ok(_) => Ok(0),
-        Err(FsFault::Refused(number)) => Ok(number.0),
-        Err(FsFault::NoMemory) => Ok(Result2::NO_FREE_STORE.0),
+        Err(number) => Ok(number.0),
     }
 }
 
 #[test]
-fn paths_lead_to_places(rt: HostRuntime) -> Result<(), Fail> {
+fn steps_go_from_the_current_directory(rt: HostRuntime) -> Result<(), NameFault> {
     let alloc = rt.alloc();
-    let ram = files(alloc)?;
-    let cases: [(&str, &[&str]); 11] = [
-        ("", &["d", "e"]),
-        ("/", &["d"]),
-        ("//", &[]),
-        (":", &[]),
-        ("a//b", &["d", "e", "b"]),
-        ("no", &["d", "e", "no"]),
-        ("s:x", &["S", "x"]),
-        ("ENV:v", &["Env", "v"]),
-        ("SYS:d/f", &["d", "f"]),
-        ("ram disk:t", &["T"]),
-        ("RAM:D/E/A/", &["d", "e", "a"]),
-    ];
-    for (written, names) in cases {
-        assert!(rt; outcome(alloc, &ram, written, names)? == 0, "at {written}");
+    assert!(rt; leads_to(alloc, b"", at(alloc, b"s")?)?);
+    assert!(rt; leads_to(alloc, b"/", Place::root(alloc))?);
+    assert!(rt; leads_to(alloc, b"no", within(alloc, b"S", b"no")?)?);
+    Ok(())
+}
+
+#[test]
+fn a_volume_is_the_root(rt: HostRuntime) -> Result<(), NameFault> {
+    let alloc = rt.alloc();
+    assert!(rt; leads_to(alloc, b":", Place::root(alloc))?);
+    assert!(rt; leads_to(alloc, b"ram disk:t", at(alloc, b"T")?)?);
+    assert!(rt; leads_to(alloc, b"RAM:s/Q/", within(alloc, b"S", b"q")?)?);
+    Ok(())
+}
+
+#[test]
+fn an_assign_is_its_directory(rt: HostRuntime) -> Result<(), NameFault> {
+    let alloc = rt.alloc();
+    assert!(rt; leads_to(alloc, b"env:v", within(alloc, b"Env", b"v")?)?);
+    assert!(rt; leads_to(alloc, b"SYS:C//T", at(alloc, b"T")?)?);
+    Ok(())
+}
+
+#[test]
+fn steps_that_lead_nowhere(rt: HostRuntime) -> Result<(), NameFault> {
+    let alloc = rt.alloc();
+    assert!(rt; refused(alloc, b"//")? == 205);
+    assert!(rt; refused(alloc, b"no/b")? == 204);
+    assert!(rt; refused(alloc, b"no//")? == 204);
+    assert!(rt; refused(alloc, b"q/b")? == 212);
+    Ok(())
+}
+
+#[test]
+fn devices_that_lead_nowhere(rt: HostRuntime) -> Result<(), NameFault> {
+    let alloc = rt.alloc();
+    assert!(rt; refused(alloc, b"X:y")? == 218);
+    assert!(rt; refused(alloc, b"nil:a")? == 212);
+    assert!(rt; is_on_nil(&path(alloc, b"NIL:")?));
+    Ok(())
+}
+
+// The first assigns, `Libs` bound to T, and then to S in another spelling.
+fn with_libs(alloc: Global) -> Result<Assigns, NoMemory> {
+    let assigns = Assigns::first(alloc)?.set(name(alloc, b"Libs")?, at(alloc, b"T")?)?;
+    assigns.set(name(alloc, b"LIBS")?, at(alloc, b"S")?)
+}
+
+// How many names are bound to a place in the root.
+fn count(alloc: Global, assigns: &Assigns, written: &[u8]) -> Result<usize, NoMemory> {
+    let place = at(alloc, written)?;
+    Ok(assigns.holders(&place)?.len())
+}
+
+// The name of an assign is written so.
+fn is_spelled(assigns: &Assigns, name: &Name, written: &[u8]) -> bool {
+    match assigns.get(name) {
+        None => false,
+        Some(assign) => assign.name.text().as_bytes() == written,
     }
-    Ok(())
 }
 
 #[test]
-fn paths_that_lead_nowhere(rt: HostRuntime) -> Result<(), Fail> {
+fn a_name_keeps_its_first_spelling(rt: HostRuntime) -> Result<(), NoMemory> {
     let alloc = rt.alloc();
-    let ram = files(alloc)?;
-    let cases = [
-        ("///", 205),
-        ("S://", 205),
-        ("X:y", 218),
-        ("no/b", 204),
-        ("no//", 204),
-        ("/f/b", 212),
-        ("NIL:", 212),
-        ("nil:a", 212),
-    ];
-    for (written, number) in cases {
-        assert_eq!(rt; outcome(alloc, &ram, written, &[])?, number, "at {written}");
-    }
+    let assigns = with_libs(alloc)?.copy()?;
+    assert!(rt; is_spelled(&assigns, &name(alloc, b"libs")?, b"Libs"));
+    assert!(rt; count(alloc, &assigns, b"s")? == 2);
+    assert!(rt; count(alloc, &assigns, b"t")? == 1);
     Ok(())
 }
 
 #[test]
-fn resolves_through_eight_levels(rt: HostRuntime) -> Result<(), Fail> {
+fn a_name_is_removed_once(rt: HostRuntime) -> Result<(), AssignFault> {
     let alloc = rt.alloc();
-    let mut ram = Ram::new(alloc)?;
-    let mut deep = Place::root(alloc);
-    for _ in 0..8 {
-        deep = deep.with(name(alloc, "l")?)?;
-        ram = ram.make_dir(&deep)?;
-    }
-    let names = ["l", "l", "l", "l", "l", "l", "l", "l", "x"];
-    assert_eq!(rt; outcome(alloc, &ram, ":l/l/l/l/l/l/l/l/x", &names)?, 0);
+    let scripts = name(alloc, b"s")?;
+    let fewer = Assigns::first(alloc)?.remove(&scripts)?;
+    assert!(rt; fewer.list().len() == 4);
+    assert!(rt; fewer.remove(&scripts).err() == Some(AssignFault::NotFound));
     Ok(())
 }
 
 #[test]
-fn a_name_keeps_its_first_spelling(rt: HostRuntime) -> Result<(), Fail> {
-    let alloc = rt.alloc();
-    let first = Assigns::first(alloc)?;
-    let scripts = place(alloc, &["s"])?;
-    assert!(rt; holds(&first, &scripts, &["S"])?);
-    let more = first.set(name(alloc, "Libs")?, place(alloc, &["T"])?)?;
-    let more = more.set(name(alloc, "LIBS")?, scripts.copy()?)?;
-    assert!(rt; holds(&more, &scripts, &["Libs", "S"])?);
-    assert_eq!(rt; more.list().len(), 6);
-    assert!(rt; first.get(&name(alloc, "libs")?).is_none());
-    Ok(())
-}
-
-#[test]
-fn a_name_is_removed_once(rt: HostRuntime) -> Result<(), Fail> {
-    let alloc = rt.alloc();
-    let scripts = name(alloc, "s")?;
-    let fewer = Assigns::first(alloc)?.copy()?.remove(&scripts)?;
-    assert!(rt; holds(&fewer, &place(alloc, &["S"])?, &[])?);
-    assert_eq!(rt; fewer.remove(&scripts).err(), Some(AssignFault::NotFound));
-    Ok(())
-}
-
-#[test]
-fn an_assigned_directory_is_in_use(rt: HostRuntime) -> Result<(), Fail> {
+fn directories_of_assigns_are_in_use(rt: HostRuntime) -> Result<(), NoMemory> {
     let alloc = rt.alloc();
     let assigns = Assigns::first(alloc)?;
-    let mut current = Vec::new(alloc);
-    current.push(place(alloc, &["d"])?)?;
-    let busy = assigns.busy(current)?;
-    assert_eq!(rt; deleted(alloc, &busy, "c")?, 202);
-    assert_eq!(rt; deleted(alloc, &busy, "D")?, 202);
-    assert_eq!(rt; deleted(alloc, &busy, "x")?, 205);
+    assert!(rt; assigns.held()?.len() == 5);
+    let busy = assigns.busy(Vec::new(alloc))?;
+    assert!(rt; busy.holds(at(alloc, b"c")?.names()));
+    assert!(rt; !busy.holds(at(alloc, b"D")?.names()));
     Ok(())
 }
 
 #[test]
-fn a_rename_carries_assigns_along(rt: HostRuntime) -> Result<(), Fail> {
+fn a_rename_carries_assigns_along(rt: HostRuntime) -> Result<(), NoMemory> {
     let alloc = rt.alloc();
-    let from = place(alloc, &["D"])?;
-    let to = place(alloc, &["new", "place"])?;
-    let moved = carried(&from, &to, &place(alloc, &["d", "E"])?)?;
-    assert!(rt; moved == place(alloc, &["new", "place", "e"])?);
-    let assigns = Assigns::first(alloc)?.set(name(alloc, "W")?, from.copy()?)?;
-    let assigns = assigns.carry(&from, &to)?;
-    assert!(rt; holds(&assigns, &to, &["W"])?);
-    assert!(rt; holds(&assigns, &place(alloc, &["C"])?, &["C"])?);
+    let from = at(alloc, b"s")?;
+    let assigns = Assigns::first(alloc)?.carry(&from, &at(alloc, b"new")?)?;
+    assert!(rt; count(alloc, &assigns, b"NEW")? == 1);
+    assert!(rt; count(alloc, &assigns, b"S")? == 0);
     Ok(())
-}
-
-#[test]
-fn want_of_memory_is_told(rt: HostRuntime) {
-    let alloc = rt.alloc();
-    let (Ok(assigns), Ok(ram), Ok(path)) = (
-        Assigns::first(alloc),
-        Ram::new(alloc),
-        path(alloc, "T:x"),
-    ) else {
-        return;
-    };
-    assert!(rt; !is_on_nil(&path));
-    match assigns.resolve(&path, &Place::root(alloc), &ram) {
-        Ok(place) => assert_eq!(rt; place.names().len(), 2),
-        Err(fault) => assert_eq!(rt; fault, ResolveFault::NoMemory),
-    }
-    match assigns.held() {
-        Ok(places) => assert_eq!(rt; places.len(), 5),
-        Err(_) => assert_eq!(rt; assigns.list().len(), 5),
-    }
 }

@@ -2,14 +2,29 @@ use crate::{NameFault, Path, Step, is_name, last_piece};
 use ados_text::{NoMemory, Text};
 use std::alloc::Global;
 use std::process::Abort;
-use std::test::Fail;
 
-fn text(alloc: Global, bytes: &str) -> Result<Text, NoMemory> {
-    Text::from_bytes(alloc, bytes.as_bytes())
+// Each function here makes few calls, since the proof of a long one is slow.
+
+fn text(alloc: Global, bytes: &[u8]) -> Result<Text, NoMemory> {
+    Text::from_bytes(alloc, bytes)
+}
+
+// The path of a text.
+fn path(alloc: Global, bytes: &[u8]) -> Result<Path, NameFault> {
+    Path::parse(alloc, &text(alloc, bytes)?)
+}
+
+// The text names a path. Want of memory is handed on.
+fn names_a_path(alloc: Global, text: &Text) -> Result<bool, NameFault> {
+    match Path::parse(alloc, text) {
+        Ok(_) => Ok(true),
+        Err(NameFault::Invalid) => Ok(false),
+        Err(NameFault::NoMemory) => Err(NameFault::NoMemory),
+    }
 }
 
 // A text of names with nine letters each, the last one aside.
-fn long_text(alloc: Global, length: usize) -> Result<Text, NoMemory> {
+fn long(alloc: Global, length: usize) -> Result<Text, NoMemory> {
     let mut text = Text::new(alloc);
     for place in 0..length {
         text.push(if place % 10 == 9 { b'/' } else { b'x' })?;
@@ -17,138 +32,95 @@ fn long_text(alloc: Global, length: usize) -> Result<Text, NoMemory> {
     Ok(text)
 }
 
-// Whether a path has a device text and steps; a step up is written as a slash.
-fn says(path: &Path, device: Option<&str>, steps: &[&str]) -> bool {
-    let mut same = path.steps().len() == steps.len();
-    for (step, want) in path.steps().iter().zip(steps.iter()) {
-        same = same
-            && match step {
-                Step::Up => *want == "/",
-                Step::Name(name) => name.as_bytes() == want.as_bytes(),
-            };
-    }
-    match (path.device(), device) {
-        (None, None) => same,
-        (Some(text), Some(want)) => same && text.as_bytes() == want.as_bytes(),
-        _ => false,
+// The step goes into a name.
+fn is_into(step: &Step, name: &[u8]) -> bool {
+    match step {
+        Step::Up => false,
+        Step::Name(text) => text.as_bytes() == name,
     }
 }
 
-fn fault(answer: Result<Path, NameFault>) -> u16 {
-    match answer {
-        Ok(_) => 0,
-        Err(fault) => fault.result2().0,
+// The device text of a path.
+fn is_on(path: &Path, device: &[u8]) -> bool {
+    match path.device() {
+        None => false,
+        Some(text) => text.as_bytes() == device,
     }
 }
 
 #[test]
-fn slashes_go_up_and_colons_name_devices(rt: HostRuntime) -> Result<(), Fail> {
-    let alloc = rt.alloc();
-    let cases: [(&str, Option<&str>, &[&str]); 10] = [
-        ("", None, &[]),
-        ("/", None, &["/"]),
-        ("///", None, &["/", "/", "/"]),
-        (":", Some(""), &[]),
-        (":a", Some(""), &["a"]),
-        ("a//b", None, &["a", "/", "b"]),
-        ("a/", None, &["a"]),
-        ("a//", None, &["a", "/"]),
-        ("RAM:a/b c", Some("RAM"), &["a", "b c"]),
-        ("Ram Disk:/x", Some("Ram Disk"), &["/", "x"]),
-    ];
-    for (written, device, steps) in cases {
-        let path = Path::parse(alloc, &text(alloc, written)?)?.copy()?;
-        assert!(rt; says(&path, device, steps), "at {written}");
-    }
+fn a_slash_goes_up(rt: HostRuntime) -> Result<(), NameFault> {
+    let path = path(rt.alloc(), b"a//b c/")?;
+    assert!(rt; path.device().is_none() && path.steps().len() == 3);
+    assert!(rt; is_into(&path.steps()[0], b"a"));
+    assert!(rt; path.steps()[1] == Step::Up);
+    assert!(rt; is_into(&path.steps()[2], b"b c"));
     Ok(())
 }
 
 #[test]
-fn what_is_no_name_is_refused(rt: HostRuntime) -> Result<(), Fail> {
+fn a_device_stands_before_the_colon(rt: HostRuntime) -> Result<(), NameFault> {
+    let path = path(rt.alloc(), b"Ram Disk:/x")?.copy()?;
+    assert!(rt; is_on(&path, b"Ram Disk") && path.steps().len() == 2);
+    assert!(rt; path.steps()[0] == Step::Up && is_into(&path.steps()[1], b"x"));
+    Ok(())
+}
+
+// The bytes name a path.
+fn is_path(alloc: Global, bytes: &[u8]) -> Result<bool, NameFault> {
+    names_a_path(alloc, &text(alloc, bytes)?)
+}
+
+#[test]
+fn a_path_has_one_colon(rt: HostRuntime) -> Result<(), NameFault> {
     let alloc = rt.alloc();
-    let thirty = "abcdefghijklmnopqrstuvwxyz1234";
-    let more = "abcdefghijklmnopqrstuvwxyz12345";
-    let cases = [
-        (thirty, 0),
-        (more, 210),
-        ("a:b:c", 210),
-        ("a/b:c", 210),
-        ("a/\t", 210),
-        ("a~", 0),
-        ("a\x7f", 210),
-        ("d:", 0),
-        ("abcdefghijklmnopqrstuvwxyz12345:", 210),
-    ];
-    for (written, number) in cases {
-        assert_eq!(rt;
-            fault(Path::parse(alloc, &text(alloc, written)?)),
-            number,
-            "at {written}"
-        );
-    }
-    assert!(rt; is_name(&text(alloc, thirty)?) && !is_name(&text(alloc, more)?));
-    assert!(rt; !is_name(&text(alloc, "")?));
+    assert!(rt; is_path(alloc, b":")? && !is_path(alloc, b"a:b:c")?);
+    assert!(rt; !is_path(alloc, b"a/b:c")? && !is_path(alloc, b"a/\t")?);
+    assert!(rt; is_path(alloc, b"a~")? && !is_path(alloc, b"a\x7f")?);
     Ok(())
 }
 
 #[test]
-fn a_path_has_at_most_255_bytes(rt: HostRuntime) -> Result<(), Fail> {
+fn a_name_has_30_bytes(rt: HostRuntime) -> Result<(), NameFault> {
     let alloc = rt.alloc();
-    assert_eq!(rt; fault(Path::parse(alloc, &long_text(alloc, 255)?)), 0);
-    assert_eq!(rt; fault(Path::parse(alloc, &long_text(alloc, 256)?)), 210);
-    let path = Path::parse(alloc, &long_text(alloc, 253)?)?;
-    assert_eq!(rt; fault(path.join(&text(alloc, "b")?)), 0);
-    assert_eq!(rt; fault(path.join(&text(alloc, "bc")?)), 210);
+    assert!(rt; is_name(&text(alloc, b"abcdefghijklmnopqrstuvwxyz1234")?));
+    assert!(rt; !is_name(&text(alloc, b"abcdefghijklmnopqrstuvwxyz12345")?));
+    assert!(rt; !is_path(alloc, b"abcdefghijklmnopqrstuvwxyz12345:")?);
     Ok(())
 }
 
 #[test]
-fn joins_one_name(rt: HostRuntime) -> Result<(), Fail> {
+fn a_path_has_255_bytes(rt: HostRuntime) -> Result<(), NameFault> {
     let alloc = rt.alloc();
-    let path = Path::parse(alloc, &text(alloc, "RAM:a")?)?;
-    assert!(rt; says(&path.join(&text(alloc, "b")?)?, Some("RAM"), &["a", "b"]));
-    for written in ["", "b/c", "b:", "/"] {
-        assert_eq!(rt;
-            fault(path.join(&text(alloc, written)?)),
-            210,
-            "at {written}"
-        );
-    }
+    assert!(rt; names_a_path(alloc, &long(alloc, 255)?)?);
+    assert!(rt; !names_a_path(alloc, &long(alloc, 256)?)?);
     Ok(())
 }
 
 #[test]
-fn the_last_piece_is_behind_the_last_slash_or_colon(rt: HostRuntime) -> Result<(), Fail> {
+fn a_path_with_one_name_more_has_255_bytes(rt: HostRuntime) -> Result<(), NameFault> {
     let alloc = rt.alloc();
-    for (written, place) in [
-        ("", 0),
-        ("#?", 0),
-        ("a/", 2),
-        ("d:#?", 2),
-        ("d:a/b", 4),
-        (":", 1),
-    ] {
-        assert_eq!(rt; last_piece(&text(alloc, written)?), place, "at {written}");
-    }
+    let path = Path::parse(alloc, &long(alloc, 253)?)?;
+    assert!(rt; path.join(&text(alloc, b"b")?)?.steps().len() == 27);
+    assert!(rt; path.join(&text(alloc, b"bc")?).err() == Some(NameFault::Invalid));
     Ok(())
 }
 
 #[test]
-fn want_of_memory_is_told(rt: HostRuntime) {
+fn joins_one_name(rt: HostRuntime) -> Result<(), NameFault> {
     let alloc = rt.alloc();
-    let Ok(written) = text(alloc, "RAM:a/b/c/d/e/f/g/h/i") else {
-        return;
-    };
-    let Ok(name) = text(alloc, "j") else {
-        return;
-    };
-    match Path::parse(alloc, &written) {
-        Ok(path) => assert_done(&rt, path.join(&name)),
-        Err(fault) => assert_eq!(rt; fault, NameFault::NoMemory),
-    }
+    let path = path(alloc, b"RAM:a")?.join(&text(alloc, b"b")?)?;
+    assert!(rt; is_on(&path, b"RAM") && path.steps().len() == 2);
+    assert!(rt; is_into(&path.steps()[1], b"b"));
+    assert!(rt; path.join(&text(alloc, b"b/c")?).err() == Some(NameFault::Invalid));
+    Ok(())
 }
 
-fn assert_done(rt: &impl Abort, answer: Result<Path, NameFault>) {
-    let number = fault(answer);
-    assert!(rt; number == 0 || number == NameFault::NoMemory.result2().0);
+#[test]
+fn the_last_piece_is_behind_the_last_slash_or_colon(rt: HostRuntime) -> Result<(), NameFault> {
+    let alloc = rt.alloc();
+    assert!(rt; last_piece(&text(alloc, b"#?")?) == 0);
+    assert!(rt; last_piece(&text(alloc, b"d:#?")?) == 2);
+    assert!(rt; last_piece(&text(alloc, b"d:a/b")?) == 4);
+    Ok(())
 }

@@ -1,217 +1,309 @@
 use crate::{Bits, Busy, FsFault, Place, Ram};
-use ados_text::{Name, NoMemory, Result2, Text};
+use ados_text::{Name, NoMemory, Text};
 use std::alloc::Global;
 use std::process::Abort;
-use std::test::Fail;
 
-// A place from its names.
-fn place(alloc: Global, names: &[&str]) -> Result<Place, NoMemory> {
-    let mut place = Place::root(alloc);
-    for name in names {
-        place = place.with(Name::new(Text::from_bytes(alloc, name.as_bytes())?))?;
-    }
-    Ok(place)
+// Each function here makes few calls, since the proof of a long one is slow.
+
+// The place of a name in the root.
+fn at(alloc: Global, name: &[u8]) -> Result<Place, NoMemory> {
+    Place::root(alloc).with(Name::new(Text::from_bytes(alloc, name)?))
 }
 
-// One of many places in the root, by its number.
-fn numbered(alloc: Global, number: u32) -> Result<Place, NoMemory> {
-    let letters = [
-        b'f',
-        b'a' + (number / 676 % 26) as u8,
-        b'a' + (number / 26 % 26) as u8,
-        b'a' + (number % 26) as u8,
-    ];
-    Place::root(alloc).with(Name::new(Text::from_bytes(alloc, &letters)?))
+// The place of a name in the directory S.
+fn script(alloc: Global, name: &[u8]) -> Result<Place, NoMemory> {
+    at(alloc, b"s")?.with(Name::new(Text::from_bytes(alloc, name)?))
 }
 
-fn bytes(alloc: Global, count: usize) -> Result<Vec<u8>, NoMemory> {
-    let mut bytes = Vec::new(alloc);
+// A text of many bytes.
+fn long(alloc: Global, count: usize) -> Result<Text, NoMemory> {
+    let mut text = Text::new(alloc);
     for _ in 0..count {
-        bytes.push(b'x')?;
+        text.push(b'x')?;
     }
-    Ok(bytes)
+    Ok(text)
 }
 
-fn write(alloc: Global, ram: &Ram, names: &[&str], bytes: &[u8]) -> Result<Ram, Fail> {
-    Ok(ram.write(&Busy::none(alloc), &place(alloc, names)?, bytes)?)
-}
-
-fn append(alloc: Global, ram: &Ram, names: &[&str], bytes: &[u8]) -> Result<Ram, Fail> {
-    Ok(ram.append(&Busy::none(alloc), &place(alloc, names)?, bytes)?)
-}
-
-fn holds(alloc: Global, ram: &Ram, names: &[&str], bytes: &[u8]) -> Result<bool, Fail> {
-    match ram.read(&Busy::none(alloc), &place(alloc, names)?) {
-        Ok(found) => Ok(found == bytes),
-        Err(_) => Ok(false),
-    }
-}
-
-fn is_spelled(names: &[Name], expected: &[&str]) -> bool {
-    let mut same = names.len() == expected.len();
-    for (name, text) in names.iter().zip(expected.iter()) {
-        if name.text().as_bytes() != text.as_bytes() {
-            same = false;
-        }
-    }
-    same
-}
-
-fn lists(alloc: Global, ram: &Ram, names: &[&str], expected: &[&str]) -> Result<bool, Fail> {
-    let found = ram.list(&place(alloc, names)?)?;
-    Ok(is_spelled(&found, expected))
-}
-
-// The number of the fault, 0 where there is none.
-fn fault<T: Drop>(answer: Result<T, FsFault>) -> u16 {
+// The number of the fault, 0 where there is none. Want of memory is handed on.
+fn fault(answer: Result<Ram, FsFault>) -> Result<u16, FsFault> {
     match answer {
-        Ok(_) => 0,
-        Err(FsFault::Refused(number)) => number.0,
-        Err(FsFault::NoMemory) => Result2::NO_FREE_STORE.0,
+        Ok(_) => Ok(0),
+        Err(FsFault::Refused(number)) => Ok(number.0),
+        Err(FsFault::NoMemory) => Err(FsFault::NoMemory),
+    }
+}
+
+// The files at first and the file `S/q`, which holds `Quit`.
+fn with_script(alloc: Global) -> Result<Ram, FsFault> {
+    let ram = Ram::new(alloc)?;
+    ram.write(&Busy::none(alloc), &script(alloc, b"q")?, b"Quit")
+}
+
+// The same with other bits for the directory S.
+fn protected(alloc: Global, bits: Bits) -> Result<Ram, FsFault> {
+    let ram = with_script(alloc)?;
+    ram.protect(&at(alloc, b"S")?, bits)
+}
+
+// An output is open at a place.
+fn with_output(alloc: Global, place: Place) -> Result<Busy, NoMemory> {
+    let mut busy = Busy::none(alloc);
+    busy.outputs.push(place)?;
+    Ok(busy)
+}
+
+// A current directory is at a place.
+fn with_current(alloc: Global, place: Place) -> Result<Busy, NoMemory> {
+    let mut busy = Busy::none(alloc);
+    busy.dirs.push(place)?;
+    Ok(busy)
+}
+
+// A file holds these bytes.
+fn holds(alloc: Global, ram: &Ram, file: &Place, bytes: &[u8]) -> bool {
+    match ram.read(&Busy::none(alloc), file) {
+        Ok(found) => found == bytes,
+        Err(_) => false,
     }
 }
 
 #[test]
-fn begins_with_four_empty_directories(rt: HostRuntime) -> Result<(), Fail> {
+fn begins_with_four_directories(rt: HostRuntime) -> Result<(), FsFault> {
     let alloc = rt.alloc();
-    let ram = Ram::new(alloc)?;
-    assert!(rt; lists(alloc, &ram, &[], &["C", "Env", "S", "T"])?);
-    for name in ["c", "ENV", "s", "T"] {
-        assert!(rt; lists(alloc, &ram, &[name], &[])?);
-    }
+    let names = Ram::new(alloc)?.list(&Place::root(alloc))?;
+    assert!(rt; names.len() == 4);
+    assert!(rt; names[1].text().as_bytes() == b"Env".as_slice());
     Ok(())
 }
 
 #[test]
-fn writes_appends_and_reads(rt: HostRuntime) -> Result<(), Fail> {
+fn a_file_is_written_and_read(rt: HostRuntime) -> Result<(), FsFault> {
     let alloc = rt.alloc();
-    let ram = write(alloc, &Ram::new(alloc)?, &["S", "q"], b"Quit")?;
-    let ram = append(alloc, &ram, &["S", "q"], b" 20\n")?;
-    let ram = append(alloc, &ram, &["S", "B"], b"b")?;
-    assert!(rt; holds(alloc, &ram, &["S", "q"], b"Quit 20\n")?);
-    assert!(rt; holds(alloc, &ram, &["S", "b"], b"b")?);
-    assert!(rt; lists(alloc, &ram, &["S"], &["B", "q"])?);
+    let file = script(alloc, b"Q")?;
+    let ram = with_script(alloc)?.append(&Busy::none(alloc), &file, b" 20")?;
+    assert!(rt; holds(alloc, &ram, &file, b"Quit 20"));
+    assert!(rt; ram.full_path(&file)?.as_bytes() == b"RAM:S/q".as_slice());
     Ok(())
 }
 
 #[test]
-fn a_second_spelling_is_the_same_file(rt: HostRuntime) -> Result<(), Fail> {
+fn bytes_go_to_an_open_output(rt: HostRuntime) -> Result<(), FsFault> {
     let alloc = rt.alloc();
-    let ram = write(alloc, &Ram::new(alloc)?, &["ReadMe"], b"one")?;
-    let ram = write(alloc, &ram, &["README"], b"two")?;
-    assert!(rt; holds(alloc, &ram, &["readme"], b"two")?);
-    assert!(rt; lists(alloc, &ram, &[], &["C", "Env", "ReadMe", "S", "T"])?);
-    assert!(rt; place(alloc, &["S", "Q"])? == place(alloc, &["s", "q"])?);
+    let file = script(alloc, b"q")?;
+    let ram = with_script(alloc)?.put_open(&file, b"!")?;
+    assert!(rt; holds(alloc, &ram, &file, b"Quit!"));
     Ok(())
 }
 
 #[test]
-fn a_write_clears_the_archive_bit(rt: HostRuntime) -> Result<(), Fail> {
+fn what_is_below_a_directory(rt: HostRuntime) -> Result<(), FsFault> {
     let alloc = rt.alloc();
-    let file = place(alloc, &["f"])?;
-    let bits = Bits {
-        archive: true,
-        script: true,
-        ..Bits::FRESH
-    };
-    let ram = write(alloc, &Ram::new(alloc)?, &["f"], b"x")?.protect(&file, bits)?;
-    assert_eq!(rt; ram.look(&file).map(|entry| entry.bits), Some(bits));
-    let ram = append(alloc, &ram, &["f"], b"y")?;
-    assert_eq!(rt;
-        ram.look(&file).map(|entry| entry.bits),
-        Some(bits.unarchived())
-    );
+    let ram = with_script(alloc)?;
+    let ram = ram.make_dir(&script(alloc, b"d")?)?;
+    assert!(rt; ram.contents(&Place::root(alloc))?.len() == 6);
     Ok(())
 }
 
 #[test]
-fn a_comment_has_79_bytes(rt: HostRuntime) -> Result<(), Fail> {
+fn what_is_in_a_directory(rt: HostRuntime) -> Result<(), FsFault> {
     let alloc = rt.alloc();
-    let file = place(alloc, &["S"])?;
-    let ram = Ram::new(alloc)?;
-    let long = Text::from_bytes(alloc, &bytes(alloc, 80)?)?;
-    let short = Text::from_bytes(alloc, &bytes(alloc, 79)?)?;
-    assert_eq!(rt; fault(ram.comment(&file, &long)), 220);
-    assert_eq!(rt; fault(ram.comment(&Place::root(alloc), &long)), 212);
-    let ram = ram.comment(&file, &short)?;
-    assert_eq!(rt;
-        ram.look(&file).map(|entry| entry.comment.as_bytes().len()),
-        Some(79)
-    );
+    let ram = with_script(alloc)?;
+    let root = Place::root(alloc);
+    assert!(rt; ram.children(&root)?.len() == 4);
+    assert!(rt; ram.files_below(&root, false)?.is_empty());
+    Ok(())
+}
+
+// The number of the fault of a deletion.
+fn deleted(ram: &Ram, busy: &Busy, place: Place) -> Result<u16, FsFault> {
+    fault(ram.delete(busy, &place))
+}
+
+const LOCKED: Bits = Bits {
+    delete: false,
+    ..Bits::FRESH
+};
+
+#[test]
+fn what_is_above_an_output_is_not_deleted(rt: HostRuntime) -> Result<(), FsFault> {
+    let alloc = rt.alloc();
+    let ram = protected(alloc, LOCKED)?;
+    let busy = with_output(alloc, script(alloc, b"q")?)?;
+    assert!(rt; deleted(&ram, &busy, at(alloc, b"X")?)? == 205);
+    assert!(rt; deleted(&ram, &busy, at(alloc, b"S")?)? == 202);
     Ok(())
 }
 
 #[test]
-fn a_file_holds_65_536_bytes(rt: HostRuntime) -> Result<(), Fail> {
+fn what_is_protected_is_not_deleted(rt: HostRuntime) -> Result<(), FsFault> {
     let alloc = rt.alloc();
     let idle = Busy::none(alloc);
-    let file = place(alloc, &["f"])?;
+    assert!(rt; deleted(&protected(alloc, LOCKED)?, &idle, at(alloc, b"S")?)? == 222);
+    assert!(rt; deleted(&with_script(alloc)?, &idle, at(alloc, b"S")?)? == 216);
+    Ok(())
+}
+
+#[test]
+fn a_current_directory_is_not_deleted(rt: HostRuntime) -> Result<(), FsFault> {
+    let alloc = rt.alloc();
+    let busy = with_current(alloc, at(alloc, b"t")?)?;
     let ram = Ram::new(alloc)?;
-    assert_eq!(rt; fault(ram.write(&idle, &file, &bytes(alloc, 65_537)?)), 221);
-    let ram = ram.write(&idle, &file, &bytes(alloc, 65_536)?)?;
-    assert_eq!(rt; fault(ram.append(&idle, &file, b"x")), 221);
-    assert_eq!(rt; fault(ram.append(&idle, &file, b"")), 0);
+    assert!(rt; deleted(&ram, &busy, at(alloc, b"T")?)? == 202);
+    assert!(rt; deleted(&ram, &busy, at(alloc, b"C")?)? == 0);
+    Ok(())
+}
+
+// The number of the fault of a rename in the root.
+fn renamed(alloc: Global, ram: &Ram, busy: &Busy, from: &[u8], to: &[u8]) -> Result<u16, FsFault> {
+    let from = at(alloc, from)?;
+    fault(ram.rename(busy, &from, &at(alloc, to)?))
+}
+
+#[test]
+fn what_is_above_an_output_is_not_renamed(rt: HostRuntime) -> Result<(), FsFault> {
+    let alloc = rt.alloc();
+    let ram = Ram::new(alloc)?;
+    let busy = with_output(alloc, script(alloc, b"q")?)?;
+    assert!(rt; renamed(alloc, &ram, &busy, b"X", b"T")? == 205);
+    assert!(rt; renamed(alloc, &ram, &busy, b"S", b"T")? == 202);
+    Ok(())
+}
+
+#[test]
+fn another_object_is_not_renamed_onto(rt: HostRuntime) -> Result<(), FsFault> {
+    let alloc = rt.alloc();
+    let ram = Ram::new(alloc)?;
+    let idle = Busy::none(alloc);
+    assert!(rt; renamed(alloc, &ram, &idle, b"S", b"T")? == 203);
+    assert!(rt; renamed(alloc, &ram, &idle, b"S", b"s")? == 0);
+    Ok(())
+}
+
+#[test]
+fn a_directory_is_not_renamed_into_itself(rt: HostRuntime) -> Result<(), FsFault> {
+    let alloc = rt.alloc();
+    let below = script(alloc, b"x")?;
+    let answer = Ram::new(alloc)?.rename(&Busy::none(alloc), &at(alloc, b"S")?, &below);
+    assert!(rt; fault(answer)? == 202);
+    Ok(())
+}
+
+// The files with S moved into T.
+fn with_moved(alloc: Global, old: &Ram) -> Result<Ram, FsFault> {
+    let to = at(alloc, b"T")?.with(Name::new(Text::from_bytes(alloc, b"n")?))?;
+    old.rename(&Busy::none(alloc), &at(alloc, b"S")?, &to)
+}
+
+// How many files are below a directory.
+fn files_below(alloc: Global, ram: &Ram, name: &[u8]) -> Result<usize, NoMemory> {
+    let directory = at(alloc, name)?;
+    Ok(ram.files_below(&directory, true)?.len())
+}
+
+#[test]
+fn a_rename_moves_what_is_below(rt: HostRuntime) -> Result<(), FsFault> {
+    let alloc = rt.alloc();
+    let old = with_script(alloc)?;
+    let new = with_moved(alloc, &old.copy()?)?;
+    assert!(rt; files_below(alloc, &new, b"t")? == 1);
+    assert!(rt; files_below(alloc, &old, b"t")? == 0);
+    Ok(())
+}
+
+#[test]
+fn a_place_is_carried_along(rt: HostRuntime) -> Result<(), NoMemory> {
+    let alloc = rt.alloc();
+    let place = script(alloc, b"q")?.carried(&at(alloc, b"S")?, &at(alloc, b"New")?)?;
+    assert!(rt; place.names().len() == 2);
+    assert!(rt; place.names()[0].text().as_bytes() == b"New".as_slice());
+    Ok(())
+}
+
+const SCRIPT: Bits = Bits {
+    script: true,
+    ..Bits::FRESH
+};
+
+const ARCHIVED: Bits = Bits {
+    archive: true,
+    ..SCRIPT
+};
+
+// The script has these bits, and a comment of so many bytes.
+fn has(ram: &Ram, place: &Place, bits: Bits, length: usize) -> bool {
+    match ram.look(place) {
+        None => false,
+        Some(entry) => entry.bits == bits && entry.comment.as_bytes().len() == length,
+    }
+}
+
+// The script with bit a and a comment.
+fn archived(alloc: Global, file: &Place) -> Result<Ram, FsFault> {
+    let ram = with_script(alloc)?.protect(file, ARCHIVED)?;
+    ram.comment(file, &long(alloc, 79)?)
+}
+
+#[test]
+fn a_write_clears_the_archive_bit_alone(rt: HostRuntime) -> Result<(), FsFault> {
+    let alloc = rt.alloc();
+    let file = script(alloc, b"Q")?;
+    let ram = archived(alloc, &file)?;
+    assert!(rt; has(&ram, &file, ARCHIVED, 79));
+    let ram = ram.write(&Busy::none(alloc), &file, b"x")?;
+    assert!(rt; has(&ram, &file, SCRIPT, 79));
+    Ok(())
+}
+
+#[test]
+fn a_comment_has_79_bytes(rt: HostRuntime) -> Result<(), FsFault> {
+    let alloc = rt.alloc();
+    let ram = Ram::new(alloc)?;
+    let comment = long(alloc, 80)?;
+    assert!(rt; fault(ram.comment(&at(alloc, b"S")?, &comment))? == 220);
+    assert!(rt; fault(ram.comment(&Place::root(alloc), &comment))? == 212);
+    Ok(())
+}
+
+// The number of the fault of writing so many bytes.
+fn written(alloc: Global, ram: &Ram, count: usize) -> Result<u16, FsFault> {
+    let bytes = long(alloc, count)?;
+    fault(ram.write(&Busy::none(alloc), &at(alloc, b"f")?, bytes.as_bytes()))
+}
+
+#[test]
+fn a_file_holds_65_536_bytes(rt: HostRuntime) -> Result<(), FsFault> {
+    let alloc = rt.alloc();
+    let ram = Ram::new(alloc)?;
+    assert!(rt; written(alloc, &ram, 65_537)? == 221);
+    assert!(rt; written(alloc, &ram, 65_536)? == 0);
     Ok(())
 }
 
 // The files with many files of the same bytes.
-fn filled(alloc: Global, count: u32, bytes: &[u8]) -> Result<Ram, Fail> {
-    let idle = Busy::none(alloc);
+fn filled(alloc: Global, rows: u8, columns: u8, bytes: &[u8]) -> Result<Ram, FsFault> {
     let mut ram = Ram::new(alloc)?;
-    for i in 0..count {
-        ram = ram.append(&idle, &numbered(alloc, i)?, bytes)?;
+    for row in 0..rows {
+        for column in 0..columns {
+            ram = ram.append(&Busy::none(alloc), &at(alloc, &[row, column])?, bytes)?;
+        }
     }
     Ok(ram)
 }
 
 #[test]
-fn all_files_hold_1_048_576_bytes(rt: HostRuntime) -> Result<(), Fail> {
+fn all_files_hold_1_048_576_bytes(rt: HostRuntime) -> Result<(), FsFault> {
     let alloc = rt.alloc();
-    let idle = Busy::none(alloc);
-    let ram = filled(alloc, 16, &bytes(alloc, 65_536)?)?;
-    let ram = write(alloc, &ram, &["g"], b"")?;
-    assert_eq!(rt; fault(ram.append(&idle, &place(alloc, &["g"])?, b"x")), 221);
-    assert_eq!(rt; fault(ram.write(&idle, &numbered(alloc, 3)?, b"y")), 0);
+    let ram = filled(alloc, 4, 4, long(alloc, 65_536)?.as_bytes())?;
+    assert!(rt; written(alloc, &ram, 1)? == 221);
+    assert!(rt; written(alloc, &ram, 0)? == 0);
     Ok(())
 }
 
 #[test]
-fn there_are_1_024_objects(rt: HostRuntime) -> Result<(), Fail> {
+fn there_are_1_024_objects(rt: HostRuntime) -> Result<(), FsFault> {
     let alloc = rt.alloc();
-    let idle = Busy::none(alloc);
-    let ram = filled(alloc, 1_020, b"x")?;
-    assert_eq!(rt; ram.list(&Place::root(alloc))?.len(), 1_024);
-    assert_eq!(rt; fault(ram.write(&idle, &place(alloc, &["g"])?, b"")), 221);
-    assert_eq!(rt; fault(ram.make_dir(&place(alloc, &["g"])?)), 221);
-    assert_eq!(rt; fault(ram.write(&idle, &numbered(alloc, 1_019)?, b"y")), 0);
+    let ram = filled(alloc, 30, 34, b"")?;
+    assert!(rt; fault(ram.delete(&Busy::none(alloc), &at(alloc, b"C")?))? == 0);
+    assert!(rt; fault(ram.make_dir(&at(alloc, b"g")?))? == 221);
     Ok(())
-}
-
-// Each change gives a new version or the answer for want of memory, and the old version stands.
-#[test]
-fn want_of_memory_changes_nothing(rt: HostRuntime) {
-    let alloc = rt.alloc();
-    let idle = Busy::none(alloc);
-    let Ok(ram) = Ram::new(alloc) else {
-        return;
-    };
-    let Ok(directory) = place(alloc, &["C"]) else {
-        return;
-    };
-    let Ok(new) = place(alloc, &["S", "D"]) else {
-        return;
-    };
-    assert_done(&rt, fault(ram.write(&idle, &new, b"one")));
-    assert_done(&rt, fault(ram.append(&idle, &new, b"two")));
-    assert_done(&rt, fault(ram.list(&directory)));
-    assert_done(&rt, fault(ram.make_dir(&new)));
-    assert_done(&rt, fault(ram.delete(&idle, &directory)));
-    assert_done(&rt, fault(ram.rename(&idle, &directory, &new)));
-    assert_done(&rt, fault(ram.protect(&directory, Bits::FRESH)));
-    assert!(rt; ram.look(&directory).is_some());
-    assert!(rt; ram.look(&new).is_none());
-}
-
-fn assert_done(rt: &impl Abort, number: u16) {
-    assert!(rt; number == 0 || number == Result2::NO_FREE_STORE.0);
 }
