@@ -6,3 +6,5 @@ pub mod Delete
 pub mod TypeFiles
 pub mod Filenote
 pub mod Protect
+pub mod Lines
+pub mod Listing

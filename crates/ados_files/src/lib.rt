@@ -4,6 +4,8 @@
 mod acts;
 mod delete;
 mod filenote;
+mod lines;
+mod listing;
 mod make_dir;
 mod matching;
 mod names;
