@@ -8,3 +8,6 @@ pub mod Filenote
 pub mod Protect
 pub mod Lines
 pub mod Listing
+pub mod Dir
+pub mod Rename
+pub mod Join

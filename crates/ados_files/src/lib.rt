@@ -3,11 +3,14 @@
 
 mod acts;
 mod delete;
+mod dir;
 mod filenote;
+mod join;
 mod lines;
 mod listing;
 mod make_dir;
 mod matching;
 mod names;
 mod protect;
+mod rename;
 mod type_files;
