@@ -11,3 +11,5 @@ pub mod Listing
 pub mod Dir
 pub mod Rename
 pub mod Join
+pub mod Jobs
+pub mod Copy

@@ -2,9 +2,12 @@
 //! The commands on files: MakeDir, Delete, Rename, Copy, Type, Join, List, Dir, Protect and Filenote.
 
 mod acts;
+mod copy;
+mod copy_one;
 mod delete;
 mod dir;
 mod filenote;
+mod jobs;
 mod join;
 mod lines;
 mod listing;

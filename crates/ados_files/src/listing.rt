@@ -10,7 +10,7 @@ ghost use Rattle.ados_files.specs.Lines.{lines_by};
 
 use crate::lines::{keeps, push_line};
 use crate::matching::is_match;
-use crate::names::{Found, named, only, pattern_of};
+use crate::names::{Found, named, only, pattern_of, push_places};
 use ados_find::{Act, Codes, Outcome, Refusal, Shared, ShellView, Work, current, each};
 use ados_pattern::Pattern;
 use ados_ram::{Entry, Place, Ram};
@@ -175,15 +175,6 @@ fn push_entries(out: &mut Vec<Place>, ram: &Ram, places: &[Place]) -> Result<(),
 {
     for place in places {
         push_places(out, &entries_of(*out.allocator(), ram, place)?)?;
-    }
-    Ok(())
-}
-
-fn push_places(out: &mut Vec<Place>, places: &[Place]) -> Result<(), NoMemory>
-    ensures { OnOk result (out.new.items ≡ out.old.items ++ places.now) }
-{
-    for place in places {
-        out.push(place.copy()?)?;
     }
     Ok(())
 }

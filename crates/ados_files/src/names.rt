@@ -1,5 +1,5 @@
 // Arguments that name objects.
-ghost use Rattle.std.specs.Prelude.{◌≡◌, ◌∷◌, [], IfOk};
+ghost use Rattle.std.specs.Prelude.{◌≡◌, ◌∷◌, ◌++◌, [], false, IfOk, OnOk};
 ghost use Rattle.std.specs.FinMap as map;
 ghost use Rattle.std.specs.Option.{option_copied};
 ghost use Rattle.ados_ram.specs.Place.{key_of};
@@ -32,6 +32,17 @@ impl Model for Found {
 ghost use Rattle.ados_files.specs.Names.{pattern_of, wants, matching, some_matches, matches_in, the_one, named_by, head_of, piece_of, named};
 
 impl Found {
+    /// Several objects.
+    pub fn several(places: Vec<Place>) -> Found
+        ensures literal { result.literal ≡ false }
+        ensures places { result.places ≡ places.items }
+    {
+        Found {
+            literal: false,
+            places,
+        }
+    }
+
     /// The argument names just one object, by its path.
     pub fn is_literal(&self) -> bool
         ensures { result ≡ self.now.literal }
@@ -138,6 +149,16 @@ pub fn only(alloc: Global, place: &Place) -> Result<Vec<Place>, NoMemory>
     Ok(places)
 }
 
+/// Adds places to a list.
+pub fn push_places(out: &mut Vec<Place>, places: &[Place]) -> Result<(), NoMemory>
+    ensures { OnOk result (out.new.items ≡ out.old.items ++ places.now) }
+{
+    for place in places {
+        out.push(place.copy()?)?;
+    }
+    Ok(())
+}
+
 // The objects in a directory that match.
 fn matches_in(
     alloc: Global,
@@ -197,8 +218,5 @@ fn some_matches(places: Vec<Place>) -> Result<Found, Refusal>
             result2: Result2::OBJECT_NOT_FOUND,
         }));
     }
-    Ok(Found {
-        literal: false,
-        places,
-    })
+    Ok(Found::several(places))
 }
