@@ -13,3 +13,5 @@ pub mod Rename
 pub mod Join
 pub mod Jobs
 pub mod Copy
+pub mod Commands
+pub mod Rows

@@ -2,6 +2,7 @@
 //! The commands on files: MakeDir, Delete, Rename, Copy, Type, Join, List, Dir, Protect and Filenote.
 
 mod acts;
+mod commands;
 mod copy;
 mod copy_one;
 mod delete;
@@ -16,4 +17,10 @@ mod matching;
 mod names;
 mod protect;
 mod rename;
+mod rows;
+mod templates;
 mod type_files;
+
+pub use commands::Command;
+pub use rows::run;
+pub use templates::Templates;
