@@ -19,6 +19,8 @@ mod protect;
 mod rename;
 mod rows;
 mod templates;
+#[cfg(test)]
+mod tests;
 mod type_files;
 
 pub use commands::Command;
