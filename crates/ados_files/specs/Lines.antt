@@ -1,9 +1,8 @@
 -- Lines of a listing.
-use Rattle.std.specs.Prelude.{ℕ, ◌-◌, Bool, true, false, not, ◌||◌, cond, List, [], ◌∷◌, ◌++◌, Option, codes, decimal, length}
+use Rattle.std.specs.Prelude.{ℕ, ◌-◌, Bool, true, false, not, ◌||◌, List, [], ◌∷◌, ◌++◌, Option, codes, decimal, length}
 use Rattle.std.proofs.Math.ListN.{replicate}
 use Rattle.std.specs.FinMap as map
 use Rattle.ados_ram.specs.Place.{key_of}
-use Rattle.ados_ram.specs.Entry.{is_directory}
 use Rattle.ados_ram.specs.Files.{Files}
 use Rattle.ados_ram.specs.declared.entries.Bits.{Bits}
 use Rattle.ados_ram.specs.declared.entries.Body.{Body}
