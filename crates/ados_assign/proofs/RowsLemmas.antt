@@ -9,9 +9,13 @@ use Rattle.std.specs.FinMap.{is_sorted, find, put, get-from_sorted, get-from_ent
 use Rattle.std.specs.FinMap.Entries.{is_sorted-put, is_sorted-where_key, find-where_key, where_key, below_all, by_order}
 use Rattle.ados_text.specs.Text.{folded}
 use Rattle.ados_ram.specs.Place.{name_cmp, name_cmp_total, name_cmp_exact}
+use Rattle.ados_ram.specs.InUse.{InUse}
 use Rattle.ados_assign.specs.declared.assigns.Assign.{Assign}
 use Rattle.ados_assign.specs.Assigns.{AssignMap, binding, keyed, first_assigns, bound, set_of, carried_row, carry_of}
 use Rattle.ados_assign.specs.Rows.{first_rows, rows_with, rows_without, carried_assign}
+
+abbrev in_use_by : List (List (List ℕ)) → List (List (List ℕ)) → InUse
+in_use_by dirs outputs = record { dirs = dirs; outputs = outputs }
 
 holds : (b : Bool) → IsTrue b → T b
 holds b h = subst T (sym h) tt
@@ -147,3 +151,8 @@ carry_rows {m} {rows} {new} from to r e =
 pub or_false : (b : Bool) → (b || false) ≡ b
 or_false true = refl
 or_false false = refl
+
+-- lists that are the same make the same in use
+pub both_in_use :
+    {dirs dirs' outputs outputs' : List (List (List ℕ))} → dirs ≡ dirs' → outputs ≡ outputs' → in_use_by dirs outputs ≡ in_use_by dirs' outputs'
+both_in_use {dirs} {dirs'} {outputs} {outputs'} e f = ap (λ ds. in_use_by ds outputs) e ∙ ap (in_use_by dirs') f

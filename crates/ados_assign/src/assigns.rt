@@ -54,7 +54,7 @@ impl Model for Assigns {
 
 impl Assigns {
     ghost use Rattle.ados_assign.specs.Assigns.{first_assigns, set_of, Removes, carry_of, holders_in};
-    ghost use Rattle.ados_assign.specs.InUse.{held_by, is_in_use};
+    ghost use Rattle.ados_assign.specs.InUse.{held_by, is_in_use, busy_of};
     ghost use Rattle.ados_ram.specs.InUse.{is_in_use as is_busy};
 
     /// The assigns at first: C, ENV, S, SYS, which is the RAM disk itself, and T.
@@ -134,8 +134,7 @@ impl Assigns {
     /// What is in use, for shells with these current directories.
     pub fn busy(&self, current: Vec<Place>) -> Result<Busy, NoMemory>
         ensures in_use { IfOk result (λ busy. (key : List (List ℕ)) → is_busy busy key ≡ is_in_use current.items self.now key) }
-        ensures dirs { IfOk result (λ busy. busy.dirs.items ≡ current.items ++ held_by self.now) }
-        ensures outputs { IfOk result (λ busy. busy.outputs.items ≡ []) }
+        ensures value { IfOk result (λ busy. busy ≡ busy_of current.items self.now) }
     {
         let mut dirs = current;
         push_directories(&mut dirs, &self.rows)?;

@@ -1,3 +1,6 @@
 pub mod Codes
 pub mod Shared
+pub mod Views
 pub mod Effects
+pub mod Done
+pub mod Paths

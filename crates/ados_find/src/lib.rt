@@ -1,13 +1,19 @@
 #![tactic(auto)]
-//! What commands read and what they make: the parts that all shells share, the view of a shell, and
-//! the outcome of a command.
+//! What commands read and what they make: the parts that all shells share, the view of a shell, the work on arguments
+//! in order, and the outcome of a command.
 
 mod codes;
 mod outcomes;
+mod paths;
+mod refusals;
 mod shared;
 mod views;
+mod work;
 
 pub use codes::Codes;
-pub use outcomes::Outcome;
+pub use outcomes::{Outcome, Renamed};
+pub use paths::place_of;
+pub use refusals::Refusal;
 pub use shared::Shared;
 pub use views::ShellView;
+pub use work::{Act, Work, current, each};

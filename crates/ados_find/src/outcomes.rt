@@ -2,8 +2,16 @@ ghost use Rattle.std.specs.Prelude.{◌≡◌};
 
 use crate::codes::Codes;
 use crate::shared::Shared;
+use ados_ram::Place;
 use ados_text::{Code, Octets};
 use std::alloc::Global;
+
+/// An object that was renamed: where it was, and where it is.
+#[derive(Debug, Drop)]
+pub struct Renamed {
+    pub from: Place,
+    pub to: Place,
+}
 
 /// What a command makes.
 #[derive(Debug, Drop)]
@@ -16,6 +24,10 @@ pub struct Outcome {
     pub codes: Codes,
     /// What it puts out.
     pub output: Octets,
+    /// The new current directory of its shell, where it set one.
+    pub directory: Option<Place>,
+    /// The object that it renamed, by which the current directories of all shells are carried.
+    pub renamed: Option<Renamed>,
 }
 
 impl Outcome {
@@ -30,6 +42,8 @@ impl Outcome {
             limit,
             codes,
             output: Octets::from_vec(Vec::new(alloc)),
+            directory: None,
+            renamed: None,
         }
     }
 
@@ -42,6 +56,8 @@ impl Outcome {
             limit,
             codes: Codes::NONE,
             output: Octets::from_vec(output),
+            directory: None,
+            renamed: None,
         }
     }
 }

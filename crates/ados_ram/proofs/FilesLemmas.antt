@@ -17,9 +17,8 @@ use Rattle.ados_ram.specs.Place.{key_of, name_cmp_total, place_cmp, place_cmp_to
 use Rattle.ados_ram.specs.Entry.{is_directory, is_directory_body, bytes_of_body, fresh_bits, size_of, written, written_as, new_directory}
 use Rattle.ados_ram.specs.Files.{Files, Rows, AreFiles, is_some_directory, is_some_file, bytes_at, total_of, file_limit, bytes_limit, objects_limit}
 use Rattle.ados_ram.specs.FileOperations.{on_the_way, way_fault, write_target_fault, full_fault, limit_fault, write_of, write_fault, write_as_of, append_of, is_put, put_open_of, put_open_fault, free_fault, make_dir_of, make_dir_fault, any_below, delete_target_fault, delete_fault}
-use Rattle.ados_ram.specs.InUse.{is_in_use}
+use Rattle.ados_ram.specs.InUse.{InUse, is_in_use}
 use Rattle.ados_ram.specs.declared.entries.Bits.{Bits}
-use Rattle.ados_ram.specs.declared.in_use.Busy.{Busy}
 use Rattle.ados_ram.specs.Rows.{rows_without}
 use Rattle.ados_ram.specs.declared.entries.Body.{Body}
 use Rattle.ados_ram.proofs.RowsLemmas.{AreRowsOf, size-written, own_rows, entries_rows, deleted_rows, total-insert, len-insert, total-without, length-without, total-found, length-found}
@@ -278,7 +277,7 @@ record CanDelete (key : List (List ℕ)) (es : Rows) : Type 0 where
   pub not_root : is_root key ≡ false
   pub empty : any_below key es ≡ false
 
-can_delete : (busy : Busy) (key : List (List ℕ)) (es : Rows) (o : Option Entry) → delete_target_fault busy es key o ≡ None → CanDelete key es
+can_delete : (busy : InUse) (key : List (List ℕ)) (es : Rows) (o : Option Entry) → delete_target_fault busy es key o ≡ None → CanDelete key es
 can_delete busy key es None h = cc
 can_delete busy key es (Some e) h = by_tests (is_in_use busy key) (is_root key) e.bits.delete (any_below key es) h refl refl
   where
@@ -291,7 +290,7 @@ can_delete busy key es (Some e) h = by_tests (is_in_use busy key) (is_root key) 
     by_tests false false false below h a b = cc
 
 -- after a delete that is not refused
-pub deleted_files : {m : Files} (busy : Busy) (key : List (List ℕ)) → AreFiles m → delete_fault busy m key ≡ None → AreFiles (map.remove m key)
+pub deleted_files : {m : Files} (busy : InUse) (key : List (List ℕ)) → AreFiles m → delete_fault busy m key ≡ None → AreFiles (map.remove m key)
 deleted_files {m} busy key files e =
     let can = can_delete busy key (map.entries m) (map.get m key) e in
     removed_files key files can.not_root can.empty

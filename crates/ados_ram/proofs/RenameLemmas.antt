@@ -7,11 +7,10 @@ use Rattle.std.specs.Option.{option_map}
 use Rattle.std.specs.FinMap as map
 use Rattle.std.specs.FinMap.{find, get-entries, get-from_entries, len-entries}
 use Rattle.ados_text.specs.declared.codes.TheConstants.Result2.{OBJECT_IN_USE, OBJECT_EXISTS}
-use Rattle.ados_ram.specs.declared.in_use.Busy.{Busy}
 use Rattle.ados_ram.specs.declared.entries.Entry.{Entry}
 use Rattle.ados_ram.specs.Place.{name_cmp, name_cmp_exact, name_cmp_total, place_cmp, place_cmp_total, is_same_key, is_root, behind, has_names, is_below, is_at_or_below}
 use Rattle.ados_ram.specs.Entry.{size_of, renamed}
-use Rattle.ados_ram.specs.InUse.{holds_output}
+use Rattle.ados_ram.specs.InUse.{InUse, holds_output}
 use Rattle.ados_ram.specs.Files.{Files, Rows, AreFiles, is_some_directory, bytes_at, total_of, file_limit, bytes_limit, objects_limit}
 use Rattle.ados_ram.specs.FileOperations.{way_fault, moved_row, moved_rows, rename_of, rename_target_fault, rename_fault}
 use Rattle.ados_ram.proofs.RowsLemmas.{sorted_of, AreRowsOf, own_rows, entries_rows, renamed_rows, total-sorted_of, length-sorted_of}
@@ -165,7 +164,7 @@ by_tests false false false true true h = record { not_root = refl; not_below = r
 by_tests false false false true false h = cc
 by_tests false false false false same h = record { not_root = refl; not_below = refl; free = λ t. clash t }
 
-can_move : (busy : Busy) (from to : List (List ℕ)) (found there : Option Entry) → rename_target_fault busy from to found there ≡ None → CanMove from to there
+can_move : (busy : InUse) (from to : List (List ℕ)) (found there : Option Entry) → rename_target_fault busy from to found there ≡ None → CanMove from to there
 can_move busy from to None there h = cc
 can_move busy from to (Some e) there h =
     let t = by_tests (holds_output busy from) (is_root from) (is_below from to) (is_some there) (is_same_key from to) h in
@@ -291,7 +290,7 @@ sizes_stay m from to name place files within =
     ] refl
 
 -- after a rename that is not refused
-pub renamed_files : {m : Files} (busy : Busy) (from to : List (List ℕ)) (name : List ℕ) → AreFiles m → rename_fault busy m from to ≡ None → AreFiles (rename_of m from to name)
+pub renamed_files : {m : Files} (busy : InUse) (from to : List (List ℕ)) (name : List ℕ) → AreFiles m → rename_fault busy m from to ≡ None → AreFiles (rename_of m from to name)
 renamed_files {m} busy from to name files e =
     let clear : way_fault m [] to ≡ None = or_first (way_fault m [] to) _ e in
     let can : CanMove from to (map.get m to) = can_move busy from to (map.get m from) (map.get m to) (or_second (way_fault m [] to) _ e) in

@@ -8,10 +8,9 @@ use Rattle.ados_text.specs.declared.codes.TheConstants.Result2.{OBJECT_IN_USE, O
 use Rattle.ados_ram.specs.Place.{is_root, is_same_key, behind, is_below, is_child}
 use Rattle.ados_ram.specs.Entry.{is_directory, new_directory, written, written_as, with_bits, with_comment, renamed}
 use Rattle.ados_ram.specs.Files.{Files, Rows, is_some_file, bytes_at, total_of, file_limit, bytes_limit, objects_limit}
-use Rattle.ados_ram.specs.InUse.{is_in_use, holds_output}
+use Rattle.ados_ram.specs.InUse.{InUse, is_in_use, holds_output}
 use Rattle.ados_ram.specs.declared.entries.Bits.{Bits}
 use Rattle.ados_ram.specs.declared.entries.Entry.{Entry}
-use Rattle.ados_ram.specs.declared.in_use.Busy.{Busy}
 use Rattle.ados_ram.specs.declared.faults.FsFault.{FsFault}
 use Rattle.ados_ram.specs.declared.faults.FsFault.TheVariants.{Refused, NoMemory}
 
@@ -109,13 +108,13 @@ abbrev pub any_below : List (List ℕ) → Rows → Bool
 any_below key [] = false
 any_below key (e ∷ es) = is_below key e.0 || any_below key es
 
-abbrev pub delete_target_fault : Busy → Rows → List (List ℕ) → Option Entry → Option Result2
+abbrev pub delete_target_fault : InUse → Rows → List (List ℕ) → Option Entry → Option Result2
 delete_target_fault busy es key None = Some OBJECT_NOT_FOUND
 delete_target_fault busy es key (Some e) =
     cond (is_in_use busy key || is_root key) (Some OBJECT_IN_USE)
     (cond e.bits.delete (cond (any_below key es) (Some DIRECTORY_NOT_EMPTY) None) (Some DELETE_PROTECTED))
 
-abbrev pub delete_fault : Busy → Files → List (List ℕ) → Option Result2
+abbrev pub delete_fault : InUse → Files → List (List ℕ) → Option Result2
 delete_fault busy m key = delete_target_fault busy (map.entries m) key (map.get m key)
 
 -- Rename: the files in which what is at a place or below it is at another or below that, and the object itself has the
@@ -131,13 +130,13 @@ moved_rows from to name (e ∷ es) = moved_row to name e.0 e.1 (behind from e.0)
 abbrev pub rename_of : Files → List (List ℕ) → List (List ℕ) → List ℕ → Files
 rename_of m from to name = map.from_entries (moved_rows from to name (map.entries m))
 
-abbrev pub rename_target_fault : Busy → List (List ℕ) → List (List ℕ) → Option Entry → Option Entry → Option Result2
+abbrev pub rename_target_fault : InUse → List (List ℕ) → List (List ℕ) → Option Entry → Option Entry → Option Result2
 rename_target_fault busy from to None there = Some OBJECT_NOT_FOUND
 rename_target_fault busy from to (Some e) there =
     cond (holds_output busy from || is_root from || is_below from to) (Some OBJECT_IN_USE)
     (cond (is_some there && not (is_same_key from to)) (Some OBJECT_EXISTS) None)
 
-abbrev pub rename_fault : Busy → Files → List (List ℕ) → List (List ℕ) → Option Result2
+abbrev pub rename_fault : InUse → Files → List (List ℕ) → List (List ℕ) → Option Result2
 rename_fault busy m from to = option_or (way_fault m [] to) (rename_target_fault busy from to (map.get m from) (map.get m to))
 
 -- Protect and comment: the files with an entry changed

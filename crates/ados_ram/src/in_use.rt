@@ -1,9 +1,10 @@
-ghost use Rattle.std.specs.Prelude.{◌≡◌, []};
+ghost use Rattle.std.specs.Prelude.{◌≡◌};
 ghost use Rattle.ados_ram.specs.Place.{key_of};
 
 use crate::places::{Place, any_at_or_below, any_same};
 use ados_text::Name;
 use std::alloc::Global;
+use std::marker::Model;
 
 /// What is in use while a call is made. A place is in use where it is one of these directories or outputs, and where
 /// an open output is below it.
@@ -15,13 +16,20 @@ pub struct Busy {
     pub outputs: Vec<Place>,
 }
 
+impl Model for Busy {
+    ghost use Rattle.ados_ram.specs.InUse.{InUse};
+
+    ghost Value = { InUse };
+
+    ghost view = { λ b. record { dirs = b.dirs.items; outputs = b.outputs.items } };
+}
+
 impl Busy {
-    ghost use Rattle.ados_ram.specs.InUse.{is_output, holds_output, is_in_use};
+    ghost use Rattle.ados_ram.specs.InUse.{nothing, is_output, holds_output, is_in_use};
 
     /// Nothing is in use.
     pub fn none(alloc: Global) -> Busy
-        ensures dirs { result.dirs.items ≡ [] }
-        ensures outputs { result.outputs.items ≡ [] }
+        ensures { result ≡ nothing }
     {
         Busy {
             dirs: Vec::new(alloc),

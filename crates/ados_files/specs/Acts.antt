@@ -1,0 +1,25 @@
+-- What is done with the objects that arguments name.
+use Rattle.std.specs.Prelude.{ℕ, List, Result, Ok, Err}
+use Rattle.ados_find.specs.declared.codes.Codes.{Codes}
+use Rattle.ados_find.specs.Views.{View}
+use Rattle.ados_find.specs.Done.{Done, stopped_by, each}
+use Rattle.ados_find.specs.Paths.{place_of}
+use Rattle.ados_files.specs.Names.{FoundPlaces, named}
+
+-- with the place that is there, or it stops
+abbrev pub at_place : (Done → List (List ℕ) → Done) → Done → Result (List (List ℕ)) Codes → Done
+at_place act done (Err codes) = stopped_by codes done
+at_place act done (Ok place) = act done place
+
+-- with the place to which a path leads, in the files as they then are
+abbrev pub at_path : (Done → List (List ℕ) → Done) → View → Done → List ℕ → Done
+at_path act view done text = at_place act done (place_of done.shared view.directory text)
+
+-- with each of the objects that are there, or it stops
+abbrev pub at_places : (Done → List (List ℕ) → Done) → Done → Result FoundPlaces Codes → Done
+at_places act done (Err codes) = stopped_by codes done
+at_places act done (Ok found) = each act done found.places
+
+-- with each of the objects that an argument names, in the files as they then are
+abbrev pub at_names : (Done → List (List ℕ) → Done) → View → Done → List ℕ → Done
+at_names act view done text = at_places act done (named done.shared view.directory text)

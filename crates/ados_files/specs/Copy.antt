@@ -1,0 +1,116 @@
+-- Copy: files to a file or into a directory.
+use Rattle.std.specs.Prelude.{ℕ, Bool, not, cond, ◌&&◌, List, [], ◌∷◌, ◌++◌, codes, Option, Some, None, Result, Ok, Err, if◌then◌else◌}
+use Rattle.std.specs.Option.{option_or}
+use Rattle.std.specs.FinMap as map
+use Rattle.ados_text.specs.declared.codes.Result2.{Result2}
+use Rattle.ados_text.specs.declared.codes.TheConstants.Result2.{ARGUMENT_MISSING, OBJECT_IN_USE, DIRECTORY_NOT_FOUND, OBJECT_NOT_FOUND, WRONG_TYPE}
+use Rattle.ados_readargs.specs.declared.args.Arg.{Arg}
+use Rattle.ados_readargs.specs.Args.{texts_at, text_at, is_on}
+use Rattle.ados_ram.specs.Place.{key_of, last_name, is_same_key}
+use Rattle.ados_ram.specs.Entry.{is_directory, bytes_of}
+use Rattle.ados_ram.specs.Files.{Files, is_some_file, is_some_directory}
+use Rattle.ados_ram.specs.InUse.{is_output}
+use Rattle.ados_ram.specs.FileOperations.{read_fault, write_as_of, write_fault}
+use Rattle.ados_ram.specs.Written.{full_path}
+use Rattle.ados_ram.specs.declared.entries.Entry.{Entry}
+use Rattle.ados_find.specs.declared.codes.Codes.{Codes}
+use Rattle.ados_find.specs.Codes.{failed}
+use Rattle.ados_find.specs.Shared.{SharedState, with_files}
+use Rattle.ados_find.specs.Views.{View}
+use Rattle.ados_find.specs.Effects.{Effect, answering}
+use Rattle.ados_find.specs.Done.{Done, fresh, refused_or, unless, each, ended}
+use Rattle.ados_find.specs.Paths.{place_of}
+use Rattle.ados_files.specs.Names.{FoundPlaces}
+use Rattle.ados_files.specs.MakeDir.{made}
+use Rattle.ados_files.specs.Delete.{say}
+use Rattle.ados_files.specs.Jobs.{sources_of, all_jobs, jobs_onto}
+use Rattle.ados_files.specs.declared.jobs.Job.{Job}
+
+-- the directories between a place and one below it, down to the last
+abbrev pub between : List (List ℕ) → List (List ℕ) → List (List (List ℕ))
+between above [] = []
+between above (name ∷ []) = []
+between above (name ∷ next ∷ rest) = (above ++ name ∷ []) ∷ between (above ++ name ∷ []) (next ∷ rest)
+
+-- a directory is made where nothing is; a file in its place is refused
+abbrev pub made_at : Done → List (List ℕ) → Option Entry → Done
+made_at done place None = made done place
+made_at done place (Some e) = cond (is_directory e) done (refused_or (Some WRONG_TYPE) done done)
+
+abbrev pub make_missing : Done → List (List ℕ) → Done
+make_missing done place = made_at done place (map.get done.shared.files (key_of place))
+
+-- a file onto itself is refused
+abbrev pub itself_fault : List (List ℕ) → List (List ℕ) → Option Result2
+itself_fault source target = if is_same_key (key_of source) (key_of target) then Some OBJECT_IN_USE else None
+
+abbrev pub copied_line : Files → List (List ℕ) → List ℕ
+copied_line files source = full_path files source ++ codes "..copied\n"
+
+-- the bytes are written; a new file takes the source's bits and no comment
+abbrev pub copy_written : View → Bool → List (List ℕ) → List (List ℕ) → Entry → Done → Done
+copy_written view quiet source target e done =
+    refused_or (write_fault (is_output view.busy (key_of target)) done.shared.files (key_of target) (last_name target) (bytes_of e)) done
+    (record done {
+      shared = with_files done.shared (write_as_of done.shared.files (key_of target) (last_name target) (bytes_of e) e.bits);
+      output = say quiet done.output (copied_line done.shared.files source);
+    })
+
+abbrev pub copy_unless : View → Bool → List (List ℕ) → List (List ℕ) → Entry → Done → Done
+copy_unless view quiet source target e done = unless done.stopped done (copy_written view quiet source target e done)
+
+-- a file that is there goes to a place below TO: missing directories are made, and it is written
+abbrev pub copy_entry : View → Bool → List (List ℕ) → Done → Job → Option Entry → Done
+copy_entry view quiet to done job None = refused_or (Some OBJECT_NOT_FOUND) done done
+copy_entry view quiet to done job (Some e) =
+    refused_or (option_or (itself_fault job.source (to ++ job.names)) (read_fault (is_output view.busy (key_of job.source)) (Some e))) done
+    (copy_unless view quiet job.source (to ++ job.names) e (each make_missing done (between to job.names)))
+
+-- one file is copied
+abbrev pub copy_one : View → Bool → List (List ℕ) → Done → Job → Done
+copy_one view quiet to done job = copy_entry view quiet to done job (map.get done.shared.files (key_of job.source))
+
+-- what stands at the one source, where there is just one that is named by its path
+abbrev pub first_entry : Files → List (List (List ℕ)) → Option Entry
+first_entry files [] = None
+first_entry files (place ∷ places) = map.get files (key_of place)
+
+abbrev pub one_entry : Files → FoundPlaces → Option Entry
+one_entry files found = if found.literal then first_entry files found.places else None
+
+-- TO is a directory: an absent one is made for just one directory, and else refused, as is a file
+abbrev pub directory_for : Bool → List (List ℕ) → Done → Option Entry → Done
+directory_for one to done None = if one then made done to else refused_or (Some DIRECTORY_NOT_FOUND) done done
+directory_for one to done (Some e) = cond (is_directory e) done (refused_or (Some WRONG_TYPE) done done)
+
+-- files go into a directory; the list of them is taken before the first write
+abbrev pub copy_into : View → Bool → Bool → FoundPlaces → Done → List (List ℕ) → Done
+copy_into view all quiet found done to = (let files = done.shared.files in
+    each (copy_one view quiet to) (directory_for (is_some_directory (one_entry files found)) to done (map.get files (key_of to))) (all_jobs all files found.places))
+
+-- just one file, and a TO that is no directory: TO itself is written
+abbrev pub is_onto : Files → FoundPlaces → List (List ℕ) → Bool
+is_onto files found to = is_some_file (one_entry files found) && not (is_some_directory (map.get files (key_of to)))
+
+abbrev pub copy_found : View → Bool → Bool → FoundPlaces → Done → List (List ℕ) → Done
+copy_found view all quiet found done to =
+    if is_onto done.shared.files found to then each (copy_one view quiet to) done (jobs_onto found.places)
+    else copy_into view all quiet found done to
+
+-- the sources first, then TO
+abbrev pub copied_to : SharedState → View → Bool → Bool → FoundPlaces → Result (List (List ℕ)) Codes → Effect
+copied_to shared view all quiet found (Err codes) = answering shared view.limit codes
+copied_to shared view all quiet found (Ok to) = ended view.limit (copy_found view all quiet found (fresh shared) to)
+
+abbrev pub copied_from : SharedState → View → Bool → Bool → Result FoundPlaces Codes → List ℕ → Effect
+copied_from shared view all quiet (Err codes) to = answering shared view.limit codes
+copied_from shared view all quiet (Ok found) to = copied_to shared view all quiet found (place_of shared view.directory to)
+
+-- without FROM an argument is missing; the template does not let TO be
+abbrev pub copied_texts : SharedState → View → Bool → Bool → List (List ℕ) → Option (List ℕ) → Effect
+copied_texts shared view all quiet texts None = answering shared view.limit (failed ARGUMENT_MISSING)
+copied_texts shared view all quiet [] (Some to) = answering shared view.limit (failed ARGUMENT_MISSING)
+copied_texts shared view all quiet (text ∷ texts) (Some to) = copied_from shared view all quiet (sources_of shared view.directory (text ∷ texts)) to
+
+abbrev pub copy_row : SharedState → View → List Arg → Effect
+copy_row shared view args = copied_texts shared view (is_on args 2) (is_on args 3) (texts_at args 0) (text_at args 1)

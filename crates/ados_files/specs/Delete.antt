@@ -1,0 +1,44 @@
+-- Delete: objects taken out, with ALL what is below them first.
+use Rattle.std.specs.Prelude.{ℕ, Bool, true, false, List, [], ◌∷◌, ◌++◌, codes}
+use Rattle.std.specs.FinMap as map
+use Rattle.ados_readargs.specs.declared.args.Arg.{Arg}
+use Rattle.ados_readargs.specs.Args.{texts_at, is_on}
+use Rattle.ados_ram.specs.Place.{key_of}
+use Rattle.ados_ram.specs.Files.{Files}
+use Rattle.ados_ram.specs.FileOperations.{delete_fault}
+use Rattle.ados_ram.specs.Contents.{contents}
+use Rattle.ados_ram.specs.Written.{full_path}
+use Rattle.ados_find.specs.Shared.{SharedState, with_files}
+use Rattle.ados_find.specs.Views.{View}
+use Rattle.ados_find.specs.Effects.{Effect}
+use Rattle.ados_find.specs.Done.{Done, fresh, refused_or, each, ended}
+use Rattle.ados_files.specs.Acts.{at_names}
+
+-- a line is put out, unless QUIET
+abbrev pub say : Bool → List ℕ → List ℕ → List ℕ
+say true output line = output
+say false output line = output ++ line
+
+abbrev pub deleted_line : Files → List (List ℕ) → List ℕ
+deleted_line files place = full_path files place ++ codes "  Deleted\n"
+
+-- one object is deleted, and its path is told as it was
+abbrev pub delete_one : View → Bool → Done → List (List ℕ) → Done
+delete_one view quiet done place =
+    refused_or (delete_fault view.busy done.shared.files (key_of place)) done
+    (record done {
+      shared = with_files done.shared (map.remove done.shared.files (key_of place));
+      output = say quiet done.output (deleted_line done.shared.files place);
+    })
+
+-- what is deleted with a place: with ALL what is below it first
+abbrev pub targets : Bool → Files → List (List ℕ) → List (List (List ℕ))
+targets true files place = contents (key_of place) (map.entries files) ++ place ∷ []
+targets false files place = place ∷ []
+
+abbrev pub delete_place : View → Bool → Bool → Done → List (List ℕ) → Done
+delete_place view all quiet done place = each (delete_one view quiet) done (targets all done.shared.files place)
+
+abbrev pub delete_row : SharedState → View → List Arg → Effect
+delete_row shared view args =
+    ended view.limit (each (at_names (delete_place view (is_on args 1) (is_on args 2)) view) (fresh shared) (texts_at args 0))

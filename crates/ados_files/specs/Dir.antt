@@ -1,0 +1,59 @@
+-- Dir: what is in a directory, its directories first.
+use Rattle.std.specs.Prelude.{ℕ, Bool, cond, List, [], ◌∷◌, ◌++◌, codes, Option, Some, None, Result, Ok, Err, if◌then◌else◌}
+use Rattle.std.specs.FinMap as map
+use Rattle.ados_text.specs.declared.codes.Result2.{Result2}
+use Rattle.ados_readargs.specs.declared.args.Arg.{Arg}
+use Rattle.ados_readargs.specs.Args.{text_at, is_on}
+use Rattle.ados_ram.specs.Place.{key_of}
+use Rattle.ados_ram.specs.Entry.{is_directory}
+use Rattle.ados_ram.specs.Files.{Files}
+use Rattle.ados_ram.specs.FileOperations.{list_fault}
+use Rattle.ados_ram.specs.Contents.{children}
+use Rattle.ados_ram.specs.declared.entries.Entry.{Entry}
+use Rattle.ados_find.specs.declared.codes.Codes.{Codes}
+use Rattle.ados_find.specs.Codes.{erred}
+use Rattle.ados_find.specs.Shared.{SharedState}
+use Rattle.ados_find.specs.Views.{View}
+use Rattle.ados_find.specs.Effects.{Effect, answering, putting}
+use Rattle.ados_find.specs.Paths.{place_of}
+use Rattle.ados_files.specs.Lines.{keeps, lines_by}
+
+-- a directory has a line of its own among directories, and a file among files
+abbrev pub directory_line : Option Entry → List ℕ
+directory_line None = []
+directory_line (Some e) = cond (is_directory e) (codes "     " ++ e.name ++ codes " (dir)\n") []
+
+abbrev pub file_line : Option Entry → List ℕ
+file_line None = []
+file_line (Some e) = cond (is_directory e) [] (codes "  " ++ e.name ++ 10 ∷ [])
+
+-- the lines of the directories that are there
+abbrev pub directories_text : Bool → Files → List (List (List ℕ)) → List ℕ
+directories_text kept files places = if kept then lines_by directory_line files places else []
+
+-- the lines of the files that are there
+abbrev pub files_text : Bool → Files → List (List (List ℕ)) → List ℕ
+files_text kept files places = if kept then lines_by file_line files places else []
+
+-- DIRS and FILES each keep their kind alone, and both keep both
+abbrev pub dir_text : Bool → Bool → Files → List (List (List ℕ)) → List ℕ
+dir_text dirs files ram places = directories_text (keeps dirs files) ram places ++ files_text (keeps files dirs) ram places
+
+abbrev pub dir_unless : Option Result2 → SharedState → View → List ℕ → Effect
+dir_unless None shared view text = putting shared view.limit text
+dir_unless (Some fault) shared view text = answering shared view.limit (erred fault)
+
+-- a directory that a path leads to
+abbrev pub dir_at : SharedState → View → Bool → Bool → Result (List (List ℕ)) Codes → Effect
+dir_at shared view dirs files (Err codes) = answering shared view.limit codes
+dir_at shared view dirs files (Ok place) =
+    dir_unless (list_fault (map.get shared.files (key_of place))) shared view
+    (dir_text dirs files shared.files (children (key_of place) (map.entries shared.files)))
+
+-- without DIR the current directory
+abbrev pub directory_given : SharedState → View → Option (List ℕ) → Result (List (List ℕ)) Codes
+directory_given shared view None = Ok view.directory
+directory_given shared view (Some text) = place_of shared view.directory text
+
+abbrev pub dir_row : SharedState → View → List Arg → Effect
+dir_row shared view args = dir_at shared view (is_on args 1) (is_on args 2) (directory_given shared view (text_at args 0))

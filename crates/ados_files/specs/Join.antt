@@ -1,0 +1,37 @@
+-- Join: files one behind the other, in a file.
+use Rattle.std.specs.Prelude.{ℕ, List, [], Option, Some, None}
+use Rattle.ados_text.specs.declared.codes.TheConstants.Result2.{ARGUMENT_MISSING}
+use Rattle.ados_readargs.specs.declared.args.Arg.{Arg}
+use Rattle.ados_readargs.specs.Args.{texts_at, text_at}
+use Rattle.ados_ram.specs.Place.{key_of, last_name}
+use Rattle.ados_ram.specs.InUse.{is_output}
+use Rattle.ados_ram.specs.FileOperations.{write_of, write_fault}
+use Rattle.ados_find.specs.Codes.{failed}
+use Rattle.ados_find.specs.Shared.{SharedState, with_files}
+use Rattle.ados_find.specs.Views.{View}
+use Rattle.ados_find.specs.Effects.{Effect, answering}
+use Rattle.ados_find.specs.Done.{Done, fresh, refused_or, unless, each, ended}
+use Rattle.ados_files.specs.Acts.{at_path}
+use Rattle.ados_files.specs.TypeFiles.{type_one}
+
+-- bytes are written to a file
+abbrev pub write_one : View → List ℕ → Done → List (List ℕ) → Done
+write_one view bytes done place =
+    refused_or (write_fault (is_output view.busy (key_of place)) done.shared.files (key_of place) (last_name place) bytes) done
+    (record done { shared = with_files done.shared (write_of done.shared.files (key_of place) (last_name place) bytes) })
+
+-- what was read is put out nowhere
+abbrev pub silent : Done → Done
+silent done = record done { output = [] }
+
+-- all that was read is written, where nothing was refused
+abbrev pub written_to : View → List ℕ → Done → Done
+written_to view to read = unless read.stopped (silent read) (at_path (write_one view read.output) view (silent read) to)
+
+-- all files are read first; the template does not let TO be missing
+abbrev pub joined : SharedState → View → List (List ℕ) → Option (List ℕ) → Effect
+joined shared view texts None = answering shared view.limit (failed ARGUMENT_MISSING)
+joined shared view texts (Some to) = ended view.limit (written_to view to (each (at_path (type_one view) view) (fresh shared) texts))
+
+abbrev pub join_row : SharedState → View → List Arg → Effect
+join_row shared view args = joined shared view (texts_at args 0) (text_at args 1)

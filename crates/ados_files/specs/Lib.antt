@@ -1,0 +1,17 @@
+pub mod Matching
+pub mod Names
+pub mod Acts
+pub mod MakeDir
+pub mod Delete
+pub mod TypeFiles
+pub mod Filenote
+pub mod Protect
+pub mod Lines
+pub mod Listing
+pub mod Dir
+pub mod Rename
+pub mod Join
+pub mod Jobs
+pub mod Copy
+pub mod Commands
+pub mod Rows

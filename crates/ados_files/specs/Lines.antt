@@ -1,0 +1,51 @@
+-- Lines of a listing.
+use Rattle.std.specs.Prelude.{ℕ, ◌-◌, Bool, true, false, not, ◌||◌, List, [], ◌∷◌, ◌++◌, Option, codes, decimal, length}
+use Rattle.std.proofs.Math.ListN.{replicate}
+use Rattle.std.specs.FinMap as map
+use Rattle.ados_ram.specs.Place.{key_of}
+use Rattle.ados_ram.specs.Files.{Files}
+use Rattle.ados_ram.specs.declared.entries.Bits.{Bits}
+use Rattle.ados_ram.specs.declared.entries.Body.{Body}
+use Rattle.ados_ram.specs.declared.entries.Body.TheVariants.{Directory, File}
+use Rattle.ados_ram.specs.declared.entries.Entry.{Entry}
+
+-- a kind is kept by its own switch, and where the other has none either
+abbrev pub keeps : Bool → Bool → Bool
+keeps own other = own || not other
+
+-- the lines of what is at places, in order
+abbrev pub lines_by : (Option Entry → List ℕ) → Files → List (List (List ℕ)) → List ℕ
+lines_by line files [] = []
+lines_by line files (place ∷ places) = line (map.get files (key_of place)) ++ lines_by line files places
+
+-- a text left in so many places, and right
+abbrev pub left_in : ℕ → List ℕ → List ℕ
+left_in width text = text ++ replicate (width - length text) 32
+
+abbrev pub right_in : ℕ → List ℕ → List ℕ
+right_in width text = replicate (width - length text) 32 ++ text
+
+-- the letter of a bit that is set, and else `-`
+abbrev pub letter : Bool → ℕ → ℕ
+letter true c = c
+letter false c = 45
+
+-- the bits as `hsparwed`
+abbrev pub bits_text : Bits → List ℕ
+bits_text b =
+    letter b.hold 104 ∷ letter b.script 115 ∷ letter b.pure 112 ∷ letter b.archive 97
+    ∷ letter b.read 114 ∷ letter b.write 119 ∷ letter b.execute 101 ∷ letter b.delete 100 ∷ []
+
+abbrev pub size_text : Body → List ℕ
+size_text Directory = codes "Dir"
+size_text (File bytes) = decimal (length bytes)
+
+-- a comment has a line of its own
+abbrev pub comment_line : List ℕ → List ℕ
+comment_line [] = []
+comment_line (c ∷ cs) = codes ": " ++ ((c ∷ cs) ++ 10 ∷ [])
+
+-- the line of an object: the name in 30 places, the size or `Dir` in 7, and the bits
+abbrev pub list_line : Entry → List ℕ
+list_line e =
+    left_in 30 e.name ++ (32 ∷ (right_in 7 (size_text e.body) ++ (32 ∷ (bits_text e.bits ++ (10 ∷ comment_line e.comment)))))

@@ -1,0 +1,93 @@
+-- List: objects, and what is in directories.
+use Rattle.std.specs.Prelude.{ℕ, Bool, true, false, cond, ◌&&◌, List, [], ◌∷◌, ◌++◌, Option, Some, None, Result, Ok, Err, if◌then◌else◌}
+use Rattle.std.specs.FinMap as map
+use Rattle.ados_pattern.specs.Meaning.{Meaning}
+use Rattle.ados_readargs.specs.declared.args.Arg.{Arg}
+use Rattle.ados_readargs.specs.Args.{texts_at, text_at, is_on}
+use Rattle.ados_ram.specs.Place.{key_of}
+use Rattle.ados_ram.specs.Entry.{is_directory}
+use Rattle.ados_ram.specs.Files.{Files}
+use Rattle.ados_ram.specs.FileOperations.{list_fault}
+use Rattle.ados_ram.specs.Contents.{children}
+use Rattle.ados_ram.specs.declared.entries.Entry.{Entry}
+use Rattle.ados_find.specs.declared.codes.Codes.{Codes}
+use Rattle.ados_find.specs.Shared.{SharedState}
+use Rattle.ados_find.specs.Views.{View}
+use Rattle.ados_find.specs.Effects.{Effect, answering}
+use Rattle.ados_find.specs.Done.{Done, fresh, stopped_by, refused_or, each, ended}
+use Rattle.ados_files.specs.Matching.{is_match}
+use Rattle.ados_files.specs.Names.{FoundPlaces, pattern_of, named}
+use Rattle.ados_files.specs.Lines.{keeps, lines_by, list_line}
+use Rattle.ados_files.specs.declared.listing.Shape.{Shape}
+
+-- PAT keeps names that match
+abbrev pub passes : Option Meaning → Entry → Bool
+passes None e = true
+passes (Some pattern) e = is_match pattern.form e.name
+
+-- FILES and DIRS each keep their kind alone, and both keep both
+abbrev pub is_kept : Shape → Entry → Bool
+is_kept shape e = cond (is_directory e) (keeps shape.dirs shape.files) (keeps shape.files shape.dirs)
+
+-- QUICK shows the name alone
+abbrev pub shown_line : Bool → Entry → List ℕ
+shown_line true e = e.name ++ 10 ∷ []
+shown_line false e = list_line e
+
+abbrev pub kept_line : Shape → Entry → List ℕ
+kept_line shape e = if is_kept shape e && passes shape.pattern e then shown_line shape.quick e else []
+
+abbrev pub line_there : Shape → Option Entry → List ℕ
+line_there shape None = []
+line_there shape (Some e) = kept_line shape e
+
+-- what a place that is named by its path stands for: a directory for its entries
+abbrev pub entries_of : Files → List (List ℕ) → Option Entry → List (List (List ℕ))
+entries_of files place None = []
+entries_of files place (Some e) = cond (is_directory e) (children (key_of place) (map.entries files)) (place ∷ [])
+
+abbrev pub all_entries : Files → List (List (List ℕ)) → List (List (List ℕ))
+all_entries files [] = []
+all_entries files (place ∷ places) = entries_of files place (map.get files (key_of place)) ++ all_entries files places
+
+-- a match of a pattern stands for itself
+abbrev pub listed : Files → FoundPlaces → List (List (List ℕ))
+listed files found = if found.literal then all_entries files found.places else found.places
+
+abbrev pub list_places : Shape → Done → List (List (List ℕ)) → Done
+list_places shape done places = record done { output = done.output ++ lines_by (line_there shape) done.shared.files places }
+
+abbrev pub list_found : Shape → Done → Result FoundPlaces Codes → Done
+list_found shape done (Err codes) = stopped_by codes done
+list_found shape done (Ok found) = list_places shape done (listed done.shared.files found)
+
+abbrev pub list_text : Shape → View → Done → List ℕ → Done
+list_text shape view done text = list_found shape done (named done.shared view.directory text)
+
+-- the entries of the current directory
+abbrev pub list_current : Shape → View → Done → Done
+list_current shape view done =
+    refused_or (list_fault (map.get done.shared.files (key_of view.directory))) done
+    (list_places shape done (children (key_of view.directory) (map.entries done.shared.files)))
+
+abbrev pub list_texts : Shape → View → Done → List (List ℕ) → Done
+list_texts shape view done [] = list_current shape view done
+list_texts shape view done (text ∷ texts) = each (list_text shape view) done (text ∷ texts)
+
+-- the pattern of PAT, where it is given
+abbrev pub some_pattern : Result Meaning Codes → Result (Option Meaning) Codes
+some_pattern (Err codes) = Err codes
+some_pattern (Ok pattern) = Ok (Some pattern)
+
+abbrev pub pattern_given : Option (List ℕ) → Result (Option Meaning) Codes
+pattern_given None = Ok None
+pattern_given (Some text) = some_pattern (pattern_of text)
+
+abbrev pub list_by : SharedState → View → List Arg → Result (Option Meaning) Codes → Effect
+list_by shared view args (Err codes) = answering shared view.limit codes
+list_by shared view args (Ok pattern) =
+    ended view.limit
+    (list_texts (record { pattern = pattern; quick = is_on args 2; files = is_on args 3; dirs = is_on args 4 }) view (fresh shared) (texts_at args 0))
+
+abbrev pub list_row : SharedState → View → List Arg → Effect
+list_row shared view args = list_by shared view args (pattern_given (text_at args 1))

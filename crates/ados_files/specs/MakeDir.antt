@@ -1,0 +1,27 @@
+-- MakeDir: directories made by their paths.
+use Rattle.std.specs.Prelude.{ℕ, List, [], ◌∷◌}
+use Rattle.ados_text.specs.declared.codes.TheConstants.Result2.{ARGUMENT_MISSING}
+use Rattle.ados_readargs.specs.declared.args.Arg.{Arg}
+use Rattle.ados_readargs.specs.Args.{texts_at}
+use Rattle.ados_ram.specs.Place.{key_of, last_name}
+use Rattle.ados_ram.specs.FileOperations.{make_dir_of, make_dir_fault}
+use Rattle.ados_find.specs.Codes.{failed}
+use Rattle.ados_find.specs.Shared.{SharedState, with_files}
+use Rattle.ados_find.specs.Views.{View}
+use Rattle.ados_find.specs.Effects.{Effect, answering}
+use Rattle.ados_find.specs.Done.{Done, fresh, refused_or, each, ended}
+use Rattle.ados_files.specs.Acts.{at_path}
+
+-- one directory is made
+abbrev pub made : Done → List (List ℕ) → Done
+made done place =
+    refused_or (make_dir_fault done.shared.files (key_of place) (last_name place)) done
+    (record done { shared = with_files done.shared (make_dir_of done.shared.files (key_of place) (last_name place)) })
+
+-- without a name an argument is missing
+abbrev pub all_made : SharedState → View → List (List ℕ) → Effect
+all_made shared view [] = answering shared view.limit (failed ARGUMENT_MISSING)
+all_made shared view (text ∷ texts) = ended view.limit (each (at_path made view) (fresh shared) (text ∷ texts))
+
+abbrev pub make_dir_row : SharedState → View → List Arg → Effect
+make_dir_row shared view args = all_made shared view (texts_at args 0)

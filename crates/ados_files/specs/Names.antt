@@ -1,0 +1,101 @@
+-- Arguments that name objects: a path, whose last piece may be a pattern of names.
+use Rattle.std.specs.Prelude.{ℕ, List, [], ◌∷◌, ◌++◌, take, drop, Bool, true, false, cond, Option, Some, None, Result, Ok, Err}
+use Rattle.std.specs.FinMap as map
+use Rattle.ados_text.specs.declared.codes.Result2.{Result2}
+use Rattle.ados_text.specs.declared.codes.TheConstants.Code.{WARN}
+use Rattle.ados_text.specs.declared.codes.TheConstants.Result2.{LINE_TOO_LONG, DIRECTORY_NOT_FOUND, OBJECT_NOT_FOUND, INVALID_NAME, WRONG_TYPE, NO_FREE_STORE}
+use Rattle.ados_pattern.specs.Form.{Form}
+use Rattle.ados_pattern.specs.Meaning.{Meaning, meaning_of}
+use Rattle.ados_pattern.specs.Fault.{fault_of}
+use Rattle.ados_pattern.specs.declared.errors.PatternFault.{PatternFault}
+use Rattle.ados_pattern.specs.declared.errors.PatternFault.TheVariants.{BadPattern, TooLong, NoMemory}
+use Rattle.ados_names.specs.Path.{last_piece_of}
+use Rattle.ados_ram.specs.Place.{key_of}
+use Rattle.ados_ram.specs.Entry.{is_directory}
+use Rattle.ados_ram.specs.Files.{Files}
+use Rattle.ados_ram.specs.Contents.{children}
+use Rattle.ados_ram.specs.declared.entries.Entry.{Entry}
+use Rattle.ados_find.specs.declared.codes.Codes.{Codes}
+use Rattle.ados_find.specs.Codes.{erred}
+use Rattle.ados_find.specs.Shared.{SharedState}
+use Rattle.ados_find.specs.Paths.{place_of}
+use Rattle.ados_files.specs.Matching.{is_match}
+
+-- a warning, by a fault
+abbrev pub warned : Result2 → Codes
+warned fault = record { code = WARN; result2 = fault }
+
+-- what a text that is no pattern answers
+abbrev pub pattern_codes : PatternFault → Codes
+pattern_codes (BadPattern place) = erred INVALID_NAME
+pattern_codes TooLong = erred LINE_TOO_LONG
+pattern_codes NoMemory = erred NO_FREE_STORE
+
+-- what a pattern says, unless it has a fault
+abbrev pub pattern_unless : Option PatternFault → Meaning → Result Meaning Codes
+pattern_unless None meaning = Ok meaning
+pattern_unless (Some fault) meaning = Err (pattern_codes fault)
+
+abbrev pub pattern_of : List ℕ → Result Meaning Codes
+pattern_of text = pattern_unless (fault_of text) (meaning_of text)
+
+-- the objects that an argument names, and whether it names just one, by its path
+pub record FoundPlaces : Type 0 where
+  pub literal : Bool
+  pub places : List (List (List ℕ))
+
+-- there is an entry, and its name is what the pattern says
+abbrev pub wants : Form → Option Entry → Bool
+wants form None = false
+wants form (Some e) = is_match form e.name
+
+-- those of the places whose names match
+abbrev pub matching : Form → Files → List (List (List ℕ)) → List (List (List ℕ))
+matching form files [] = []
+matching form files (place ∷ places) =
+    cond (wants form (map.get files (key_of place))) (place ∷ matching form files places) (matching form files places)
+
+-- no match at all is a warning
+abbrev pub some_matches : List (List (List ℕ)) → Result FoundPlaces Codes
+some_matches [] = Err (warned OBJECT_NOT_FOUND)
+some_matches (place ∷ places) = Ok (record { literal = false; places = place ∷ places })
+
+-- the objects in a directory that match, in order
+abbrev pub matches_in : Form → Files → List (List ℕ) → Option Entry → Result FoundPlaces Codes
+matches_in form files directory None = Err (erred DIRECTORY_NOT_FOUND)
+matches_in form files directory (Some e) =
+    cond (is_directory e) (some_matches (matching form files (children (key_of directory) (map.entries files)))) (Err (erred WRONG_TYPE))
+
+-- the one object that is there
+abbrev pub the_one : List (List ℕ) → Option Entry → Result FoundPlaces Codes
+the_one place None = Err (erred OBJECT_NOT_FOUND)
+the_one place (Some e) = Ok (record { literal = true; places = place ∷ [] })
+
+-- the same, where a path leads to the place
+abbrev pub matches_at : Form → Files → Result (List (List ℕ)) Codes → Result FoundPlaces Codes
+matches_at form files (Err codes) = Err codes
+matches_at form files (Ok directory) = matches_in form files directory (map.get files (key_of directory))
+
+abbrev pub one_at : Files → Result (List (List ℕ)) Codes → Result FoundPlaces Codes
+one_at files (Err codes) = Err codes
+one_at files (Ok place) = the_one place (map.get files (key_of place))
+
+-- a literal piece is a name behind the path before it; a pattern stands for its matches in the directory of that path
+abbrev pub named_by : SharedState → List (List ℕ) → List ℕ → Form → Option (List ℕ) → Result FoundPlaces Codes
+named_by shared directory head form (Some name) = one_at shared.files (place_of shared directory (head ++ name))
+named_by shared directory head form None = matches_at form shared.files (place_of shared directory head)
+
+abbrev pub named_with : SharedState → List (List ℕ) → List ℕ → Result Meaning Codes → Result FoundPlaces Codes
+named_with shared directory head (Err codes) = Err codes
+named_with shared directory head (Ok pattern) = named_by shared directory head pattern.form pattern.name
+
+-- the path before the last piece of a text, and that piece
+abbrev pub head_of : List ℕ → List ℕ
+head_of text = take (last_piece_of text) text
+
+abbrev pub piece_of : List ℕ → List ℕ
+piece_of text = drop (last_piece_of text) text
+
+-- the objects that an argument names
+abbrev pub named : SharedState → List (List ℕ) → List ℕ → Result FoundPlaces Codes
+named shared directory text = named_with shared directory (head_of text) (pattern_of (piece_of text))

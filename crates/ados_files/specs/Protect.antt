@@ -1,0 +1,118 @@
+-- Protect: the bits of objects.
+use Rattle.std.specs.Prelude.{ℕ, List, [], ◌∷◌, drop, codes, Bool, true, false, not, ◌&&◌, ◌||◌, ◌==◌, Option, Some, None, Result, Ok, Err, if◌then◌else◌}
+use Rattle.std.specs.List.{list_all, list_any}
+use Rattle.std.specs.FinMap as map
+use Rattle.ados_text.specs.Text.{fold_of}
+use Rattle.ados_text.specs.declared.codes.Result2.{Result2}
+use Rattle.ados_text.specs.declared.codes.TheConstants.Result2.{BAD_NUMBER, TOO_MANY_ARGUMENTS}
+use Rattle.ados_readargs.specs.declared.args.Arg.{Arg}
+use Rattle.ados_readargs.specs.Args.{texts_at, text_at, is_on}
+use Rattle.ados_ram.specs.Place.{key_of}
+use Rattle.ados_ram.specs.Entry.{fresh_bits}
+use Rattle.ados_ram.specs.FileOperations.{protect_of, protect_fault}
+use Rattle.ados_ram.specs.declared.entries.Bits.{Bits}
+use Rattle.ados_ram.specs.declared.entries.Entry.{Entry}
+use Rattle.ados_find.specs.Codes.{failed}
+use Rattle.ados_find.specs.Shared.{SharedState, with_files}
+use Rattle.ados_find.specs.Views.{View}
+use Rattle.ados_find.specs.Effects.{Effect, answering}
+use Rattle.ados_find.specs.Done.{Done, fresh, refused_or, each, ended}
+use Rattle.ados_files.specs.Acts.{at_names}
+use Rattle.ados_files.specs.declared.protect.Way.{Way}
+use Rattle.ados_files.specs.declared.protect.Way.TheVariants.{Set, Add, Take}
+use Rattle.ados_files.specs.declared.protect.Change.{Change}
+
+-- the flags begin with this sign
+abbrev pub begins_with : ℕ → List ℕ → Bool
+begins_with sign [] = false
+begins_with sign (c ∷ cs) = c == sign
+
+-- the letters of the flags: what is behind a `+` or `-` in front
+abbrev pub letters_of : List ℕ → List ℕ
+letters_of flags = if begins_with 43 flags || begins_with 45 flags then drop 1 flags else flags
+
+-- the letter stands among them, case ignored
+abbrev pub has_letter : ℕ → List ℕ → Bool
+has_letter letter letters = list_any (λ c. fold_of c == letter) letters
+
+-- the bits of letters: h s p a r w e d
+abbrev pub bits_of : List ℕ → Bits
+bits_of letters =
+    record {
+      hold = has_letter 104 letters;
+      script = has_letter 115 letters;
+      pure = has_letter 112 letters;
+      archive = has_letter 97 letters;
+      read = has_letter 114 letters;
+      write = has_letter 119 letters;
+      execute = has_letter 101 letters;
+      delete = has_letter 100 letters;
+    }
+
+-- each is the letter of a bit, case ignored
+abbrev pub is_letter : ℕ → Bool
+is_letter c = has_letter (fold_of c) (codes "hsparwed")
+
+abbrev pub are_letters : List ℕ → Bool
+are_letters letters = list_all is_letter letters
+
+-- whether bits are added, taken away, or set: not added and taken away at once
+abbrev pub way_of : Bool → Bool → Result Way Result2
+way_of true true = Err TOO_MANY_ARGUMENTS
+way_of true false = Ok Add
+way_of false true = Ok Take
+way_of false false = Ok Set
+
+abbrev pub change_by : Result Way Result2 → List ℕ → Result Change Result2
+change_by (Err fault) letters = Err fault
+change_by (Ok way) letters = Ok (record { way = way; bits = bits_of letters })
+
+-- the change that the flags and the switches ask for
+abbrev pub change_of : List ℕ → Bool → Bool → Result Change Result2
+change_of flags add sub =
+    if are_letters (letters_of flags) then change_by (way_of (add || begins_with 43 flags) (sub || begins_with 45 flags)) (letters_of flags)
+    else Err BAD_NUMBER
+
+-- one bit after a change
+abbrev pub changed_bit : Way → Bool → Bool → Bool
+changed_bit Set old given = given
+changed_bit Add old given = old || given
+changed_bit Take old given = old && not given
+
+-- the bits after a change
+abbrev pub changed_bits : Change → Bits → Bits
+changed_bits change old =
+    record {
+      hold = changed_bit change.way old.hold change.bits.hold;
+      script = changed_bit change.way old.script change.bits.script;
+      pure = changed_bit change.way old.pure change.bits.pure;
+      archive = changed_bit change.way old.archive change.bits.archive;
+      read = changed_bit change.way old.read change.bits.read;
+      write = changed_bit change.way old.write change.bits.write;
+      execute = changed_bit change.way old.execute change.bits.execute;
+      delete = changed_bit change.way old.delete change.bits.delete;
+    }
+
+-- the bits of what is there; those of a new object where nothing is
+abbrev pub bits_at : Option Entry → Bits
+bits_at None = fresh_bits
+bits_at (Some e) = e.bits
+
+-- the bits of one object are changed
+abbrev pub protect_one : Change → Done → List (List ℕ) → Done
+protect_one change done place = (let bits = changed_bits change (bits_at (map.get done.shared.files (key_of place))) in
+    refused_or (protect_fault done.shared.files (key_of place)) done
+    (record done { shared = with_files done.shared (protect_of done.shared.files (key_of place) bits) }))
+
+abbrev pub protected_by : SharedState → View → Result Change Result2 → List (List ℕ) → Effect
+protected_by shared view (Err fault) texts = answering shared view.limit (failed fault)
+protected_by shared view (Ok change) texts = ended view.limit (each (at_names (protect_one change) view) (fresh shared) texts)
+
+-- without FLAGS they are empty
+abbrev pub flags_or_none : Option (List ℕ) → List ℕ
+flags_or_none None = []
+flags_or_none (Some flags) = flags
+
+abbrev pub protect_row : SharedState → View → List Arg → Effect
+protect_row shared view args =
+    protected_by shared view (change_of (flags_or_none (text_at args 1)) (is_on args 2) (is_on args 3)) (texts_at args 0)

@@ -1,0 +1,23 @@
+-- Type: the bytes of files, as they are.
+use Rattle.std.specs.Prelude.{ℕ, List, ◌++◌}
+use Rattle.std.specs.FinMap as map
+use Rattle.ados_readargs.specs.declared.args.Arg.{Arg}
+use Rattle.ados_readargs.specs.Args.{texts_at}
+use Rattle.ados_ram.specs.Place.{key_of}
+use Rattle.ados_ram.specs.Files.{bytes_at}
+use Rattle.ados_ram.specs.InUse.{is_output}
+use Rattle.ados_ram.specs.FileOperations.{read_fault}
+use Rattle.ados_find.specs.Shared.{SharedState}
+use Rattle.ados_find.specs.Views.{View}
+use Rattle.ados_find.specs.Effects.{Effect}
+use Rattle.ados_find.specs.Done.{Done, fresh, refused_or, each, ended}
+use Rattle.ados_files.specs.Acts.{at_names}
+
+-- the bytes of one file are put out
+abbrev pub type_one : View → Done → List (List ℕ) → Done
+type_one view done place =
+    refused_or (read_fault (is_output view.busy (key_of place)) (map.get done.shared.files (key_of place))) done
+    (record done { output = done.output ++ bytes_at (map.get done.shared.files (key_of place)) })
+
+abbrev pub type_row : SharedState → View → List Arg → Effect
+type_row shared view args = ended view.limit (each (at_names (type_one view) view) (fresh shared) (texts_at args 0))

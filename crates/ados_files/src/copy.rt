@@ -1,0 +1,166 @@
+ghost use Rattle.std.specs.Prelude.{◌≡◌, IfOk, OnOk};
+ghost use Rattle.std.specs.FinMap as map;
+ghost use Rattle.std.specs.Option.{option_copied};
+ghost use Rattle.ados_ram.specs.Place.{key_of};
+ghost use Rattle.ados_ram.specs.Files.{is_some_file};
+ghost use Rattle.ados_find.specs.Done.{done_of};
+ghost use Rattle.ados_find.specs.Shared.{version};
+ghost use Rattle.ados_find.specs.Effects.{effect_of};
+ghost use Rattle.ados_find.specs.Paths.{place_of};
+ghost use Rattle.ados_files.specs.Copy.{directory_for, copy_into, is_onto, one_entry, copy_found, copied_to, copy_row};
+
+use crate::copy_one::Copying;
+use crate::jobs::{all_jobs, jobs_onto, sources_of};
+use crate::make_dir::made;
+use crate::names::Found;
+use crate::rename::is_directory;
+use ados_find::{Codes, Outcome, Refusal, Shared, ShellView, Work, current, each, place_of};
+use ados_ram::{Entry, Place, Ram};
+use ados_readargs::Args;
+use ados_text::{NoMemory, Result2, Text};
+use std::alloc::Global;
+
+/// Copy copies files.
+pub fn copy_files(
+    alloc: Global,
+    shared: &Shared,
+    view: &ShellView,
+    args: &Args,
+) -> Result<Outcome, NoMemory>
+    ensures { IfOk result (λ outcome. effect_of shared.now outcome ≡ copy_row shared.now view.now args.now) }
+{
+    let missing = Codes::failed(Result2::ARGUMENT_MISSING);
+    let Some(to) = args.text(1) else {
+        return Ok(Outcome::answering(alloc, view.limit, missing));
+    };
+    let texts = args.texts(0);
+    if texts.is_empty() {
+        return Ok(Outcome::answering(alloc, view.limit, missing));
+    }
+    match sources_of(alloc, shared, &view.directory, texts) {
+        Err(Refusal::NoMemory) => Err(NoMemory),
+        Err(Refusal::Stopped(codes)) => Ok(Outcome::answering(alloc, view.limit, codes)),
+        Ok(found) => {
+            let copy = Copy {
+                view,
+                all: args.is_on(2),
+                quiet: args.is_on(3),
+                found,
+            };
+            copied_to(alloc, shared, &copy, to)
+        }
+    }
+}
+
+/// What is copied, and how.
+#[derive(Drop)]
+pub struct Copy<'a> {
+    pub view: &'a ShellView,
+    pub all: bool,
+    pub quiet: bool,
+    pub found: Found,
+}
+
+fn copied_to(alloc: Global, shared: &Shared, copy: &Copy, to: &Text) -> Result<Outcome, NoMemory>
+    ensures { IfOk result (λ outcome. effect_of shared.now outcome ≡
+        copied_to shared.now copy.now.view.now copy.now.all copy.now.quiet copy.now.found (place_of shared.now copy.now.view.now.directory to.now)) }
+{
+    let view = copy.view;
+    match place_of(alloc, shared, &view.directory, to) {
+        Err(Refusal::NoMemory) => Err(NoMemory),
+        Err(Refusal::Stopped(codes)) => Ok(Outcome::answering(alloc, view.limit, codes)),
+        Ok(to) => {
+            let mut work = Work::new(alloc);
+            copy_found(copy, shared, &mut work, &to)?;
+            Ok(work.end(view.limit))
+        }
+    }
+}
+
+// Copies to TO itself, or into it.
+fn copy_found(copy: &Copy, shared: &Shared, work: &mut Work, to: &Place) -> Result<(), NoMemory>
+    ensures { OnOk result (done_of shared.now work.new ≡
+        copy_found copy.now.view.now copy.now.all copy.now.quiet copy.now.found (done_of shared.now work.old) to.now) }
+{
+    let alloc = *work.output.allocator();
+    if !is_onto(&current(shared, &work.shared).ram, &copy.found, to) {
+        return copy_into(copy, shared, work, to);
+    }
+    let jobs = jobs_onto(alloc, copy.found.places())?;
+    let act = Copying {
+        view: copy.view,
+        quiet: copy.quiet,
+        to,
+    };
+    each(&act, shared, work, &jobs)
+}
+
+// Just one file, and a TO that is no directory.
+fn is_onto(ram: &Ram, found: &Found, to: &Place) -> bool
+    ensures { result ≡ is_onto ram.now found.now to.now }
+{
+    is_file(one_entry(ram, found)) && !is_directory(ram.look(to))
+}
+
+// A file stands there.
+fn is_file(there: Option<&Entry>) -> bool
+    ensures { result ≡ is_some_file (option_copied there.entry) }
+{
+    match there {
+        None => false,
+        Some(entry) => !entry.is_directory(),
+    }
+}
+
+// What stands at the one source.
+fn one_entry<'a>(ram: &'a Ram, found: &Found) -> Option<&'a Entry>
+    ensures { option_copied result ≡ one_entry ram.now found.now }
+{
+    if !found.is_literal() {
+        return None;
+    }
+    match found.places().split_first() {
+        None => None,
+        Some((place, _)) => ram.look(place),
+    }
+}
+
+// Copies into a directory.
+fn copy_into(copy: &Copy, shared: &Shared, work: &mut Work, to: &Place) -> Result<(), NoMemory>
+    ensures { OnOk result (done_of shared.now work.new ≡
+        copy_into copy.now.view.now copy.now.all copy.now.quiet copy.now.found (done_of shared.now work.old) to.now) }
+{
+    let alloc = *work.output.allocator();
+    let ram = &current(shared, &work.shared).ram;
+    let jobs = all_jobs(alloc, copy.all, ram, copy.found.places())?;
+    let one = is_directory(one_entry(ram, &copy.found));
+    directory_for(one, to, shared, work)?;
+    let act = Copying {
+        view: copy.view,
+        quiet: copy.quiet,
+        to,
+    };
+    each(&act, shared, work, &jobs)
+}
+
+// TO is a directory: an absent one is made for just one directory.
+fn directory_for(one: bool, to: &Place, shared: &Shared, work: &mut Work) -> Result<(), NoMemory>
+    ensures { OnOk result (done_of shared.now work.new ≡
+        directory_for one to.now (done_of shared.now work.old) (map.get (version shared.now work.old.shared).files (key_of to.now))) }
+{
+    match current(shared, &work.shared).ram.look(to) {
+        None => {
+            if one {
+                return made(shared, work, to);
+            }
+            work.stopped = Some(Codes::erred(Result2::DIRECTORY_NOT_FOUND));
+            Ok(())
+        }
+        Some(entry) => {
+            if !entry.is_directory() {
+                work.stopped = Some(Codes::erred(Result2::WRONG_TYPE));
+            }
+            Ok(())
+        }
+    }
+}

@@ -1,0 +1,126 @@
+ghost use Rattle.std.specs.Prelude.{◌≡◌, ◌++◌, IfOk, OnOk};
+ghost use Rattle.ados_find.specs.Done.{done_of};
+ghost use Rattle.ados_find.specs.Effects.{effect_of};
+ghost use Rattle.ados_files.specs.Delete.{say, deleted_line, delete_one, targets, delete_place, delete_row};
+
+use crate::acts::Names;
+use crate::names::only;
+use ados_find::{Act, Codes, Outcome, Shared, ShellView, Work, current, each};
+use ados_ram::{FsFault, Place, Ram};
+use ados_readargs::Args;
+use ados_text::NoMemory;
+use std::alloc::Global;
+
+/// Delete takes objects out.
+pub fn delete(
+    alloc: Global,
+    shared: &Shared,
+    view: &ShellView,
+    args: &Args,
+) -> Result<Outcome, NoMemory>
+    ensures { IfOk result (λ outcome. effect_of shared.now outcome ≡ delete_row shared.now view.now args.now) }
+{
+    let act = Deleting {
+        view,
+        all: args.is_on(1),
+        quiet: args.is_on(2),
+    };
+    let mut work = Work::new(alloc);
+    each(&Names { act: &act, view }, shared, &mut work, args.texts(0))?;
+    Ok(work.end(view.limit))
+}
+
+/// The deleting of an object, with ALL behind what is below it.
+#[derive(Drop)]
+pub struct Deleting<'a> {
+    pub view: &'a ShellView,
+    pub all: bool,
+    pub quiet: bool,
+}
+
+impl<'a> Act<Place> for Deleting<'a> {
+    ghost act = { λ s. delete_place s.view.now s.all s.quiet };
+
+    fn act(&self, shared: &Shared, work: &mut Work, item: &Place) -> Result<(), NoMemory> {
+        delete_place(self.view, self.all, self.quiet, shared, work, item)
+    }
+}
+
+/// The deleting of one object.
+#[derive(Drop)]
+pub struct DeletingOne<'a> {
+    pub view: &'a ShellView,
+    pub quiet: bool,
+}
+
+impl<'a> Act<Place> for DeletingOne<'a> {
+    ghost act = { λ s. delete_one s.view.now s.quiet };
+
+    fn act(&self, shared: &Shared, work: &mut Work, item: &Place) -> Result<(), NoMemory> {
+        delete_one(self.view, self.quiet, shared, work, item)
+    }
+}
+
+// Deletes an object, with ALL behind what is below it.
+fn delete_place(
+    view: &ShellView,
+    all: bool,
+    quiet: bool,
+    shared: &Shared,
+    work: &mut Work,
+    place: &Place,
+) -> Result<(), NoMemory>
+    ensures { OnOk result (done_of shared.now work.new ≡ delete_place view.now all quiet (done_of shared.now work.old) place.now) }
+{
+    let alloc = *work.output.allocator();
+    let places = targets(alloc, all, &current(shared, &work.shared).ram, place)?;
+    each(&DeletingOne { view, quiet }, shared, work, &places)
+}
+
+// What is deleted with a place.
+fn targets(alloc: Global, all: bool, ram: &Ram, place: &Place) -> Result<Vec<Place>, NoMemory>
+    ensures { IfOk result (λ places. places.items ≡ targets all ram.now place.now) }
+{
+    if !all {
+        return only(alloc, place);
+    }
+    let mut places = ram.contents(place)?;
+    places.push(place.copy()?)?;
+    Ok(places)
+}
+
+// Deletes one object.
+fn delete_one(
+    view: &ShellView,
+    quiet: bool,
+    shared: &Shared,
+    work: &mut Work,
+    place: &Place,
+) -> Result<(), NoMemory>
+    ensures { OnOk result (done_of shared.now work.new ≡ delete_one view.now quiet (done_of shared.now work.old) place.now) }
+{
+    let now = current(shared, &work.shared);
+    match now.ram.delete(&view.busy, place) {
+        Err(FsFault::NoMemory) => Err(NoMemory),
+        Err(FsFault::Refused(fault)) => {
+            work.stopped = Some(Codes::erred(fault));
+            Ok(())
+        }
+        Ok(ram) => {
+            say_deleted(quiet, &mut work.output, &now.ram, place)?;
+            work.shared = Some(now.with_files(ram)?);
+            Ok(())
+        }
+    }
+}
+
+fn say_deleted(quiet: bool, output: &mut Vec<u8>, ram: &Ram, place: &Place) -> Result<(), NoMemory>
+    ensures { OnOk result (output.new.items ≡ say quiet output.old.items (deleted_line ram.now place.now)) }
+{
+    if quiet {
+        return Ok(());
+    }
+    output.extend_from_slice(ram.full_path(place)?.as_bytes())?;
+    output.extend_from_slice(b"  Deleted\n")?;
+    Ok(())
+}

@@ -1,0 +1,145 @@
+ghost use Rattle.std.specs.Prelude.{◌≡◌, ◌++◌, IfOk, OnOk, Ok};
+ghost use Rattle.std.specs.Option.{option_copied};
+ghost use Rattle.ados_find.specs.Effects.{effect_of};
+ghost use Rattle.ados_find.specs.Paths.{Gives};
+ghost use Rattle.ados_files.specs.Lines.{lines_by};
+ghost use Rattle.ados_files.specs.Dir.{directory_line, file_line, directories_text, files_text, dir_text, dir_at, directory_given, dir_row};
+
+use crate::lines::keeps;
+use crate::listing::list_fault;
+use ados_find::{Codes, Outcome, Refusal, Shared, ShellView, place_of};
+use ados_ram::{Entry, Place, Ram};
+use ados_readargs::Args;
+use ados_text::{NoMemory, Text};
+use std::alloc::Global;
+
+/// Dir puts out what is in a directory.
+pub fn show_directory(
+    alloc: Global,
+    shared: &Shared,
+    view: &ShellView,
+    args: &Args,
+) -> Result<Outcome, NoMemory>
+    ensures { IfOk result (λ outcome. effect_of shared.now outcome ≡ dir_row shared.now view.now args.now) }
+{
+    match directory_given(alloc, shared, view, args.text(0)) {
+        Err(Refusal::NoMemory) => Err(NoMemory),
+        Err(Refusal::Stopped(codes)) => Ok(Outcome::answering(alloc, view.limit, codes)),
+        Ok(place) => dir_at(alloc, shared, view, args.is_on(1), args.is_on(2), &place),
+    }
+}
+
+// Without DIR the current directory.
+fn directory_given(
+    alloc: Global,
+    shared: &Shared,
+    view: &ShellView,
+    text: Option<&Text>,
+) -> Result<Place, Refusal>
+    ensures { Gives result (directory_given shared.now view.now (option_copied text.entry)) }
+{
+    match text {
+        None => Ok(view.directory.copy()?),
+        Some(text) => place_of(alloc, shared, &view.directory, text),
+    }
+}
+
+fn dir_at(
+    alloc: Global,
+    shared: &Shared,
+    view: &ShellView,
+    dirs: bool,
+    files: bool,
+    place: &Place,
+) -> Result<Outcome, NoMemory>
+    ensures { IfOk result (λ outcome. effect_of shared.now outcome ≡ dir_at shared.now view.now dirs files (Ok place.now)) }
+{
+    match list_fault(shared.ram.look(place)) {
+        Some(fault) => Ok(Outcome::answering(alloc, view.limit, Codes::erred(fault))),
+        None => {
+            let places = shared.ram.children(place)?;
+            let output = dir_text(alloc, dirs, files, &shared.ram, &places)?;
+            Ok(Outcome::putting(view.limit, output))
+        }
+    }
+}
+
+fn dir_text(
+    alloc: Global,
+    dirs: bool,
+    files: bool,
+    ram: &Ram,
+    places: &[Place],
+) -> Result<Vec<u8>, NoMemory>
+    ensures { IfOk result (λ text. text.items ≡ dir_text dirs files ram.now places.now) }
+{
+    let mut output = Vec::new(alloc);
+    push_directories(&mut output, keeps(dirs, files), ram, places)?;
+    push_files(&mut output, keeps(files, dirs), ram, places)?;
+    Ok(output)
+}
+
+fn push_directories(
+    output: &mut Vec<u8>,
+    kept: bool,
+    ram: &Ram,
+    places: &[Place],
+) -> Result<(), NoMemory>
+    ensures { OnOk result (output.new.items ≡ output.old.items ++ directories_text kept ram.now places.now) }
+{
+    if !kept {
+        return Ok(());
+    }
+    for place in places {
+        push_directory(output, ram.look(place))?;
+    }
+    Ok(())
+}
+
+fn push_files(output: &mut Vec<u8>, kept: bool, ram: &Ram, places: &[Place]) -> Result<(), NoMemory>
+    ensures { OnOk result (output.new.items ≡ output.old.items ++ files_text kept ram.now places.now) }
+{
+    if !kept {
+        return Ok(());
+    }
+    for place in places {
+        push_file(output, ram.look(place))?;
+    }
+    Ok(())
+}
+
+// The line of a directory, if one is there.
+fn push_directory(output: &mut Vec<u8>, there: Option<&Entry>) -> Result<(), NoMemory>
+    ensures { OnOk result (output.new.items ≡ output.old.items ++ directory_line (option_copied there.entry)) }
+{
+    match there {
+        None => Ok(()),
+        Some(entry) => {
+            if !entry.is_directory() {
+                return Ok(());
+            }
+            output.extend_from_slice(b"     ")?;
+            output.extend_from_slice(entry.name.text().as_bytes())?;
+            output.extend_from_slice(b" (dir)\n")?;
+            Ok(())
+        }
+    }
+}
+
+// The line of a file, if one is there.
+fn push_file(output: &mut Vec<u8>, there: Option<&Entry>) -> Result<(), NoMemory>
+    ensures { OnOk result (output.new.items ≡ output.old.items ++ file_line (option_copied there.entry)) }
+{
+    match there {
+        None => Ok(()),
+        Some(entry) => {
+            if entry.is_directory() {
+                return Ok(());
+            }
+            output.extend_from_slice(b"  ")?;
+            output.extend_from_slice(entry.name.text().as_bytes())?;
+            output.push(b'\n')?;
+            Ok(())
+        }
+    }
+}

@@ -1,0 +1,73 @@
+ghost use Rattle.std.specs.Prelude.{◌≡◌, IfOk, OnOk};
+ghost use Rattle.ados_find.specs.Done.{done_of};
+ghost use Rattle.ados_find.specs.Effects.{effect_of};
+ghost use Rattle.ados_files.specs.Filenote.{note_one, noted, filenote_row};
+
+use crate::acts::Names;
+use ados_find::{Act, Codes, Outcome, Shared, ShellView, Work, current, each};
+use ados_ram::{FsFault, Place};
+use ados_readargs::Args;
+use ados_text::{NoMemory, Text};
+use std::alloc::Global;
+
+/// Filenote sets the comment of objects, or clears it.
+pub fn filenote(
+    alloc: Global,
+    shared: &Shared,
+    view: &ShellView,
+    args: &Args,
+) -> Result<Outcome, NoMemory>
+    ensures { IfOk result (λ outcome. effect_of shared.now outcome ≡ filenote_row shared.now view.now args.now) }
+{
+    match args.text(1) {
+        None => noted(alloc, shared, view, &Text::new(alloc), args.texts(0)),
+        Some(comment) => noted(alloc, shared, view, comment, args.texts(0)),
+    }
+}
+
+fn noted(
+    alloc: Global,
+    shared: &Shared,
+    view: &ShellView,
+    comment: &Text,
+    texts: &[Text],
+) -> Result<Outcome, NoMemory>
+    ensures { IfOk result (λ outcome. effect_of shared.now outcome ≡ noted shared.now view.now comment.now texts.now) }
+{
+    let mut work = Work::new(alloc);
+    let act = Noting { comment };
+    each(&Names { act: &act, view }, shared, &mut work, texts)?;
+    Ok(work.end(view.limit))
+}
+
+/// The setting of one object's comment.
+#[derive(Drop)]
+pub struct Noting<'a> {
+    pub comment: &'a Text,
+}
+
+impl<'a> Act<Place> for Noting<'a> {
+    ghost act = { λ s. note_one s.comment.now };
+
+    fn act(&self, shared: &Shared, work: &mut Work, item: &Place) -> Result<(), NoMemory> {
+        note_one(self.comment, shared, work, item)
+    }
+}
+
+// Sets the comment of one object.
+fn note_one(comment: &Text, shared: &Shared, work: &mut Work, place: &Place) -> Result<(), NoMemory>
+    ensures { OnOk result (done_of shared.now work.new ≡ note_one comment.now (done_of shared.now work.old) place.now) }
+{
+    let now = current(shared, &work.shared);
+    match now.ram.comment(place, comment) {
+        Err(FsFault::NoMemory) => Err(NoMemory),
+        Err(FsFault::Refused(fault)) => {
+            work.stopped = Some(Codes::erred(fault));
+            Ok(())
+        }
+        Ok(ram) => {
+            work.shared = Some(now.with_files(ram)?);
+            Ok(())
+        }
+    }
+}

@@ -1,0 +1,126 @@
+// The files that Copy copies.
+ghost use Rattle.std.specs.Prelude.{◌≡◌, ◌++◌, ◌∷◌, [], IfOk, OnOk};
+ghost use Rattle.std.specs.FinMap as map;
+ghost use Rattle.ados_ram.specs.Place.{key_of};
+ghost use Rattle.ados_find.specs.Paths.{Gives};
+
+use crate::names::{Found, named, push_places};
+use ados_find::{Refusal, Shared};
+use ados_ram::{Entry, Place, Ram};
+use ados_text::{NoMemory, Text};
+use std::alloc::Global;
+
+/// A file, and the names below TO under which it goes.
+#[derive(Debug, Drop)]
+pub struct Job {
+    pub source: Place,
+    pub names: Place,
+}
+
+ghost use Rattle.ados_files.specs.Jobs.{gathered, sources_of, job_below, jobs_below, jobs_there, all_jobs, jobs_onto};
+
+/// What the arguments of FROM name.
+pub fn sources_of(
+    alloc: Global,
+    shared: &Shared,
+    directory: &Place,
+    texts: &[Text],
+) -> Result<Found, Refusal>
+    ensures { Gives result (sources_of shared.now directory.now texts.now) }
+{
+    match texts {
+        [text] => named(alloc, shared, directory, text),
+        _ => gathered(alloc, shared, directory, texts),
+    }
+}
+
+fn gathered(
+    alloc: Global,
+    shared: &Shared,
+    directory: &Place,
+    texts: &[Text],
+) -> Result<Found, Refusal>
+    ensures { Gives result (gathered shared.now directory.now texts.now) }
+{
+    let mut places = Vec::new(alloc);
+    for text in texts {
+        let found = named(alloc, shared, directory, text)?;
+        push_places(&mut places, found.places())?;
+    }
+    Ok(Found::several(places))
+}
+
+/// The files that sources stand for.
+pub fn all_jobs(alloc: Global, all: bool, ram: &Ram, places: &[Place]) -> Result<Vec<Job>, NoMemory>
+    ensures { IfOk result (λ jobs. jobs.items ≡ all_jobs all ram.now places.now) }
+{
+    let mut jobs = Vec::new(alloc);
+    for place in places {
+        push_jobs(&mut jobs, all, ram, place)?;
+    }
+    Ok(jobs)
+}
+
+// Adds the files that a source stands for.
+fn push_jobs(jobs: &mut Vec<Job>, all: bool, ram: &Ram, place: &Place) -> Result<(), NoMemory>
+    ensures { OnOk result (jobs.new.items ≡ jobs.old.items ++ jobs_there all ram.now place.now (map.get ram.now (key_of place.now))) }
+{
+    match ram.look(place) {
+        None => Ok(()),
+        Some(entry) if entry.is_directory() => {
+            push_below(jobs, ram, place, &ram.files_below(place, all)?)
+        }
+        Some(entry) => push_named(jobs, place, entry),
+    }
+}
+
+fn push_below(
+    jobs: &mut Vec<Job>,
+    ram: &Ram,
+    directory: &Place,
+    places: &[Place],
+) -> Result<(), NoMemory>
+    ensures { OnOk result (jobs.new.items ≡ jobs.old.items ++ jobs_below ram.now directory.now places.now) }
+{
+    for place in places {
+        jobs.push(job_below(*jobs.allocator(), ram, directory, place)?)?;
+    }
+    Ok(())
+}
+
+// A file below a directory goes under its path below it.
+fn job_below(alloc: Global, ram: &Ram, directory: &Place, place: &Place) -> Result<Job, NoMemory>
+    ensures { IfOk result (λ job. job ≡ job_below ram.now directory.now place.now) }
+{
+    let written = ram.written(place)?;
+    Ok(Job {
+        source: place.copy()?,
+        names: Place::root(alloc).joined(written.names_behind(directory))?,
+    })
+}
+
+// A file goes under its name.
+fn push_named(jobs: &mut Vec<Job>, place: &Place, entry: &Entry) -> Result<(), NoMemory>
+    ensures { OnOk result (jobs.new.items ≡ jobs.old.items ++ record { source = place.now; names = entry.now.name ∷ [] } ∷ []) }
+{
+    let names = Place::root(*jobs.allocator()).with(entry.name.copy()?)?;
+    jobs.push(Job {
+        source: place.copy()?,
+        names,
+    })?;
+    Ok(())
+}
+
+/// Files that go to TO itself.
+pub fn jobs_onto(alloc: Global, places: &[Place]) -> Result<Vec<Job>, NoMemory>
+    ensures { IfOk result (λ jobs. jobs.items ≡ jobs_onto places.now) }
+{
+    let mut jobs = Vec::new(alloc);
+    for place in places {
+        jobs.push(Job {
+            source: place.copy()?,
+            names: Place::root(alloc),
+        })?;
+    }
+    Ok(jobs)
+}

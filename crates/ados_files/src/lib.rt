@@ -1,0 +1,28 @@
+#![tactic(auto)]
+//! The commands on files: MakeDir, Delete, Rename, Copy, Type, Join, List, Dir, Protect and Filenote.
+
+mod acts;
+mod commands;
+mod copy;
+mod copy_one;
+mod delete;
+mod dir;
+mod filenote;
+mod jobs;
+mod join;
+mod lines;
+mod listing;
+mod make_dir;
+mod matching;
+mod names;
+mod protect;
+mod rename;
+mod rows;
+mod templates;
+#[cfg(test)]
+mod tests;
+mod type_files;
+
+pub use commands::Command;
+pub use rows::run;
+pub use templates::Templates;

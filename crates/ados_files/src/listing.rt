@@ -1,0 +1,254 @@
+ghost use Rattle.std.specs.Prelude.{◌≡◌, ◌++◌, IfOk, OnOk, Some};
+ghost use Rattle.std.specs.FinMap as map;
+ghost use Rattle.std.specs.Option.{option_copied};
+ghost use Rattle.ados_ram.specs.Place.{key_of};
+ghost use Rattle.ados_ram.specs.FileOperations.{list_fault};
+ghost use Rattle.ados_find.specs.Done.{done_of};
+ghost use Rattle.ados_find.specs.Effects.{effect_of};
+ghost use Rattle.ados_find.specs.Paths.{Gives};
+ghost use Rattle.ados_files.specs.Lines.{lines_by};
+
+use crate::lines::{keeps, push_line};
+use crate::matching::is_match;
+use crate::names::{Found, named, only, pattern_of, push_places};
+use ados_find::{Act, Codes, Outcome, Refusal, Shared, ShellView, Work, current, each};
+use ados_pattern::Pattern;
+use ados_ram::{Entry, Place, Ram};
+use ados_readargs::Args;
+use ados_text::{NoMemory, Result2, Text};
+use std::alloc::Global;
+
+/// What List shows: the names that match a pattern, the name alone, files, directories.
+#[derive(Drop)]
+pub struct Shape {
+    pub pattern: Option<Pattern>,
+    pub quick: bool,
+    pub files: bool,
+    pub dirs: bool,
+}
+
+ghost use Rattle.ados_files.specs.Listing.{passes, is_kept, shown_line, kept_line, line_there, entries_of, all_entries, listed};
+ghost use Rattle.ados_files.specs.Listing.{list_places, list_text, list_current, list_texts, pattern_given, list_row};
+
+/// List puts out lines of objects, and of what is in directories.
+pub fn list(
+    alloc: Global,
+    shared: &Shared,
+    view: &ShellView,
+    args: &Args,
+) -> Result<Outcome, NoMemory>
+    ensures { IfOk result (λ outcome. effect_of shared.now outcome ≡ list_row shared.now view.now args.now) }
+{
+    match pattern_given(alloc, args.text(1)) {
+        Err(Refusal::NoMemory) => Err(NoMemory),
+        Err(Refusal::Stopped(codes)) => Ok(Outcome::answering(alloc, view.limit, codes)),
+        Ok(pattern) => {
+            let shape = Shape {
+                pattern,
+                quick: args.is_on(2),
+                files: args.is_on(3),
+                dirs: args.is_on(4),
+            };
+            let mut work = Work::new(alloc);
+            list_texts(&shape, view, shared, &mut work, args.texts(0))?;
+            Ok(work.end(view.limit))
+        }
+    }
+}
+
+// The pattern of PAT, where it is given.
+fn pattern_given(alloc: Global, text: Option<&Text>) -> Result<Option<Pattern>, Refusal>
+    ensures { Gives result (pattern_given (option_copied text.entry)) }
+{
+    match text {
+        None => Ok(None),
+        Some(text) => Ok(Some(pattern_of(alloc, text)?)),
+    }
+}
+
+// Lists what arguments name; without one the current directory.
+fn list_texts(
+    shape: &Shape,
+    view: &ShellView,
+    shared: &Shared,
+    work: &mut Work,
+    texts: &[Text],
+) -> Result<(), NoMemory>
+    ensures { OnOk result (done_of shared.now work.new ≡ list_texts shape.now view.now (done_of shared.now work.old) texts.now) }
+{
+    if texts.is_empty() {
+        return list_current(shape, view, shared, work);
+    }
+    each(&Listing { shape, view }, shared, work, texts)
+}
+
+/// The listing of what an argument names.
+#[derive(Drop)]
+pub struct Listing<'a> {
+    pub shape: &'a Shape,
+    pub view: &'a ShellView,
+}
+
+impl<'a> Act<Text> for Listing<'a> {
+    ghost act = { λ s. list_text s.shape.now s.view.now };
+
+    fn act(&self, shared: &Shared, work: &mut Work, item: &Text) -> Result<(), NoMemory> {
+        list_text(self.shape, self.view, shared, work, item)
+    }
+}
+
+// Lists what an argument names.
+fn list_text(
+    shape: &Shape,
+    view: &ShellView,
+    shared: &Shared,
+    work: &mut Work,
+    text: &Text,
+) -> Result<(), NoMemory>
+    ensures { OnOk result (done_of shared.now work.new ≡ list_text shape.now view.now (done_of shared.now work.old) text.now) }
+{
+    let alloc = *work.output.allocator();
+    let now = current(shared, &work.shared);
+    match named(alloc, now, &view.directory, text) {
+        Err(Refusal::NoMemory) => Err(NoMemory),
+        Err(Refusal::Stopped(codes)) => {
+            work.stopped = Some(codes);
+            Ok(())
+        }
+        Ok(found) => {
+            let places = listed(alloc, &now.ram, &found)?;
+            push_lines(&mut work.output, shape, &now.ram, &places)?;
+            Ok(())
+        }
+    }
+}
+
+// Lists the current directory.
+fn list_current(
+    shape: &Shape,
+    view: &ShellView,
+    shared: &Shared,
+    work: &mut Work,
+) -> Result<(), NoMemory>
+    ensures { OnOk result (done_of shared.now work.new ≡ list_current shape.now view.now (done_of shared.now work.old)) }
+{
+    let ram = &current(shared, &work.shared).ram;
+    match list_fault(ram.look(&view.directory)) {
+        Some(fault) => {
+            work.stopped = Some(Codes::erred(fault));
+            Ok(())
+        }
+        None => {
+            let places = ram.children(&view.directory)?;
+            push_lines(&mut work.output, shape, ram, &places)?;
+            Ok(())
+        }
+    }
+}
+
+/// The fault of the listing of a directory.
+pub fn list_fault(there: Option<&Entry>) -> Option<Result2>
+    ensures { result ≡ list_fault (option_copied there.entry) }
+{
+    match there {
+        None => Some(Result2::OBJECT_NOT_FOUND),
+        Some(entry) if entry.is_directory() => None,
+        Some(_) => Some(Result2::WRONG_TYPE),
+    }
+}
+
+// What is listed for an argument.
+fn listed(alloc: Global, ram: &Ram, found: &Found) -> Result<Vec<Place>, NoMemory>
+    ensures { IfOk result (λ places. places.items ≡ listed ram.now found.now) }
+{
+    let mut places = Vec::new(alloc);
+    if found.is_literal() {
+        push_entries(&mut places, ram, found.places())?;
+    } else {
+        push_places(&mut places, found.places())?;
+    }
+    Ok(places)
+}
+
+fn push_entries(out: &mut Vec<Place>, ram: &Ram, places: &[Place]) -> Result<(), NoMemory>
+    ensures { OnOk result (out.new.items ≡ out.old.items ++ all_entries ram.now places.now) }
+{
+    for place in places {
+        push_places(out, &entries_of(*out.allocator(), ram, place)?)?;
+    }
+    Ok(())
+}
+
+// What a place that is named by its path stands for.
+fn entries_of(alloc: Global, ram: &Ram, place: &Place) -> Result<Vec<Place>, NoMemory>
+    ensures { IfOk result (λ places. places.items ≡ entries_of ram.now place.now (map.get ram.now (key_of place.now))) }
+{
+    match ram.look(place) {
+        None => Ok(Vec::new(alloc)),
+        Some(entry) if entry.is_directory() => ram.children(place),
+        Some(_) => only(alloc, place),
+    }
+}
+
+// Puts out the lines of places.
+fn push_lines(
+    output: &mut Vec<u8>,
+    shape: &Shape,
+    ram: &Ram,
+    places: &[Place],
+) -> Result<(), NoMemory>
+    ensures { OnOk result (output.new.items ≡ output.old.items ++ lines_by (line_there shape.now) ram.now places.now) }
+{
+    for place in places {
+        push_there(output, shape, ram.look(place))?;
+    }
+    Ok(())
+}
+
+fn push_there(output: &mut Vec<u8>, shape: &Shape, there: Option<&Entry>) -> Result<(), NoMemory>
+    ensures { OnOk result (output.new.items ≡ output.old.items ++ line_there shape.now (option_copied there.entry)) }
+{
+    match there {
+        None => Ok(()),
+        Some(entry) => push_kept(output, shape, entry),
+    }
+}
+
+fn push_kept(output: &mut Vec<u8>, shape: &Shape, entry: &Entry) -> Result<(), NoMemory>
+    ensures { OnOk result (output.new.items ≡ output.old.items ++ kept_line shape.now entry.now) }
+{
+    if !is_kept(shape, entry) || !passes(&shape.pattern, entry)? {
+        return Ok(());
+    }
+    push_shown(output, shape.quick, entry)
+}
+
+fn is_kept(shape: &Shape, entry: &Entry) -> bool
+    ensures { result ≡ is_kept shape.now entry.now }
+{
+    if entry.is_directory() {
+        keeps(shape.dirs, shape.files)
+    } else {
+        keeps(shape.files, shape.dirs)
+    }
+}
+
+fn passes(pattern: &Option<Pattern>, entry: &Entry) -> Result<bool, NoMemory>
+    ensures { IfOk result (λ b. b ≡ passes pattern.now entry.now) }
+{
+    match pattern {
+        None => Ok(true),
+        Some(pattern) => is_match(pattern, entry.name.text()),
+    }
+}
+
+fn push_shown(output: &mut Vec<u8>, quick: bool, entry: &Entry) -> Result<(), NoMemory>
+    ensures { OnOk result (output.new.items ≡ output.old.items ++ shown_line quick entry.now) }
+{
+    if quick {
+        output.extend_from_slice(entry.name.text().as_bytes())?;
+        output.push(b'\n')?;
+        return Ok(());
+    }
+    push_line(output, entry)
+}

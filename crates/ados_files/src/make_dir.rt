@@ -1,0 +1,60 @@
+ghost use Rattle.std.specs.Prelude.{◌≡◌, IfOk, OnOk};
+ghost use Rattle.ados_find.specs.Done.{done_of};
+ghost use Rattle.ados_find.specs.Effects.{effect_of};
+ghost use Rattle.ados_files.specs.MakeDir.{made, make_dir_row};
+
+use crate::acts::Paths;
+use ados_find::{Act, Codes, Outcome, Shared, ShellView, Work, current, each};
+use ados_ram::{FsFault, Place};
+use ados_readargs::Args;
+use ados_text::{NoMemory, Result2};
+use std::alloc::Global;
+
+/// MakeDir makes directories.
+pub fn make_dir(
+    alloc: Global,
+    shared: &Shared,
+    view: &ShellView,
+    args: &Args,
+) -> Result<Outcome, NoMemory>
+    ensures { IfOk result (λ outcome. effect_of shared.now outcome ≡ make_dir_row shared.now view.now args.now) }
+{
+    let texts = args.texts(0);
+    if texts.is_empty() {
+        let codes = Codes::failed(Result2::ARGUMENT_MISSING);
+        return Ok(Outcome::answering(alloc, view.limit, codes));
+    }
+    let mut work = Work::new(alloc);
+    each(&Paths { act: &Making, view }, shared, &mut work, texts)?;
+    Ok(work.end(view.limit))
+}
+
+/// The making of one directory.
+#[derive(Drop)]
+pub struct Making;
+
+impl Act<Place> for Making {
+    ghost act = { λ s. made };
+
+    fn act(&self, shared: &Shared, work: &mut Work, item: &Place) -> Result<(), NoMemory> {
+        made(shared, work, item)
+    }
+}
+
+/// Makes a directory.
+pub fn made(shared: &Shared, work: &mut Work, place: &Place) -> Result<(), NoMemory>
+    ensures { OnOk result (done_of shared.now work.new ≡ made (done_of shared.now work.old) place.now) }
+{
+    let now = current(shared, &work.shared);
+    match now.ram.make_dir(place) {
+        Err(FsFault::NoMemory) => Err(NoMemory),
+        Err(FsFault::Refused(fault)) => {
+            work.stopped = Some(Codes::erred(fault));
+            Ok(())
+        }
+        Ok(ram) => {
+            work.shared = Some(now.with_files(ram)?);
+            Ok(())
+        }
+    }
+}

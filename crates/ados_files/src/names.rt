@@ -1,0 +1,222 @@
+// Arguments that name objects.
+ghost use Rattle.std.specs.Prelude.{◌≡◌, ◌∷◌, ◌++◌, [], false, IfOk, OnOk};
+ghost use Rattle.std.specs.FinMap as map;
+ghost use Rattle.std.specs.Option.{option_copied};
+ghost use Rattle.ados_ram.specs.Place.{key_of};
+ghost use Rattle.ados_find.specs.Paths.{Gives};
+
+use crate::matching::is_match;
+use ados_find::{Codes, Refusal, Shared, place_of};
+use ados_names::last_piece;
+use ados_pattern::{Pattern, PatternFault};
+use ados_ram::{Entry, Place, Ram};
+use ados_text::{Code, NoMemory, Result2, Text};
+use std::alloc::Global;
+use std::marker::Model;
+
+/// The objects that an argument names.
+#[derive(Debug, Drop)]
+pub struct Found {
+    literal: bool,
+    places: Vec<Place>,
+}
+
+impl Model for Found {
+    ghost use Rattle.ados_files.specs.Names.{FoundPlaces};
+
+    ghost Value = { FoundPlaces };
+
+    ghost view = { λ n. record { literal = n.literal; places = n.places.items } };
+}
+
+ghost use Rattle.ados_files.specs.Names.{pattern_of, wants, matching, some_matches, matches_in, the_one, named_by, head_of, piece_of, named};
+
+impl Found {
+    /// Several objects.
+    pub fn several(places: Vec<Place>) -> Found
+        ensures literal { result.literal ≡ false }
+        ensures places { result.places ≡ places.items }
+    {
+        Found {
+            literal: false,
+            places,
+        }
+    }
+
+    /// The argument names just one object, by its path.
+    pub fn is_literal(&self) -> bool
+        ensures { result ≡ self.now.literal }
+    {
+        self.literal
+    }
+
+    /// The objects, in order.
+    pub fn places(&self) -> &[Place]
+        ensures { result.now ≡ self.now.places }
+    {
+        &self.places
+    }
+}
+
+/// The objects that an argument names, from a current directory.
+///
+/// 210 and 120 for a last piece that is no pattern. A literal path has the refusals of resolving, and 205 where nothing
+/// is there; a pattern those of resolving its directory, then 204 and 212 where none is there, and 205 as a warning
+/// where nothing matches.
+pub fn named(
+    alloc: Global,
+    shared: &Shared,
+    directory: &Place,
+    text: &Text,
+) -> Result<Found, Refusal>
+    ensures { Gives result (named shared.now directory.now text.now) }
+{
+    let head = head_of(text)?;
+    let pattern = pattern_of(alloc, &piece_of(text)?)?;
+    named_by(alloc, shared, directory, &head, &pattern)
+}
+
+// The path before the last piece of a text.
+fn head_of(text: &Text) -> Result<Text, NoMemory>
+    ensures { IfOk result (λ head. head ≡ head_of text.now) }
+{
+    text.part(0, last_piece(text))
+}
+
+// The last piece of a text.
+fn piece_of(text: &Text) -> Result<Text, NoMemory>
+    ensures { IfOk result (λ piece. piece ≡ piece_of text.now) }
+{
+    text.part(last_piece(text), text.as_bytes().len())
+}
+
+/// The pattern of a text.
+pub fn pattern_of(alloc: Global, text: &Text) -> Result<Pattern, Refusal>
+    ensures { Gives result (pattern_of text.now) }
+{
+    match Pattern::parse(alloc, text) {
+        Err(PatternFault::NoMemory) => Err(Refusal::NoMemory),
+        Err(PatternFault::TooLong) => Err(Refusal::Stopped(Codes::erred(Result2::LINE_TOO_LONG))),
+        Err(PatternFault::BadPattern(_)) => {
+            Err(Refusal::Stopped(Codes::erred(Result2::INVALID_NAME)))
+        }
+        Ok(pattern) => Ok(pattern),
+    }
+}
+
+// The objects that a pattern behind a path names.
+fn named_by(
+    alloc: Global,
+    shared: &Shared,
+    directory: &Place,
+    head: &Text,
+    pattern: &Pattern,
+) -> Result<Found, Refusal>
+    ensures { Gives result (named_by shared.now directory.now head.now pattern.now.form pattern.now.name) }
+{
+    match pattern.literal() {
+        Some(name) => {
+            let place = place_of(alloc, shared, directory, &head.join(name)?)?;
+            let there = shared.ram.look(&place);
+            the_one(alloc, &place, there)
+        }
+        None => {
+            let place = place_of(alloc, shared, directory, head)?;
+            matches_in(alloc, pattern, &shared.ram, &place)
+        }
+    }
+}
+
+// The one object at a place.
+fn the_one(alloc: Global, place: &Place, there: Option<&Entry>) -> Result<Found, Refusal>
+    ensures { Gives result (the_one place.now (option_copied there.entry)) }
+{
+    match there {
+        None => Err(Refusal::Stopped(Codes::erred(Result2::OBJECT_NOT_FOUND))),
+        Some(_) => Ok(Found {
+            literal: true,
+            places: only(alloc, place)?,
+        }),
+    }
+}
+
+/// A list of one place.
+pub fn only(alloc: Global, place: &Place) -> Result<Vec<Place>, NoMemory>
+    ensures { IfOk result (λ places. places.items ≡ place.now ∷ []) }
+{
+    let mut places = Vec::new(alloc);
+    places.push(place.copy()?)?;
+    Ok(places)
+}
+
+/// Adds places to a list.
+pub fn push_places(out: &mut Vec<Place>, places: &[Place]) -> Result<(), NoMemory>
+    ensures { OnOk result (out.new.items ≡ out.old.items ++ places.now) }
+{
+    for place in places {
+        out.push(place.copy()?)?;
+    }
+    Ok(())
+}
+
+// The objects in a directory that match.
+fn matches_in(
+    alloc: Global,
+    pattern: &Pattern,
+    ram: &Ram,
+    directory: &Place,
+) -> Result<Found, Refusal>
+    ensures { Gives result (matches_in pattern.now.form ram.now directory.now (map.get ram.now (key_of directory.now))) }
+{
+    match ram.look(directory) {
+        None => Err(Refusal::Stopped(Codes::erred(Result2::DIRECTORY_NOT_FOUND))),
+        Some(entry) => {
+            if !entry.is_directory() {
+                return Err(Refusal::Stopped(Codes::erred(Result2::WRONG_TYPE)));
+            }
+            let places = ram.children(directory)?;
+            some_matches(matching(alloc, pattern, ram, &places)?)
+        }
+    }
+}
+
+// Those of the places whose names match.
+fn matching(
+    alloc: Global,
+    pattern: &Pattern,
+    ram: &Ram,
+    places: &[Place],
+) -> Result<Vec<Place>, NoMemory>
+    ensures { IfOk result (λ found. found.items ≡ matching pattern.now.form ram.now places.now) }
+{
+    let mut found = Vec::new(alloc);
+    for place in places {
+        if wants(pattern, ram.look(place))? {
+            found.push(place.copy()?)?;
+        }
+    }
+    Ok(found)
+}
+
+/// There is an entry, and its name matches.
+pub fn wants(pattern: &Pattern, there: Option<&Entry>) -> Result<bool, NoMemory>
+    ensures { IfOk result (λ wanted. wanted ≡ wants pattern.now.form (option_copied there.entry)) }
+{
+    match there {
+        None => Ok(false),
+        Some(entry) => is_match(pattern, entry.name.text()),
+    }
+}
+
+// No match at all is a warning.
+fn some_matches(places: Vec<Place>) -> Result<Found, Refusal>
+    ensures { Gives result (some_matches places.items) }
+{
+    if places.is_empty() {
+        return Err(Refusal::Stopped(Codes {
+            code: Code::WARN,
+            result2: Result2::OBJECT_NOT_FOUND,
+        }));
+    }
+    Ok(Found::several(places))
+}

@@ -1,0 +1,233 @@
+ghost use Rattle.std.specs.Prelude.{◌≡◌, IfOk, OnOk};
+ghost use Rattle.std.specs.Option.{option_copied};
+ghost use Rattle.ados_find.specs.Done.{done_of};
+ghost use Rattle.ados_find.specs.Effects.{effect_of};
+
+use crate::acts::Names;
+use ados_find::{Act, Codes, Outcome, Shared, ShellView, Work, current, each};
+use ados_ram::{Bits, Entry, FsFault, Place};
+use ados_readargs::Args;
+use ados_text::{NoMemory, Result2, Text, fold};
+use std::alloc::Global;
+
+/// What is done with the bits that are given.
+#[derive(Clone, Copy, Debug, PartialEq, Eq)]
+pub enum Way {
+    Set,
+    Add,
+    Take,
+}
+
+/// A change of bits.
+#[derive(Clone, Copy, Debug, PartialEq, Eq)]
+pub struct Change {
+    pub way: Way,
+    pub bits: Bits,
+}
+
+ghost use Rattle.ados_files.specs.Protect.{begins_with, letters_of, has_letter, bits_of, is_letter, are_letters, way_of, change_of};
+ghost use Rattle.ados_files.specs.Protect.{changed_bit, changed_bits, bits_at, protect_one, protected_by, flags_or_none, protect_row};
+
+/// Protect changes the bits of objects.
+pub fn protect(
+    alloc: Global,
+    shared: &Shared,
+    view: &ShellView,
+    args: &Args,
+) -> Result<Outcome, NoMemory>
+    ensures { IfOk result (λ outcome. effect_of shared.now outcome ≡ protect_row shared.now view.now args.now) }
+{
+    let change = change_of(flags_or_none(args.text(1)), args.is_on(2), args.is_on(3));
+    protected_by(alloc, shared, view, change, args.texts(0))
+}
+
+fn protected_by(
+    alloc: Global,
+    shared: &Shared,
+    view: &ShellView,
+    change: Result<Change, Result2>,
+    texts: &[Text],
+) -> Result<Outcome, NoMemory>
+    ensures { IfOk result (λ outcome. effect_of shared.now outcome ≡ protected_by shared.now view.now change texts.now) }
+{
+    match change {
+        Err(fault) => Ok(Outcome::answering(alloc, view.limit, Codes::failed(fault))),
+        Ok(change) => {
+            let mut work = Work::new(alloc);
+            let act = Protecting { change };
+            each(&Names { act: &act, view }, shared, &mut work, texts)?;
+            Ok(work.end(view.limit))
+        }
+    }
+}
+
+// Without FLAGS they are empty.
+fn flags_or_none(flags: Option<&Text>) -> &[u8]
+    ensures { result.now ≡ flags_or_none (option_copied flags.entry) }
+{
+    match flags {
+        None => &[],
+        Some(flags) => flags.as_bytes(),
+    }
+}
+
+// The change that the flags and the switches ask for.
+fn change_of(flags: &[u8], add: bool, sub: bool) -> Result<Change, Result2>
+    ensures { result ≡ change_of flags.now add sub }
+{
+    let letters = letters_of(flags);
+    if !are_letters(letters) {
+        return Err(Result2::BAD_NUMBER);
+    }
+    match way_of(
+        add || begins_with(b'+', flags),
+        sub || begins_with(b'-', flags),
+    ) {
+        Err(fault) => Err(fault),
+        Ok(way) => Ok(Change {
+            way,
+            bits: bits_of(letters),
+        }),
+    }
+}
+
+fn way_of(add: bool, sub: bool) -> Result<Way, Result2>
+    ensures { result ≡ way_of add sub }
+{
+    match (add, sub) {
+        (true, true) => Err(Result2::TOO_MANY_ARGUMENTS),
+        (true, false) => Ok(Way::Add),
+        (false, true) => Ok(Way::Take),
+        (false, false) => Ok(Way::Set),
+    }
+}
+
+// The flags begin with this sign.
+fn begins_with(sign: u8, flags: &[u8]) -> bool
+    ensures { result ≡ begins_with sign flags.now }
+{
+    match flags.split_first() {
+        None => false,
+        Some((first, _)) => *first == sign,
+    }
+}
+
+// What is behind a sign in front.
+fn letters_of(flags: &[u8]) -> &[u8]
+    ensures { result.now ≡ letters_of flags.now }
+{
+    if begins_with(b'+', flags) || begins_with(b'-', flags) {
+        &flags[1..]
+    } else {
+        flags
+    }
+}
+
+// Each is the letter of a bit.
+fn are_letters(letters: &[u8]) -> bool
+    ensures { result ≡ are_letters letters.now }
+{
+    letters.iter().all(|letter| is_letter(*letter))
+}
+
+fn is_letter(letter: u8) -> bool
+    ensures { result ≡ is_letter letter }
+{
+    has_letter(fold(letter), b"hsparwed")
+}
+
+// The letter stands among others, case ignored.
+fn has_letter(letter: u8, letters: &[u8]) -> bool
+    ensures { result ≡ has_letter letter letters.now }
+{
+    letters.iter().any(|other| fold(*other) == letter)
+}
+
+fn bits_of(letters: &[u8]) -> Bits
+    ensures { result ≡ bits_of letters.now }
+{
+    Bits {
+        hold: has_letter(b'h', letters),
+        script: has_letter(b's', letters),
+        pure: has_letter(b'p', letters),
+        archive: has_letter(b'a', letters),
+        read: has_letter(b'r', letters),
+        write: has_letter(b'w', letters),
+        execute: has_letter(b'e', letters),
+        delete: has_letter(b'd', letters),
+    }
+}
+
+fn changed_bit(way: Way, old: bool, given: bool) -> bool
+    ensures { result ≡ changed_bit way old given }
+{
+    match way {
+        Way::Set => given,
+        Way::Add => old || given,
+        Way::Take => old && !given,
+    }
+}
+
+// The bits after a change.
+fn changed_bits(change: Change, old: Bits) -> Bits
+    ensures { result ≡ changed_bits change old }
+{
+    Bits {
+        hold: changed_bit(change.way, old.hold, change.bits.hold),
+        script: changed_bit(change.way, old.script, change.bits.script),
+        pure: changed_bit(change.way, old.pure, change.bits.pure),
+        archive: changed_bit(change.way, old.archive, change.bits.archive),
+        read: changed_bit(change.way, old.read, change.bits.read),
+        write: changed_bit(change.way, old.write, change.bits.write),
+        execute: changed_bit(change.way, old.execute, change.bits.execute),
+        delete: changed_bit(change.way, old.delete, change.bits.delete),
+    }
+}
+
+// The bits of what is there.
+fn bits_at(there: Option<&Entry>) -> Bits
+    ensures { result ≡ bits_at (option_copied there.entry) }
+{
+    match there {
+        None => Bits::FRESH,
+        Some(entry) => entry.bits,
+    }
+}
+
+/// The change of one object's bits.
+#[derive(Drop)]
+pub struct Protecting {
+    pub change: Change,
+}
+
+impl Act<Place> for Protecting {
+    ghost act = { λ s. protect_one s.change };
+
+    fn act(&self, shared: &Shared, work: &mut Work, item: &Place) -> Result<(), NoMemory> {
+        protect_one(self.change, shared, work, item)
+    }
+}
+
+// Changes the bits of one object.
+fn protect_one(
+    change: Change,
+    shared: &Shared,
+    work: &mut Work,
+    place: &Place,
+) -> Result<(), NoMemory>
+    ensures { OnOk result (done_of shared.now work.new ≡ protect_one change (done_of shared.now work.old) place.now) }
+{
+    let now = current(shared, &work.shared);
+    let bits = changed_bits(change, bits_at(now.ram.look(place)));
+    match now.ram.protect(place, bits) {
+        Err(FsFault::NoMemory) => Err(NoMemory),
+        Err(FsFault::Refused(fault)) => {
+            work.stopped = Some(Codes::erred(fault));
+            Ok(())
+        }
+        Ok(ram) => {
+            work.shared = Some(now.with_files(ram)?);
+            Ok(())
+        }
+    }
+}

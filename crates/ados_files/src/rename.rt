@@ -1,0 +1,128 @@
+ghost use Rattle.std.specs.Prelude.{◌≡◌, IfOk, Ok};
+ghost use Rattle.std.specs.FinMap as map;
+ghost use Rattle.std.specs.Option.{option_copied};
+ghost use Rattle.ados_ram.specs.Place.{key_of};
+ghost use Rattle.ados_ram.specs.Files.{is_some_directory};
+ghost use Rattle.ados_text.specs.declared.codes.TheConstants.Result2.{ARGUMENT_MISSING};
+ghost use Rattle.ados_find.specs.Codes.{failed};
+ghost use Rattle.ados_find.specs.Effects.{DoesTo, answering, effect_of};
+ghost use Rattle.ados_find.specs.Paths.{place_of};
+ghost use Rattle.ados_files.specs.Rename.{target_of, renamed_to, renamed_from, renamed_at, rename_row};
+
+use ados_find::{Codes, Outcome, Refusal, Renamed, Shared, ShellView, place_of};
+use ados_ram::{Entry, FsFault, Place, Ram};
+use ados_readargs::Args;
+use ados_text::{NoMemory, Octets, Result2, Text};
+use std::alloc::Global;
+
+/// Rename moves an object, and all that is below it.
+pub fn rename_object(
+    alloc: Global,
+    shared: &Shared,
+    view: &ShellView,
+    args: &Args,
+) -> Result<Outcome, NoMemory>
+    ensures { IfOk result (λ outcome. effect_of shared.now outcome ≡ rename_row shared.now view.now args.now) }
+{
+    let Some(from) = args.text(0) else {
+        return Ok(missing(alloc, view));
+    };
+    let Some(to) = args.text(1) else {
+        return Ok(missing(alloc, view));
+    };
+    match place_of(alloc, shared, &view.directory, from) {
+        Err(Refusal::NoMemory) => Err(NoMemory),
+        Err(Refusal::Stopped(codes)) => Ok(Outcome::answering(alloc, view.limit, codes)),
+        Ok(from) => renamed_at(alloc, shared, view, from, to),
+    }
+}
+
+// An argument is missing.
+fn missing(alloc: Global, view: &ShellView) -> Outcome
+    ensures { DoesTo result (λ shared. answering shared view.now.limit (failed ARGUMENT_MISSING)) }
+{
+    Outcome::answering(alloc, view.limit, Codes::failed(Result2::ARGUMENT_MISSING))
+}
+
+fn renamed_at(
+    alloc: Global,
+    shared: &Shared,
+    view: &ShellView,
+    from: Place,
+    to: &Text,
+) -> Result<Outcome, NoMemory>
+    ensures { IfOk result (λ outcome. effect_of shared.now outcome ≡ renamed_at shared.now view.now (Ok from) (place_of shared.now view.now.directory to.now)) }
+{
+    match place_of(alloc, shared, &view.directory, to) {
+        Err(Refusal::NoMemory) => Err(NoMemory),
+        Err(Refusal::Stopped(codes)) => Ok(Outcome::answering(alloc, view.limit, codes)),
+        Ok(to) => renamed_from(alloc, shared, view, from, to),
+    }
+}
+
+fn renamed_from(
+    alloc: Global,
+    shared: &Shared,
+    view: &ShellView,
+    from: Place,
+    to: Place,
+) -> Result<Outcome, NoMemory>
+    ensures { IfOk result (λ outcome. effect_of shared.now outcome ≡ renamed_from shared.now view.now from (map.get shared.now.files (key_of from)) to) }
+{
+    match shared.ram.look(&from) {
+        None => Ok(Outcome::answering(alloc, view.limit, Codes::erred(Result2::OBJECT_NOT_FOUND))),
+        Some(entry) => {
+            let target = target_of(&shared.ram, &from, entry, to)?;
+            renamed_to(alloc, shared, view, from, target)
+        }
+    }
+}
+
+// Into a directory under its own name, or to the place itself.
+fn target_of(ram: &Ram, from: &Place, entry: &Entry, to: Place) -> Result<Place, NoMemory>
+    ensures { IfOk result (λ place. place ≡ target_of ram.now from.now entry.now to) }
+{
+    if is_directory(ram.look(&to)) && to != *from {
+        return to.with(entry.name.copy()?);
+    }
+    Ok(to)
+}
+
+/// A directory stands there.
+pub fn is_directory(there: Option<&Entry>) -> bool
+    ensures { result ≡ is_some_directory (option_copied there.entry) }
+{
+    match there {
+        None => false,
+        Some(entry) => entry.is_directory(),
+    }
+}
+
+// Renames an object, and carries the assigns along.
+fn renamed_to(
+    alloc: Global,
+    shared: &Shared,
+    view: &ShellView,
+    from: Place,
+    to: Place,
+) -> Result<Outcome, NoMemory>
+    ensures { IfOk result (λ outcome. effect_of shared.now outcome ≡ renamed_to shared.now view.now from to) }
+{
+    match shared.ram.rename(&view.busy, &from, &to) {
+        Err(FsFault::NoMemory) => Err(NoMemory),
+        Err(FsFault::Refused(fault)) => {
+            Ok(Outcome::answering(alloc, view.limit, Codes::erred(fault)))
+        }
+        Ok(ram) => Ok(Outcome {
+            shared: Some(Shared {
+                ram,
+                assigns: shared.assigns.carry(&from, &to)?,
+            }),
+            limit: view.limit,
+            codes: Codes::NONE,
+            output: Octets::from_vec(Vec::new(alloc)),
+            directory: None,
+            renamed: Some(Renamed { from, to }),
+        }),
+    }
+}

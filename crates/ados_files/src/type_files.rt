@@ -1,0 +1,61 @@
+ghost use Rattle.std.specs.Prelude.{◌≡◌, IfOk, OnOk};
+ghost use Rattle.ados_find.specs.Done.{done_of};
+ghost use Rattle.ados_find.specs.Effects.{effect_of};
+ghost use Rattle.ados_files.specs.TypeFiles.{type_one, type_row};
+
+use crate::acts::Names;
+use ados_find::{Act, Codes, Outcome, Shared, ShellView, Work, current, each};
+use ados_ram::Place;
+use ados_readargs::Args;
+use ados_text::NoMemory;
+use std::alloc::Global;
+
+/// Type puts out the bytes of files.
+pub fn type_files(
+    alloc: Global,
+    shared: &Shared,
+    view: &ShellView,
+    args: &Args,
+) -> Result<Outcome, NoMemory>
+    ensures { IfOk result (λ outcome. effect_of shared.now outcome ≡ type_row shared.now view.now args.now) }
+{
+    let mut work = Work::new(alloc);
+    let act = Typing { view };
+    each(&Names { act: &act, view }, shared, &mut work, args.texts(0))?;
+    Ok(work.end(view.limit))
+}
+
+/// The putting out of one file.
+#[derive(Drop)]
+pub struct Typing<'a> {
+    pub view: &'a ShellView,
+}
+
+impl<'a> Act<Place> for Typing<'a> {
+    ghost act = { λ s. type_one s.view.now };
+
+    fn act(&self, shared: &Shared, work: &mut Work, item: &Place) -> Result<(), NoMemory> {
+        type_one(self.view, shared, work, item)
+    }
+}
+
+// Puts out one file.
+fn type_one(
+    view: &ShellView,
+    shared: &Shared,
+    work: &mut Work,
+    place: &Place,
+) -> Result<(), NoMemory>
+    ensures { OnOk result (done_of shared.now work.new ≡ type_one view.now (done_of shared.now work.old) place.now) }
+{
+    match current(shared, &work.shared).ram.read(&view.busy, place) {
+        Err(fault) => {
+            work.stopped = Some(Codes::erred(fault));
+            Ok(())
+        }
+        Ok(bytes) => {
+            work.output.extend_from_slice(bytes)?;
+            Ok(())
+        }
+    }
+}

@@ -1,0 +1,12 @@
+-- What commands read of their shell and of the others.
+use Rattle.std.specs.Prelude.{ℕ, List}
+use Rattle.ados_text.specs.declared.codes.Code.{Code}
+use Rattle.ados_ram.specs.InUse.{InUse}
+use Rattle.ados_find.specs.declared.codes.Codes.{Codes}
+
+-- its fail limit, what its last command answered, its current directory, and what is in use by any shell
+pub record View : Type 0 where
+  pub limit : Code
+  pub codes : Codes
+  pub directory : List (List ℕ)
+  pub busy : InUse
