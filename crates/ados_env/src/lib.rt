@@ -9,8 +9,6 @@ mod fault;
 mod operators;
 mod rows;
 mod templates;
-#[cfg(test)]
-mod tests;
 mod why;
 
 pub use commands::Command;

@@ -15,8 +15,3 @@ mod written;
 pub use counted::{Counted, Sink, Source};
 pub use drive::{End, drive_lines};
 pub use faults::DriveFault;
-
-#[cfg(test)]
-mod memory;
-#[cfg(test)]
-mod tests;

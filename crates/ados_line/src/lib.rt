@@ -7,8 +7,6 @@ mod cuts;
 mod faults;
 mod lines;
 mod signs;
-#[cfg(test)]
-mod tests;
 
 pub use faults::LineFault;
 pub use lines::{Expanded, Line, Redirection, expand};

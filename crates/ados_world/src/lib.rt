@@ -17,8 +17,6 @@ mod script_lines;
 mod scripts;
 mod shells;
 mod steps;
-#[cfg(test)]
-mod tests;
 mod turns;
 mod type_files;
 mod worlds;

@@ -1,4 +1,4 @@
-use crate::{Expanded, Line, LineFault, expand};
+use ados_line::{Expanded, Line, LineFault, expand};
 use ados_text::{NoMemory, Text};
 use std::alloc::Global;
 

@@ -1,22 +1,31 @@
-use crate::{Command, Templates, run};
+use ados_env::{Command, Templates, run};
 use ados_find::{Codes, Outcome, Shared, ShellView};
 use ados_ram::Ram;
-use ados_readargs::ArgFault;
-use ados_text::{Code, Result2, Text};
+use ados_readargs::{ArgFault, Args};
+use ados_text::{Code, NoMemory, Result2, Text};
 use std::alloc::Global;
 use std::process::Abort;
 
+fn filled(alloc: Global, command: Command, line: &str) -> Result<Args, ArgFault> {
+    Templates::new(alloc)?
+        .of(command)
+        .fill(alloc, line.as_bytes())
+}
+
+fn first_files(alloc: Global) -> Result<Shared, NoMemory> {
+    Ok(Shared {
+        ram: Ram::new(alloc)?,
+    })
+}
+
 // What a command makes of a line behind an answer of the last command, at a limit of 10.
 fn outcome(alloc: Global, command: Command, line: &str, codes: Codes) -> Result<Outcome, ArgFault> {
-    let shared = Shared {
-        ram: Ram::new(alloc)?,
-    };
+    let args = filled(alloc, command, line)?;
+    let shared = first_files(alloc)?;
     let view = ShellView {
         limit: Code::ERROR,
         codes,
     };
-    let templates = Templates::new(alloc)?;
-    let args = templates.of(command).fill(alloc, line.as_bytes())?;
     Ok(run(alloc, command, &shared, &view, &args)?)
 }
 

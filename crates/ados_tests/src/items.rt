@@ -1,4 +1,4 @@
-use crate::{Item, ItemFault, next_item, value, words};
+use ados_items::{Item, ItemFault, next_item, value, words};
 use ados_text::{NoMemory, Texts};
 
 fn are_texts(texts: &Texts, want: &[&[u8]]) -> bool {

@@ -1,7 +1,8 @@
 use crate::memory::{FlakyReader, FlakyWriter, NEVER};
-use crate::{Counted, DriveFault, End, drive_lines};
+use crate::world::fresh_world;
+use ados_launch::{Counted, DriveFault, End, drive_lines};
 use ados_text::{Code, NoMemory, Result2};
-use ados_world::{NewFault, World};
+use ados_world::World;
 use std::alloc::Global;
 
 // More events than any run here has.
@@ -28,20 +29,27 @@ const NONE_FAILS: Failing = Failing {
     stalled_write: NEVER,
 };
 
-// A fresh world driven by these bytes, read three at a time and written one at a time.
-fn driven(alloc: Global, input: &[u8], fails: Failing, turns: u64) -> Result<Outcome, NoMemory> {
-    let mut world = match World::new(alloc, &[]) {
-        Ok(world) => world,
-        Err(NewFault::NoMemory) => return Err(NoMemory),
-        Err(NewFault::TooMany) => unreachable!(),
-    };
-    let mut text = Vec::with_capacity(alloc, 200)?;
+// A world driven by these bytes, read three at a time and written one at a time.
+fn drive(
+    alloc: Global,
+    world: &mut World,
+    input: &[u8],
+    text: &mut Vec<u8>,
+    fails: Failing,
+    turns: u64,
+) -> Result<End, DriveFault> {
     let mut reader = Counted::new(FlakyReader::new(input, 3, fails.read));
-    let mut writer = Counted::new(FlakyWriter::new(&mut text, 1, fails.write, fails.stalled_write));
-    let end = drive_lines(alloc, &mut world, &mut reader, &mut writer, turns);
-    match end {
+    let mut writer = Counted::new(FlakyWriter::new(text, 1, fails.write, fails.stalled_write));
+    drive_lines(alloc, world, &mut reader, &mut writer, turns)
+}
+
+// A fresh world driven so.
+fn driven(alloc: Global, input: &[u8], fails: Failing, turns: u64) -> Result<Outcome, NoMemory> {
+    let mut text = Vec::with_capacity(alloc, 200)?;
+    let mut world = fresh_world(alloc)?;
+    match drive(alloc, &mut world, input, &mut text, fails, turns) {
         Err(DriveFault::Memory) => Err(NoMemory),
-        _ => Ok(Outcome { end, text }),
+        end => Ok(Outcome { end, text }),
     }
 }
 

@@ -1,4 +1,4 @@
-use crate::{
+use ados_text::{
     BadNumber, Name, NoMemory, Octets, Text, TextFault, Texts, number, number_in, push_number,
 };
 
@@ -31,18 +31,27 @@ fn texts_are_made_grown_and_parted(rt: HostRuntime) -> Result<(), TextFault> {
 }
 
 #[test]
-fn lists_names_and_octets_are_copied(rt: HostRuntime) -> Result<(), NoMemory> {
-    let alloc = rt.alloc();
-    let mut texts = Texts::new(alloc);
-    texts.push(Text::from_bytes(alloc, b"one")?)?;
-    texts.push(Text::from_bytes(alloc, b"two")?)?;
+fn lists_are_copied(rt: HostRuntime) -> Result<(), NoMemory> {
+    let mut texts = Texts::new(rt.alloc());
+    texts.push(Text::from_bytes(rt.alloc(), b"one")?)?;
+    texts.push(Text::from_bytes(rt.alloc(), b"two")?)?;
     let copied = texts.copy()?;
     assert_eq!(rt; copied.len(), 2);
     assert!(rt; copied.get(0) == texts.get(0) && copied.get(1) == texts.get(1));
-    let name = Name::new(Text::from_bytes(alloc, b"Echo")?);
+    Ok(())
+}
+
+#[test]
+fn names_are_copied(rt: HostRuntime) -> Result<(), NoMemory> {
+    let name = Name::new(Text::from_bytes(rt.alloc(), b"Echo")?);
     assert_eq!(rt; name.copy()?.text().as_bytes(), b"Echo".as_slice());
-    assert!(rt; name == Name::new(Text::from_bytes(alloc, b"eCHO")?));
-    let octets = Octets::from_vec(Vec::from_slice(alloc, b"\x00\xFF")?);
+    assert!(rt; name == Name::new(Text::from_bytes(rt.alloc(), b"eCHO")?));
+    Ok(())
+}
+
+#[test]
+fn octets_are_copied(rt: HostRuntime) -> Result<(), NoMemory> {
+    let octets = Octets::from_vec(Vec::from_slice(rt.alloc(), b"\x00\xFF")?);
     assert_eq!(rt; octets.copy()?.as_bytes(), b"\x00\xFF".as_slice());
     Ok(())
 }

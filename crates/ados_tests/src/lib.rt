@@ -1,0 +1,19 @@
+#![tactic(auto)]
+//! The tests of all crates, one file a crate, of what no contract says: that calls succeed where there is
+//! memory, outside vectors, printed text. They stand here together, so that no crate is proved a second time
+//! for its tests.
+
+#[cfg(test)]
+mod env;
+#[cfg(test)]
+mod items;
+#[cfg(test)]
+mod launch;
+#[cfg(test)]
+mod line;
+#[cfg(test)]
+mod memory;
+#[cfg(test)]
+mod text;
+#[cfg(test)]
+mod world;

@@ -1,0 +1,42 @@
+/* Refuses one request for memory of a program: the one whose number, from 1, REFUSE names. Built by
+   scripts/refuse-each-request and put before the C library by LD_PRELOAD. Where that request came, the
+   file that REFUSED names is made. */
+#define _GNU_SOURCE
+#include <dlfcn.h>
+#include <errno.h>
+#include <fcntl.h>
+#include <stdlib.h>
+#include <unistd.h>
+
+static long requests = -1, refused;
+
+static int is_refused(void) {
+    if (requests < 0) {
+        const char *number = getenv("REFUSE");
+        refused = number ? atol(number) : 0;
+        requests = 0;
+    }
+    if (++requests != refused) return 0;
+    const char *file = getenv("REFUSED");
+    if (file) close(open(file, O_CREAT | O_WRONLY, 0600));
+    errno = ENOMEM;
+    return 1;
+}
+
+void *malloc(size_t size) {
+    static void *(*next)(size_t);
+    if (!next) next = dlsym(RTLD_NEXT, "malloc");
+    return is_refused() ? NULL : next(size);
+}
+
+void *realloc(void *at, size_t size) {
+    static void *(*next)(void *, size_t);
+    if (!next) next = dlsym(RTLD_NEXT, "realloc");
+    return is_refused() ? NULL : next(at, size);
+}
+
+void *aligned_alloc(size_t alignment, size_t size) {
+    static void *(*next)(size_t, size_t);
+    if (!next) next = dlsym(RTLD_NEXT, "aligned_alloc");
+    return is_refused() ? NULL : next(alignment, size);
+}
