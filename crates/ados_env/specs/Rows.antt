@@ -1,6 +1,6 @@
 -- What each command makes, by the shared parts, its shell's view and its arguments.
 use Rattle.std.specs.Prelude.{List}
-use Rattle.ados_find.specs.declared.views.ShellView.{ShellView}
+use Rattle.ados_find.specs.Views.{View}
 use Rattle.ados_find.specs.Shared.{SharedState}
 use Rattle.ados_find.specs.Effects.{Effect}
 use Rattle.ados_readargs.specs.declared.args.Arg.{Arg}
@@ -13,7 +13,7 @@ use Rattle.ados_env.specs.Fault.{fault_row}
 use Rattle.ados_env.specs.Why.{why_row}
 
 -- the row of a command
-abbrev pub row_of : Command → SharedState → ShellView → List Arg → Effect
+abbrev pub row_of : Command → SharedState → View → List Arg → Effect
 row_of Echo shared view args = echo_row shared view args
 row_of Eval shared view args = eval_row shared view args
 row_of FailAt shared view args = fail_at_row shared view args
