@@ -6,7 +6,7 @@ use Rattle.ados_text.specs.Number.{number_of}
 use Rattle.ados_text.specs.declared.codes.Code.{Code}
 use Rattle.ados_text.specs.declared.codes.Result2.{Result2}
 use Rattle.ados_text.specs.declared.codes.TheConstants.Result2.{BAD_NUMBER, ARGUMENT_MISSING}
-use Rattle.ados_find.specs.declared.views.ShellView.{ShellView}
+use Rattle.ados_find.specs.Views.{View}
 use Rattle.ados_find.specs.Codes.{failed}
 use Rattle.ados_find.specs.Shared.{SharedState}
 use Rattle.ados_find.specs.Effects.{Effect, answering, putting}
@@ -43,5 +43,5 @@ abbrev pub value_line : SharedState → Code → Result ℤ Result2 → Effect
 value_line shared limit (Err fault) = answering shared limit (failed fault)
 value_line shared limit (Ok value) = putting shared limit (signed_decimal value ++ 10 ∷ [])
 
-abbrev pub eval_row : SharedState → ShellView → List Arg → Effect
+abbrev pub eval_row : SharedState → View → List Arg → Effect
 eval_row shared view args = value_line shared view.limit (evaluated (text_at args 0) (text_at args 1) (text_at args 2))

@@ -3,7 +3,7 @@ use Rattle.std.specs.Prelude.{ℕ, ℤ, pos, int_le, List, [], ◌∷◌, ◌++�
 use Rattle.std.specs.Fmt.{signed_decimal}
 use Rattle.ados_text.specs.declared.codes.Code.{Code}
 use Rattle.ados_text.specs.declared.codes.TheConstants.Result2.{BAD_NUMBER}
-use Rattle.ados_find.specs.declared.views.ShellView.{ShellView}
+use Rattle.ados_find.specs.Views.{View}
 use Rattle.ados_find.specs.Codes.{went_well, failed}
 use Rattle.ados_find.specs.Shared.{SharedState}
 use Rattle.ados_find.specs.Effects.{Effect, answering, putting}
@@ -20,5 +20,5 @@ limited shared limit None = putting shared limit (limit_line limit)
 limited shared limit (Some number) =
     if int_le (pos 0) number then answering shared (record { 0 = number }) went_well else answering shared limit (failed BAD_NUMBER)
 
-abbrev pub fail_at_row : SharedState → ShellView → List Arg → Effect
+abbrev pub fail_at_row : SharedState → View → List Arg → Effect
 fail_at_row shared view args = limited shared view.limit (number_at args 0)

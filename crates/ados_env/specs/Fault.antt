@@ -5,7 +5,7 @@ use Rattle.std.specs.Option.{option_map_or}
 use Rattle.std.specs.Fmt.{signed_decimal}
 use Rattle.ados_text.specs.Fault.{fault_text_of}
 use Rattle.ados_text.specs.Number.{number_of}
-use Rattle.ados_find.specs.declared.views.ShellView.{ShellView}
+use Rattle.ados_find.specs.Views.{View}
 use Rattle.ados_find.specs.Shared.{SharedState}
 use Rattle.ados_find.specs.Effects.{Effect, putting}
 use Rattle.ados_readargs.specs.declared.args.Arg.{Arg}
@@ -25,5 +25,5 @@ abbrev pub text_line : List ℕ → List ℕ
 text_line text = option_map_or fault_line (number_of text) []
 
 -- a line for each number
-abbrev pub fault_row : SharedState → ShellView → List Arg → Effect
+abbrev pub fault_row : SharedState → View → List Arg → Effect
 fault_row shared view args = putting shared view.limit (flat_map text_line (texts_at args 0))

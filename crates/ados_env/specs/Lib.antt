@@ -1,4 +1,8 @@
 pub mod Commands
+pub mod Directories
+pub mod AssignNames
+pub mod Assign
+pub mod Cd
 pub mod Echo
 pub mod Operators
 pub mod Eval

@@ -1,11 +1,13 @@
 -- What each command makes, by the shared parts, its shell's view and its arguments.
 use Rattle.std.specs.Prelude.{List}
-use Rattle.ados_find.specs.declared.views.ShellView.{ShellView}
+use Rattle.ados_find.specs.Views.{View}
 use Rattle.ados_find.specs.Shared.{SharedState}
 use Rattle.ados_find.specs.Effects.{Effect}
 use Rattle.ados_readargs.specs.declared.args.Arg.{Arg}
 use Rattle.ados_env.specs.declared.commands.Command.{Command}
-use Rattle.ados_env.specs.declared.commands.Command.TheVariants.{Echo, Eval, FailAt, Fault, Why}
+use Rattle.ados_env.specs.declared.commands.Command.TheVariants.{Assign, Cd, Echo, Eval, FailAt, Fault, Why}
+use Rattle.ados_env.specs.Assign.{assign_row}
+use Rattle.ados_env.specs.Cd.{cd_row}
 use Rattle.ados_env.specs.Echo.{echo_row}
 use Rattle.ados_env.specs.Eval.{eval_row}
 use Rattle.ados_env.specs.FailAt.{fail_at_row}
@@ -13,7 +15,9 @@ use Rattle.ados_env.specs.Fault.{fault_row}
 use Rattle.ados_env.specs.Why.{why_row}
 
 -- the row of a command
-abbrev pub row_of : Command → SharedState → ShellView → List Arg → Effect
+abbrev pub row_of : Command → SharedState → View → List Arg → Effect
+row_of Assign shared view args = assign_row shared view args
+row_of Cd shared view args = cd_row shared view args
 row_of Echo shared view args = echo_row shared view args
 row_of Eval shared view args = eval_row shared view args
 row_of FailAt shared view args = fail_at_row shared view args

@@ -5,6 +5,9 @@ use ados_text::Text;
 /// The commands of this crate.
 #[derive(Clone, Copy, Debug, PartialEq, Eq)]
 pub enum Command {
+    Assign,
+    /// CD.
+    Cd,
     Echo,
     Eval,
     FailAt,
@@ -19,7 +22,11 @@ impl Command {
     pub fn named(word: &Text) -> Option<Command>
         ensures { result ≡ command_of word.now }
     {
-        if word.is("Echo") {
+        if word.is("Assign") {
+            Some(Command::Assign)
+        } else if word.is("CD") {
+            Some(Command::Cd)
+        } else if word.is("Echo") {
             Some(Command::Echo)
         } else if word.is("Eval") {
             Some(Command::Eval)
@@ -39,6 +46,8 @@ impl Command {
         ensures { result.now ≡ template_of_command self }
     {
         match self {
+            Command::Assign => "NAME,TARGET,EXISTS/S",
+            Command::Cd => "DIR",
             Command::Echo => "/M,NOLINE/S",
             Command::Eval => "VALUE1/A,OP,VALUE2",
             Command::FailAt => "RCLIM/N",

@@ -1,7 +1,11 @@
 #![tactic(auto)]
-//! The commands that print and set: Echo, Eval, FailAt, Fault and Why.
+//! The commands that print and set: Assign, CD, Echo, Eval, FailAt, Fault and Why.
 
+mod assign;
+mod assign_names;
+mod cd;
 mod commands;
+mod directories;
 mod echo;
 mod eval;
 mod fail_at;

@@ -3,6 +3,8 @@ ghost use Rattle.std.specs.Prelude.{◌≡◌, IfOk};
 ghost use Rattle.ados_find.specs.Effects.{effect_of};
 ghost use Rattle.ados_env.specs.Rows.{row_of};
 
+use crate::assign::assign;
+use crate::cd::cd;
 use crate::commands::Command;
 use crate::echo::echo;
 use crate::eval::eval;
@@ -26,6 +28,8 @@ pub fn run(
     ensures { IfOk result (λ outcome. effect_of shared.now outcome ≡ row_of command shared.now view.now args.now) }
 {
     match command {
+        Command::Assign => assign(alloc, shared, view, args),
+        Command::Cd => cd(alloc, shared, view, args),
         Command::Echo => echo(alloc, view, args),
         Command::Eval => eval(alloc, view, args),
         Command::FailAt => fail_at(alloc, view, args),

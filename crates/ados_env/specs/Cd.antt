@@ -1,0 +1,25 @@
+-- CD: the current directory.
+use Rattle.std.specs.Prelude.{ℕ, List, [], ◌∷◌, ◌++◌, Option, Some, None, Result, Ok, Err}
+use Rattle.ados_ram.specs.Written.{full_path}
+use Rattle.ados_readargs.specs.declared.args.Arg.{Arg}
+use Rattle.ados_readargs.specs.Args.{text_at}
+use Rattle.ados_find.specs.declared.codes.Codes.{Codes}
+use Rattle.ados_find.specs.Codes.{went_well}
+use Rattle.ados_find.specs.Shared.{SharedState}
+use Rattle.ados_find.specs.Views.{View}
+use Rattle.ados_find.specs.Effects.{Effect, answering, putting}
+use Rattle.ados_env.specs.Directories.{directory_of}
+
+-- a directory that was found is the current one from now on
+abbrev pub moved_to : SharedState → View → Result (List (List ℕ)) Codes → Effect
+moved_to shared view (Err codes) = answering shared view.limit codes
+moved_to shared view (Ok place) =
+    record { shared = shared; limit = view.limit; codes = went_well; output = []; directory = Some place; renamed = None }
+
+-- without DIR it tells the full path of the current directory
+abbrev pub moved : SharedState → View → Option (List ℕ) → Effect
+moved shared view None = putting shared view.limit (full_path shared.files view.directory ++ 10 ∷ [])
+moved shared view (Some text) = moved_to shared view (directory_of shared view text)
+
+abbrev pub cd_row : SharedState → View → List Arg → Effect
+cd_row shared view args = moved shared view (text_at args 0)

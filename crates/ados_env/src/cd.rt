@@ -1,0 +1,54 @@
+ghost use Rattle.std.specs.Prelude.{◌≡◌, ◌++◌, ◌∷◌, [], IfOk, Ok};
+ghost use Rattle.ados_ram.specs.Written.{full_path};
+ghost use Rattle.ados_find.specs.Effects.{DoesTo, effect_of};
+ghost use Rattle.ados_env.specs.Cd.{moved_to, cd_row};
+
+use crate::directories::directory_of;
+use ados_find::{Codes, Outcome, Refusal, Shared, ShellView};
+use ados_ram::{Place, Ram};
+use ados_readargs::Args;
+use ados_text::{NoMemory, Octets};
+use std::alloc::Global;
+
+/// CD changes the current directory, or tells it.
+pub fn cd(
+    alloc: Global,
+    shared: &Shared,
+    view: &ShellView,
+    args: &Args,
+) -> Result<Outcome, NoMemory>
+    ensures { IfOk result (λ outcome. effect_of shared.now outcome ≡ cd_row shared.now view.now args.now) }
+{
+    let Some(text) = args.text(0) else {
+        let line = path_line(alloc, &shared.ram, &view.directory)?;
+        return Ok(Outcome::putting(view.limit, line));
+    };
+    match directory_of(alloc, shared, view, text) {
+        Err(Refusal::NoMemory) => Err(NoMemory),
+        Err(Refusal::Stopped(codes)) => Ok(Outcome::answering(alloc, view.limit, codes)),
+        Ok(place) => Ok(moved_to(alloc, view, place)),
+    }
+}
+
+// The place is the current directory from now on.
+fn moved_to(alloc: Global, view: &ShellView, place: Place) -> Outcome
+    ensures { DoesTo result (λ shared. moved_to shared view.now (Ok place)) }
+{
+    Outcome {
+        shared: None,
+        limit: view.limit,
+        codes: Codes::NONE,
+        output: Octets::from_vec(Vec::new(alloc)),
+        directory: Some(place),
+        renamed: None,
+    }
+}
+
+// The line of a full path.
+fn path_line(alloc: Global, ram: &Ram, place: &Place) -> Result<Vec<u8>, NoMemory>
+    ensures { IfOk result (λ line. line.items ≡ full_path ram.now place.now ++ 10 ∷ []) }
+{
+    let mut line = Vec::from_slice(alloc, ram.full_path(place)?.as_bytes())?;
+    line.push(b'\n')?;
+    Ok(line)
+}
