@@ -8,13 +8,14 @@ use Rattle.ados_machine.specs.declared.events.Event.{Event}
 use Rattle.ados_machine.specs.declared.events.Event.TheVariants.{Typed, EndOfInput, Turn, Answer}
 use Rattle.ados_machine.specs.declared.outs.Out.{Out}
 use Rattle.ados_machine.specs.declared.refusals.Refusal.{Refusal}
+use Rattle.ados_find.specs.declared.outcomes.Renamed.{Renamed}
 use Rattle.ados_machine.specs.Frames.{Item, FrameState, ShellState, Turned}
 use Rattle.ados_machine.specs.declared.phases.Asking.{Asking as Question}
 use Rattle.ados_machine.specs.declared.phases.Phase.{Phase}
 use Rattle.ados_machine.specs.declared.phases.Phase.TheVariants.{Ready, Asking}
 use Rattle.ados_machine.specs.Shell.{turn_of, resumed}
 use Rattle.ados_machine.specs.World.{WorldState, flatten, numbered, shell_at, is_over, has_input}
-use Rattle.ados_machine.specs.Step.{Response, Refused, Accepted, with_shell, took, script_turned, console_turn, ready_turn, answered_prompt, waiting, turn_by, turned, typed, end_of_input, happened, replied, step_of}
+use Rattle.ados_machine.specs.Step.{Response, Refused, Accepted, with_shell, carried_shell, carried_place, carried_shells, settled, start, took, script_turned, console_turn, ready_turn, answered_prompt, waiting, turn_by, turned, typed, end_of_input, happened, replied, step_of}
 use Rattle.ados_machine.specs.Runs.{world_after}
 use Rattle.ados_machine.specs.Trace.{shell_of, log_after, of_shell, own, frames_in}
 use Rattle.ados_machine.specs.Limits.{AllRunOn, IsSane}
@@ -83,15 +84,60 @@ abbrev pub Leads : WorldState → ℕ → Response → Type 0
 Leads w k (Refused why) = Unit {0}
 Leads w k (Accepted world given log) = (j : ℕ) → Moves j w.shells (own j (of_shell k log)) world.shells
 
+-- the frames of all shells stay where their current directories move with what was renamed
+carried-place : (renamed : Renamed) (shells : List (Option ShellState)) (i : ℕ) →
+    frames_in (flatten (slice_get (carried_shells renamed shells) i)) ≡ frames_in (flatten (slice_get shells i))
+carried-place renamed [] i = refl
+carried-place renamed (None ∷ shells) zero = refl
+carried-place renamed (Some shell ∷ shells) zero = refl
+carried-place renamed (found ∷ shells) (suc i) = carried-place renamed shells i
+
+pub carried-frames : (renamed : Renamed) (shells : List (Option ShellState)) (k : ℕ) →
+    frames_at k (carried_shells renamed shells) ≡ frames_at k shells
+carried-frames renamed shells zero = refl
+carried-frames renamed shells (suc i) = carried-place renamed shells i
+
+carried-there : (renamed : Renamed) (shells : List (Option ShellState)) (i : ℕ) (shell : ShellState) →
+    flatten (slice_get shells i) ≡ Some shell → flatten (slice_get (carried_shells renamed shells) i) ≡ Some (carried_shell renamed shell)
+carried-there renamed [] i shell e = cc
+carried-there renamed (None ∷ shells) zero shell e = cc
+carried-there renamed (Some here ∷ shells) zero shell e = ap (carried_place renamed) e
+carried-there renamed (found ∷ shells) (suc i) shell e = carried-there renamed shells i shell e
+
+carried-found : (renamed : Renamed) (shells : List (Option ShellState)) (k : ℕ) (shell : ShellState) →
+    flatten (numbered shells k) ≡ Some shell → flatten (numbered (carried_shells renamed shells) k) ≡ Some (carried_shell renamed shell)
+carried-found renamed shells zero shell e = cc
+carried-found renamed shells (suc i) shell e = carried-there renamed shells i shell e
+
+pub sane-carried : (w : WorldState) (renamed : Renamed) → IsSane w → IsSane (record w { shells = carried_shells renamed w.shells })
+sane-carried w renamed sane = record { each = λ k. rw (carried-frames renamed w.shells k) (sane.each k) }
+
+carried-moves : (renamed : Renamed) (k : ℕ) (old : List (Option ShellState)) (log : List Item) (new : List (Option ShellState)) →
+    Moves k (carried_shells renamed old) log new → Moves k old log new
+carried-moves renamed k old log new moves = record {
+  follows = rw (carried-frames renamed old k) at moves.follows;
+  runs = moves.runs;
+}
+
+settled-moves : (w : WorldState) (k : ℕ) (shell now : ShellState) (renamed : Option Renamed) (log : List Item) → IsSane w →
+    shell_at w k ≡ Some shell → Follows (lasts shell.frames) log (lasts now.frames) → AllRunOn now.frames →
+    (j : ℕ) → Moves j w.shells (own j (of_shell k log)) (settled w.shells k now renamed)
+settled-moves w k shell now None log sane found follows runs j = moves-with w k shell (Some now) log sane found follows runs j
+settled-moves w k shell now (Some renamed) log sane found follows runs j =
+    let there : WorldState = record w { shells = carried_shells renamed w.shells } in
+    carried-moves renamed j w.shells (own j (of_shell k log)) (with_shell there k (Some (carried_shell renamed now))).shells
+    (moves-with there k (carried_shell renamed shell) (Some (carried_shell renamed now)) log (sane-carried w renamed sane)
+    (carried-found renamed w.shells k shell found) follows runs j)
+
 took-leads : (w : WorldState) (k : ℕ) (shell : ShellState) (t : Turned) → IsSane w → shell_at w k ≡ Some shell →
     Goes (lasts shell.frames) t → Leads w k (took w k t)
-took-leads w k shell t sane found goes = moves-with w k shell (Some t.shell) t.log sane found goes.follows goes.runs
+took-leads w k shell t sane found goes = settled-moves w k shell t.shell t.course.renamed t.log sane found goes.follows goes.runs
 
 console-leads : (w : WorldState) (shell : ShellState) (queue : List (List ℕ)) → IsSane w → shell_at w 1 ≡ Some shell →
     shell.frames ≡ [] → AllRunOn shell.frames → Leads w 1 (console_turn w shell queue)
 console-leads w shell [] sane found is runs = moves-with w 1 shell None [] sane found (rw is refl) tt
 console-leads w shell (line ∷ rest) sane found is runs =
-    took-leads w 1 shell (turn_of line shell w.shared) sane found (turn-goes line shell w.shared runs)
+    took-leads w 1 shell (turn_of line shell (start w)) sane found (turn-goes line shell (start w) runs)
 
 lasts-along : (these those : List FrameState) (t : Turned) → these ≡ those → Goes (lasts those) t → Goes (lasts these) t
 lasts-along these those t e goes = rw e goes
@@ -99,9 +145,9 @@ lasts-along these those t e goes = rw e goes
 ready-leads : (w : WorldState) (k : ℕ) (shell : ShellState) (frames : List FrameState) → IsSane w → shell_at w k ≡ Some shell →
     shell.frames ≡ frames → AllRunOn shell.frames → Leads w k (ready_turn w k shell frames)
 ready-leads w k shell (frame ∷ frames) sane found is runs =
-    took-leads w k shell (script_turned shell frame frames w.shared (slice_get frame.lines frame.position)) sane found
-    (lasts-along shell.frames (frame ∷ frames) (script_turned shell frame frames w.shared (slice_get frame.lines frame.position)) is
-    (script-goes shell frame frames w.shared (slice_get frame.lines frame.position) is (rw is at runs)))
+    took-leads w k shell (script_turned shell frame frames (start w) (slice_get frame.lines frame.position)) sane found
+    (lasts-along shell.frames (frame ∷ frames) (script_turned shell frame frames (start w) (slice_get frame.lines frame.position)) is
+    (script-goes shell frame frames (start w) (slice_get frame.lines frame.position) is (rw is at runs)))
 ready-leads w k shell [] sane found is runs =
     elim (cases_Bool ((k == 1) && has_input w)) [
       | inl e ↦ rw e
@@ -113,9 +159,9 @@ ready-leads w k shell [] sane found is runs =
 prompt-leads : (w : WorldState) (k : ℕ) (shell : ShellState) (question : Question) (queue : List (List ℕ)) → IsSane w →
     shell_at w k ≡ Some shell → AllRunOn shell.frames → Leads w k (answered_prompt w k shell question queue)
 prompt-leads w k shell question [] sane found runs =
-    took-leads w k shell (resumed [] question shell w.shared) sane found (resumed-goes [] question shell w.shared runs)
+    took-leads w k shell (resumed [] question shell (start w)) sane found (resumed-goes [] question shell (start w) runs)
 prompt-leads w k shell question (line ∷ rest) sane found runs =
-    took-leads w k shell (resumed line question shell w.shared) sane found (resumed-goes line question shell w.shared runs)
+    took-leads w k shell (resumed line question shell (start w)) sane found (resumed-goes line question shell (start w) runs)
 
 turn-leads : (w : WorldState) (k : ℕ) (shell : ShellState) (phase : Phase) → IsSane w → shell_at w k ≡ Some shell →
     AllRunOn shell.frames → Leads w k (turn_by w k shell phase)

@@ -6,8 +6,7 @@ use Rattle.ados_find.specs.declared.codes.Codes.{Codes}
 use Rattle.ados_machine.specs.declared.events.Event.{Event}
 use Rattle.ados_machine.specs.declared.outs.Out.{Out}
 use Rattle.ados_machine.specs.declared.refusals.Refusal.{Refusal}
-use Rattle.ados_machine.specs.Frames.{Item, FrameState, ShellState, Turned}
-use Rattle.ados_find.specs.Shared.{SharedState}
+use Rattle.ados_machine.specs.Frames.{Item, FrameState, ShellState, Course, Turned}
 use Rattle.ados_machine.specs.declared.phases.Asking.{Asking as Question}
 use Rattle.ados_machine.specs.Shell.{turn_of, resumed}
 use Rattle.ados_machine.specs.World.{WorldState, fresh_world, flatten, shell_at}
@@ -40,29 +39,24 @@ runs-with w k now sane runs (suc m) = runs-set w.shells (k - 1) m now (sane.each
 pub sane-with : (w : WorldState) (k : ℕ) (now : Option ShellState) → IsSane w → AllRunOn (frames_in now) → IsSane (with_shell w k now)
 sane-with w k now sane runs = record { each = runs-with w k now sane runs }
 
--- the world behind a turn
-pub sane-took : (w : WorldState) (k : ℕ) (t : Turned) → IsSane w → AllRunOn t.shell.frames →
-    IsSane (record (with_shell w k (Some t.shell)) { shared = t.course.shared })
-sane-took w k t sane runs = record { each = runs-with w k (Some t.shell) sane runs }
-
 -- the world behind the end of shell 1
 pub sane-ended : (w : WorldState) (ended : List Codes) → IsSane w → IsSane (record (with_shell w 1 None) { ended = ended })
 sane-ended w ended sane = record { each = runs-with w 1 None sane tt }
 
 -- what a turn that takes a line leaves
-pub turn-runs : (raw : List ℕ) (shell : ShellState) (shared : SharedState) → AllRunOn shell.frames →
-    AllRunOn (turn_of raw shell shared).shell.frames
-turn-runs raw shell shared runs = (turn-goes raw shell shared runs).runs
+pub turn-runs : (raw : List ℕ) (shell : ShellState) (course : Course) → AllRunOn shell.frames →
+    AllRunOn (turn_of raw shell course).shell.frames
+turn-runs raw shell course runs = (turn-goes raw shell course runs).runs
 
 -- what a turn that takes the answer to a prompt leaves
-pub resumed-runs : (raw : List ℕ) (question : Question) (shell : ShellState) (shared : SharedState) → AllRunOn shell.frames →
-    AllRunOn (resumed raw question shell shared).shell.frames
-resumed-runs raw question shell shared runs = (resumed-goes raw question shell shared runs).runs
+pub resumed-runs : (raw : List ℕ) (question : Question) (shell : ShellState) (course : Course) → AllRunOn shell.frames →
+    AllRunOn (resumed raw question shell course).shell.frames
+resumed-runs raw question shell course runs = (resumed-goes raw question shell course runs).runs
 
 -- what a turn of a script leaves
-pub script-runs : (shell : ShellState) (frame : FrameState) (frames : List FrameState) (shared : SharedState) (line : Option (List ℕ)) →
-    shell.frames ≡ frame ∷ frames → AllRunOn (frame ∷ frames) → AllRunOn (script_turned shell frame frames shared line).shell.frames
-script-runs shell frame frames shared line is runs = (script-goes shell frame frames shared line is runs).runs
+pub script-runs : (shell : ShellState) (frame : FrameState) (frames : List FrameState) (course : Course) (line : Option (List ℕ)) →
+    shell.frames ≡ frame ∷ frames → AllRunOn (frame ∷ frames) → AllRunOn (script_turned shell frame frames course line).shell.frames
+script-runs shell frame frames course line is runs = (script-goes shell frame frames course line is runs).runs
 
 -- a shell of a sane world
 pub sane-shell : (w : WorldState) (k : ℕ) (shell : ShellState) → IsSane w → shell_at w k ≡ Some shell → AllRunOn shell.frames

@@ -4,6 +4,7 @@ use Rattle.ados_text.specs.declared.codes.Code.{Code}
 use Rattle.ados_text.specs.declared.codes.TheConstants.Code.{ERROR}
 use Rattle.ados_find.specs.declared.codes.Codes.{Codes}
 use Rattle.ados_find.specs.Codes.{went_well}
+use Rattle.ados_find.specs.declared.outcomes.Renamed.{Renamed}
 use Rattle.ados_find.specs.Shared.{SharedState}
 use Rattle.ados_machine.specs.declared.outs.EndReport.{EndReport}
 pub use Rattle.ados_machine.specs.declared.records.Record.{Record}
@@ -28,10 +29,13 @@ pub record FrameState : Type 0 where
   pub limit : Code
   pub last : Option Record
 
--- what an event hands through: the shared parts, and what is printed on the console
+-- what an event hands through: the shared parts, what is printed on the console, the current directories of all
+-- shells as the event began, and the object that was renamed, by which these are carried
 pub record Course : Type 0 where
   pub shared : SharedState
   pub printed : List ℕ
+  pub directories : List (List (List ℕ))
+  pub renamed : Option Renamed
 
 abbrev pub printing : List ℕ → Course → Course
 printing bytes course = record course { printed = course.printed ++ bytes }
@@ -45,10 +49,12 @@ pub record ShellState : Type 0 where
   pub frames : List FrameState
   pub limit : Code
   pub codes : Codes
+  pub directory : List (List ℕ)
   pub phase : Phase
 
+-- a shell begins in the root
 abbrev pub fresh_shell : ShellState
-fresh_shell = record { frames = []; limit = first_limit; codes = went_well; phase = Ready }
+fresh_shell = record { frames = []; limit = first_limit; codes = went_well; directory = []; phase = Ready }
 
 -- what an event leaves of its shell, what it hands on, and what the shell's trace gets
 pub record Turned : Type 0 where
@@ -111,29 +117,37 @@ answered_frame frame frames answered limit = record frame { last = Some (entry_o
 abbrev pub is_ended : Bool → Codes → Code → FrameState → Bool
 is_ended quits answered limit frame = quits || (is_reached limit answered.code || is_over frame)
 
--- a command of the newest frame has answered, with this limit behind it: where the frame ends, its end is the
--- answer of the command that made it, and so on down
-abbrev pub finish : List ℕ → Codes → Bool → Code → List FrameState → Course → Turned
-finish word answered quits limit [] course = record {
-  shell = record { frames = []; limit = limit; codes = answered; phase = Ready };
-  course = told word answered limit course;
-  log = noted [] answered limit ∷ [];
+-- the shell once a command answered, with these frames
+abbrev pub answering : ShellState → Codes → List FrameState → ShellState
+answering shell answered frames = record shell { frames = frames; codes = answered; phase = Ready }
+
+-- the shell once a frame was taken off, above these
+abbrev pub ending : ShellState → FrameState → List FrameState → ShellState
+ending shell frame frames = record shell { frames = frames; limit = limit_behind frame frames }
+
+-- a command of the newest frame has answered: where the frame ends, its end is the answer of the command that made
+-- it, and so on down
+abbrev pub finish : List ℕ → Codes → Bool → ShellState → List FrameState → Course → Turned
+finish word answered quits shell [] course = record {
+  shell = answering shell answered [];
+  course = told word answered shell.limit course;
+  log = noted [] answered shell.limit ∷ [];
 }
-finish word answered quits limit (frame ∷ frames) course =
-    if is_ended quits answered limit frame
-    then behind (noted (frame ∷ frames) answered limit ∷ end_of (suc (length frames)) (answered_frame frame frames answered limit) ∷ [])
-    (finish frame.command answered false (limit_behind frame frames) frames (told word answered limit course))
+finish word answered quits shell (frame ∷ frames) course =
+    if is_ended quits answered shell.limit frame
+    then behind (noted (frame ∷ frames) answered shell.limit ∷ end_of (suc (length frames)) (answered_frame frame frames answered shell.limit) ∷ [])
+    (finish frame.command answered false (ending (answering shell answered frames) frame frames) frames (told word answered shell.limit course))
     else record {
-      shell = record { frames = answered_frame frame frames answered limit ∷ frames; limit = limit; codes = answered; phase = Ready };
-      course = told word answered limit course;
-      log = noted (frame ∷ frames) answered limit ∷ [];
+      shell = answering shell answered (answered_frame frame frames answered shell.limit ∷ frames);
+      course = told word answered shell.limit course;
+      log = noted (frame ∷ frames) answered shell.limit ∷ [];
     }
 
 abbrev pub passed_by : ShellState → List FrameState → Course → Turned
 passed_by shell [] course = record { shell = shell; course = course; log = [] }
 passed_by shell (frame ∷ frames) course =
     if is_over frame
-    then behind (end_of (suc (length frames)) frame ∷ []) (finish frame.command (last_codes frame.last) false (limit_behind frame frames) frames course)
+    then behind (end_of (suc (length frames)) frame ∷ []) (finish frame.command (last_codes frame.last) false (ending shell frame frames) frames course)
     else record { shell = shell; course = course; log = [] }
 
 -- no command was there to answer: the newest frame ends where no line is left

@@ -1,5 +1,5 @@
 pub mod CodeRule
-pub mod FileNames
+pub mod Targets
 pub mod ScriptLines
 pub mod Commands
 pub mod Frames

@@ -1,10 +1,6 @@
--- The lines of a script, and where its file stands.
-use Rattle.std.specs.Prelude.{◌≡◌, ℕ, List, [], ◌∷◌, ◌++◌, map, take, position, Bool, true, false, ◌==◌, Option, Some, None, codes, if◌then◌else◌}
-use Rattle.std.specs.FinMap as finite
+-- The lines of a script.
+use Rattle.std.specs.Prelude.{ℕ, List, [], ◌∷◌, ◌++◌, map, take, position, Bool, ◌==◌, Option, Some, None, if◌then◌else◌}
 use Rattle.ados_text.specs.Text.{to_ascii}
-use Rattle.ados_ram.specs.Place.{key_of}
-use Rattle.ados_ram.specs.Files.{Files}
-use Rattle.ados_ram.specs.declared.entries.Entry.{Entry}
 
 -- a line that is not empty is the last one
 abbrev pub last_line : List ℕ → List (List ℕ)
@@ -31,22 +27,3 @@ is_newline byte = byte == 10
 -- the first line of a file's bytes; of none it is empty
 abbrev pub first_line : List ℕ → List ℕ
 first_line bytes = map to_ascii (up_to (position is_newline bytes) bytes)
-
--- the name of what stands at a place, as it is written there; else as it is asked for
-abbrev pub spelled : Option Entry → List ℕ → List ℕ
-spelled None name = name
-spelled (Some entry) name = entry.name
-
-abbrev pub slash_before : List (List ℕ) → List ℕ
-slash_before [] = []
-slash_before (name ∷ rest) = 47 ∷ []
-
--- the names from a place down, as they are written in the files, with a slash between each two
-abbrev pub path_below : Files → List (List ℕ) → List (List ℕ) → List ℕ
-path_below files above [] = []
-path_below files above (name ∷ rest) =
-    spelled (finite.get files (key_of (above ++ name ∷ []))) name ++ slash_before rest ++ path_below files (above ++ name ∷ []) rest
-
--- the full path of a place
-abbrev pub full_path : Files → List (List ℕ) → List ℕ
-full_path files place = codes "RAM:" ++ path_below files [] place

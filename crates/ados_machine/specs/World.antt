@@ -2,11 +2,10 @@
 use Rattle.std.specs.Prelude.{ℕ, zero, suc, List, [], ◌∷◌, length, map, Bool, true, false, not, ◌&&◌, ◌||◌, nat_lt, ◌==◌, Option, Some, None, is_some, unwrap_or, slice_get}
 use Rattle.std.proofs.Math.ListN.{replicate}
 use Rattle.std.specs.List.{list_any}
-use Rattle.ados_ram.specs.Files.{first_files}
 use Rattle.ados_find.specs.declared.codes.Codes.{Codes}
 use Rattle.ados_machine.specs.declared.requests.Request.{Request}
 use Rattle.ados_find.specs.Codes.{went_well}
-use Rattle.ados_find.specs.Shared.{SharedState}
+use Rattle.ados_find.specs.Shared.{SharedState, first_shared}
 use Rattle.ados_machine.specs.declared.phases.Phase.{Phase}
 use Rattle.ados_machine.specs.declared.phases.Phase.TheVariants.{Ready, Asking}
 use Rattle.ados_machine.specs.Frames.{FrameState, ShellState, fresh_shell}
@@ -30,7 +29,7 @@ fresh_world = record {
   ended = replicate 20 went_well;
   queue = [];
   input_ended = false;
-  shared = record { files = first_files };
+  shared = first_shared;
 }
 
 abbrev pub flatten : {X : Type 0} → Option (Option X) → Option X
@@ -88,6 +87,15 @@ shell_codes None ended = ended
 -- the last codes of a number: its shell's, else those that its last shell left
 abbrev pub codes_at : WorldState → ℕ → Codes
 codes_at w k = shell_codes (shell_at w k) (ended_at w k)
+
+-- the current directories of the shells that run, in order of their numbers
+abbrev pub directories_in : List (Option ShellState) → List (List (List ℕ))
+directories_in [] = []
+directories_in (None ∷ shells) = directories_in shells
+directories_in (Some shell ∷ shells) = shell.directory ∷ directories_in shells
+
+abbrev pub directories_of : WorldState → List (List (List ℕ))
+directories_of w = directories_in w.shells
 
 -- which numbers have a shell
 abbrev pub running : WorldState → List Bool

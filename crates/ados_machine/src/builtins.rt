@@ -8,13 +8,15 @@ use ados_text::Text;
 pub enum Builtin {
     /// One that neither flows nor works on files.
     Env(Command),
+    /// One that works on files.
+    Files(ados_files::Command),
     Execute,
     Quit,
-    Type,
 }
 
 impl Builtin {
-    ghost use Rattle.ados_machine.specs.Commands.{builtin_of, other_builtin, template_of};
+    ghost use Rattle.ados_files.specs.Commands.{command_of};
+    ghost use Rattle.ados_machine.specs.Commands.{builtin_of, file_builtin, flow_builtin, template_of};
 
     /// The command of this name; case is ignored.
     pub fn named(word: &Text) -> Option<Builtin>
@@ -22,19 +24,26 @@ impl Builtin {
     {
         match Command::named(word) {
             Some(command) => Some(Builtin::Env(command)),
-            None => Builtin::other(word),
+            None => Builtin::on_files(word),
         }
     }
 
-    fn other(word: &Text) -> Option<Builtin>
-        ensures { result ≡ other_builtin word.now }
+    fn on_files(word: &Text) -> Option<Builtin>
+        ensures { result ≡ file_builtin word.now (command_of word.now) }
+    {
+        match ados_files::Command::named(word) {
+            Some(command) => Some(Builtin::Files(command)),
+            None => Builtin::of_flow(word),
+        }
+    }
+
+    fn of_flow(word: &Text) -> Option<Builtin>
+        ensures { result ≡ flow_builtin word.now }
     {
         if word.is("Execute") {
             Some(Builtin::Execute)
         } else if word.is("Quit") {
             Some(Builtin::Quit)
-        } else if word.is("Type") {
-            Some(Builtin::Type)
         } else {
             None
         }
@@ -46,9 +55,9 @@ impl Builtin {
     {
         match self {
             Builtin::Env(command) => command.template(),
+            Builtin::Files(command) => command.template(),
             Builtin::Execute => "FILE/A,ARGS/F",
             Builtin::Quit => "RC/N",
-            Builtin::Type => "FROM/A/M",
         }
     }
 }

@@ -15,6 +15,7 @@ mod phases;
 mod records;
 mod refusals;
 mod requests;
+mod targets;
 
 pub use ados_find::Codes;
 pub use answers::Answer;
@@ -29,3 +30,4 @@ pub use phases::{Asking, Phase};
 pub use records::Record;
 pub use refusals::Refusal;
 pub use requests::{Job, Request};
+pub use targets::Target;
