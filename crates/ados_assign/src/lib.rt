@@ -6,8 +6,6 @@ mod faults;
 mod order;
 mod resolve;
 mod rows;
-#[cfg(test)]
-mod tests;
 
 pub use assigns::{Assign, Assigns};
 pub use faults::{AssignFault, ResolveFault};

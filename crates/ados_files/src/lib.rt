@@ -19,8 +19,6 @@ mod protect;
 mod rename;
 mod rows;
 mod templates;
-#[cfg(test)]
-mod tests;
 mod type_files;
 
 pub use commands::Command;

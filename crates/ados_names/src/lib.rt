@@ -6,8 +6,6 @@ mod names;
 mod paths;
 mod pieces;
 mod steps;
-#[cfg(test)]
-mod tests;
 
 pub use faults::NameFault;
 pub use names::is_name;

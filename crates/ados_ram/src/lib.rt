@@ -11,8 +11,6 @@ mod places;
 mod refusals;
 mod rows;
 mod table;
-#[cfg(test)]
-mod tests;
 mod written;
 
 pub use entries::{Bits, Body, Entry};

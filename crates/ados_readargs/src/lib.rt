@@ -10,8 +10,6 @@ mod options;
 mod readings;
 mod shares;
 mod template;
-#[cfg(test)]
-mod tests;
 mod words;
 
 pub use args::{Arg, Args};

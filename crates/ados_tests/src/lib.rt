@@ -4,7 +4,11 @@
 //! for its tests.
 
 #[cfg(test)]
+mod assign;
+#[cfg(test)]
 mod env;
+#[cfg(test)]
+mod files;
 #[cfg(test)]
 mod items;
 #[cfg(test)]
@@ -13,6 +17,12 @@ mod launch;
 mod line;
 #[cfg(test)]
 mod memory;
+#[cfg(test)]
+mod names;
+#[cfg(test)]
+mod ram;
+#[cfg(test)]
+mod readargs;
 #[cfg(test)]
 mod text;
 #[cfg(test)]

@@ -1,4 +1,4 @@
-use crate::{AssignFault, Assigns, ResolveFault, is_on_nil};
+use ados_assign::{AssignFault, Assigns, ResolveFault, is_on_nil};
 use ados_names::{NameFault, Path};
 use ados_ram::{Busy, Place, Ram};
 use ados_text::{Name, NoMemory, Result2, Text};

@@ -1,4 +1,4 @@
-use crate::{Arg, ArgFault, Args, Template};
+use ados_readargs::{Arg, ArgFault, Args, Template};
 use ados_text::{NoMemory, Text, push_number};
 use std::alloc::Global;
 
@@ -97,16 +97,97 @@ A/K/T!!114
 A,b,a!!114
 A=a!!114";
 
-#[test]
-fn fills_templates_or_says_why_not(rt: HostRuntime) -> Result<(), NoMemory> {
-    for row in ROWS.lines() {
+// The templates of the commands, each with a line that fills it and one that it refuses.
+const TAKEN: &str = "\
+NAME,STRING/F!ll List QUICK !<ll><List QUICK>
+PROMPT/A!\"Go on?\"!<Go on?>
+NAME,TARGET,EXISTS/S!w: RAM:T EXISTS!<w:><RAM:T>+
+DIR!/!</>
+FROM/M,TO/A,ALL/S,QUIET/S!a b c1 all quiet![a|b]<c1>++
+FILE/M/A,ALL/S,QUIET/S!a ALL b QUIET![a|b]++
+DIR,DIRS/S,FILES/S!d DIRS FILES!<d>++
+/M,NOLINE/S!a \"b c\" NOLINE![a|b c]+
+VALUE1/A,OP,VALUE2!6 * 7!<6><*><7>
+FILE/A,ARGS/F!s \"a b\" c!<s><\"a b\" c>
+RCLIM/N!20!<20>
+/N/M!205 -1![205|-1]
+FILE/A,COMMENT!f \"a note\"!<f><a note>
+NAME/A!x!<x>
+NOT/S,WARN/S,ERROR/S,FAIL/S,,EQ/K,GT/K,GE/K,VAL/S,EXISTS/K!NOT 1 WARN ERROR FAIL eq 2 gt=3 ge 4 VAL EXISTS f!++++<1><2><3><4>+<f>
+FILE/M/A,AS=TO/K/A!a b as=c![a|b]<c>
+LABEL/F!one two !<one two>
+DIR/M,P=PAT/K,QUICK/S,FILES/S,DIRS/S!a b pat #? QUICK FILES DIRS![a|b]<#?>+++
+NAME/M!a b![a|b]
+PATH/M,ADD/S,SHOW/S,RESET/S,REMOVE/S!a b ADD SHOW RESET REMOVE![a|b]++++
+FILE/A,FLAGS,ADD/S,SUB/S!f rw ADD SUB!<f><rw>++
+RC/N!-5!<-5>
+FROM/A,TO=AS/A!a AS b!<a><b>
+NAME,FILE,REMOVE/S,ADD/S,REPLACE/S,PURE=FORCE/S,SYSTEM/S!n f REMOVE ADD REPLACE FORCE SYSTEM!<n><f>+++++
+LABEL,BACK/S!top BACK!<top>+
+PROCESS/N,COM=COMMAND/K!1 COMMAND=Echo!<1><Echo>
+FROM/A/M!a b![a|b]
+FILE/A!x!<x>
+!!";
+
+const REFUSED: &str = "\
+NAME,STRING/F!NAME!117
+PROMPT/A!!116
+NAME,TARGET,EXISTS/S!a b c!118
+DIR!a b!118
+FROM/M,TO/A,ALL/S,QUIET/S!ALL!116
+FILE/M/A,ALL/S,QUIET/S!QUIET!116
+DIR,DIRS/S,FILES/S!d DIRS DIRS!118
+/M,NOLINE/S!a \"b!119
+VALUE1/A,OP,VALUE2!1 + 2 3!118
+FILE/A,ARGS/F!!116
+RCLIM/N!x!115
+/N/M!205 2x!115
+FILE/A,COMMENT!f a note!118
+NAME/A!x y!118
+NOT/S,WARN/S,ERROR/S,FAIL/S,,EQ/K,GT/K,GE/K,VAL/S,EXISTS/K!EQ!117
+FILE/M/A,AS=TO/K/A!a b!116
+DIR/M,P=PAT/K,QUICK/S,FILES/S,DIRS/S!P!117
+NAME/M!NAME=!117
+PATH/M,ADD/S,SHOW/S,RESET/S,REMOVE/S!ADD ADD!118
+FILE/A,FLAGS,ADD/S,SUB/S!SUB!116
+RC/N!2147483648!115
+FROM/A,TO=AS/A!a TO=b AS=c!118
+NAME,FILE,REMOVE/S,ADD/S,REPLACE/S,PURE=FORCE/S,SYSTEM/S!n PURE FORCE!118
+LABEL,BACK/S!BACK top end!118
+PROCESS/N,COM=COMMAND/K!one!115
+FROM/A/M!!116
+FILE/A!FILE!117
+!x!118";
+
+// The first row that is answered otherwise.
+fn first_other<'a>(alloc: Global, rows: &'a str) -> Result<Option<&'a str>, NoMemory> {
+    for row in rows.lines() {
         let mut parts = row.split('!');
         let template = parts.next().unwrap_or_default();
         let line = parts.next().unwrap_or_default();
         let want = parts.next().unwrap_or_default();
-        let got = answer(rt.alloc(), template, line)?;
-        assert_eq!(rt; got.as_slice(), want.as_bytes(), "{row}");
+        if answer(alloc, template, line)?.as_slice() != want.as_bytes() {
+            return Ok(Some(row));
+        }
     }
+    Ok(None)
+}
+
+#[test]
+fn fills_templates_or_says_why_not(rt: HostRuntime) -> Result<(), NoMemory> {
+    assert_eq!(rt; first_other(rt.alloc(), ROWS)?, None);
+    Ok(())
+}
+
+#[test]
+fn commands_take_their_words(rt: HostRuntime) -> Result<(), NoMemory> {
+    assert_eq!(rt; first_other(rt.alloc(), TAKEN)?, None);
+    Ok(())
+}
+
+#[test]
+fn commands_refuse_other_words(rt: HostRuntime) -> Result<(), NoMemory> {
+    assert_eq!(rt; first_other(rt.alloc(), REFUSED)?, None);
     Ok(())
 }
 

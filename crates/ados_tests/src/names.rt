@@ -1,4 +1,4 @@
-use crate::{NameFault, Path, Step, is_name, last_piece};
+use ados_names::{NameFault, Path, Step, is_name, last_piece};
 use ados_text::{NoMemory, Text};
 use std::alloc::Global;
 use std::process::Abort;

@@ -1,4 +1,4 @@
-use crate::{Command, Templates, run};
+use ados_files::{Command, Templates, run};
 use ados_find::{Codes, Outcome, Shared, ShellView};
 use ados_ram::{Busy, Place};
 use ados_readargs::ArgFault;

@@ -1,4 +1,4 @@
-use crate::{Bits, Busy, FsFault, Place, Ram};
+use ados_ram::{Bits, Busy, FsFault, Place, Ram};
 use ados_text::{Name, NoMemory, Text};
 use std::alloc::Global;
 use std::process::Abort;
