@@ -1,5 +1,4 @@
 // Arguments that name a directory.
-ghost use Rattle.std.specs.Prelude.{◌≡◌, Ok};
 ghost use Rattle.std.specs.Option.{option_copied};
 ghost use Rattle.ados_find.specs.Paths.{Gives};
 ghost use Rattle.ados_env.specs.Directories.{as_directory, directory_of};

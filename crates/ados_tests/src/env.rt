@@ -1,6 +1,6 @@
 use ados_env::{Command, Templates, run};
 use ados_find::{Codes, Outcome, Shared, ShellView};
-use ados_ram::Ram;
+use ados_ram::{Busy, Place};
 use ados_readargs::{ArgFault, Args};
 use ados_text::{Code, NoMemory, Result2, Text};
 use std::alloc::Global;
@@ -12,21 +12,29 @@ fn filled(alloc: Global, command: Command, line: &str) -> Result<Args, ArgFault>
         .fill(alloc, line.as_bytes())
 }
 
-fn first_files(alloc: Global) -> Result<Shared, NoMemory> {
-    Ok(Shared {
-        ram: Ram::new(alloc)?,
-    })
+// What a command makes of a line in the root, behind an answer of the last command, at a limit of 10.
+fn outcome(alloc: Global, command: Command, line: &str, codes: Codes) -> Result<Outcome, ArgFault> {
+    let root = Place::root(alloc);
+    outcome_over(alloc, command, line, codes, &Shared::first(alloc)?, root)
 }
 
-// What a command makes of a line behind an answer of the last command, at a limit of 10.
-fn outcome(alloc: Global, command: Command, line: &str, codes: Codes) -> Result<Outcome, ArgFault> {
+// What it makes over these shared parts, in a directory.
+fn outcome_over(
+    alloc: Global,
+    command: Command,
+    line: &str,
+    codes: Codes,
+    shared: &Shared,
+    directory: Place,
+) -> Result<Outcome, ArgFault> {
     let args = filled(alloc, command, line)?;
-    let shared = first_files(alloc)?;
     let view = ShellView {
         limit: Code::ERROR,
         codes,
+        directory,
+        busy: Busy::none(alloc),
     };
-    Ok(run(alloc, command, &shared, &view, &args)?)
+    Ok(run(alloc, command, shared, &view, &args)?)
 }
 
 fn assert_made(
@@ -117,6 +125,39 @@ fn the_limit_is_set_and_the_reason_told(rt: HostRuntime) -> Result<(), ArgFault>
     );
     let word = Text::from_bytes(alloc, b"failAT")?;
     assert_eq!(rt; Command::named(&word), Some(Command::FailAt));
+    Ok(())
+}
+
+// The new shared parts, or the first ones.
+fn or_first(alloc: Global, new: Option<Shared>) -> Result<Shared, NoMemory> {
+    match new {
+        Some(shared) => Ok(shared),
+        None => Shared::first(alloc),
+    }
+}
+
+#[test]
+fn an_assign_is_set_and_told(rt: HostRuntime) -> Result<(), ArgFault> {
+    let alloc = rt.alloc();
+    let set = outcome(alloc, Command::Assign, "X: s:", Codes::NONE)?;
+    let shared = or_first(alloc, set.shared)?;
+    let root = Place::root(alloc);
+    let told = outcome_over(alloc, Command::Assign, "", Codes::NONE, &shared, root)?;
+    assert_eq!(rt;
+        told.output.as_bytes(),
+        b"C: RAM:C\nENV: RAM:Env\nS: RAM:S\nSYS: RAM:\nT: RAM:T\nX: RAM:S\n".as_slice()
+    );
+    Ok(())
+}
+
+#[test]
+fn the_current_directory_is_set_and_told(rt: HostRuntime) -> Result<(), ArgFault> {
+    let alloc = rt.alloc();
+    let set = outcome(alloc, Command::Cd, "env:", Codes::NONE)?;
+    let directory = set.directory.unwrap_or(Place::root(alloc));
+    let shared = Shared::first(alloc)?;
+    let told = outcome_over(alloc, Command::Cd, "", Codes::NONE, &shared, directory)?;
+    assert_eq!(rt; told.output.as_bytes(), b"RAM:Env\n".as_slice());
     Ok(())
 }
 
