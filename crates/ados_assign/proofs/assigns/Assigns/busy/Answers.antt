@@ -1,4 +1,4 @@
-use Rattle.std.proofs.Common.{◌≡◌, ◌∙◌, ◌++◌, ◌||◌, Bool, true, false, refl, sym, ap, List, ℕ, map}
+use Rattle.std.proofs.Common.{◌≡◌, ◌∙◌, ◌++◌, ◌||◌, sym, ap, List, ℕ, map}
 use Rattle.ados_ram.specs.Place.{any_same, any_at_or_below}
 use Rattle.ados_assign.specs.InUse.{held_by}
 use Rattle.ados_assign.specs.declared.assigns.Assign.{Assign}

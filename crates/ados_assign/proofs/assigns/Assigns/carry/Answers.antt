@@ -1,6 +1,5 @@
-use Rattle.std.proofs.Common.{◌∙◌, ap, List, map}
+use Rattle.std.proofs.Common.{◌∙◌, ap, map}
 use Rattle.ados_assign.specs.Rows.{carried_assign}
-use Rattle.ados_assign.specs.declared.assigns.Assign.{Assign}
 use Rattle.ados_assign.proofs.RowsLemmas.{AreRowsOf, carry_rows}
 use Rattle.ados_assign.proofs.assigns.Assigns.carry.Goals as goal
 

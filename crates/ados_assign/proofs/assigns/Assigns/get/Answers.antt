@@ -1,8 +1,8 @@
-use Rattle.std.proofs.Common.{◌∙◌, sym, ap, List, ℕ}
+use Rattle.std.proofs.Common.{◌∙◌, sym, ap, List}
 use Rattle.std.specs.FinMap as map
 use Rattle.ados_text.specs.Text.{folded}
 use Rattle.ados_ram.specs.Place.{name_cmp}
-use Rattle.ados_assign.specs.Assigns.{AssignMap, keyed}
+use Rattle.ados_assign.specs.Assigns.{keyed}
 use Rattle.ados_assign.specs.declared.assigns.Assign.{Assign}
 use Rattle.ados_assign.proofs.RowsLemmas.{AreRowsOf, get_rows}
 use Rattle.ados_assign.proofs.assigns.Assigns.get.Goals as goal

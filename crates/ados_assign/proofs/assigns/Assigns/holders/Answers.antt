@@ -1,5 +1,4 @@
-use Rattle.std.proofs.Common.{◌≡◌, ◌∙◌, sym, subst, List, ℕ, IfOk}
-use Rattle.std.specs.FinMap as map
+use Rattle.std.proofs.Common.{◌≡◌, ◌∙◌, sym, subst, List, IfOk}
 use Rattle.ados_ram.specs.Place.{key_of}
 use Rattle.ados_assign.specs.Assigns.{holders_in}
 use Rattle.ados_assign.specs.declared.assigns.Assign.{Assign}

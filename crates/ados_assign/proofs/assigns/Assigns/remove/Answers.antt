@@ -1,4 +1,4 @@
-use Rattle.std.proofs.Common.{◌≡◌, ◌∙◌, sym, ap, subst, refl, List, Option, Some, None}
+use Rattle.std.proofs.Common.{◌∙◌, sym, ap, subst, refl, List, Option}
 use Rattle.std.specs.Prelude.{IsSome}
 use Rattle.std.specs.FinMap as map
 use Rattle.ados_text.specs.Text.{folded}

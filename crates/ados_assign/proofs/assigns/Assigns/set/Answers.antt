@@ -1,6 +1,5 @@
-use Rattle.std.proofs.Common.{◌∙◌, ap, List}
+use Rattle.std.proofs.Common.{◌∙◌, ap}
 use Rattle.ados_assign.specs.Rows.{rows_with}
-use Rattle.ados_assign.specs.declared.assigns.Assign.{Assign}
 use Rattle.ados_assign.proofs.RowsLemmas.{AreRowsOf, set_rows}
 use Rattle.ados_assign.proofs.assigns.Assigns.set.Goals as goal
 
