@@ -1,8 +1,8 @@
 -- Paths and their texts.
-use Rattle.std.proofs.Common.{◌≡◌, ◌≤◌, ◌<◌, ℕ, suc, ◌+◌, ◌-◌, Bool, true, false, cond, not, ◌&&◌, List, [], ◌∷◌, ◌++◌, Option, Some, None, length, take, drop, refl, sym, ap, ◌∙◌, arith, append-nil, append_assoc, length-append, length-drop, nat_lt, nat_le}
+use Rattle.std.proofs.Common.{◌≡◌, ◌≤◌, ◌<◌, ℕ, suc, ◌+◌, Bool, true, false, cond, ◌&&◌, List, [], ◌∷◌, ◌++◌, Option, Some, None, length, take, drop, refl, sym, ap, ◌∙◌, arith, append_assoc, length-append, length-drop, nat_lt, nat_le}
 use Rattle.std.specs.Prelude.{IfSome, Ok, Err, if◌then◌else◌}
 use Rattle.ados_text.specs.declared.codes.TheConstants.Result2.{INVALID_NAME}
-use Rattle.std.specs.List.{list_all, prefix_len, position, position_or_len, slice_split}
+use Rattle.std.specs.List.{list_all, position, position_or_len, slice_split}
 use Rattle.std.proofs.Math.Seq.{take-append_seam, drop-append_seam}
 use Rattle.std.proofs.lemmas.Bool.{and_parts, and_from}
 use Rattle.std.proofs.lemmas.Bool.Decides.{nat_tests}
@@ -13,7 +13,7 @@ use Rattle.ados_names.specs.Path.{PathParts, IsPath, is_piece, is_device, is_ste
 use Rattle.ados_names.specs.Lengths.{pieces_len}
 use Rattle.ados_names.specs.declared.steps.Step.{Step}
 use Rattle.ados_names.specs.declared.steps.Step.TheVariants.{Up, Name}
-use Rattle.ados_names.proofs.PieceLemmas.{no_colon, IsName, name-parts, steps-pieces, steps-written, written-le}
+use Rattle.ados_names.proofs.PieceLemmas.{no_colon, name-parts, steps-written, written-le}
 
 -- no name holds a colon, and so no text of steps does
 other_byte : (byte : ℕ) → is_name_byte byte ≡ true → no_colon byte ≡ true

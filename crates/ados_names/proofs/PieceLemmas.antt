@@ -1,11 +1,10 @@
 -- Texts cut at their slashes, the steps of their pieces, and the texts of steps.
-use Rattle.std.proofs.Common.{◌≡◌, ◌≤◌, ◌<◌, ℕ, ◌+◌, ◌-◌, Bool, true, false, cond, not, ◌&&◌, List, [], ◌∷◌, ◌++◌, Option, Some, None, length, take, drop, refl, sym, ap, ◌∙◌, arith, append-nil, append_assoc, length-append, length-drop, nat_lt, nat_le}
-use Rattle.std.specs.List.{All, list_all, prefix_len, position, position_or_len, slice_split, onto_first, join_with_byte}
-use Rattle.std.proofs.lemmas.Bool.{and_parts, and_from}
+use Rattle.std.proofs.Common.{◌≡◌, ◌≤◌, ◌<◌, ℕ, ◌+◌, ◌-◌, Bool, true, false, cond, not, ◌&&◌, List, [], ◌∷◌, ◌++◌, Some, None, length, take, drop, refl, sym, ap, ◌∙◌, arith, append-nil, append_assoc, length-append, length-drop, nat_lt, nat_le}
+use Rattle.std.specs.List.{All, list_all, position, position_or_len, slice_split, onto_first, join_with_byte}
+use Rattle.std.proofs.lemmas.Bool.{and_parts}
 use Rattle.std.proofs.lemmas.Bool.Decides.{nat_tests}
 use Rattle.std.proofs.lemmas.List.{drop-drop, take_all}
 use Rattle.std.proofs.lemmas.List.Elements.{All-nil, All-cons}
-use Rattle.std.proofs.lemmas.List.Folds.{list_all-append}
 use Rattle.std.proofs.lemmas.List.Splits.{slice_split_none, slice_split_at, slice_split_first, length-slice_split, join_with_byte-slice_split}
 use Rattle.ados_names.specs.Names.{is_colon, is_slash, is_name_byte, is_name}
 use Rattle.ados_names.specs.Path.{is_piece, is_step, step_of, last_steps_of, steps_of, written, behind_name}

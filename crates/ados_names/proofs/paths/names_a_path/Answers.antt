@@ -1,4 +1,4 @@
-use Rattle.std.proofs.Common.{◌∙◌, ◌+◌, ◌&&◌, Some, None, List, ℕ, take, drop, sym, ap, arith}
+use Rattle.std.proofs.Common.{◌∙◌, ◌+◌, ◌&&◌, Some, None, List, ℕ, drop, sym, ap, arith}
 use Rattle.std.specs.List.{list_all, slice_split}
 use Rattle.ados_names.specs.Names.{is_slash}
 use Rattle.ados_names.specs.Path.{is_piece, is_step, steps_of}

@@ -1,7 +1,7 @@
 use Rattle.std.proofs.Common.{◌≡◌, ◌∙◌, ◌-◌, ap, sym, subst, Some, None, List, ℕ, length, take, arith}
 use Rattle.std.specs.List.{position}
 use Rattle.ados_names.specs.Names.{is_colon}
-use Rattle.ados_names.specs.Path.{PathParts, IsPath, parts_by}
+use Rattle.ados_names.specs.Path.{IsPath, parts_by}
 use Rattle.ados_names.specs.declared.steps.Step.{Step}
 use Rattle.ados_names.proofs.PathLemmas.{read-path}
 use Rattle.ados_names.proofs.paths.read.Goals as goal

@@ -1,4 +1,4 @@
-use Rattle.std.proofs.Common.{◌≡◌, ◌+◌, ◌-◌, ◌∙◌, length, take, drop, ap, sym, List, ℕ, arith}
+use Rattle.std.proofs.Common.{◌+◌, ◌-◌, ◌∙◌, length, take, drop, ap, sym, List, ℕ, arith}
 use Rattle.std.specs.List.{slice_split}
 use Rattle.ados_names.specs.Names.{is_slash}
 use Rattle.ados_names.specs.Path.{step_of, steps_of}

@@ -1,5 +1,5 @@
 use Rattle.std.proofs.Common.{subst}
-use Rattle.ados_names.specs.Path.{PathParts, IsPath}
+use Rattle.ados_names.specs.Path.{IsPath}
 use Rattle.ados_names.proofs.PathLemmas.{path-text}
 use Rattle.ados_names.proofs.paths.Path.is_named_by_its_text.Goals as goal
 

@@ -1,7 +1,6 @@
-use Rattle.std.proofs.Common.{◌≡◌, ◌∙◌, ◌≤◌, ◌+◌, arith, List, ℕ, length, ap, sym}
+use Rattle.std.proofs.Common.{◌≡◌, ◌∙◌, ◌+◌, arith, length, ap}
 use Rattle.ados_names.specs.Lengths.{pieces_len}
-use Rattle.ados_names.specs.Path.{PathParts, text_of, device_text, longer}
-use Rattle.ados_names.specs.declared.steps.Step.{Step}
+use Rattle.ados_names.specs.Path.{PathParts, text_of, longer}
 use Rattle.ados_names.proofs.PieceLemmas.{name-parts}
 use Rattle.ados_names.proofs.PathLemmas.{path-lengths, longer-length}
 use Rattle.ados_names.proofs.paths.Path.joined_len.Goals as goal
