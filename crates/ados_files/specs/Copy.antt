@@ -3,7 +3,7 @@ use Rattle.std.specs.Prelude.{ℕ, Bool, not, cond, ◌&&◌, List, [], ◌∷�
 use Rattle.std.specs.Option.{option_or}
 use Rattle.std.specs.FinMap as map
 use Rattle.ados_text.specs.declared.codes.Result2.{Result2}
-use Rattle.ados_text.specs.declared.codes.TheConstants.Result2.{ARGUMENT_MISSING, OBJECT_IN_USE, DIRECTORY_NOT_FOUND, OBJECT_NOT_FOUND, WRONG_TYPE}
+use Rattle.ados_text.specs.declared.codes.TheConstants.Result2.{ARGUMENT_MISSING, OBJECT_IN_USE, DIRECTORY_NOT_FOUND, WRONG_TYPE}
 use Rattle.ados_readargs.specs.declared.args.Arg.{Arg}
 use Rattle.ados_readargs.specs.Args.{texts_at, text_at, is_on}
 use Rattle.ados_ram.specs.Place.{key_of, last_name, is_same_key}
@@ -22,7 +22,7 @@ use Rattle.ados_find.specs.Done.{Done, fresh, refused_or, unless, each, ended}
 use Rattle.ados_find.specs.Paths.{place_of}
 use Rattle.ados_files.specs.Names.{FoundPlaces}
 use Rattle.ados_files.specs.MakeDir.{made}
-use Rattle.ados_files.specs.Delete.{say}
+use Rattle.ados_files.specs.Lines.{say}
 use Rattle.ados_files.specs.Jobs.{sources_of, all_jobs, jobs_onto}
 use Rattle.ados_files.specs.declared.jobs.Job.{Job}
 
@@ -59,16 +59,17 @@ copy_written view quiet source target e done =
 abbrev pub copy_unless : View → Bool → List (List ℕ) → List (List ℕ) → Entry → Done → Done
 copy_unless view quiet source target e done = unless done.stopped done (copy_written view quiet source target e done)
 
--- a file that is there goes to a place below TO: missing directories are made, and it is written
+-- what is there goes to a place below TO: missing directories are made, and it is written
 abbrev pub copy_entry : View → Bool → List (List ℕ) → Done → Job → Option Entry → Done
-copy_entry view quiet to done job None = refused_or (Some OBJECT_NOT_FOUND) done done
+copy_entry view quiet to done job None = done
 copy_entry view quiet to done job (Some e) =
-    refused_or (option_or (itself_fault job.source (to ++ job.names)) (read_fault (is_output view.busy (key_of job.source)) (Some e))) done
-    (copy_unless view quiet job.source (to ++ job.names) e (each make_missing done (between to job.names)))
+    copy_unless view quiet job.source (to ++ job.names) e (each make_missing done (between to job.names))
 
--- one file is copied
+-- one file is copied: onto itself it is refused, and then where it cannot be read
 abbrev pub copy_one : View → Bool → List (List ℕ) → Done → Job → Done
-copy_one view quiet to done job = copy_entry view quiet to done job (map.get done.shared.files (key_of job.source))
+copy_one view quiet to done job = (let there = map.get done.shared.files (key_of job.source) in
+    refused_or (option_or (itself_fault job.source (to ++ job.names)) (read_fault (is_output view.busy (key_of job.source)) there)) done
+    (copy_entry view quiet to done job there))
 
 -- what stands at the one source, where there is just one that is named by its path
 abbrev pub first_entry : Files → List (List (List ℕ)) → Option Entry

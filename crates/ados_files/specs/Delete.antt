@@ -12,12 +12,8 @@ use Rattle.ados_find.specs.Shared.{SharedState, with_files}
 use Rattle.ados_find.specs.Views.{View}
 use Rattle.ados_find.specs.Effects.{Effect}
 use Rattle.ados_find.specs.Done.{Done, fresh, refused_or, each, ended}
+use Rattle.ados_files.specs.Lines.{say}
 use Rattle.ados_files.specs.Acts.{at_names}
-
--- a line is put out, unless QUIET
-abbrev pub say : Bool → List ℕ → List ℕ → List ℕ
-say true output line = output
-say false output line = output ++ line
 
 abbrev pub deleted_line : Files → List (List ℕ) → List ℕ
 deleted_line files place = full_path files place ++ codes "  Deleted\n"

@@ -1,5 +1,5 @@
 -- Filenote: a comment on objects.
-use Rattle.std.specs.Prelude.{ℕ, List, [], Option, Some, None}
+use Rattle.std.specs.Prelude.{ℕ, List}
 use Rattle.ados_readargs.specs.declared.args.Arg.{Arg}
 use Rattle.ados_readargs.specs.Args.{texts_at, text_at}
 use Rattle.ados_ram.specs.Place.{key_of}
@@ -8,6 +8,7 @@ use Rattle.ados_find.specs.Shared.{SharedState, with_files}
 use Rattle.ados_find.specs.Views.{View}
 use Rattle.ados_find.specs.Effects.{Effect}
 use Rattle.ados_find.specs.Done.{Done, fresh, refused_or, each, ended}
+use Rattle.ados_files.specs.Texts.{text_or_empty}
 use Rattle.ados_files.specs.Acts.{at_names}
 
 -- one object takes the comment
@@ -17,12 +18,8 @@ note_one comment done place =
     (record done { shared = with_files done.shared (comment_of done.shared.files (key_of place) comment) })
 
 -- without COMMENT the comment is cleared
-abbrev pub comment_or_none : Option (List ℕ) → List ℕ
-comment_or_none None = []
-comment_or_none (Some comment) = comment
-
 abbrev pub noted : SharedState → View → List ℕ → List (List ℕ) → Effect
 noted shared view comment texts = ended view.limit (each (at_names (note_one comment) view) (fresh shared) texts)
 
 abbrev pub filenote_row : SharedState → View → List Arg → Effect
-filenote_row shared view args = noted shared view (comment_or_none (text_at args 1)) (texts_at args 0)
+filenote_row shared view args = noted shared view (text_or_empty (text_at args 1)) (texts_at args 0)

@@ -1,6 +1,7 @@
 pub mod Matching
 pub mod Names
 pub mod Acts
+pub mod Texts
 pub mod MakeDir
 pub mod Delete
 pub mod TypeFiles

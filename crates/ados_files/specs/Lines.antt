@@ -9,6 +9,11 @@ use Rattle.ados_ram.specs.declared.entries.Body.{Body}
 use Rattle.ados_ram.specs.declared.entries.Body.TheVariants.{Directory, File}
 use Rattle.ados_ram.specs.declared.entries.Entry.{Entry}
 
+-- a line is put out, unless QUIET
+abbrev pub say : Bool → List ℕ → List ℕ → List ℕ
+say true output line = output
+say false output line = output ++ line
+
 -- a kind is kept by its own switch, and where the other has none either
 abbrev pub keeps : Bool → Bool → Bool
 keeps own other = own || not other

@@ -17,6 +17,7 @@ use Rattle.ados_find.specs.Shared.{SharedState, with_files}
 use Rattle.ados_find.specs.Views.{View}
 use Rattle.ados_find.specs.Effects.{Effect, answering}
 use Rattle.ados_find.specs.Done.{Done, fresh, refused_or, each, ended}
+use Rattle.ados_files.specs.Texts.{text_or_empty}
 use Rattle.ados_files.specs.Acts.{at_names}
 use Rattle.ados_files.specs.declared.protect.Way.{Way}
 use Rattle.ados_files.specs.declared.protect.Way.TheVariants.{Set, Add, Take}
@@ -108,11 +109,6 @@ abbrev pub protected_by : SharedState → View → Result Change Result2 → Lis
 protected_by shared view (Err fault) texts = answering shared view.limit (failed fault)
 protected_by shared view (Ok change) texts = ended view.limit (each (at_names (protect_one change) view) (fresh shared) texts)
 
--- without FLAGS they are empty
-abbrev pub flags_or_none : Option (List ℕ) → List ℕ
-flags_or_none None = []
-flags_or_none (Some flags) = flags
-
 abbrev pub protect_row : SharedState → View → List Arg → Effect
 protect_row shared view args =
-    protected_by shared view (change_of (flags_or_none (text_at args 1)) (is_on args 2) (is_on args 3)) (texts_at args 0)
+    protected_by shared view (change_of (text_or_empty (text_at args 1)) (is_on args 2) (is_on args 3)) (texts_at args 0)

@@ -1,14 +1,13 @@
 // The copying of one file.
-ghost use Rattle.std.specs.Prelude.{◌≡◌, ◌++◌, OnOk, Some};
-ghost use Rattle.ados_ram.specs.FileOperations.{read_fault};
+ghost use Rattle.std.specs.Prelude.{◌≡◌, ◌++◌, OnOk};
 ghost use Rattle.ados_find.specs.Done.{done_of, each};
-ghost use Rattle.ados_files.specs.Delete.{say};
-ghost use Rattle.ados_files.specs.Copy.{between, make_missing, itself_fault, copied_line, copy_written, copy_unless, copy_entry, copy_one};
+ghost use Rattle.ados_files.specs.Copy.{between, make_missing, itself_fault, copy_written, copy_unless, copy_one};
 
 use crate::jobs::Job;
+use crate::lines::say_path;
 use crate::make_dir::made;
 use ados_find::{Act, Codes, Shared, ShellView, Work, current, each};
-use ados_ram::{Entry, FsFault, Place, Ram};
+use ados_ram::{Entry, FsFault, Place};
 use ados_text::{Name, NoMemory, Result2};
 
 /// The copying of a file to a place below another.
@@ -32,41 +31,23 @@ fn copy_one(copying: &Copying, shared: &Shared, work: &mut Work, job: &Job) -> R
     ensures { OnOk result (done_of shared.now work.new ≡
         copy_one copying.now.view.now copying.now.quiet copying.now.to.now (done_of shared.now work.old) job.now) }
 {
-    match current(shared, &work.shared).ram.look(&job.source) {
-        None => {
-            work.stopped = Some(Codes::erred(Result2::OBJECT_NOT_FOUND));
-            Ok(())
-        }
-        Some(entry) => {
-            let entry = entry.copy()?;
-            copy_entry(copying, shared, work, job, &entry)
-        }
-    }
-}
-
-// Copies a file that is there.
-fn copy_entry(
-    copying: &Copying,
-    shared: &Shared,
-    work: &mut Work,
-    job: &Job,
-    entry: &Entry,
-) -> Result<(), NoMemory>
-    ensures { OnOk result (done_of shared.now work.new ≡
-        copy_entry copying.now.view.now copying.now.quiet copying.now.to.now (done_of shared.now work.old) job.now (Some entry.now)) }
-{
-    let target = copying.to.joined(job.names.names())?;
     let view = copying.view;
-    let is_open = view.busy.is_output(job.source.names());
-    match itself_fault(&job.source, &target).or(read_fault(is_open, entry)) {
+    let target = copying.to.joined(job.names.names())?;
+    let ram = &current(shared, &work.shared).ram;
+    let unread = ram.read(&view.busy, &job.source).err();
+    match itself_fault(&job.source, &target).or(unread) {
         Some(fault) => {
             work.stopped = Some(Codes::erred(fault));
             Ok(())
         }
-        None => {
-            make_between(copying.to, shared, work, job)?;
-            copy_unless(copying, shared, work, &job.source, &target, entry)
-        }
+        None => match ram.look(&job.source) {
+            None => Ok(()),
+            Some(entry) => {
+                let entry = entry.copy()?;
+                make_between(copying.to, shared, work, job)?;
+                copy_unless(copying, shared, work, &job.source, &target, &entry)
+            }
+        },
     }
 }
 
@@ -87,21 +68,6 @@ fn itself_fault(source: &Place, target: &Place) -> Option<Result2>
         Some(Result2::OBJECT_IN_USE)
     } else {
         None
-    }
-}
-
-// The fault of the reading of what is there.
-fn read_fault(is_open: bool, entry: &Entry) -> Option<Result2>
-    ensures { result ≡ read_fault is_open (Some entry.now) }
-{
-    if entry.is_directory() {
-        Some(Result2::WRONG_TYPE)
-    } else if is_open {
-        Some(Result2::OBJECT_IN_USE)
-    } else if entry.bits.read {
-        None
-    } else {
-        Some(Result2::READ_PROTECTED)
     }
 }
 
@@ -189,20 +155,15 @@ fn copy_written(
             Ok(())
         }
         Ok(ram) => {
-            say_copied(copying.quiet, &mut work.output, &now.ram, source)?;
+            say_path(
+                copying.quiet,
+                &mut work.output,
+                &now.ram,
+                source,
+                b"..copied\n",
+            )?;
             work.shared = Some(now.with_files(ram)?);
             Ok(())
         }
     }
-}
-
-fn say_copied(quiet: bool, output: &mut Vec<u8>, ram: &Ram, source: &Place) -> Result<(), NoMemory>
-    ensures { OnOk result (output.new.items ≡ say quiet output.old.items (copied_line ram.now source.now)) }
-{
-    if quiet {
-        return Ok(());
-    }
-    output.extend_from_slice(ram.full_path(source)?.as_bytes())?;
-    output.extend_from_slice(b"..copied\n")?;
-    Ok(())
 }

@@ -1,9 +1,10 @@
-ghost use Rattle.std.specs.Prelude.{◌≡◌, ◌++◌, IfOk, OnOk};
+ghost use Rattle.std.specs.Prelude.{◌≡◌, IfOk, OnOk};
 ghost use Rattle.ados_find.specs.Done.{done_of};
 ghost use Rattle.ados_find.specs.Effects.{effect_of};
-ghost use Rattle.ados_files.specs.Delete.{say, deleted_line, delete_one, targets, delete_place, delete_row};
+ghost use Rattle.ados_files.specs.Delete.{delete_one, targets, delete_place, delete_row};
 
 use crate::acts::Names;
+use crate::lines::say_path;
 use crate::names::only;
 use ados_find::{Act, Codes, Outcome, Shared, ShellView, Work, current, each};
 use ados_ram::{FsFault, Place, Ram};
@@ -107,20 +108,9 @@ fn delete_one(
             Ok(())
         }
         Ok(ram) => {
-            say_deleted(quiet, &mut work.output, &now.ram, place)?;
+            say_path(quiet, &mut work.output, &now.ram, place, b"  Deleted\n")?;
             work.shared = Some(now.with_files(ram)?);
             Ok(())
         }
     }
-}
-
-fn say_deleted(quiet: bool, output: &mut Vec<u8>, ram: &Ram, place: &Place) -> Result<(), NoMemory>
-    ensures { OnOk result (output.new.items ≡ say quiet output.old.items (deleted_line ram.now place.now)) }
-{
-    if quiet {
-        return Ok(());
-    }
-    output.extend_from_slice(ram.full_path(place)?.as_bytes())?;
-    output.extend_from_slice(b"  Deleted\n")?;
-    Ok(())
 }

@@ -1,11 +1,30 @@
 // Lines of a listing.
 ghost use Rattle.std.specs.Prelude.{◌≡◌, ◌++◌, ◌-◌, OnOk};
 ghost use Rattle.std.proofs.Math.ListN.{replicate};
-ghost use Rattle.ados_files.specs.Lines.{keeps, left_in, right_in, letter, bits_text, size_text, comment_line, list_line};
+ghost use Rattle.ados_ram.specs.Written.{full_path};
+ghost use Rattle.ados_files.specs.Lines.{say, keeps, left_in, right_in, letter, bits_text, size_text, comment_line, list_line};
 
-use ados_ram::{Bits, Body, Entry};
+use ados_ram::{Bits, Body, Entry, Place, Ram};
 use ados_text::NoMemory;
 use itoa::Buffer;
+
+/// Puts out the path of a place with some words behind it, unless QUIET.
+pub fn say_path(
+    quiet: bool,
+    output: &mut Vec<u8>,
+    ram: &Ram,
+    place: &Place,
+    words: &[u8],
+) -> Result<(), NoMemory>
+    ensures { OnOk result (output.new.items ≡ say quiet output.old.items (full_path ram.now place.now ++ words.now)) }
+{
+    if quiet {
+        return Ok(());
+    }
+    output.extend_from_slice(ram.full_path(place)?.as_bytes())?;
+    output.extend_from_slice(words)?;
+    Ok(())
+}
 
 /// A kind is kept by its own switch, and where the other has none either.
 pub fn keeps(own: bool, other: bool) -> bool

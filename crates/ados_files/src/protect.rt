@@ -26,7 +26,8 @@ pub struct Change {
 }
 
 ghost use Rattle.ados_files.specs.Protect.{begins_with, letters_of, has_letter, bits_of, is_letter, are_letters, way_of, change_of};
-ghost use Rattle.ados_files.specs.Protect.{changed_bit, changed_bits, bits_at, protect_one, protected_by, flags_or_none, protect_row};
+ghost use Rattle.ados_files.specs.Protect.{changed_bit, changed_bits, bits_at, protect_one, protected_by, protect_row};
+ghost use Rattle.ados_files.specs.Texts.{text_or_empty};
 
 /// Protect changes the bits of objects.
 pub fn protect(
@@ -37,7 +38,7 @@ pub fn protect(
 ) -> Result<Outcome, NoMemory>
     ensures { IfOk result (λ outcome. effect_of shared.now outcome ≡ protect_row shared.now view.now args.now) }
 {
-    let change = change_of(flags_or_none(args.text(1)), args.is_on(2), args.is_on(3));
+    let change = change_of(text_or_empty(args.text(1)), args.is_on(2), args.is_on(3));
     protected_by(alloc, shared, view, change, args.texts(0))
 }
 
@@ -61,13 +62,13 @@ fn protected_by(
     }
 }
 
-// Without FLAGS they are empty.
-fn flags_or_none(flags: Option<&Text>) -> &[u8]
-    ensures { result.now ≡ flags_or_none (option_copied flags.entry) }
+// The text that is given, and else the empty one.
+fn text_or_empty(text: Option<&Text>) -> &[u8]
+    ensures { result.now ≡ text_or_empty (option_copied text.entry) }
 {
-    match flags {
+    match text {
         None => &[],
-        Some(flags) => flags.as_bytes(),
+        Some(text) => text.as_bytes(),
     }
 }
 
