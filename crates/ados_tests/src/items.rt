@@ -13,25 +13,27 @@ fn are_texts(texts: &Texts, want: &[&[u8]]) -> bool {
     true
 }
 
+// The item at a place of a line with one of each kind.
+fn item_of_line(place: usize) -> Item {
+    next_item(b" a=b \t\"c d\"x;y", place)
+}
+
 #[test]
 fn items_by_their_first_byte(rt: HostRuntime) {
-    let line = b" a=b \t\"c d\"x;y";
-    let cases = [
-        (0, Item::Word { from: 1, to: 2 }),
-        (2, Item::Equal(2)),
-        (3, Item::Word { from: 3, to: 4 }),
-        (4, Item::Quoted { from: 7, to: 10 }),
-        (11, Item::Word { from: 11, to: 12 }),
-        (12, Item::End(12)),
-        (14, Item::End(14)),
-        (99, Item::End(99)),
-    ];
-    for (place, want) in cases {
-        assert_eq!(rt; next_item(line, place), want, "at {place}");
-    }
-    assert_eq!(rt; next_item(b"a\"b c", 0), Item::Word { from: 0, to: 3 });
-    assert_eq!(rt; next_item(b" \"a*\"", 0), Item::Unmatched(2));
-    assert_eq!(rt; next_item(b"\"a**\"", 0), Item::Quoted { from: 1, to: 4 });
+    assert!(rt; item_of_line(0) == Item::Word { from: 1, to: 2 });
+    assert!(rt; item_of_line(2) == Item::Equal(2));
+    assert!(rt; item_of_line(3) == Item::Word { from: 3, to: 4 });
+    assert!(rt; item_of_line(4) == Item::Quoted { from: 7, to: 10 });
+    assert!(rt; item_of_line(11) == Item::Word { from: 11, to: 12 });
+    assert!(rt; item_of_line(12) == Item::End(12));
+    assert!(rt; item_of_line(99) == Item::End(99));
+}
+
+#[test]
+fn quotes_begin_where_items_begin(rt: HostRuntime) {
+    assert!(rt; next_item(b"a\"b c", 0) == Item::Word { from: 0, to: 3 });
+    assert!(rt; next_item(b" \"a*\"", 0) == Item::Unmatched(2));
+    assert!(rt; next_item(b"\"a**\"", 0) == Item::Quoted { from: 1, to: 4 });
 }
 
 #[test]

@@ -1,14 +1,10 @@
 #![tactic(auto)]
-//! The tests of all crates, one file a crate, of what no contract says: that calls succeed where there is
-//! memory, outside vectors, printed text. They stand here together, so that no crate is proved a second time
-//! for its tests.
+//! The tests of the crates, one file a crate, of what no contract says: that calls succeed where there is
+//! memory, outside vectors. They stand here together, so that no crate is proved a second time for its tests.
+//! What commands print is tried on the built program, in `examples/`.
 
 #[cfg(test)]
 mod assign;
-#[cfg(test)]
-mod env;
-#[cfg(test)]
-mod files;
 #[cfg(test)]
 mod items;
 #[cfg(test)]
