@@ -1,5 +1,5 @@
 // A turn: what a line does to its shell.
-ghost use Rattle.std.specs.Prelude.{◌≡◌, ◌++◌, ◌&&◌, false, is_none, Ok, Some, IfOk, OnOk};
+ghost use Rattle.std.specs.Prelude.{◌≡◌, ◌++◌, ◌&&◌, false, IfOk, OnOk};
 ghost use Rattle.std.specs.Option.{option_copied};
 ghost use Rattle.ados_find.specs.Shared.{SharedState};
 ghost use Rattle.ados_find.specs.Codes.{failed};
@@ -7,7 +7,8 @@ ghost use Rattle.ados_find.specs.Effects.{effect_of};
 ghost use Rattle.ados_line.specs.Cut.{expanded_of};
 ghost use Rattle.ados_machine.specs.Commands.{builtin_of, action_of, Answers};
 ghost use Rattle.ados_machine.specs.Limits.{AllRunOn};
-ghost use Rattle.ados_machine.specs.Shell.{acted, answered, asked, begun, input_of, is_free, number_of_fault, obeyed, prepared, prompt, ran, resumed, sought, turn_of, view_of};
+ghost use Rattle.ados_machine.specs.World.{directories_in};
+ghost use Rattle.ados_machine.specs.Shell.{acted, answered, asked, begun, input_of, is_console, is_free, number_of_fault, obeyed, performed, prepared, prompt, quietly, resumed, sought, turn_of, view_of};
 ghost use Rattle.ados_world.specs.Actions.{acting};
 ghost use Rattle.ados_world.specs.Drafts.{GoesOn, IsDrafted, IsScriptDrafted, course_of};
 
@@ -16,11 +17,12 @@ use crate::commands::Commands;
 use crate::drafts::Draft;
 use crate::inputs::{asks, input_line};
 use crate::outputs::Opened;
+use crate::renames::directories;
 use crate::shells::Shell;
 use ados_find::{Codes, Outcome, Shared};
 use ados_line::{Expanded, Line, LineFault, expand};
-use ados_machine::{Asking, Builtin};
-use ados_ram::{FsFault, Place};
+use ados_machine::{Asking, Builtin, Target};
+use ados_ram::FsFault;
 use ados_text::{NoMemory, Result2, Text};
 use std::alloc::Global;
 
@@ -76,9 +78,14 @@ impl Draft {
     ) -> Result<(), NoMemory>
         ensures { OnOk result (GoesOn shared.now self.old self.new
             (prepared builtin line self.old.shell (course_of shared.now self.old)
-            (input_of (course_of shared.now self.old).shared line.input))) }
+            (input_of (course_of shared.now self.old).shared self.old.shell.directory line.input))) }
     {
-        match input_line(alloc, self.current(shared), line.input.as_ref()) {
+        match input_line(
+            alloc,
+            self.current(shared),
+            self.shell.directory(),
+            line.input.as_ref(),
+        ) {
             Err(FsFault::NoMemory) => Err(NoMemory),
             Err(FsFault::Refused(fault)) => self.refuse(&line.command, fault),
             Ok(answer) => {
@@ -126,13 +133,28 @@ impl Draft {
         ensures { OnOk result (GoesOn shared.now self.old self.new
             (begun builtin line.now self.old.shell (course_of shared.now self.old))) }
     {
-        match Opened::by(alloc, self.current(shared), line.output.as_ref()) {
+        match Opened::by(
+            alloc,
+            self.current(shared),
+            self.shell.directory(),
+            line.output.as_ref(),
+        ) {
             Err(FsFault::NoMemory) => Err(NoMemory),
             Err(FsFault::Refused(fault)) => self.refuse(&line.command, fault),
-            Ok(None) => self.act(alloc, commands, builtin, line, None, shared),
-            Ok(Some(opened)) => {
-                self.shared = Some(opened.shared);
-                self.act(alloc, commands, builtin, line, Some(&opened.place), shared)
+            Ok(Opened::Console) => self.act(alloc, commands, builtin, line, None, shared),
+            Ok(Opened::Nil) => {
+                self.act(alloc, commands, builtin, line, Some(&Target::Nil), shared)
+            }
+            Ok(Opened::File(new, place)) => {
+                self.shared = Some(new);
+                self.act(
+                    alloc,
+                    commands,
+                    builtin,
+                    line,
+                    Some(&Target::At(place)),
+                    shared,
+                )
             }
         }
     }
@@ -152,15 +174,14 @@ impl Draft {
         commands: &Commands,
         builtin: Builtin,
         line: &Line,
-        place: Option<&Place>,
+        target: Option<&Target>,
         shared: &Shared,
     ) -> Result<(), NoMemory>
         ensures { OnOk result (GoesOn shared.now self.old self.new
-            (ran builtin line.now self.old.shell (course_of shared.now self.old)
-            (Ok (record { shared = (course_of shared.now self.old).shared; place = option_copied place.entry })))) }
+            (performed builtin line.now (option_copied target.entry) self.old.shell (course_of shared.now self.old))) }
     {
-        match self.action(alloc, commands, builtin, line, is_console(place), shared)? {
-            Action::Answers(outcome) => self.settle(&line.command, place, outcome, shared),
+        match self.action(alloc, commands, builtin, line, is_console(target), shared)? {
+            Action::Answers(outcome) => self.settle(&line.command, target, outcome, shared),
             Action::Quits(code) => {
                 let answered = Codes {
                     code,
@@ -184,10 +205,10 @@ impl Draft {
     ) -> Result<Action, NoMemory>
         ensures { IfOk result (λ action. acting (course_of shared.now self.now).shared action
             ≡ action_of builtin (is_free self.now.shell.frames && on_console) (course_of shared.now self.now).shared
-            (view_of self.now.shell) line.now.args) }
+            (view_of self.now.shell (course_of shared.now self.now)) line.now.args) }
     {
         let simple = self.shell.is_free() && on_console;
-        let view = self.shell.view();
+        let view = self.view(shared)?;
         commands.perform(
             alloc,
             builtin,
@@ -202,12 +223,12 @@ impl Draft {
     fn settle(
         &mut self,
         word: &Text,
-        place: Option<&Place>,
+        target: Option<&Target>,
         outcome: Outcome,
         shared: &Shared,
     ) -> Result<(), NoMemory>
         ensures { OnOk result (GoesOn shared.now self.old self.new
-            (acted word.now (option_copied place.entry) (Answers (effect_of (course_of shared.now self.old).shared outcome))
+            (acted word.now (option_copied target.entry) (Answers (effect_of (course_of shared.now self.old).shared outcome))
             self.old.shell (course_of shared.now self.old))) }
     {
         let Outcome {
@@ -215,10 +236,13 @@ impl Draft {
             limit,
             codes,
             output,
+            directory,
+            renamed,
         } = outcome;
-        self.shell.set_limit(limit);
+        self.shell.affect(limit, directory);
         self.renew(new);
-        let answered = self.put(place, output.as_bytes(), codes, shared)?;
+        self.renamed = renamed;
+        let answered = self.put(target, output.as_bytes(), codes, shared)?;
         self.answer(word.as_bytes(), answered, false)
     }
 }
@@ -228,14 +252,16 @@ impl Draft {
 pub fn console_draft(
     alloc: Global,
     commands: &Commands,
+    shells: &[Option<Shell>],
     shell: &Shell,
     line: &Text,
     shared: &Shared,
 ) -> Result<Draft, NoMemory>
-    ensures drafted { IfOk result (λ draft. IsDrafted 1 shared.now draft (turn_of line.now shell.now shared.now)) }
+    ensures drafted { IfOk result (λ draft. IsDrafted 1 shared.now draft
+        (turn_of line.now shell.now (quietly shared.now (directories_in shells.now)))) }
     ensures runs_on { AllRunOn shell.now.frames → IfOk result (λ draft. AllRunOn draft.shell.frames) }
 {
-    let mut draft = Draft::new(alloc, 1, shell.share()?);
+    let mut draft = Draft::new(alloc, 1, shell.share()?, directories(alloc, shells)?);
     draft.obey(alloc, commands, line, shared)?;
     Ok(draft)
 }
@@ -245,25 +271,27 @@ pub fn script_draft(
     alloc: Global,
     commands: &Commands,
     number: u8,
+    shells: &[Option<Shell>],
     shell: &Shell,
     shared: &Shared,
 ) -> Result<Draft, NoMemory>
-    ensures drafted { IfOk result (λ draft. IsScriptDrafted number shared.now draft shell.now shell.now.frames) }
+    ensures drafted { IfOk result (λ draft. IsScriptDrafted number (quietly shared.now (directories_in shells.now)) draft shell.now shell.now.frames) }
     ensures runs_on { AllRunOn shell.now.frames → IfOk result (λ draft. AllRunOn draft.shell.frames) }
 {
-    next_line_draft(alloc, commands, number, shell, shared)
+    next_line_draft(alloc, commands, number, shells, shell, shared)
 }
 
 fn next_line_draft(
     alloc: Global,
     commands: &Commands,
     number: u8,
+    shells: &[Option<Shell>],
     shell: &Shell,
     shared: &Shared,
 ) -> Result<Draft, NoMemory>
-    ensures { IfOk result (λ draft. IsScriptDrafted number shared.now draft shell.now shell.now.frames) }
+    ensures { IfOk result (λ draft. IsScriptDrafted number (quietly shared.now (directories_in shells.now)) draft shell.now shell.now.frames) }
 {
-    let mut draft = Draft::new(alloc, number, shell.share()?);
+    let mut draft = Draft::new(alloc, number, shell.share()?, directories(alloc, shells)?);
     let Some(frame) = shell.newest() else {
         return Ok(draft);
     };
@@ -283,15 +311,17 @@ pub fn prompt_draft(
     alloc: Global,
     commands: &Commands,
     number: u8,
+    shells: &[Option<Shell>],
     shell: &Shell,
     question: &Asking,
     answer: &Text,
     shared: &Shared,
 ) -> Result<Draft, NoMemory>
-    ensures drafted { IfOk result (λ draft. IsDrafted number shared.now draft (resumed answer.now question.now shell.now shared.now)) }
+    ensures drafted { IfOk result (λ draft. IsDrafted number shared.now draft
+        (resumed answer.now question.now shell.now (quietly shared.now (directories_in shells.now)))) }
     ensures runs_on { AllRunOn shell.now.frames → IfOk result (λ draft. AllRunOn draft.shell.frames) }
 {
-    let mut draft = Draft::new(alloc, number, shell.share()?);
+    let mut draft = Draft::new(alloc, number, shell.share()?, directories(alloc, shells)?);
     draft.shell.be_ready();
     let line = Line {
         args: answer.copy()?,
@@ -301,11 +331,11 @@ pub fn prompt_draft(
     Ok(draft)
 }
 
-/// An output without a place is the console.
-fn is_console(place: Option<&Place>) -> bool
-    ensures { result ≡ is_none (option_copied place.entry) }
+/// An output that leads nowhere else is the console.
+fn is_console(target: Option<&Target>) -> bool
+    ensures { result ≡ is_console (option_copied target.entry) }
 {
-    match place {
+    match target {
         None => true,
         Some(_) => false,
     }
