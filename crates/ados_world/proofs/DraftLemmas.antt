@@ -14,10 +14,13 @@ use Rattle.ados_machine.specs.CodeRule.{fault_line, failed_line}
 use Rattle.ados_machine.specs.Frames.{ShellState, FrameState, Course, Turned, Item, behind, told, noted, end_of, limit_behind, answered_frame, is_ended, is_over, last_codes, answering, ending, finish, passed_by, passed, printing, reports_of}
 use Rattle.ados_machine.specs.Commands.{Answers}
 use Rattle.ados_machine.specs.declared.called.Called.{Called}
-use Rattle.ados_machine.specs.Shell.{answered, begun, called, Opened, prompt, put, affected, made, acted, after_put, with_args}
+use Rattle.ados_machine.specs.Shell.{answered, begun, called, Opened, opened_at, prompt, put, affected, made, acted, after_put, with_args}
 use Rattle.ados_ram.specs.declared.faults.FsFault.TheVariants.{Refused}
 use Rattle.ados_text.specs.declared.codes.Result2.{Result2}
+use Rattle.ados_ram.specs.declared.faults.FsFault.{FsFault}
 use Rattle.ados_world.specs.declared.drafts.Draft.{Draft}
+use Rattle.ados_world.specs.declared.outputs.Opened as Made
+use Rattle.ados_world.specs.Answers.{Gives}
 use Rattle.ados_world.specs.Drafts.{GoesOn, IsReported, IsOpened, IsPut, made_of, course_by, course_of}
 use Rattle.ados_world.specs.Frames.{report_of}
 
@@ -110,10 +113,10 @@ finish-ends shared before popped ended after held word codes quits frame last a 
     let items = noted (frame ∷ frames) codes limit ∷ end_of (suc (length frames)) (answered_frame frame frames codes limit) ∷ [] in
     let number_is : ended.number ≡ before.number = reported.number ∙ n in
     let shell_frames : ended.shell.frames ≡ frames = ap (λ s. s.frames) reported.shell in
-    let popped_is : popped.shell ≡ answering before.shell codes frames = ap (λ s. record s { frames = frames }) (sym p ∙ a) in
+    let popped_is : popped.shell ≡ answering before.shell codes frames = ap {A = ShellState} (λ s. record s { frames = frames }) (sym p ∙ a) in
     let shell_is : ended.shell ≡ below =
-    reported.shell ∙ ap (λ f. record popped.shell { limit = limit_behind f frames }) is_last
-    ∙ ap (λ s. record s { limit = limit_behind frame frames }) popped_is in
+    reported.shell ∙ ap {A = FrameState} (λ f. record popped.shell { limit = limit_behind f frames }) is_last
+    ∙ ap {A = ShellState} (λ s. record s { limit = limit_behind frame frames }) popped_is in
     let course_is : course_of shared ended ≡ course =
     ap (λ x. course_by shared x ended.printed.items) (reported.made ∙ h)
     ∙ ap (λ x. course_by shared (made_of before) x) (reported.printed ∙ out) in
@@ -153,7 +156,7 @@ pass-ends shared before popped ended after frame p n h r out over reported g =
     let inner = finish frame.command (last_codes frame.last) false below frames course in
     let number_is : ended.number ≡ before.number = reported.number ∙ n in
     let shell_frames : ended.shell.frames ≡ frames = ap (λ s. s.frames) reported.shell in
-    let shell_is : ended.shell ≡ below = reported.shell ∙ ap (λ s. record s { frames = frames; limit = limit_behind frame frames }) (sym p) in
+    let shell_is : ended.shell ≡ below = reported.shell ∙ ap {A = ShellState} (λ s. record s { frames = frames; limit = limit_behind frame frames }) (sym p) in
     let course_is : course_of shared ended ≡ course =
     ap (λ x. course_by shared x ended.printed.items) (reported.made ∙ h)
     ∙ ap (λ x. course_by shared (made_of before) x) (reported.printed ∙ out) in
@@ -183,6 +186,12 @@ call-goes shared before mid after word script frame n s h p r f g =
     ∙ ap (λ x. passed deeper (course_by shared (made_of before) x)) p in
     let on : GoesOn shared before after t = goes-same shared before mid after _ t n r e g in
     record { number = on.number; shell = on.shell; course = on.course; reports = on.reports }
+
+-- what an opening says, by where its redirection leads
+pub opened-as : (shared : SharedState) (append : Bool) (target : Target) (given : Result Target Result2) (result : Result Made.Opened FsFault)
+    → Gives (Ok target) given → IsOpened shared result (opened_at shared append (Ok target)) → IsOpened shared result (opened_at shared append given)
+opened-as shared append target (Ok other) result h opened = rw h at opened
+opened-as shared append target (Err fault) result h opened = absurd h
 
 -- what a refused opening says
 pub opened-err : (shared : SharedState) (opened : Result Opened Result2) (fault : Result2) → IsOpened shared (Err (Refused fault)) opened → opened ≡ Err fault

@@ -36,7 +36,9 @@ course_of old draft = course_by old (made_of draft) draft.printed.items
 pub record IsFresh (number : ℕ) (shell : ShellState) (directories : List (List (List ℕ))) (draft : Draft) : Type 0 where
   pub number_is : draft.number ≡ number
   pub shell_is : draft.shell ≡ shell
-  pub made_is : made_of draft ≡ record { shared = None; directories = directories; renamed = None }
+  pub shared_is : draft.shared ≡ None
+  pub directories_are : draft.directories.items ≡ directories
+  pub renamed_is : draft.renamed ≡ None
   pub printed_is : draft.printed.items ≡ []
   pub reports_are : draft.reports.items ≡ []
 

@@ -4,10 +4,12 @@ ghost use Rattle.std.specs.Option.{option_copied};
 ghost use Rattle.ados_find.specs.Shared.{SharedState, version};
 ghost use Rattle.ados_machine.specs.Frames.{is_ended, finish, passed};
 ghost use Rattle.ados_machine.specs.Shell.{answered, put, called, view_of};
+ghost use Rattle.ados_machine.specs.World.{directories_in};
 ghost use Rattle.ados_machine.specs.declared.targets.Target.TheVariants.{At};
 
 use crate::console::{is_reached, push_failed, push_fault};
 use crate::frames::{Frame, Script};
+use crate::renames::{copies, directories};
 use crate::shells::Shell;
 use ados_find::{Codes, Renamed, Shared, ShellView};
 use ados_machine::{Called, EndReport, Target};
@@ -32,19 +34,24 @@ pub struct Draft {
 impl Draft {
     ghost use Rattle.ados_world.specs.Drafts.{GoesOn, IsPut, IsFresh, IsRenewed, IsReported, course_of};
 
-    /// Nothing is changed yet of a shell, of which this is a copy.
-    pub fn new(alloc: Global, number: u8, shell: Shell, directories: Vec<Place>) -> Draft
-        ensures { IsFresh number shell directories.items result }
+    /// Nothing is changed yet of a shell, of which this is a copy, among these shells.
+    pub fn new(
+        alloc: Global,
+        number: u8,
+        shells: &[Option<Shell>],
+        shell: &Shell,
+    ) -> Result<Draft, NoMemory>
+        ensures { IfOk result (λ draft. IsFresh number shell.now (directories_in shells.now) draft) }
     {
-        Draft {
+        Ok(Draft {
             number,
-            shell,
+            shell: shell.share()?,
             shared: None,
-            directories,
+            directories: directories(alloc, shells)?,
             renamed: None,
             printed: Vec::new(alloc),
             reports: Vec::new(alloc),
-        }
+        })
     }
 
     /// The shared parts as they stand in this draft.
@@ -71,10 +78,8 @@ impl Draft {
     pub fn view(&self, shared: &Shared) -> Result<ShellView, NoMemory>
         ensures { IfOk result (λ view. view ≡ view_of self.now.shell (course_of shared.now self.now)) }
     {
-        let busy = self
-            .current(shared)
-            .assigns
-            .busy(self.directories.clone()?)?;
+        let directories = copies(*self.directories.allocator(), &self.directories)?;
+        let busy = self.current(shared).assigns.busy(directories)?;
         self.shell.view(busy)
     }
 

@@ -24,6 +24,17 @@ pub fn directories(alloc: Global, shells: &[Option<Shell>]) -> Result<Vec<Place>
     Ok(places)
 }
 
+/// Equal places.
+pub fn copies(alloc: Global, places: &[Place]) -> Result<Vec<Place>, NoMemory>
+    ensures { IfOk result (λ copies. copies.items ≡ places.now) }
+{
+    let mut copies = Vec::new(alloc);
+    for place in places {
+        copies.push(place.copy()?)?;
+    }
+    Ok(copies)
+}
+
 /// All shells, with their current directories carried by a rename.
 pub fn carried_shells(
     shells: &[Option<Shell>; 20],

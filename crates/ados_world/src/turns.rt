@@ -8,19 +8,19 @@ ghost use Rattle.ados_line.specs.Cut.{expanded_of};
 ghost use Rattle.ados_machine.specs.Commands.{builtin_of, action_of, Answers};
 ghost use Rattle.ados_machine.specs.Limits.{AllRunOn};
 ghost use Rattle.ados_machine.specs.World.{directories_in};
-ghost use Rattle.ados_machine.specs.Shell.{acted, answered, asked, begun, input_of, is_console, is_free, number_of_fault, obeyed, performed, prepared, prompt, quietly, resumed, sought, turn_of, view_of};
+ghost use Rattle.ados_machine.specs.Shell.{acted, answered, asked, begun, input_of, is_console, is_free, number_of_fault, obeyed, opening, performed, prepared, prompt, quietly, resumed, sought, turn_of, view_of};
 ghost use Rattle.ados_world.specs.Actions.{acting};
-ghost use Rattle.ados_world.specs.Drafts.{GoesOn, IsDrafted, IsScriptDrafted, course_of};
+ghost use Rattle.ados_world.specs.Answers.{Gives};
+ghost use Rattle.ados_world.specs.Drafts.{GoesOn, IsDrafted, IsOpened, IsScriptDrafted, course_of};
 
 use crate::actions::Action;
 use crate::commands::Commands;
 use crate::drafts::Draft;
 use crate::inputs::{asks, input_line};
 use crate::outputs::Opened;
-use crate::renames::directories;
 use crate::shells::Shell;
 use ados_find::{Codes, Outcome, Shared};
-use ados_line::{Expanded, Line, LineFault, expand};
+use ados_line::{Expanded, Line, LineFault, Redirection, expand};
 use ados_machine::{Asking, Builtin, Target};
 use ados_ram::FsFault;
 use ados_text::{NoMemory, Result2, Text};
@@ -80,12 +80,7 @@ impl Draft {
             (prepared builtin line self.old.shell (course_of shared.now self.old)
             (input_of (course_of shared.now self.old).shared self.old.shell.directory line.input))) }
     {
-        match input_line(
-            alloc,
-            self.current(shared),
-            self.shell.directory(),
-            line.input.as_ref(),
-        ) {
+        match self.input(alloc, line.input.as_ref(), shared) {
             Err(FsFault::NoMemory) => Err(NoMemory),
             Err(FsFault::Refused(fault)) => self.refuse(&line.command, fault),
             Ok(answer) => {
@@ -96,6 +91,20 @@ impl Draft {
                 }
             }
         }
+    }
+
+    /// The line that an input answers a prompt with, as the shell and the shared parts stand.
+    fn input(
+        &self,
+        alloc: Global,
+        name: Option<&Text>,
+        shared: &Shared,
+    ) -> Result<Option<Text>, FsFault>
+        ensures { Gives result
+            (input_of (course_of shared.now self.now).shared self.now.shell.directory (option_copied name.entry)) }
+    {
+        let directory = self.shell.directory();
+        input_line(alloc, self.current(shared), directory, name)
     }
 
     /// Prints a prompt; its answer stands for the arguments. Without one the shell waits for it.
@@ -121,6 +130,20 @@ impl Draft {
         }
     }
 
+    /// Opens what a redirection names, as the shell and the shared parts stand.
+    fn open(
+        &self,
+        alloc: Global,
+        output: Option<&Redirection>,
+        shared: &Shared,
+    ) -> Result<Opened, FsFault>
+        ensures { IsOpened (course_of shared.now self.now).shared result
+            (opening (course_of shared.now self.now).shared self.now.shell.directory (option_copied output.entry)) }
+    {
+        let directory = self.shell.directory();
+        Opened::by(alloc, self.current(shared), directory, output)
+    }
+
     /// Opens a command's output, and lets it act.
     fn begin(
         &mut self,
@@ -133,12 +156,7 @@ impl Draft {
         ensures { OnOk result (GoesOn shared.now self.old self.new
             (begun builtin line.now self.old.shell (course_of shared.now self.old))) }
     {
-        match Opened::by(
-            alloc,
-            self.current(shared),
-            self.shell.directory(),
-            line.output.as_ref(),
-        ) {
+        match self.open(alloc, line.output.as_ref(), shared) {
             Err(FsFault::NoMemory) => Err(NoMemory),
             Err(FsFault::Refused(fault)) => self.refuse(&line.command, fault),
             Ok(Opened::Console) => self.act(alloc, commands, builtin, line, None, shared),
@@ -261,7 +279,7 @@ pub fn console_draft(
         (turn_of line.now shell.now (quietly shared.now (directories_in shells.now)))) }
     ensures runs_on { AllRunOn shell.now.frames → IfOk result (λ draft. AllRunOn draft.shell.frames) }
 {
-    let mut draft = Draft::new(alloc, 1, shell.share()?, directories(alloc, shells)?);
+    let mut draft = Draft::new(alloc, 1, shells, shell)?;
     draft.obey(alloc, commands, line, shared)?;
     Ok(draft)
 }
@@ -291,7 +309,7 @@ fn next_line_draft(
 ) -> Result<Draft, NoMemory>
     ensures { IfOk result (λ draft. IsScriptDrafted number (quietly shared.now (directories_in shells.now)) draft shell.now shell.now.frames) }
 {
-    let mut draft = Draft::new(alloc, number, shell.share()?, directories(alloc, shells)?);
+    let mut draft = Draft::new(alloc, number, shells, shell)?;
     let Some(frame) = shell.newest() else {
         return Ok(draft);
     };
@@ -306,7 +324,6 @@ fn next_line_draft(
 }
 
 /// What a turn that takes the answer to a prompt changes: the line stands as it is.
-#[tactic(auto, using(crate::proofs::RunsOnLemmas::prompt_runs))]
 pub fn prompt_draft(
     alloc: Global,
     commands: &Commands,
@@ -321,7 +338,25 @@ pub fn prompt_draft(
         (resumed answer.now question.now shell.now (quietly shared.now (directories_in shells.now)))) }
     ensures runs_on { AllRunOn shell.now.frames → IfOk result (λ draft. AllRunOn draft.shell.frames) }
 {
-    let mut draft = Draft::new(alloc, number, shell.share()?, directories(alloc, shells)?);
+    answer_draft(
+        alloc, commands, number, shells, shell, question, answer, shared,
+    )
+}
+
+fn answer_draft(
+    alloc: Global,
+    commands: &Commands,
+    number: u8,
+    shells: &[Option<Shell>],
+    shell: &Shell,
+    question: &Asking,
+    answer: &Text,
+    shared: &Shared,
+) -> Result<Draft, NoMemory>
+    ensures { IfOk result (λ draft. IsDrafted number shared.now draft
+        (resumed answer.now question.now shell.now (quietly shared.now (directories_in shells.now)))) }
+{
+    let mut draft = Draft::new(alloc, number, shells, shell)?;
     draft.shell.be_ready();
     let line = Line {
         args: answer.copy()?,
