@@ -7,17 +7,21 @@ use Rattle.ados_find.specs.Effects.{Effect}
 use Rattle.ados_find.specs.Shared.{SharedState, version}
 use Rattle.ados_line.specs.declared.lines.Line.{Line}
 use Rattle.ados_machine.specs.declared.builtins.Builtin.{Builtin}
+use Rattle.ados_machine.specs.declared.targets.Target.{Target}
 use Rattle.ados_machine.specs.declared.phases.Phase.TheVariants.{Ready}
 use Rattle.ados_machine.specs.declared.outs.EndReport.{EndReport}
 use Rattle.ados_machine.specs.CodeRule.{fault_line, failed_line}
-use Rattle.ados_machine.specs.Frames.{ShellState, FrameState, Course, Turned, Item, behind, told, noted, end_of, limit_behind, answered_frame, is_ended, is_over, last_codes, finish, passed_by, passed, printing, reports_of}
+use Rattle.ados_machine.specs.Frames.{ShellState, FrameState, Course, Turned, Item, behind, told, noted, end_of, limit_behind, answered_frame, is_ended, is_over, last_codes, answering, ending, finish, passed_by, passed, printing, reports_of}
 use Rattle.ados_machine.specs.Commands.{Answers}
 use Rattle.ados_machine.specs.declared.called.Called.{Called}
-use Rattle.ados_machine.specs.Shell.{answered, asked, begun, called, Opened, prompt, put, acted, after_put, with_args}
+use Rattle.ados_machine.specs.Shell.{answered, begun, called, Opened, opened_at, prompt, put, affected, made, acted, after_put, with_args}
 use Rattle.ados_ram.specs.declared.faults.FsFault.TheVariants.{Refused}
 use Rattle.ados_text.specs.declared.codes.Result2.{Result2}
+use Rattle.ados_ram.specs.declared.faults.FsFault.{FsFault}
 use Rattle.ados_world.specs.declared.drafts.Draft.{Draft}
-use Rattle.ados_world.specs.Drafts.{GoesOn, IsReported, IsOpened, IsPut, course_of}
+use Rattle.ados_world.specs.declared.outputs.Opened as Made
+use Rattle.ados_world.specs.Answers.{Gives}
+use Rattle.ados_world.specs.Drafts.{GoesOn, IsReported, IsOpened, IsPut, made_of, course_by, course_of}
 use Rattle.ados_world.specs.Frames.{report_of}
 
 pub goes-on : (shared : SharedState) (before mid after : Draft) (t t' : Turned) (rs : List EndReport)
@@ -48,22 +52,17 @@ goes-same shared before mid after t t' n r e g = record {
       ∙ ap (λ x. before.reports.items ++ reports_of before.number x.log) e;
 }
 
--- what finish does depends on what is printed so far
-finish-printed : (word : List ℕ) (codes : Codes) (quits : Bool) (limit : Code) (frames : List FrameState) (shared : SharedState) (p q : List ℕ)
-    → p ≡ q → finish word codes quits limit frames (record { shared = shared; printed = p }) ≡ finish word codes quits limit frames (record { shared = shared; printed = q })
-finish-printed word codes quits limit frames shared p q e = ap (λ x. finish word codes quits limit frames (record { shared = shared; printed = x })) e
-
 -- a fault's text was printed, and the code rule follows
 pub answer-goes : (shared : SharedState) (before mid after : Draft) (word : List ℕ) (codes : Codes) (quits : Bool)
-    → mid.number ≡ before.number → mid.shell ≡ before.shell → mid.shared ≡ before.shared → mid.reports.items ≡ before.reports.items
+    → mid.number ≡ before.number → mid.shell ≡ before.shell → made_of mid ≡ made_of before → mid.reports.items ≡ before.reports.items
     → mid.printed.items ≡ before.printed.items ++ fault_line word codes.result2
-    → GoesOn shared mid after (finish word codes quits mid.shell.limit mid.shell.frames (course_of shared mid))
+    → GoesOn shared mid after (finish word codes quits mid.shell mid.shell.frames (course_of shared mid))
     → GoesOn shared before after (answered word codes quits before.shell (course_of shared before))
 answer-goes shared before mid after word codes quits n s h r p g =
     goes-same shared before mid after _ _ n r
-    (ap (λ x. finish word codes quits x.limit x.frames (course_of shared mid)) s
-    ∙ ap (λ x. finish word codes quits before.shell.limit before.shell.frames (record { shared = version shared x; printed = mid.printed.items })) h
-    ∙ finish-printed word codes quits before.shell.limit before.shell.frames (version shared before.shared) mid.printed.items _ p)
+    (ap (λ x. finish word codes quits x x.frames (course_of shared mid)) s
+    ∙ ap (λ x. finish word codes quits before.shell before.shell.frames (course_by shared x mid.printed.items)) h
+    ∙ ap (λ x. finish word codes quits before.shell before.shell.frames (course_by shared (made_of before) x)) p)
     g
 
 -- what a test decides, where it is decided
@@ -71,22 +70,22 @@ then-is : (b : Bool) (x y : Turned) → b ≡ true → x ≡ (if b then x else y
 then-is b x y e = ap (λ t. if t then x else y) (sym e)
 
 -- a frame was taken off, its end was reported, and its end is the answer of the command that made it
-pub end-goes : (shared : SharedState) (before ended after : Draft) (command : List ℕ) (codes : Codes) (last : FrameState) (frames : List FrameState)
-    (course : Course) (items : List Item) (t' : Turned)
-    → behind items (finish command codes false (limit_behind last frames) frames course) ≡ t'
-    → reports_of before.number (items ++ (finish command codes false (limit_behind last frames) frames course).log)
-    ≡ report_of before.number last ∷ reports_of before.number (finish command codes false (limit_behind last frames) frames course).log
-    → ended.number ≡ before.number → ended.shell.limit ≡ limit_behind last frames → ended.shell.frames ≡ frames
+pub end-goes : (shared : SharedState) (before ended after : Draft) (command : List ℕ) (codes : Codes) (last : FrameState) (shell : ShellState)
+    (frames : List FrameState) (course : Course) (items : List Item) (t' : Turned)
+    → behind items (finish command codes false shell frames course) ≡ t'
+    → reports_of before.number (items ++ (finish command codes false shell frames course).log)
+    ≡ report_of before.number last ∷ reports_of before.number (finish command codes false shell frames course).log
+    → ended.number ≡ before.number → ended.shell ≡ shell → ended.shell.frames ≡ frames
     → course_of shared ended ≡ course
     → ended.reports.items ≡ before.reports.items ++ report_of before.number last ∷ []
-    → GoesOn shared ended after (finish command codes false ended.shell.limit ended.shell.frames (course_of shared ended))
+    → GoesOn shared ended after (finish command codes false ended.shell ended.shell.frames (course_of shared ended))
     → GoesOn shared before after t'
-end-goes shared before ended after command codes last frames course items t' e rs n l f c r g =
-    let t = finish command codes false (limit_behind last frames) frames course in
-    let same : finish command codes false ended.shell.limit ended.shell.frames (course_of shared ended) ≡ t =
+end-goes shared before ended after command codes last shell frames course items t' e rs n l f c r g =
+    let t = finish command codes false shell frames course in
+    let same : finish command codes false ended.shell ended.shell.frames (course_of shared ended) ≡ t =
     ap (λ x. finish command codes false x ended.shell.frames (course_of shared ended)) l
-    ∙ ap (λ x. finish command codes false (limit_behind last frames) x (course_of shared ended)) f
-    ∙ ap (λ x. finish command codes false (limit_behind last frames) frames x) c in
+    ∙ ap (λ x. finish command codes false shell x (course_of shared ended)) f
+    ∙ ap (λ x. finish command codes false shell frames x) c in
     goes-on shared before ended after t t' (report_of before.number last ∷ []) n r
     (ap (λ x. x.shell) (sym e)) (ap (λ x. x.course) (sym e))
     (ap (λ x. reports_of before.number x.log) (sym e) ∙ rs)
@@ -96,79 +95,83 @@ end-goes shared before ended after command codes last frames course items t' e r
 pub finish-ends : (shared : SharedState) (before popped ended after : Draft) (held : ShellState) (word : List ℕ) (codes : Codes) (quits : Bool)
     (frame last : FrameState)
     → held ≡ record before.shell { codes = codes; phase = Ready } → held ≡ record popped.shell { frames = frame ∷ popped.shell.frames }
-    → popped.number ≡ before.number → popped.shared ≡ before.shared → popped.reports.items ≡ before.reports.items
+    → popped.number ≡ before.number → made_of popped ≡ made_of before → popped.reports.items ≡ before.reports.items
     → popped.printed.items ≡ before.printed.items ++ failed_line word codes.code before.shell.limit
     → last ≡ answered_frame frame popped.shell.frames codes before.shell.limit
     → is_ended quits codes before.shell.limit last ≡ true
     → IsReported popped ended last
-    → GoesOn shared ended after (finish last.command codes false ended.shell.limit ended.shell.frames (course_of shared ended))
-    → GoesOn shared before after (finish word codes quits before.shell.limit before.shell.frames (course_of shared before))
+    → GoesOn shared ended after (finish last.command codes false ended.shell ended.shell.frames (course_of shared ended))
+    → GoesOn shared before after (finish word codes quits before.shell before.shell.frames (course_of shared before))
 finish-ends shared before popped ended after held word codes quits frame last a p n h r out is_last ends reported g =
     let frames = popped.shell.frames in
     let limit = before.shell.limit in
     let course = told word codes limit (course_of shared before) in
     let there : before.shell.frames ≡ frame ∷ frames = ap (λ s. s.frames) (sym a ∙ p) in
     let ended_test : is_ended quits codes limit frame ≡ true = ap (is_ended quits codes limit) (sym is_last) ∙ ends in
-    let command_is : last.command ≡ frame.command = ap (λ f. f.command) is_last in
-    let inner = finish last.command codes false (limit_behind last frames) frames course in
+    let below = ending (answering before.shell codes frames) frame frames in
+    let inner = finish last.command codes false below frames course in
     let items = noted (frame ∷ frames) codes limit ∷ end_of (suc (length frames)) (answered_frame frame frames codes limit) ∷ [] in
     let number_is : ended.number ≡ before.number = reported.number ∙ n in
     let shell_frames : ended.shell.frames ≡ frames = ap (λ s. s.frames) reported.shell in
-    let shell_limit : ended.shell.limit ≡ limit_behind last frames = ap (λ s. s.limit) reported.shell in
+    let popped_is : popped.shell ≡ answering before.shell codes frames = ap {A = ShellState} (λ s. record s { frames = frames }) (sym p ∙ a) in
+    let shell_is : ended.shell ≡ below =
+    reported.shell ∙ ap {A = FrameState} (λ f. record popped.shell { limit = limit_behind f frames }) is_last
+    ∙ ap {A = ShellState} (λ s. record s { limit = limit_behind frame frames }) popped_is in
     let course_is : course_of shared ended ≡ course =
-    ap (λ x. record { shared = version shared x; printed = ended.printed.items }) (reported.shared ∙ h)
-    ∙ ap (λ x. record { shared = version shared before.shared; printed = x }) (reported.printed ∙ out) in
+    ap (λ x. course_by shared x ended.printed.items) (reported.made ∙ h)
+    ∙ ap (λ x. course_by shared (made_of before) x) (reported.printed ∙ out) in
     let reports_are : ended.reports.items ≡ before.reports.items ++ report_of before.number last ∷ [] =
     reported.reports ∙ ap (λ x. x ++ report_of popped.number last ∷ []) r ∙ ap (λ k. before.reports.items ++ report_of k last ∷ []) n in
     let course0 = course_of shared before in
-    let inner0 = finish frame.command codes false (limit_behind frame frames) frames course in
-    let inner_is : inner ≡ inner0 = ap (λ f. finish f.command codes false (limit_behind f frames) frames course) is_last in
+    let inner0 = finish frame.command codes false below frames course in
+    let inner_is : inner ≡ inner0 = ap (λ f. finish f.command codes false below frames course) is_last in
     let stays : Turned = record {
-      shell = record { frames = answered_frame frame frames codes limit ∷ frames; limit = limit; codes = codes; phase = Ready };
+      shell = answering before.shell codes (answered_frame frame frames codes limit ∷ frames);
       course = course;
       log = noted (frame ∷ frames) codes limit ∷ [];
     } in
-    let e : behind items inner ≡ finish word codes quits limit before.shell.frames course0 =
+    let e : behind items inner ≡ finish word codes quits before.shell before.shell.frames course0 =
     ap (behind items) inner_is
     ∙ then-is (is_ended quits codes limit frame) (behind items inner0) stays ended_test
-    ∙ ap (λ x. finish word codes quits limit x course0) (sym there) in
+    ∙ ap (λ x. finish word codes quits before.shell x course0) (sym there) in
     let rs : reports_of before.number (items ++ inner.log) ≡ report_of before.number last ∷ reports_of before.number inner.log =
     ap (λ f. report_of before.number f ∷ reports_of before.number inner.log) (sym is_last) in
-    end-goes shared before ended after last.command codes last frames course items _ e rs number_is shell_limit shell_frames course_is reports_are g
+    end-goes shared before ended after last.command codes last below frames course items _ e rs number_is shell_is shell_frames course_is reports_are g
 
 -- a line that asked for nothing was the last of its frame
 pub pass-ends : (shared : SharedState) (before popped ended after : Draft) (frame : FrameState)
     → before.shell ≡ record popped.shell { frames = frame ∷ popped.shell.frames }
-    → popped.number ≡ before.number → popped.shared ≡ before.shared → popped.reports.items ≡ before.reports.items
+    → popped.number ≡ before.number → made_of popped ≡ made_of before → popped.reports.items ≡ before.reports.items
     → popped.printed.items ≡ before.printed.items
     → is_over frame ≡ true
     → IsReported popped ended frame
-    → GoesOn shared ended after (finish frame.command (last_codes frame.last) false ended.shell.limit ended.shell.frames (course_of shared ended))
+    → GoesOn shared ended after (finish frame.command (last_codes frame.last) false ended.shell ended.shell.frames (course_of shared ended))
     → GoesOn shared before after (passed before.shell (course_of shared before))
 pass-ends shared before popped ended after frame p n h r out over reported g =
     let frames = popped.shell.frames in
     let course = course_of shared before in
     let there : before.shell.frames ≡ frame ∷ frames = ap (λ s. s.frames) p in
+    let below = ending before.shell frame frames in
     let items = end_of (suc (length frames)) frame ∷ [] in
-    let inner = finish frame.command (last_codes frame.last) false (limit_behind frame frames) frames course in
+    let inner = finish frame.command (last_codes frame.last) false below frames course in
     let number_is : ended.number ≡ before.number = reported.number ∙ n in
     let shell_frames : ended.shell.frames ≡ frames = ap (λ s. s.frames) reported.shell in
-    let shell_limit : ended.shell.limit ≡ limit_behind frame frames = ap (λ s. s.limit) reported.shell in
+    let shell_is : ended.shell ≡ below = reported.shell ∙ ap {A = ShellState} (λ s. record s { frames = frames; limit = limit_behind frame frames }) (sym p) in
     let course_is : course_of shared ended ≡ course =
-    ap (λ x. record { shared = version shared x; printed = ended.printed.items }) (reported.shared ∙ h)
-    ∙ ap (λ x. record { shared = version shared before.shared; printed = x }) (reported.printed ∙ out) in
+    ap (λ x. course_by shared x ended.printed.items) (reported.made ∙ h)
+    ∙ ap (λ x. course_by shared (made_of before) x) (reported.printed ∙ out) in
     let reports_are : ended.reports.items ≡ before.reports.items ++ report_of before.number frame ∷ [] =
     reported.reports ∙ ap (λ x. x ++ report_of popped.number frame ∷ []) r ∙ ap (λ k. before.reports.items ++ report_of k frame ∷ []) n in
     let stays : Turned = record { shell = before.shell; course = course; log = [] } in
     let e : behind items inner ≡ passed before.shell course =
     then-is (is_over frame) (behind items inner) stays over
     ∙ ap (λ x. passed_by before.shell x course) (sym there) in
-    end-goes shared before ended after frame.command (last_codes frame.last) frame frames course items _ e refl number_is shell_limit shell_frames course_is reports_are g
+    end-goes shared before ended after frame.command (last_codes frame.last) frame below frames course items _ e refl number_is shell_is shell_frames course_is reports_are g
 
 -- a script begins
 pub call-goes : (shared : SharedState) (before mid after : Draft) (word : List ℕ) (script : Called) (frame : FrameState)
     → mid.number ≡ before.number → mid.shell ≡ record before.shell { frames = frame ∷ before.shell.frames }
-    → mid.shared ≡ before.shared → mid.printed.items ≡ before.printed.items → mid.reports.items ≡ before.reports.items
+    → made_of mid ≡ made_of before → mid.printed.items ≡ before.printed.items → mid.reports.items ≡ before.reports.items
     → frame ≡ record { name = script.name; lines = script.lines; position = 0; command = word; limit = before.shell.limit; last = None }
     → GoesOn shared mid after (passed mid.shell (course_of shared mid))
     → GoesOn shared before after (called word script before.shell (course_of shared before))
@@ -179,10 +182,16 @@ call-goes shared before mid after word script frame n s h p r f g =
     let e : passed mid.shell (course_of shared mid) ≡ t =
     ap (λ x. passed x (course_of shared mid)) s
     ∙ ap (λ x. passed (record before.shell { frames = x ∷ before.shell.frames }) (course_of shared mid)) f
-    ∙ ap (λ x. passed deeper (record { shared = version shared x; printed = mid.printed.items })) h
-    ∙ ap (λ x. passed deeper (record { shared = version shared before.shared; printed = x })) p in
+    ∙ ap (λ x. passed deeper (course_by shared x mid.printed.items)) h
+    ∙ ap (λ x. passed deeper (course_by shared (made_of before) x)) p in
     let on : GoesOn shared before after t = goes-same shared before mid after _ t n r e g in
     record { number = on.number; shell = on.shell; course = on.course; reports = on.reports }
+
+-- what an opening says, by where its redirection leads
+pub opened-as : (shared : SharedState) (append : Bool) (target : Target) (given : Result Target Result2) (result : Result Made.Opened FsFault)
+    → Gives (Ok target) given → IsOpened shared result (opened_at shared append (Ok target)) → IsOpened shared result (opened_at shared append given)
+opened-as shared append target (Ok other) result h opened = rw h at opened
+opened-as shared append target (Err fault) result h opened = absurd h
 
 -- what a refused opening says
 pub opened-err : (shared : SharedState) (opened : Result Opened Result2) (fault : Result2) → IsOpened shared (Err (Refused fault)) opened → opened ≡ Err fault
@@ -190,31 +199,34 @@ opened-err shared (Ok opened) fault h = absurd h
 opened-err shared (Err other) fault h = ap Err (sym h)
 
 -- a command answered: its changes were moved in, and its output was put
-pub act-goes : (shared : SharedState) (before mid done after : Draft) (word : List ℕ) (place : Option (List (List ℕ))) (effect : Effect) (bytes : List ℕ) (codes : Codes)
-    → mid.number ≡ before.number → mid.shell ≡ record before.shell { limit = effect.limit }
-    → version shared mid.shared ≡ effect.shared → mid.printed.items ≡ before.printed.items → mid.reports.items ≡ before.reports.items
+pub act-goes : (shared : SharedState) (before mid done after : Draft) (word : List ℕ) (target : Option Target) (effect : Effect) (bytes : List ℕ) (codes : Codes)
+    → mid.number ≡ before.number → mid.shell ≡ affected effect before.shell
+    → version shared mid.shared ≡ effect.shared → mid.directories.items ≡ before.directories.items → mid.renamed ≡ effect.renamed
+    → mid.printed.items ≡ before.printed.items → mid.reports.items ≡ before.reports.items
     → bytes ≡ effect.output
-    → IsPut shared mid done codes (put place bytes effect.codes (course_of shared mid))
+    → IsPut shared mid done codes (put target bytes effect.codes (course_of shared mid))
     → GoesOn shared done after (answered word codes false done.shell (course_of shared done))
-    → GoesOn shared before after (acted word place (Answers effect) before.shell (course_of shared before))
-act-goes shared before mid done after word place effect bytes codes n s h p r b d g =
-    let held : ShellState = record before.shell { limit = effect.limit } in
-    let moved : Course = record (course_of shared before) { shared = effect.shared } in
+    → GoesOn shared before after (acted word target (Answers effect) before.shell (course_of shared before))
+act-goes shared before mid done after word target effect bytes codes n s h i k p r b d g =
+    let held : ShellState = affected effect before.shell in
+    let moved : Course = made effect (course_of shared before) in
     let course : course_of shared mid ≡ moved =
-    ap (λ x. record { shared = x; printed = mid.printed.items }) h
-    ∙ ap (λ x. record { shared = effect.shared; printed = x }) p in
-    let result = put place bytes effect.codes (course_of shared mid) in
-    let e : answered word codes false done.shell (course_of shared done) ≡ acted word place (Answers effect) before.shell (course_of shared before) =
+    ap (λ x. record { shared = x; printed = mid.printed.items; directories = mid.directories.items; renamed = mid.renamed }) h
+    ∙ ap (λ x. record { shared = effect.shared; printed = mid.printed.items; directories = x; renamed = mid.renamed }) i
+    ∙ ap (λ x. record { shared = effect.shared; printed = mid.printed.items; directories = before.directories.items; renamed = x }) k
+    ∙ ap (λ x. record { shared = effect.shared; printed = x; directories = before.directories.items; renamed = effect.renamed }) p in
+    let result = put target bytes effect.codes (course_of shared mid) in
+    let e : answered word codes false done.shell (course_of shared done) ≡ acted word target (Answers effect) before.shell (course_of shared before) =
     ap (λ x. answered word x false done.shell (course_of shared done)) d.codes_are
     ∙ ap (λ x. answered word result.codes false x (course_of shared done)) (d.shell ∙ s)
     ∙ ap (λ x. answered word result.codes false held x) d.course
-    ∙ ap (λ x. after_put word held (put place x effect.codes (course_of shared mid))) b
-    ∙ ap (λ x. after_put word held (put place effect.output effect.codes x)) course in
+    ∙ ap (λ x. after_put word held (put target x effect.codes (course_of shared mid))) b
+    ∙ ap (λ x. after_put word held (put target effect.output effect.codes x)) course in
     goes-same shared before done after _ _ (d.number ∙ n) (d.reports ∙ r) e g
 
 -- a prompt was printed, and its answer is at hand
 pub ask-goes : (shared : SharedState) (before mid after : Draft) (builtin : Builtin) (line : Line) (answer : List ℕ)
-    → mid.number ≡ before.number → mid.shell ≡ before.shell → mid.shared ≡ before.shared → mid.reports.items ≡ before.reports.items
+    → mid.number ≡ before.number → mid.shell ≡ before.shell → made_of mid ≡ made_of before → mid.reports.items ≡ before.reports.items
     → mid.printed.items ≡ before.printed.items ++ prompt builtin
     → GoesOn shared mid after (begun builtin (with_args line answer) mid.shell (course_of shared mid))
     → GoesOn shared before after (begun builtin (with_args line answer) before.shell (printing (prompt builtin) (course_of shared before)))
@@ -222,8 +234,8 @@ ask-goes shared before mid after builtin line answer n s h r p g =
     let given = with_args line answer in
     goes-same shared before mid after _ _ n r
     (ap (λ x. begun builtin given x (course_of shared mid)) s
-    ∙ ap (λ x. begun builtin given before.shell (record { shared = version shared x; printed = mid.printed.items })) h
-    ∙ ap (λ x. begun builtin given before.shell (record { shared = version shared before.shared; printed = x })) p)
+    ∙ ap (λ x. begun builtin given before.shell (course_by shared x mid.printed.items)) h
+    ∙ ap (λ x. begun builtin given before.shell (course_by shared (made_of before) x)) p)
     g
 
 -- the same by a word and codes that are told apart

@@ -1,4 +1,5 @@
-mod FlagLemmas
+mod FillLemmas
+mod SettleLemmas
 mod DraftLemmas
 pub mod RunsOnLemmas
 mod CommandLemmas

@@ -4,23 +4,41 @@ use Rattle.ados_text.specs.declared.codes.Result2.{Result2}
 use Rattle.ados_ram.specs.declared.faults.FsFault.{FsFault}
 use Rattle.ados_ram.specs.declared.faults.FsFault.TheVariants.{Refused, NoMemory}
 use Rattle.ados_find.specs.declared.codes.Codes.{Codes}
+use Rattle.ados_find.specs.declared.outcomes.Renamed.{Renamed}
 use Rattle.ados_find.specs.Shared.{SharedState, version}
+use Rattle.ados_machine.specs.declared.targets.Target.TheVariants.{Nil as Null, At}
 use Rattle.ados_machine.specs.Frames.{ShellState, FrameState, Course, Turned, limit_behind, reports_of}
 use Rattle.ados_world.specs.Frames.{report_of}
 use Rattle.ados_machine.specs.Shell as shell
 use Rattle.ados_machine.specs.Step.{script_turned}
 use Rattle.ados_world.specs.declared.drafts.Draft.{Draft}
 use Rattle.ados_world.specs.declared.outputs.Opened.{Opened}
+use Rattle.ados_world.specs.declared.outputs.Opened.TheVariants.{Console, Nil, File}
+
+-- what a draft holds beside its shell, what it prints, and its reports
+pub record Made : Type 0 where
+  pub shared : Option SharedState
+  pub directories : List (List (List ℕ))
+  pub renamed : Option Renamed
+
+abbrev pub made_of : Draft → Made
+made_of draft = record { shared = draft.shared; directories = draft.directories.items; renamed = draft.renamed }
+
+abbrev pub course_by : SharedState → Made → List ℕ → Course
+course_by old made printed =
+    record { shared = version old made.shared; printed = printed; directories = made.directories; renamed = made.renamed }
 
 -- what a draft hands on
 abbrev pub course_of : SharedState → Draft → Course
-course_of old draft = record { shared = version old draft.shared; printed = draft.printed.items }
+course_of old draft = course_by old (made_of draft) draft.printed.items
 
 -- nothing is changed yet of a shell
-pub record IsFresh (number : ℕ) (shell : ShellState) (draft : Draft) : Type 0 where
+pub record IsFresh (number : ℕ) (shell : ShellState) (directories : List (List (List ℕ))) (draft : Draft) : Type 0 where
   pub number_is : draft.number ≡ number
   pub shell_is : draft.shell ≡ shell
   pub shared_is : draft.shared ≡ None
+  pub directories_are : draft.directories.items ≡ directories
+  pub renamed_is : draft.renamed ≡ None
   pub printed_is : draft.printed.items ≡ []
   pub reports_are : draft.reports.items ≡ []
 
@@ -29,20 +47,21 @@ pub record IsDrafted (number : ℕ) (old : SharedState) (draft : Draft) (turned 
   pub number_is : draft.number ≡ number
   pub shell_is : draft.shell ≡ turned.shell
   pub shared_is : version old draft.shared ≡ turned.course.shared
+  pub renamed_is : draft.renamed ≡ turned.course.renamed
   pub printed_is : draft.printed.items ≡ turned.course.printed
   pub reports_are : draft.reports.items ≡ reports_of number turned.log
 
 -- the draft holds what the next line of the newest script leaves
-abbrev pub IsScriptDrafted : ℕ → SharedState → Draft → ShellState → List FrameState → Type 0
-IsScriptDrafted number old draft shell [] = draft.shell ≡ shell
-IsScriptDrafted number old draft shell (frame ∷ frames) =
-    IsDrafted number old draft (script_turned shell frame frames old (slice_get frame.lines frame.position))
+abbrev pub IsScriptDrafted : ℕ → Course → Draft → ShellState → List FrameState → Type 0
+IsScriptDrafted number course draft shell [] = draft.shell ≡ shell
+IsScriptDrafted number course draft shell (frame ∷ frames) =
+    IsDrafted number course.shared draft (script_turned shell frame frames course (slice_get frame.lines frame.position))
 
 -- the end of a frame was reported, and its limit restored
 pub record IsReported (before after : Draft) (frame : FrameState) : Type 0 where
   pub number : after.number ≡ before.number
   pub shell : after.shell ≡ record before.shell { limit = limit_behind frame before.shell.frames }
-  pub shared : after.shared ≡ before.shared
+  pub made : made_of after ≡ made_of before
   pub printed : after.printed.items ≡ before.printed.items
   pub reports : after.reports.items ≡ before.reports.items ++ report_of before.number frame ∷ []
 
@@ -53,10 +72,11 @@ pub record GoesOn (old : SharedState) (before after : Draft) (turned : Turned) :
   pub course : course_of old after ≡ turned.course
   pub reports : after.reports.items ≡ before.reports.items ++ reports_of before.number turned.log
 
--- an output was opened: a new version of the shared parts and a place, or nothing for the console
-abbrev pub IsOpened : SharedState → Result (Option Opened) FsFault → Result shell.Opened Result2 → Type 0
-IsOpened shared (Ok None) (Ok opened) = opened ≡ record { shared = shared; place = None }
-IsOpened shared (Ok (Some new)) (Ok opened) = opened ≡ record { shared = new.shared; place = Some new.place }
+-- an output was opened: a file, with the shared parts behind that, or another, for which nothing changes
+abbrev pub IsOpened : SharedState → Result Opened FsFault → Result shell.Opened Result2 → Type 0
+IsOpened shared (Ok Console) (Ok opened) = opened ≡ record { shared = shared; target = None }
+IsOpened shared (Ok Nil) (Ok opened) = opened ≡ record { shared = shared; target = Some Null }
+IsOpened shared (Ok (File new place)) (Ok opened) = opened ≡ record { shared = new; target = Some (At place) }
 IsOpened shared (Err (Refused fault)) (Err other) = fault ≡ other
 IsOpened shared (Err NoMemory) opened = Unit {0}
 IsOpened shared _ _ = ⊥
@@ -66,6 +86,8 @@ pub record IsRenewed (before after : Draft) (new : Option SharedState) : Type 0 
   pub number : after.number ≡ before.number
   pub shell : after.shell ≡ before.shell
   pub shared : (old : SharedState) → version old after.shared ≡ version (version old before.shared) new
+  pub directories : after.directories.items ≡ before.directories.items
+  pub renamed : after.renamed ≡ before.renamed
   pub printed : after.printed.items ≡ before.printed.items
   pub reports : after.reports.items ≡ before.reports.items
 

@@ -1,7 +1,13 @@
--- The frames of a shell.
+-- The parts of a shell.
 use Rattle.std.specs.Prelude.{◌≡◌, ◌+◌, ◌<◌, ◌^◌, List, [], ◌∷◌, Option, Some, None}
+use Rattle.ados_ram.specs.InUse.{InUse}
+use Rattle.ados_find.specs.Views.{View}
 use Rattle.ados_machine.specs.Frames.{FrameState, ShellState}
 use Rattle.ados_machine.specs.Step.{moved}
+
+-- what commands read of a shell, with what is in use
+abbrev pub seen : ShellState → InUse → View
+seen shell busy = record { limit = shell.limit; codes = shell.codes; directory = shell.directory; busy = busy }
 
 abbrev pub newest : List FrameState → Option FrameState
 newest [] = None

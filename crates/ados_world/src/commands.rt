@@ -6,8 +6,6 @@ ghost use Rattle.ados_world.specs.Actions.{acting};
 
 use crate::actions::Action;
 use crate::scripts::execute;
-use crate::type_files::type_files;
-use ados_env::run;
 use ados_find::{Codes, Shared, ShellView};
 use ados_machine::Builtin;
 use ados_readargs::{ArgFault, Args, Template};
@@ -19,21 +17,21 @@ use std::marker::Model;
 #[derive(Drop)]
 pub struct Commands {
     env: ados_env::Templates,
+    files: ados_files::Templates,
     execute: Template,
     quit: Template,
-    type_files: Template,
 }
 
 impl Model for Commands {
     ghost use Rattle.std.specs.Prelude.{◌≡◌};
     ghost use Rattle.ados_machine.specs.Commands.{template_of};
-    ghost use Rattle.ados_machine.specs.declared.builtins.Builtin.TheVariants.{Execute, Quit, «Type»};
+    ghost use Rattle.ados_machine.specs.declared.builtins.Builtin.TheVariants.{Execute, Quit};
 
     ghost Value = { Unit {0} };
 
     ghost view = { λ _. tt };
 
-    ghost invariant = { λ c. (c.execute ≡ template_of Execute) × (c.quit ≡ template_of Quit) × (c.type_files ≡ template_of «Type») };
+    ghost invariant = { λ c. (c.execute ≡ template_of Execute) × (c.quit ≡ template_of Quit) };
 }
 
 impl Commands {
@@ -41,9 +39,9 @@ impl Commands {
     pub fn new(alloc: Global) -> Result<Commands, NoMemory> {
         Ok(Commands {
             env: ados_env::Templates::new(alloc)?,
+            files: ados_files::Templates::new(alloc)?,
             execute: template(alloc, Builtin::Execute)?,
             quit: template(alloc, Builtin::Quit)?,
-            type_files: template(alloc, Builtin::Type)?,
         })
     }
 
@@ -53,9 +51,9 @@ impl Commands {
     {
         match builtin {
             Builtin::Env(command) => self.env.of(command),
+            Builtin::Files(command) => self.files.of(command),
             Builtin::Execute => &self.execute,
             Builtin::Quit => &self.quit,
-            Builtin::Type => &self.type_files,
         }
     }
 
@@ -99,10 +97,14 @@ fn row(
     ensures { IfOk result (λ action. acting shared.now action ≡ row_of builtin simple shared.now view.now args.now) }
 {
     match builtin {
-        Builtin::Env(command) => Ok(Action::Answers(run(alloc, command, shared, view, args)?)),
-        Builtin::Execute => execute(alloc, simple, shared, view.limit, args.text(0)),
+        Builtin::Env(command) => Ok(Action::Answers(ados_env::run(
+            alloc, command, shared, view, args,
+        )?)),
+        Builtin::Files(command) => Ok(Action::Answers(ados_files::run(
+            alloc, command, shared, view, args,
+        )?)),
+        Builtin::Execute => execute(alloc, simple, shared, view, args.text(0)),
         Builtin::Quit => Ok(quit(args.number(0))),
-        Builtin::Type => Ok(Action::Answers(type_files(alloc, shared, view.limit, args.texts(0))?)),
     }
 }
 

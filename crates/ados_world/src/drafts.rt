@@ -3,25 +3,30 @@ ghost use Rattle.std.specs.Prelude.{◌≡◌, Some, IfOk, OnOk};
 ghost use Rattle.std.specs.Option.{option_copied};
 ghost use Rattle.ados_find.specs.Shared.{SharedState, version};
 ghost use Rattle.ados_machine.specs.Frames.{is_ended, finish, passed};
-ghost use Rattle.ados_machine.specs.Shell.{answered, put, called};
+ghost use Rattle.ados_machine.specs.Shell.{answered, put, called, view_of};
+ghost use Rattle.ados_machine.specs.World.{directories_in};
+ghost use Rattle.ados_machine.specs.declared.targets.Target.TheVariants.{At};
 
 use crate::console::{is_reached, push_failed, push_fault};
-use crate::files::append;
 use crate::frames::{Frame, Script};
+use crate::renames::{copies, directories};
 use crate::shells::Shell;
-use ados_find::{Codes, Shared};
-use ados_machine::{Called, EndReport};
+use ados_find::{Codes, Renamed, Shared, ShellView};
+use ados_machine::{Called, EndReport, Target};
 use ados_ram::{FsFault, Place};
 use ados_text::{Code, NoMemory, Text};
 use std::alloc::Global;
 
-/// What a turn of a shell changes: the shell, a new version of the shared parts where there is one,
-/// what it prints, and the scripts that it ends.
+/// What a turn of a shell changes: the shell, a new version of the shared parts where there is one, the object that it
+/// renamed, what it prints, and the scripts that it ends. The current directories of all shells stay in it as they were
+/// before.
 #[derive(Debug, Drop)]
 pub struct Draft {
     pub number: u8,
     pub shell: Shell,
     pub shared: Option<Shared>,
+    pub directories: Vec<Place>,
+    pub renamed: Option<Renamed>,
     pub printed: Vec<u8>,
     pub reports: Vec<EndReport>,
 }
@@ -29,21 +34,24 @@ pub struct Draft {
 impl Draft {
     ghost use Rattle.ados_world.specs.Drafts.{GoesOn, IsPut, IsFresh, IsRenewed, IsReported, course_of};
 
-    /// Nothing is changed yet of a shell, of which this is a copy.
-    pub fn new(alloc: Global, number: u8, shell: Shell) -> Draft
-        ensures { IsFresh number shell result }
+    /// Nothing is changed yet of a shell, of which this is a copy, among these shells.
+    pub fn new(
+        alloc: Global,
+        number: u8,
+        shells: &[Option<Shell>],
+        shell: &Shell,
+    ) -> Result<Draft, NoMemory>
+        ensures { IfOk result (λ draft. IsFresh number shell.now (directories_in shells.now) draft) }
     {
-        Draft {
+        Ok(Draft {
             number,
-            shell,
+            shell: shell.share()?,
             shared: None,
+            directories: directories(alloc, shells)?,
+            renamed: None,
             printed: Vec::new(alloc),
             reports: Vec::new(alloc),
-        }
-    }
-
-    fn alloc(&self) -> Global {
-        *self.printed.allocator()
+        })
     }
 
     /// The shared parts as they stand in this draft.
@@ -66,23 +74,33 @@ impl Draft {
         }
     }
 
-    /// Puts a command's output to its file, or to the console; what it answers then.
+    /// What commands read of the shell, and of the others.
+    pub fn view(&self, shared: &Shared) -> Result<ShellView, NoMemory>
+        ensures { IfOk result (λ view. view ≡ view_of self.now.shell (course_of shared.now self.now)) }
+    {
+        let directories = copies(*self.directories.allocator(), &self.directories)?;
+        let busy = self.current(shared).assigns.busy(directories)?;
+        self.shell.view(busy)
+    }
+
+    /// Puts a command's output to its file, or to the console, or drops it; what it answers then.
     pub fn put(
         &mut self,
-        place: Option<&Place>,
+        target: Option<&Target>,
         output: &[u8],
         codes: Codes,
         shared: &Shared,
     ) -> Result<Codes, NoMemory>
         ensures { IfOk result (λ answered. IsPut shared.now self.old self.new answered
-            (put (option_copied place.entry) output.now codes (course_of shared.now self.old))) }
+            (put (option_copied target.entry) output.now codes (course_of shared.now self.old))) }
     {
-        match place {
+        match target {
             None => {
                 self.printed.extend_from_slice(output)?;
                 Ok(codes)
             }
-            Some(place) => self.put_at(place, output, codes, shared),
+            Some(Target::Nil) => Ok(codes),
+            Some(Target::At(place)) => self.put_at(place, output, codes, shared),
         }
     }
 
@@ -94,16 +112,17 @@ impl Draft {
         shared: &Shared,
     ) -> Result<Codes, NoMemory>
         ensures { IfOk result (λ answered. IsPut shared.now self.old self.new answered
-            (put (Some place.now) output.now codes (course_of shared.now self.old))) }
+            (put (Some (At place.now)) output.now codes (course_of shared.now self.old))) }
     {
         if output.is_empty() {
             return Ok(codes);
         }
-        match append(self.alloc(), &self.current(shared).ram, place, output) {
+        let current = self.current(shared);
+        match current.ram.put_open(place, output) {
             Err(FsFault::NoMemory) => Err(NoMemory),
             Err(FsFault::Refused(fault)) => Ok(Codes::failed(fault)),
             Ok(ram) => {
-                self.shared = Some(Shared { ram });
+                self.shared = Some(current.with_files(ram)?);
                 Ok(codes)
             }
         }
@@ -137,7 +156,7 @@ impl Draft {
     /// and its end is the answer of the command that made it, and so on down.
     fn finish(&mut self, word: &[u8], codes: Codes, quits: bool) -> Result<(), NoMemory>
         ensures { OnOk result ((shared : SharedState) → GoesOn shared self.old self.new
-            (finish word.now codes quits self.old.shell.limit self.old.shell.frames (course_of shared self.old))) }
+            (finish word.now codes quits self.old.shell self.old.shell.frames (course_of shared self.old))) }
     {
         let limit = self.shell.limit();
         self.shell.answer(codes);

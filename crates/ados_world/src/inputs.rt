@@ -6,31 +6,36 @@ ghost use Rattle.ados_machine.specs.ScriptLines.{first_line, is_newline};
 ghost use Rattle.ados_machine.specs.Shell.{asks, is_question, is_end, input_of};
 ghost use Rattle.ados_world.specs.Answers.{Gives};
 
-use crate::file_names::place;
 use crate::files::read;
+use crate::targets::target;
 use ados_find::Shared;
 use ados_items::{Item, next_item};
-use ados_ram::FsFault;
+use ados_machine::Target;
+use ados_ram::{FsFault, Place};
 use ados_text::{NoMemory, Text};
 use std::alloc::Global;
 
-/// The line that an input, where there is one, answers a prompt with: its first.
+/// The line that an input, where there is one, answers a prompt with: its first, from a current directory.
 ///
 /// The faults are those of the name and of reading.
 pub fn input_line(
     alloc: Global,
     shared: &Shared,
+    directory: &Place,
     name: Option<&Text>,
 ) -> Result<Option<Text>, FsFault>
-    ensures { Gives result (input_of shared.now (option_copied name.entry)) }
+    ensures { Gives result (input_of shared.now directory.now (option_copied name.entry)) }
 {
     let Some(name) = name else {
         return Ok(None);
     };
-    let place = place(alloc, name)?;
-    match read(alloc, &shared.ram, &place) {
-        Ok(bytes) => Ok(Some(first_line(alloc, bytes)?)),
-        Err(fault) => Err(FsFault::Refused(fault)),
+    match target(alloc, shared, directory, name) {
+        Err(fault) => Err(fault),
+        Ok(Target::Nil) => Ok(Some(Text::new(alloc))),
+        Ok(Target::At(place)) => match read(alloc, &shared.ram, &place) {
+            Ok(bytes) => Ok(Some(first_line(alloc, bytes)?)),
+            Err(fault) => Err(FsFault::Refused(fault)),
+        },
     }
 }
 

@@ -1,74 +1,75 @@
 // Opening an output.
-ghost use Rattle.std.specs.Prelude.{◌≡◌, Ok};
+ghost use Rattle.std.specs.Prelude.{◌≡◌, Ok, IfOk};
 ghost use Rattle.std.specs.Option.{option_copied};
 ghost use Rattle.ados_machine.specs.Shell.{opening, opened_at};
+ghost use Rattle.ados_machine.specs.declared.targets.Target.TheVariants.{At};
 
-use crate::file_names::place;
 use crate::files::{append, write};
+use crate::targets::target;
 use ados_find::Shared;
 use ados_line::Redirection;
+use ados_machine::Target;
 use ados_ram::{FsFault, Place, Ram};
+use ados_text::NoMemory;
 use std::alloc::Global;
 
 /// An output that was opened.
 #[derive(Debug, Drop)]
-pub struct Opened {
-    /// The shared parts behind that.
-    pub shared: Shared,
-    /// Where it stands.
-    pub place: Place,
+pub enum Opened {
+    /// The console.
+    Console,
+    /// NIL:.
+    Nil,
+    /// A file, with the shared parts behind its opening.
+    File(Shared, Place),
 }
 
 impl Opened {
+    ghost use Rattle.ados_find.specs.Shared.{with_files};
     ghost use Rattle.ados_world.specs.Drafts.{IsOpened};
+    ghost use Rattle.ados_world.specs.declared.outputs.Opened.TheVariants.{File};
 
-    /// Opens what a redirection names: `>` empties the file or makes it, `>>` keeps it or makes it.
+    /// Opens what a redirection names, from a current directory: `>` empties the file or makes it, `>>` keeps it or
+    /// makes it.
     ///
-    /// `None` for the console; the faults are those of the name and of writing.
+    /// The faults are those of the name and of writing.
     pub fn by(
         alloc: Global,
         shared: &Shared,
+        directory: &Place,
         output: Option<&Redirection>,
-    ) -> Result<Option<Opened>, FsFault>
-        ensures { IsOpened shared.now result (opening shared.now (option_copied output.entry)) }
+    ) -> Result<Opened, FsFault>
+        ensures { IsOpened shared.now result (opening shared.now directory.now (option_copied output.entry)) }
     {
         let Some(output) = output else {
-            return Ok(None);
+            return Ok(Opened::Console);
         };
-        match place(alloc, &output.name) {
+        match target(alloc, shared, directory, &output.name) {
             Err(fault) => Err(fault),
-            Ok(place) => Opened::at(alloc, shared, output.append, place),
+            Ok(Target::Nil) => Ok(Opened::Nil),
+            Ok(Target::At(place)) => Opened::at(alloc, shared, output.append, place),
         }
     }
 
-    fn at(
-        alloc: Global,
-        shared: &Shared,
-        kept: bool,
-        place: Place,
-    ) -> Result<Option<Opened>, FsFault>
-        ensures { IsOpened shared.now result (opened_at shared.now.files kept (Ok place)) }
+    fn at(alloc: Global, shared: &Shared, kept: bool, place: Place) -> Result<Opened, FsFault>
+        ensures { IsOpened shared.now result (opened_at shared.now kept (Ok (At place))) }
     {
         if kept {
             match append(alloc, &shared.ram, &place, &[]) {
                 Err(fault) => Err(fault),
-                Ok(ram) => Ok(Some(Opened::with(ram, place))),
+                Ok(ram) => Ok(Opened::file(shared, ram, place)?),
             }
         } else {
             match write(alloc, &shared.ram, &place, &[]) {
                 Err(fault) => Err(fault),
-                Ok(ram) => Ok(Some(Opened::with(ram, place))),
+                Ok(ram) => Ok(Opened::file(shared, ram, place)?),
             }
         }
     }
 
-    fn with(ram: Ram, place: Place) -> Opened
-        ensures shared { result.shared ≡ record { files = ram } }
-        ensures place { result.place ≡ place }
+    fn file(shared: &Shared, ram: Ram, place: Place) -> Result<Opened, NoMemory>
+        ensures { IfOk result (λ opened. opened ≡ File (with_files shared.now ram) place) }
     {
-        Opened {
-            shared: Shared { ram },
-            place,
-        }
+        Ok(Opened::File(shared.with_files(ram)?, place))
     }
 }

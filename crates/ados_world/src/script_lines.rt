@@ -1,10 +1,8 @@
-// The lines of a script, and where its file stands.
+// The lines of a script.
 ghost use Rattle.std.specs.Prelude.{◌≡◌, ◌++◌, IfOk, OnOk, []};
-ghost use Rattle.ados_ram.specs.Place.{key_of};
-ghost use Rattle.ados_machine.specs.ScriptLines.{lines_of, last_line, full_path, path_below, slash_before};
+ghost use Rattle.ados_machine.specs.ScriptLines.{lines_of, last_line};
 
-use ados_ram::{Place, Ram};
-use ados_text::{Name, NoMemory, Text, Texts};
+use ados_text::{NoMemory, Text, Texts};
 use std::alloc::Global;
 
 /// The lines of a file's bytes: each ends at a byte 10, and the last one may lack it.
@@ -33,38 +31,4 @@ fn push_last(lines: &mut Texts, line: Text) -> Result<(), NoMemory>
         return Ok(());
     }
     lines.push(line)
-}
-
-/// The full path of a place, with the names as they are written in the files.
-pub fn path(alloc: Global, ram: &Ram, place: &Place) -> Result<Text, NoMemory>
-    ensures { IfOk result (λ path. path ≡ full_path ram.now place.now) }
-{
-    let mut path = Text::from_bytes(alloc, b"RAM:")?;
-    push_below(&mut path, ram, Place::root(alloc), place.names())?;
-    Ok(path)
-}
-
-/// Adds the names from a place down.
-fn push_below(path: &mut Text, ram: &Ram, above: Place, rest: &[Name]) -> Result<(), NoMemory>
-    ensures { OnOk result (path.new ≡ path.old ++ path_below ram.now above rest.now) }
-{
-    let Some((name, rest)) = rest.split_first() else {
-        return Ok(());
-    };
-    let place = above.with(name.copy()?)?;
-    match ram.look(&place) {
-        None => path.push_bytes(name.text().as_bytes())?,
-        Some(entry) => path.push_bytes(entry.name.text().as_bytes())?,
-    }
-    push_slash(path, rest)?;
-    push_below(path, ram, place, rest)
-}
-
-fn push_slash(path: &mut Text, rest: &[Name]) -> Result<(), NoMemory>
-    ensures { OnOk result (path.new ≡ path.old ++ slash_before rest.now) }
-{
-    if rest.is_empty() {
-        return Ok(());
-    }
-    path.push(b'/')
 }

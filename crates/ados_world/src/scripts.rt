@@ -1,17 +1,17 @@
 // Execute: the call of a script.
-ghost use Rattle.std.specs.Prelude.{◌≡◌, Ok, IfOk};
+ghost use Rattle.std.specs.Prelude.{◌≡◌, ◌<◌, ◌++◌, IfOk, IfSome, codes, length, position};
 ghost use Rattle.std.specs.Option.{option_copied};
-ghost use Rattle.ados_machine.specs.FileNames.{place_of};
-ghost use Rattle.ados_machine.specs.Commands.{read_of, script_place, is_dotted, script_at, script_read, execute_file, execute_row};
+ghost use Rattle.ados_find.specs.Paths.{place_of, Gives};
+ghost use Rattle.ados_machine.specs.Targets.{read_at};
+ghost use Rattle.ados_machine.specs.Commands.{is_separator, is_plain, script_place, is_dotted, script_by, script_at, script_read, execute_file, execute_row};
 ghost use Rattle.ados_world.specs.Actions.{acting};
 
 use crate::actions::Action;
-use crate::file_names::{is_plain, place, script};
 use crate::files::read;
-use crate::script_lines::{lines, path};
-use ados_find::{Codes, Shared};
+use crate::script_lines::lines;
+use ados_find::{Codes, Refusal, Shared, ShellView, place_of};
 use ados_machine::Called;
-use ados_ram::{FsFault, Place, Ram};
+use ados_ram::Place;
 use ados_text::{Code, NoMemory, Result2, Text};
 use std::alloc::Global;
 
@@ -21,47 +21,95 @@ pub fn execute(
     alloc: Global,
     simple: bool,
     shared: &Shared,
-    limit: Code,
+    view: &ShellView,
     file: Option<&Text>,
 ) -> Result<Action, NoMemory>
-    ensures { IfOk result (λ action. acting shared.now action ≡ execute_row simple shared.now limit (option_copied file.entry)) }
+    ensures { IfOk result (λ action. acting shared.now action ≡ execute_row simple shared.now view.now (option_copied file.entry)) }
 {
     if !simple {
-        return Ok(Action::answering(alloc, limit, Codes::failed(Result2::NOT_IMPLEMENTED)));
+        return Ok(Action::answering(alloc, view.limit, Codes::failed(Result2::NOT_IMPLEMENTED)));
     }
     match file {
-        None => Ok(Action::answering(alloc, limit, Codes::failed(Result2::ARGUMENT_MISSING))),
-        Some(word) => call(alloc, shared, limit, word),
+        None => Ok(Action::answering(alloc, view.limit, Codes::failed(Result2::ARGUMENT_MISSING))),
+        Some(word) => call(alloc, shared, view, word),
     }
 }
 
-fn call(alloc: Global, shared: &Shared, limit: Code, word: &Text) -> Result<Action, NoMemory>
-    ensures { IfOk result (λ action. acting shared.now action ≡ script_at shared.now limit word.now (place_of word.now)) }
+fn call(alloc: Global, shared: &Shared, view: &ShellView, word: &Text) -> Result<Action, NoMemory>
+    ensures { IfOk result (λ action. acting shared.now action ≡ script_by shared.now view.now word.now (place_of shared.now view.now.directory word.now)) }
 {
-    match place(alloc, word) {
-        Err(FsFault::NoMemory) => Err(NoMemory),
-        Err(FsFault::Refused(fault)) => Ok(Action::answering(alloc, limit, Codes::erred(fault))),
-        Ok(place) => {
-            let place = script_place(alloc, &shared.ram, word, place)?;
-            call_at(alloc, shared, limit, &place)
-        }
+    match place_of(alloc, shared, &view.directory, word) {
+        Err(Refusal::NoMemory) => Err(NoMemory),
+        Err(Refusal::Stopped(codes)) => Ok(Action::answering(alloc, view.limit, codes)),
+        Ok(place) => call_found(alloc, shared, view, word, place),
     }
 }
 
-/// Where a script stands: in S where its name is plain and nothing has it.
-fn script_place(alloc: Global, ram: &Ram, word: &Text, place: Place) -> Result<Place, NoMemory>
-    ensures { IfOk result (λ found. found ≡ script_place ram.now word.now place) }
+/// Calls the script of a word that leads to this place.
+fn call_found(
+    alloc: Global,
+    shared: &Shared,
+    view: &ShellView,
+    word: &Text,
+    place: Place,
+) -> Result<Action, NoMemory>
+    ensures { IfOk result (λ action. acting shared.now action ≡ script_at shared.now view.now.limit (script_place shared.now view.now.directory word.now place)) }
 {
-    if is_plain(word) && ram.look(&place).is_none() {
-        script(alloc, word.copy()?)
+    match script_place(alloc, shared, &view.directory, word, place) {
+        Err(Refusal::NoMemory) => Err(NoMemory),
+        Err(Refusal::Stopped(codes)) => Ok(Action::answering(alloc, view.limit, codes)),
+        Ok(found) => call_at(alloc, shared, view.limit, &found),
+    }
+}
+
+/// Where a script stands: in S: where its name is plain and nothing has it.
+fn script_place(
+    alloc: Global,
+    shared: &Shared,
+    directory: &Place,
+    word: &Text,
+    place: Place,
+) -> Result<Place, Refusal>
+    ensures { Gives result (script_place shared.now directory.now word.now place) }
+{
+    if is_plain(word) && shared.ram.look(&place).is_none() {
+        in_scripts(alloc, shared, directory, word)
     } else {
         Ok(place)
     }
 }
 
+/// The place of a word in S:.
+fn in_scripts(
+    alloc: Global,
+    shared: &Shared,
+    directory: &Place,
+    word: &Text,
+) -> Result<Place, Refusal>
+    ensures { Gives result (place_of shared.now directory.now (codes "S:" ++ word.now)) }
+{
+    let mut path = Text::from_bytes(alloc, b"S:")?;
+    path.push_bytes(word.as_bytes())?;
+    place_of(alloc, shared, directory, &path)
+}
+
+/// A word without a colon and a slash.
+fn is_plain(word: &Text) -> bool
+    ensures { result ≡ is_plain word.now }
+{
+    separator(word.as_bytes()).is_none()
+}
+
+fn separator(text: &[u8]) -> Option<usize>
+    ensures place { result ≡ position is_separator text.now }
+    ensures within { IfSome result (λ place. place < length text.now) }
+{
+    text.iter().position(|byte| *byte == b':' || *byte == b'/')
+}
+
 /// Reads a script and calls it.
 fn call_at(alloc: Global, shared: &Shared, limit: Code, place: &Place) -> Result<Action, NoMemory>
-    ensures { IfOk result (λ action. acting shared.now action ≡ script_read shared.now limit place.now (read_of shared.now.files (Ok place.now))) }
+    ensures { IfOk result (λ action. acting shared.now action ≡ script_read shared.now limit place.now (read_at shared.now.files place.now)) }
 {
     match read(alloc, &shared.ram, place) {
         Err(fault) => Ok(Action::answering(alloc, limit, Codes::erred(fault))),
@@ -70,7 +118,7 @@ fn call_at(alloc: Global, shared: &Shared, limit: Code, place: &Place) -> Result
             if is_dotted(lines.as_slice()) {
                 return Ok(Action::answering(alloc, limit, Codes::failed(Result2::NOT_IMPLEMENTED)));
             }
-            let name = path(alloc, &shared.ram, place)?;
+            let name = shared.ram.full_path(place)?;
             Ok(Action::Calls(Called { name, lines }))
         }
     }

@@ -1,13 +1,16 @@
 // A shell: its scripts, its fail limit, what its last command answered.
-ghost use Rattle.std.specs.Prelude.{◌≡◌, [], ◌∷◌, IfOk, IfNone, IfSome, OnOk, reverse};
+ghost use Rattle.std.specs.Prelude.{◌≡◌, [], ◌∷◌, IfOk, IfNone, IfSome, OnOk, reverse, unwrap_or};
 ghost use Rattle.std.specs.Option.{option_copied};
 ghost use Rattle.ados_machine.specs.Frames.{fresh_shell, limit_behind};
-ghost use Rattle.ados_machine.specs.Shell.{is_free, view_of};
+ghost use Rattle.ados_machine.specs.Shell.{is_free};
+ghost use Rattle.ados_machine.specs.Step.{carried_shell};
 ghost use Rattle.ados_machine.specs.declared.phases.Phase.TheVariants.{Ready, Asking as Waits};
 
 use crate::frames::Frame;
-use ados_find::{Codes, ShellView};
+use ados_assign::carried;
+use ados_find::{Codes, Renamed, ShellView};
 use ados_machine::{Asking, Phase};
+use ados_ram::{Busy, Place};
 use ados_text::{Code, NoMemory};
 use std::alloc::Global;
 use std::marker::Model;
@@ -21,6 +24,7 @@ pub struct Shell {
     frames: Vec<Frame>,
     limit: Code,
     codes: Codes,
+    directory: Place,
     phase: Phase,
 }
 
@@ -30,13 +34,13 @@ impl Model for Shell {
 
     ghost Value = { ShellState };
 
-    ghost view = { λ s. record { frames = reverse s.frames.items; limit = s.limit; codes = s.codes; phase = s.phase } };
+    ghost view = { λ s. record { frames = reverse s.frames.items; limit = s.limit; codes = s.codes; directory = s.directory; phase = s.phase } };
 }
 
 impl Shell {
-    ghost use Rattle.ados_world.specs.Shells.{newest, HasRoom, IsMovedOn};
+    ghost use Rattle.ados_world.specs.Shells.{newest, seen, HasRoom, IsMovedOn};
 
-    /// A shell in which nothing has answered yet.
+    /// A shell in which nothing has answered yet, in the root.
     pub fn new(alloc: Global) -> Shell
         ensures { result ≡ fresh_shell }
     {
@@ -44,6 +48,7 @@ impl Shell {
             frames: Vec::new(alloc),
             limit: FIRST_LIMIT,
             codes: Codes::NONE,
+            directory: Place::root(alloc),
             phase: Phase::Ready,
         }
     }
@@ -60,6 +65,7 @@ impl Shell {
             frames,
             limit: self.limit,
             codes: self.codes,
+            directory: self.directory.copy()?,
             phase: copy_of(&self.phase)?,
         })
     }
@@ -99,14 +105,32 @@ impl Shell {
         &self.phase
     }
 
-    /// What commands read of the shell.
-    pub fn view(&self) -> ShellView
-        ensures { result ≡ view_of self.now }
+    /// Its current directory.
+    pub fn directory(&self) -> &Place
+        ensures { result.now ≡ self.now.directory }
     {
-        ShellView {
+        &self.directory
+    }
+
+    /// What commands read of the shell, and of the others.
+    pub fn view(&self, busy: Busy) -> Result<ShellView, NoMemory>
+        ensures { IfOk result (λ view. view ≡ seen self.now busy) }
+    {
+        Ok(ShellView {
             limit: self.limit,
             codes: self.codes,
-        }
+            directory: self.directory.copy()?,
+            busy,
+        })
+    }
+
+    /// The shell once an object was renamed, by which its current directory is carried.
+    pub fn carry(self, renamed: &Renamed) -> Result<Shell, NoMemory>
+        ensures { IfOk result (λ shell. shell ≡ carried_shell renamed.now self) }
+    {
+        let mut shell = self;
+        shell.directory = carried(&renamed.from, &renamed.to, &shell.directory)?;
+        Ok(shell)
     }
 
     /// A command answered this, and the shell is ready.
@@ -131,11 +155,15 @@ impl Shell {
         self.phase = Phase::Ready;
     }
 
-    /// The fail limit is this.
-    pub fn set_limit(&mut self, limit: Code)
-        ensures { self.new ≡ record self.old { limit = limit } }
+    /// The fail limit is this, and the current directory, where there is a new one.
+    pub fn affect(&mut self, limit: Code, directory: Option<Place>)
+        ensures { self.new ≡ record self.old { limit = limit; directory = unwrap_or directory self.old.directory } }
     {
         self.limit = limit;
+        match directory {
+            None => {}
+            Some(place) => self.directory = place,
+        }
     }
 
     /// Takes the newest frame off.

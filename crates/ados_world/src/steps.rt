@@ -1,16 +1,15 @@
 // The step: what an event makes of a world.
-ghost use Rattle.std.specs.Prelude.{◌≡◌, [], Some, None, OnSome, drop, slice_set};
+ghost use Rattle.std.specs.Prelude.{◌≡◌, [], Some, None, OnSome, drop, slice_set, unwrap_or};
 ghost use Rattle.std.specs.Option.{option_copied};
 ghost use Rattle.ados_machine.specs.declared.answers.Answer.{Answer as Reply};
 ghost use Rattle.ados_machine.specs.World.{shell_at};
-ghost use Rattle.ados_machine.specs.Limits.{AllRunOn};
 ghost use Rattle.ados_find.specs.Shared.{version};
-ghost use Rattle.ados_world.specs.Steps.{AsksAt, IsFirst, IsFreeAt, IsShellNumber, IsGiven, IsTaken};
+ghost use Rattle.ados_world.specs.Steps.{AsksAt, IsFirst, IsFreeAt, IsShellNumber, IsGiven, IsTaken, KeepFrames, RunsOn};
 ghost use Rattle.ados_machine.specs.Step.{step_of, typed, end_of_input, turned, waiting, replied, giving, with_shell};
 ghost use Rattle.ados_machine.specs.Runs.{IsAnswer, world_after};
 
-use crate::drafts::Draft;
-use crate::turns::{console_draft, prompt_draft, script_draft};
+use crate::settled::{Settled, console_settled, prompt_settled, script_settled};
+use crate::shells::Shell;
 use crate::worlds::World;
 use ados_find::{Codes, Shared};
 use ados_machine::{Event, Out, Phase, Refusal};
@@ -86,8 +85,15 @@ impl World {
         if shell.is_free() {
             return self.console_turn(number);
         }
-        match script_draft(self.alloc, &self.commands, number, shell, &self.shared) {
-            Ok(draft) => Ok(self.take(number, draft)),
+        match script_settled(
+            self.alloc,
+            &self.commands,
+            number,
+            &self.shells,
+            shell,
+            &self.shared,
+        ) {
+            Ok(done) => Ok(self.take(number, done)),
             Err(_) => Err(Refusal::NoMemory),
         }
     }
@@ -111,29 +117,31 @@ impl World {
         match self.waiting_line(number) {
             None => {
                 let empty = Text::new(self.alloc);
-                match prompt_draft(
+                match prompt_settled(
                     self.alloc,
                     &self.commands,
                     number,
+                    &self.shells,
                     shell,
                     question,
                     &empty,
                     &self.shared,
                 ) {
-                    Ok(draft) => Ok(self.take(number, draft)),
+                    Ok(done) => Ok(self.take(number, done)),
                     Err(_) => Err(Refusal::NoMemory),
                 }
             }
-            Some(line) => match prompt_draft(
+            Some(line) => match prompt_settled(
                 self.alloc,
                 &self.commands,
                 number,
+                &self.shells,
                 shell,
                 question,
                 line,
                 &self.shared,
             ) {
-                Ok(draft) => Ok(self.take_typed(draft)),
+                Ok(done) => Ok(self.take_typed(done)),
                 Err(_) => Err(Refusal::NoMemory),
             },
         }
@@ -165,14 +173,15 @@ impl World {
             return Err(Refusal::NotReady);
         }
         match self.queue.front() {
-            Some(line) => match console_draft(
+            Some(line) => match console_settled(
                 self.alloc,
                 &self.commands,
+                &self.shells,
                 shell,
                 line,
                 &self.shared,
             ) {
-                Ok(draft) => Ok(self.take_typed(draft)),
+                Ok(done) => Ok(self.take_typed(done)),
                 Err(_) => Err(Refusal::NoMemory),
             },
             None => {
@@ -182,33 +191,45 @@ impl World {
         }
     }
 
-    /// Moves in the draft of a turn that took the first line that waited.
-    fn take_typed(&mut self, draft: Draft) -> Out
-        requires { AllRunOn draft.shell.frames }
-        ensures out { IsGiven 1 draft result }
-        ensures world { IsTaken (record self.old { queue = drop 1 self.old.queue }) 1 draft self.new }
+    /// Moves in what a turn changes that took the first line that waited.
+    fn take_typed(&mut self, done: Settled) -> Out
+        requires { RunsOn self.old.shells done }
+        ensures out { IsGiven done result }
+        ensures world { IsTaken (record self.old { queue = drop 1 self.old.queue }) 1 done self.new }
     {
         let _ = self.queue.pop_front();
-        self.take(1, draft)
+        self.take(1, done)
     }
 
-    /// Moves in the draft of a turn.
-    fn take(&mut self, number: u8, draft: Draft) -> Out
+    /// Moves in what a turn changes.
+    fn take(&mut self, number: u8, done: Settled) -> Out
         requires number { IsShellNumber number }
-        requires runs_on { AllRunOn draft.shell.frames }
-        ensures out { IsGiven number draft result }
-        ensures world { IsTaken self.old number draft self.new }
+        requires runs_on { RunsOn self.old.shells done }
+        ensures out { IsGiven done result }
+        ensures world { IsTaken self.old number done self.new }
     {
-        let Draft {
-            number: _,
+        let Settled {
+            shells,
             shell,
             shared,
             printed,
             reports,
-        } = draft;
+        } = done;
+        self.replace(shells);
         self.shells[number as usize - 1] = Some(shell);
         self.renew(shared);
         Out::giving(printed, reports)
+    }
+
+    /// Moves in all shells, where there are new ones.
+    fn replace(&mut self, new: Option<[Option<Shell>; 20]>)
+        requires { KeepFrames self.old.shells new }
+        ensures { self.new ≡ record self.old { shells = unwrap_or new self.old.shells } }
+    {
+        match new {
+            None => {}
+            Some(shells) => self.shells = shells,
+        }
     }
 
     /// Moves in a new version of the shared parts, where there is one.

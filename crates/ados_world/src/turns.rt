@@ -1,5 +1,5 @@
 // A turn: what a line does to its shell.
-ghost use Rattle.std.specs.Prelude.{◌≡◌, ◌++◌, ◌&&◌, false, is_none, Ok, Some, IfOk, OnOk};
+ghost use Rattle.std.specs.Prelude.{◌≡◌, ◌++◌, ◌&&◌, false, IfOk, OnOk};
 ghost use Rattle.std.specs.Option.{option_copied};
 ghost use Rattle.ados_find.specs.Shared.{SharedState};
 ghost use Rattle.ados_find.specs.Codes.{failed};
@@ -7,9 +7,11 @@ ghost use Rattle.ados_find.specs.Effects.{effect_of};
 ghost use Rattle.ados_line.specs.Cut.{expanded_of};
 ghost use Rattle.ados_machine.specs.Commands.{builtin_of, action_of, Answers};
 ghost use Rattle.ados_machine.specs.Limits.{AllRunOn};
-ghost use Rattle.ados_machine.specs.Shell.{acted, answered, asked, begun, input_of, is_free, number_of_fault, obeyed, prepared, prompt, ran, resumed, sought, turn_of, view_of};
+ghost use Rattle.ados_machine.specs.World.{directories_in};
+ghost use Rattle.ados_machine.specs.Shell.{acted, answered, asked, begun, input_of, is_console, is_free, number_of_fault, obeyed, opening, performed, prepared, prompt, quietly, resumed, sought, turn_of, view_of};
 ghost use Rattle.ados_world.specs.Actions.{acting};
-ghost use Rattle.ados_world.specs.Drafts.{GoesOn, IsDrafted, IsScriptDrafted, course_of};
+ghost use Rattle.ados_world.specs.Answers.{Gives};
+ghost use Rattle.ados_world.specs.Drafts.{GoesOn, IsDrafted, IsOpened, IsScriptDrafted, course_of};
 
 use crate::actions::Action;
 use crate::commands::Commands;
@@ -18,9 +20,9 @@ use crate::inputs::{asks, input_line};
 use crate::outputs::Opened;
 use crate::shells::Shell;
 use ados_find::{Codes, Outcome, Shared};
-use ados_line::{Expanded, Line, LineFault, expand};
-use ados_machine::{Asking, Builtin};
-use ados_ram::{FsFault, Place};
+use ados_line::{Expanded, Line, LineFault, Redirection, expand};
+use ados_machine::{Asking, Builtin, Target};
+use ados_ram::FsFault;
 use ados_text::{NoMemory, Result2, Text};
 use std::alloc::Global;
 
@@ -76,9 +78,9 @@ impl Draft {
     ) -> Result<(), NoMemory>
         ensures { OnOk result (GoesOn shared.now self.old self.new
             (prepared builtin line self.old.shell (course_of shared.now self.old)
-            (input_of (course_of shared.now self.old).shared line.input))) }
+            (input_of (course_of shared.now self.old).shared self.old.shell.directory line.input))) }
     {
-        match input_line(alloc, self.current(shared), line.input.as_ref()) {
+        match self.input(alloc, line.input.as_ref(), shared) {
             Err(FsFault::NoMemory) => Err(NoMemory),
             Err(FsFault::Refused(fault)) => self.refuse(&line.command, fault),
             Ok(answer) => {
@@ -89,6 +91,20 @@ impl Draft {
                 }
             }
         }
+    }
+
+    /// The line that an input answers a prompt with, as the shell and the shared parts stand.
+    fn input(
+        &self,
+        alloc: Global,
+        name: Option<&Text>,
+        shared: &Shared,
+    ) -> Result<Option<Text>, FsFault>
+        ensures { Gives result
+            (input_of (course_of shared.now self.now).shared self.now.shell.directory (option_copied name.entry)) }
+    {
+        let directory = self.shell.directory();
+        input_line(alloc, self.current(shared), directory, name)
     }
 
     /// Prints a prompt; its answer stands for the arguments. Without one the shell waits for it.
@@ -114,6 +130,20 @@ impl Draft {
         }
     }
 
+    /// Opens what a redirection names, as the shell and the shared parts stand.
+    fn open(
+        &self,
+        alloc: Global,
+        output: Option<&Redirection>,
+        shared: &Shared,
+    ) -> Result<Opened, FsFault>
+        ensures { IsOpened (course_of shared.now self.now).shared result
+            (opening (course_of shared.now self.now).shared self.now.shell.directory (option_copied output.entry)) }
+    {
+        let directory = self.shell.directory();
+        Opened::by(alloc, self.current(shared), directory, output)
+    }
+
     /// Opens a command's output, and lets it act.
     fn begin(
         &mut self,
@@ -126,13 +156,23 @@ impl Draft {
         ensures { OnOk result (GoesOn shared.now self.old self.new
             (begun builtin line.now self.old.shell (course_of shared.now self.old))) }
     {
-        match Opened::by(alloc, self.current(shared), line.output.as_ref()) {
+        match self.open(alloc, line.output.as_ref(), shared) {
             Err(FsFault::NoMemory) => Err(NoMemory),
             Err(FsFault::Refused(fault)) => self.refuse(&line.command, fault),
-            Ok(None) => self.act(alloc, commands, builtin, line, None, shared),
-            Ok(Some(opened)) => {
-                self.shared = Some(opened.shared);
-                self.act(alloc, commands, builtin, line, Some(&opened.place), shared)
+            Ok(Opened::Console) => self.act(alloc, commands, builtin, line, None, shared),
+            Ok(Opened::Nil) => {
+                self.act(alloc, commands, builtin, line, Some(&Target::Nil), shared)
+            }
+            Ok(Opened::File(new, place)) => {
+                self.shared = Some(new);
+                self.act(
+                    alloc,
+                    commands,
+                    builtin,
+                    line,
+                    Some(&Target::At(place)),
+                    shared,
+                )
             }
         }
     }
@@ -152,15 +192,14 @@ impl Draft {
         commands: &Commands,
         builtin: Builtin,
         line: &Line,
-        place: Option<&Place>,
+        target: Option<&Target>,
         shared: &Shared,
     ) -> Result<(), NoMemory>
         ensures { OnOk result (GoesOn shared.now self.old self.new
-            (ran builtin line.now self.old.shell (course_of shared.now self.old)
-            (Ok (record { shared = (course_of shared.now self.old).shared; place = option_copied place.entry })))) }
+            (performed builtin line.now (option_copied target.entry) self.old.shell (course_of shared.now self.old))) }
     {
-        match self.action(alloc, commands, builtin, line, is_console(place), shared)? {
-            Action::Answers(outcome) => self.settle(&line.command, place, outcome, shared),
+        match self.action(alloc, commands, builtin, line, is_console(target), shared)? {
+            Action::Answers(outcome) => self.settle(&line.command, target, outcome, shared),
             Action::Quits(code) => {
                 let answered = Codes {
                     code,
@@ -184,10 +223,10 @@ impl Draft {
     ) -> Result<Action, NoMemory>
         ensures { IfOk result (λ action. acting (course_of shared.now self.now).shared action
             ≡ action_of builtin (is_free self.now.shell.frames && on_console) (course_of shared.now self.now).shared
-            (view_of self.now.shell) line.now.args) }
+            (view_of self.now.shell (course_of shared.now self.now)) line.now.args) }
     {
         let simple = self.shell.is_free() && on_console;
-        let view = self.shell.view();
+        let view = self.view(shared)?;
         commands.perform(
             alloc,
             builtin,
@@ -202,12 +241,12 @@ impl Draft {
     fn settle(
         &mut self,
         word: &Text,
-        place: Option<&Place>,
+        target: Option<&Target>,
         outcome: Outcome,
         shared: &Shared,
     ) -> Result<(), NoMemory>
         ensures { OnOk result (GoesOn shared.now self.old self.new
-            (acted word.now (option_copied place.entry) (Answers (effect_of (course_of shared.now self.old).shared outcome))
+            (acted word.now (option_copied target.entry) (Answers (effect_of (course_of shared.now self.old).shared outcome))
             self.old.shell (course_of shared.now self.old))) }
     {
         let Outcome {
@@ -215,10 +254,13 @@ impl Draft {
             limit,
             codes,
             output,
+            directory,
+            renamed,
         } = outcome;
-        self.shell.set_limit(limit);
+        self.shell.affect(limit, directory);
         self.renew(new);
-        let answered = self.put(place, output.as_bytes(), codes, shared)?;
+        self.renamed = renamed;
+        let answered = self.put(target, output.as_bytes(), codes, shared)?;
         self.answer(word.as_bytes(), answered, false)
     }
 }
@@ -228,14 +270,16 @@ impl Draft {
 pub fn console_draft(
     alloc: Global,
     commands: &Commands,
+    shells: &[Option<Shell>],
     shell: &Shell,
     line: &Text,
     shared: &Shared,
 ) -> Result<Draft, NoMemory>
-    ensures drafted { IfOk result (λ draft. IsDrafted 1 shared.now draft (turn_of line.now shell.now shared.now)) }
+    ensures drafted { IfOk result (λ draft. IsDrafted 1 shared.now draft
+        (turn_of line.now shell.now (quietly shared.now (directories_in shells.now)))) }
     ensures runs_on { AllRunOn shell.now.frames → IfOk result (λ draft. AllRunOn draft.shell.frames) }
 {
-    let mut draft = Draft::new(alloc, 1, shell.share()?);
+    let mut draft = Draft::new(alloc, 1, shells, shell)?;
     draft.obey(alloc, commands, line, shared)?;
     Ok(draft)
 }
@@ -245,25 +289,27 @@ pub fn script_draft(
     alloc: Global,
     commands: &Commands,
     number: u8,
+    shells: &[Option<Shell>],
     shell: &Shell,
     shared: &Shared,
 ) -> Result<Draft, NoMemory>
-    ensures drafted { IfOk result (λ draft. IsScriptDrafted number shared.now draft shell.now shell.now.frames) }
+    ensures drafted { IfOk result (λ draft. IsScriptDrafted number (quietly shared.now (directories_in shells.now)) draft shell.now shell.now.frames) }
     ensures runs_on { AllRunOn shell.now.frames → IfOk result (λ draft. AllRunOn draft.shell.frames) }
 {
-    next_line_draft(alloc, commands, number, shell, shared)
+    next_line_draft(alloc, commands, number, shells, shell, shared)
 }
 
 fn next_line_draft(
     alloc: Global,
     commands: &Commands,
     number: u8,
+    shells: &[Option<Shell>],
     shell: &Shell,
     shared: &Shared,
 ) -> Result<Draft, NoMemory>
-    ensures { IfOk result (λ draft. IsScriptDrafted number shared.now draft shell.now shell.now.frames) }
+    ensures { IfOk result (λ draft. IsScriptDrafted number (quietly shared.now (directories_in shells.now)) draft shell.now shell.now.frames) }
 {
-    let mut draft = Draft::new(alloc, number, shell.share()?);
+    let mut draft = Draft::new(alloc, number, shells, shell)?;
     let Some(frame) = shell.newest() else {
         return Ok(draft);
     };
@@ -278,20 +324,39 @@ fn next_line_draft(
 }
 
 /// What a turn that takes the answer to a prompt changes: the line stands as it is.
-#[tactic(auto, using(crate::proofs::RunsOnLemmas::prompt_runs))]
 pub fn prompt_draft(
     alloc: Global,
     commands: &Commands,
     number: u8,
+    shells: &[Option<Shell>],
     shell: &Shell,
     question: &Asking,
     answer: &Text,
     shared: &Shared,
 ) -> Result<Draft, NoMemory>
-    ensures drafted { IfOk result (λ draft. IsDrafted number shared.now draft (resumed answer.now question.now shell.now shared.now)) }
+    ensures drafted { IfOk result (λ draft. IsDrafted number shared.now draft
+        (resumed answer.now question.now shell.now (quietly shared.now (directories_in shells.now)))) }
     ensures runs_on { AllRunOn shell.now.frames → IfOk result (λ draft. AllRunOn draft.shell.frames) }
 {
-    let mut draft = Draft::new(alloc, number, shell.share()?);
+    answer_draft(
+        alloc, commands, number, shells, shell, question, answer, shared,
+    )
+}
+
+fn answer_draft(
+    alloc: Global,
+    commands: &Commands,
+    number: u8,
+    shells: &[Option<Shell>],
+    shell: &Shell,
+    question: &Asking,
+    answer: &Text,
+    shared: &Shared,
+) -> Result<Draft, NoMemory>
+    ensures { IfOk result (λ draft. IsDrafted number shared.now draft
+        (resumed answer.now question.now shell.now (quietly shared.now (directories_in shells.now)))) }
+{
+    let mut draft = Draft::new(alloc, number, shells, shell)?;
     draft.shell.be_ready();
     let line = Line {
         args: answer.copy()?,
@@ -301,11 +366,11 @@ pub fn prompt_draft(
     Ok(draft)
 }
 
-/// An output without a place is the console.
-fn is_console(place: Option<&Place>) -> bool
-    ensures { result ≡ is_none (option_copied place.entry) }
+/// An output that leads nowhere else is the console.
+fn is_console(target: Option<&Target>) -> bool
+    ensures { result ≡ is_console (option_copied target.entry) }
 {
-    match place {
+    match target {
         None => true,
         Some(_) => false,
     }

@@ -12,7 +12,6 @@ use crate::hosts::{HostEntry, NewFault};
 use crate::shells::Shell;
 use ados_find::{Codes, Shared};
 use ados_machine::{Phase, Request};
-use ados_ram::Ram;
 use ados_text::Text;
 use std::alloc::Global;
 use std::collections::VecDeque;
@@ -35,10 +34,11 @@ impl Model for World {
     ghost use Rattle.ados_machine.specs.Limits.{IsSane};
     ghost use Rattle.std.specs.Coded.{codes};
     ghost use Rattle.ados_ram.specs.Files.{coded_files};
+    ghost use Rattle.ados_assign.specs.Assigns.{coded_assigns};
 
     ghost Value = { WorldState };
 
-    ghost coded = { Prim.hlevel (codes, coded_files) };
+    ghost coded = { Prim.hlevel (codes, coded_files, coded_assigns) };
 
     ghost view = { λ w. record { shells = w.shells; ended = w.ended; queue = w.queue.items; input_ended = w.input_ended; shared = w.shared } };
 
@@ -60,7 +60,7 @@ impl World {
         let Ok(commands) = Commands::new(alloc) else {
             return Err(NewFault::NoMemory);
         };
-        let Ok(ram) = Ram::new(alloc) else {
+        let Ok(shared) = Shared::first(alloc) else {
             return Err(NewFault::NoMemory);
         };
         Ok(World {
@@ -91,7 +91,7 @@ impl World {
             ended: [Codes::NONE; 20],
             queue: VecDeque::new(alloc),
             input_ended: false,
-            shared: Shared { ram },
+            shared,
         })
     }
 

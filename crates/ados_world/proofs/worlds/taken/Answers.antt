@@ -1,7 +1,7 @@
 use Rattle.std.proofs.Common.{◌≡◌, ◌<◌, ◌∙◌, length, arith, ap, sym, rules}
 use Rattle.std.proofs.lemmas.Grind.{common_steps}
 use Rattle.std.specs.Prelude.{is_some}
-use Rattle.ados_world.proofs.FlagLemmas.{flags-more, flags-all}
+use Rattle.ados_world.proofs.FillLemmas.{more-filled, all-filled}
 use Rattle.ados_world.proofs.worlds.taken.Goals as goal
 
 pub loop-place-preserved : goal.loop-place-preserved
@@ -10,7 +10,7 @@ loop-place-preserved c =
     let within : c.loop-place.place < length c.args.shells.now = omega arith in
     let flags_within : c.loop-place.place < length c.loop-place.taken = omega (arith, c.loop-place.invariant.len) in
     record {
-      flags = flags-more c.args.shells.now c.loop-place.taken c.loop-place.place c.index-shells-place.result c.index-shells-place.result
+      flags = more-filled is_some c.args.shells.now c.loop-place.taken c.loop-place.place c.index-shells-place.result c.index-shells-place.result
           c.is_some.result within flags_within c.index-shells-place.is (c.is_some.ensures ∙ ap is_some (sym c.index-shells-place.is))
           c.loop-place.invariant.flags;
       len = grind (arith, common_steps);
@@ -19,4 +19,4 @@ loop-place-preserved c =
 pub returns : goal.returns
 returns c =
     let twenty : length c.args.shells.now ≡ 20 = search rules in
-    flags-all c.args.shells.now c.loop-place.taken c.loop-place.place (omega (arith, c.loop-place.invariant.len)) (omega arith) c.loop-place.invariant.flags
+    all-filled is_some c.args.shells.now c.loop-place.taken c.loop-place.place (omega (arith, c.loop-place.invariant.len)) (omega arith) c.loop-place.invariant.flags

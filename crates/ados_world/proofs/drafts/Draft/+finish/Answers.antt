@@ -17,7 +17,7 @@ returns t c =
     (ap (λ l. is_ended c.args.quits c.args.codes l c.answer-frame.result) (sym c.limit-limit.ensures) ∙ ends)
     c.in_ok-end.ensures
     (goes-same shared c.end.new.self c.end.new.self c.finish.new.self _ _ refl refl
-    (ap (λ w. finish w c.args.codes false c.end.new.self.shell.limit c.end.new.self.shell.frames (course_of shared c.end.new.self))
+    (ap (λ w. finish w c.args.codes false c.end.new.self.shell c.end.new.self.shell.frames (course_of shared c.end.new.self))
     (c.as_bytes.ensures.value ∙ c.command.ensures))
     (g shared)))
     c.finish.ensures

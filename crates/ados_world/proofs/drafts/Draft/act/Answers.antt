@@ -16,9 +16,9 @@ returns-in-Answers c =
     let course = course_of shared before in
     on_ok_weaker c.settle.result
     (λ g. goes-same shared before before c.settle.new.self _ _ refl refl
-    (ap (λ a. acted c.args.line.now.command (option_copied c.args.place) a before.shell course)
+    (ap (λ a. acted c.args.line.now.command (option_copied c.args.target) a before.shell course)
     (ap (acting course.shared) (sym c.in-Answers.is) ∙ c.in_ok-outcome.ensures
-    ∙ ap (λ b. action_of c.args.builtin (is_free before.shell.frames && b) course.shared (view_of before.shell) c.args.line.now.args)
+    ∙ ap (λ b. action_of c.args.builtin (is_free before.shell.frames && b) course.shared (view_of before.shell course) c.args.line.now.args)
     c.is_console.ensures))
     g)
     c.settle.ensures

@@ -11,9 +11,9 @@ returns c =
     let shared = c.args.shared.now in
     let before = c.args.self.now in
     on_ok_weaker c.answer.result
-    (λ g. act-goes shared before c.renew.new.self c.put.new.self c.answer.new.self c.args.word.now (option_copied c.args.place)
+    (λ g. act-goes shared before (record c.renew.new.self { renamed = c.args.outcome.renamed }) c.put.new.self c.answer.new.self c.args.word.now (option_copied c.args.target)
     (effect_of (course_of shared before).shared c.args.outcome) c.as_bytes.result.now c.in_ok-answered.answered
-    c.renew.ensures.number (c.renew.ensures.shell ∙ c.set_limit.ensures) (c.renew.ensures.shared shared) c.renew.ensures.printed c.renew.ensures.reports
+    c.renew.ensures.number (c.renew.ensures.shell ∙ c.affect.ensures) (c.renew.ensures.shared shared) c.renew.ensures.directories refl c.renew.ensures.printed c.renew.ensures.reports
     c.as_bytes.ensures c.in_ok-answered.ensures
     (answered-goes shared c.put.new.self c.answer.new.self _ _ _ _ false c.put.new.self.shell (course_of shared c.put.new.self)
     c.as_bytes-2.ensures.value refl (g shared)))

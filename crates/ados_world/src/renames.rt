@@ -1,0 +1,62 @@
+// The current directories of all shells.
+ghost use Rattle.std.specs.Prelude.{◌≡◌, IfOk};
+ghost use Rattle.std.specs.Option.{option_copied};
+ghost use Rattle.ados_machine.specs.World.{directories_in};
+ghost use Rattle.ados_machine.specs.Step.{carried_place, carried_shells};
+
+use crate::shells::Shell;
+use ados_find::Renamed;
+use ados_ram::Place;
+use ados_text::NoMemory;
+use std::alloc::Global;
+
+/// The current directories of the shells that run, in order of their numbers.
+pub fn directories(alloc: Global, shells: &[Option<Shell>]) -> Result<Vec<Place>, NoMemory>
+    ensures { IfOk result (λ places. places.items ≡ directories_in shells.now) }
+{
+    let mut places = Vec::new(alloc);
+    for shell in shells {
+        match shell {
+            None => {}
+            Some(shell) => places.push(shell.directory().copy()?)?,
+        }
+    }
+    Ok(places)
+}
+
+/// Equal places.
+pub fn copies(alloc: Global, places: &[Place]) -> Result<Vec<Place>, NoMemory>
+    ensures { IfOk result (λ copies. copies.items ≡ places.now) }
+{
+    let mut copies = Vec::new(alloc);
+    for place in places {
+        copies.push(place.copy()?)?;
+    }
+    Ok(copies)
+}
+
+/// All shells, with their current directories carried by a rename.
+pub fn carried_shells(
+    shells: &[Option<Shell>; 20],
+    renamed: &Renamed,
+) -> Result<[Option<Shell>; 20], NoMemory>
+    ensures { IfOk result (λ new. new ≡ carried_shells renamed.now shells.now) }
+{
+    let mut new = [
+        None, None, None, None, None, None, None, None, None, None, None, None, None, None, None,
+        None, None, None, None, None,
+    ];
+    for place in 0..20 {
+        new[place] = carried_place(&shells[place], renamed)?;
+    }
+    Ok(new)
+}
+
+fn carried_place(shell: &Option<Shell>, renamed: &Renamed) -> Result<Option<Shell>, NoMemory>
+    ensures { IfOk result (λ new. new ≡ carried_place renamed.now shell.now) }
+{
+    match shell {
+        None => Ok(None),
+        Some(shell) => Ok(Some(shell.share()?.carry(renamed)?)),
+    }
+}
