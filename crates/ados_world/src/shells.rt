@@ -7,7 +7,6 @@ ghost use Rattle.ados_machine.specs.Step.{carried_shell};
 ghost use Rattle.ados_machine.specs.declared.phases.Phase.TheVariants.{Ready, Asking as Waits};
 
 use crate::frames::Frame;
-use ados_assign::carried;
 use ados_find::{Codes, Renamed, ShellView};
 use ados_machine::{Asking, Phase};
 use ados_ram::{Busy, Place};
@@ -129,7 +128,7 @@ impl Shell {
         ensures { IfOk result (λ shell. shell ≡ carried_shell renamed.now self) }
     {
         let mut shell = self;
-        shell.directory = carried(&renamed.from, &renamed.to, &shell.directory)?;
+        shell.directory = shell.directory.carried(&renamed.from, &renamed.to)?;
         Ok(shell)
     }
 
