@@ -4,8 +4,9 @@ use Rattle.std.specs.List.{list_any}
 use Rattle.std.proofs.lemmas.Bool.{cases_Bool, cases_eq}
 use Rattle.std.proofs.lemmas.Grind.{common_steps}
 use Rattle.ados_machine.specs.World.{WorldState, shell_at, is_ready, is_over, has_input, flatten, numbered}
-use Rattle.ados_machine.specs.Frames.{FrameState, ShellState}
-use Rattle.ados_machine.specs.Step.{step_of, turned, turn_by, ready_turn, answered_prompt, console_turn}
+use Rattle.ados_machine.specs.Frames.{FrameState, ShellState, Turned}
+use Rattle.ados_machine.specs.Shell.{turn_of, resumed}
+use Rattle.ados_machine.specs.Step.{step_of, start, settled, turned, turn_by, ready_turn, answered_prompt, console_turn, script_turned}
 use Rattle.ados_machine.specs.declared.phases.Asking.{Asking as Question}
 use Rattle.ados_machine.specs.declared.phases.Phase.{Phase}
 use Rattle.ados_machine.specs.declared.phases.Phase.TheVariants.{Ready, Asking}
@@ -14,6 +15,7 @@ use Rattle.ados_launch.specs.declared.lines.LineKind.{LineKind}
 use Rattle.ados_launch.specs.declared.lines.LineKind.TheVariants.{End, Short, Long, Overlong}
 use Rattle.ados_launch.specs.Lines.{line_of, rest_of, kind_of}
 use Rattle.ados_launch.specs.Schedule.{IsAlone, IsIdle, did_by, did_line, did_at, text_of, Standing, advance_by, after, due}
+use Rattle.ados_machine.proofs.Settled.{others_stay, settled_alone}
 use Rattle.ados_launch.proofs.Runs.{At}
 
 same_shells : (w now : WorldState) → now.shells ≡ w.shells → IsAlone w → IsAlone now
@@ -25,18 +27,16 @@ typed-shells w left line = grind (arith, common_steps)
 ended-shells : (w : WorldState) (left : List ℕ) → (did_by w left (step_of w EndOfInput)).world.shells ≡ w.shells
 ended-shells w left = grind (arith, common_steps)
 
-others_stay : (shells : List (Option ShellState)) (first : Option ShellState) (k : ℕ) → k ≢ 1 → flatten (numbered (slice_set shells 0 first) k) ≡ flatten (numbered shells k)
-others_stay shells first zero other = refl
-others_stay shells first (suc zero) other = absurd (other refl)
-others_stay [] first (suc (suc k)) other = refl
-others_stay (o ∷ shells) first (suc (suc k)) other = refl
+turned_alone : (w : WorldState) (t : Turned) → IsAlone w → (k : ℕ) → k ≢ 1 → flatten (numbered (settled w.shells 1 t.shell t.course.renamed) k) ≡ None
+turned_alone w t alone k other = settled_alone w.shells t.shell t.course.renamed k other (alone k other)
 
 console-alone : (w : WorldState) (left : List ℕ) (shell : ShellState) (queue : List (List ℕ)) → IsAlone w → IsAlone (did_by w left (console_turn w shell queue)).world
 console-alone w left shell [] alone k other = others_stay w.shells None k other ∙ alone k other
-console-alone w left shell (line ∷ rest) alone k other = others_stay w.shells _ k other ∙ alone k other
+console-alone w left shell (line ∷ rest) alone k other = turned_alone w (turn_of line shell (start w)) alone k other
 
 ready-alone : (w : WorldState) (left : List ℕ) (shell : ShellState) (frames : List FrameState) → IsAlone w → IsAlone (did_by w left (ready_turn w 1 shell frames)).world
-ready-alone w left shell (frame ∷ frames) alone = λ k other. others_stay w.shells _ k other ∙ alone k other
+ready-alone w left shell (frame ∷ frames) alone =
+    turned_alone w (script_turned shell frame frames (start w) (slice_get frame.lines frame.position)) alone
 ready-alone w left shell [] alone =
     elim (cases_Bool (has_input w)) [
       | inl some ↦ rw some (console-alone w left shell w.queue alone)
@@ -44,8 +44,8 @@ ready-alone w left shell [] alone =
     ]
 
 prompt-alone : (w : WorldState) (left : List ℕ) (shell : ShellState) (question : Question) (queue : List (List ℕ)) → IsAlone w → IsAlone (did_by w left (answered_prompt w 1 shell question queue)).world
-prompt-alone w left shell question [] alone = λ k other. others_stay w.shells _ k other ∙ alone k other
-prompt-alone w left shell question (line ∷ rest) alone = λ k other. others_stay w.shells _ k other ∙ alone k other
+prompt-alone w left shell question [] alone = turned_alone w (resumed [] question shell (start w)) alone
+prompt-alone w left shell question (line ∷ rest) alone = turned_alone w (resumed line question shell (start w)) alone
 
 turn_by-alone : (w : WorldState) (left : List ℕ) (shell : ShellState) (phase : Phase) → IsAlone w → IsAlone (did_by w left (turn_by w 1 shell phase)).world
 turn_by-alone w left shell Ready alone = ready-alone w left shell shell.frames alone

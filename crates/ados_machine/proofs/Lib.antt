@@ -5,3 +5,4 @@ pub mod Moves
 pub mod Sane
 pub mod Traces
 pub mod Ends
+pub mod Settled
