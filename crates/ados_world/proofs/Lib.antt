@@ -1,3 +1,4 @@
+mod ViewLemmas
 mod FillLemmas
 mod SettleLemmas
 mod DraftLemmas

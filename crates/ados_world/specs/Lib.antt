@@ -5,3 +5,4 @@ pub mod Actions
 pub mod Drafts
 pub mod Hosts
 pub mod Steps
+pub mod Views

@@ -12,8 +12,8 @@ use crate::frames::{Frame, Script};
 use crate::renames::{copies, directories};
 use crate::shells::Shell;
 use ados_find::{Codes, Renamed, Shared, ShellView};
-use ados_machine::{Called, EndReport, Target};
-use ados_ram::{FsFault, Place};
+use ados_machine::{Builtin, Called, EndReport, Target};
+use ados_ram::{Busy, FsFault, Place};
 use ados_text::{Code, NoMemory, Text};
 use std::alloc::Global;
 
@@ -32,6 +32,7 @@ pub struct Draft {
 }
 
 impl Draft {
+    ghost use Rattle.ados_world.specs.Views.{Serves};
     ghost use Rattle.ados_world.specs.Drafts.{GoesOn, IsPut, IsFresh, IsRenewed, IsReported, course_of};
 
     /// Nothing is changed yet of a shell, of which this is a copy, among these shells.
@@ -75,12 +76,26 @@ impl Draft {
     }
 
     /// What commands read of the shell, and of the others.
-    pub fn view(&self, shared: &Shared) -> Result<ShellView, NoMemory>
+    fn view(&self, shared: &Shared) -> Result<ShellView, NoMemory>
         ensures { IfOk result (λ view. view ≡ view_of self.now.shell (course_of shared.now self.now)) }
     {
         let directories = copies(*self.directories.allocator(), &self.directories)?;
         let busy = self.current(shared).assigns.busy(directories)?;
         self.shell.view(busy)
+    }
+
+    /// What a command reads of the shell, and of the others. What is in use is gathered only for commands that
+    /// read it: not for those that print and set.
+    #[tactic(auto, using(crate::proofs::ViewLemmas::env_serves))]
+    pub fn view_for(&self, builtin: Builtin, shared: &Shared) -> Result<ShellView, NoMemory>
+        ensures { IfOk result (λ view. Serves builtin view (view_of self.now.shell (course_of shared.now self.now))) }
+    {
+        match builtin {
+            Builtin::Env(_) => self.shell.view(Busy::none(*self.printed.allocator())),
+            Builtin::Files(_) => self.view(shared),
+            Builtin::Execute => self.view(shared),
+            Builtin::Quit => self.view(shared),
+        }
     }
 
     /// Puts a command's output to its file, or to the console, or drops it; what it answers then.

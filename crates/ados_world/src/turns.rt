@@ -226,7 +226,7 @@ impl Draft {
             (view_of self.now.shell (course_of shared.now self.now)) line.now.args) }
     {
         let simple = self.shell.is_free() && on_console;
-        let view = self.view(shared)?;
+        let view = self.view_for(builtin, shared)?;
         commands.perform(
             alloc,
             builtin,
