@@ -7,7 +7,7 @@ ghost use Rattle.ados_world.specs.Steps.{IsConcluded, IsSettled, IsScriptSettled
 
 use crate::commands::Commands;
 use crate::drafts::Draft;
-use crate::renames::carried_shells;
+use crate::renames::{Shells, carried_shells};
 use crate::shells::Shell;
 use crate::turns::{console_draft, prompt_draft, script_draft};
 use ados_find::Shared;
@@ -19,7 +19,7 @@ use std::alloc::Global;
 #[derive(Debug, Drop)]
 pub struct Settled {
     /// All shells, where an object was renamed, by which their current directories are carried.
-    pub shells: Option<[Option<Shell>; 20]>,
+    pub shells: Option<Shells>,
     /// The shell.
     pub shell: Shell,
     /// A new version of the shared parts, where there is one.
@@ -53,7 +53,7 @@ impl Draft {
                 reports,
             }),
             Some(renamed) => Ok(Settled {
-                shells: Some(carried_shells(shells, &renamed)?),
+                shells: Some(carried_shells(*printed.allocator(), shells, &renamed)?),
                 shell: shell.carry(&renamed)?,
                 shared,
                 printed,

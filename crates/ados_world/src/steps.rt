@@ -8,6 +8,7 @@ ghost use Rattle.ados_world.specs.Steps.{AsksAt, IsFirst, IsFreeAt, IsShellNumbe
 ghost use Rattle.ados_machine.specs.Step.{step_of, typed, end_of_input, turned, waiting, replied, giving, with_shell};
 ghost use Rattle.ados_machine.specs.Runs.{IsAnswer, world_after};
 
+use crate::renames::Shells;
 use crate::settled::{Settled, console_settled, prompt_settled, script_settled};
 use crate::shells::Shell;
 use crate::worlds::World;
@@ -222,13 +223,13 @@ impl World {
     }
 
     /// Moves in all shells, where there are new ones.
-    fn replace(&mut self, new: Option<[Option<Shell>; 20]>)
+    fn replace(&mut self, new: Option<Shells>)
         requires { KeepFrames self.old.shells new }
         ensures { self.new ≡ record self.old { shells = unwrap_or new self.old.shells } }
     {
         match new {
             None => {}
-            Some(shells) => self.shells = shells,
+            Some(shells) => self.shells = shells.into_array(),
         }
     }
 

@@ -2,7 +2,7 @@ use Rattle.std.proofs.Common.{◌≡◌, ◌<◌, ◌∙◌, length, arith, ap, 
 use Rattle.std.proofs.lemmas.Grind.{common_steps}
 use Rattle.ados_machine.specs.Step.{carried_place}
 use Rattle.ados_world.proofs.FillLemmas.{more-filled, all-filled}
-use Rattle.ados_world.proofs.renames.carried_shells.Goals as goal
+use Rattle.ados_world.proofs.renames.carried_places.Goals as goal
 
 pub loop-place-preserved : goal.loop-place-preserved
 loop-place-preserved c =

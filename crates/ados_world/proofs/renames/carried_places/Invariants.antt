@@ -1,6 +1,6 @@
 use Rattle.std.proofs.Common.{◌≡◌, map, take, length}
 use Rattle.ados_machine.specs.Step.{carried_place}
-use Rattle.ados_world.proofs.renames.carried_shells.Given as goal
+use Rattle.ados_world.proofs.renames.carried_places.Given as goal
 
 abbrev pub invariant-loop-place : goal.invariant-loop-place
 invariant-loop-place l = record {
