@@ -44,10 +44,21 @@ fn drive(
 }
 
 // A fresh world driven so.
+fn drive_fresh(
+    alloc: Global,
+    input: &[u8],
+    text: &mut Vec<u8>,
+    fails: Failing,
+    turns: u64,
+) -> Result<End, DriveFault> {
+    let mut world = fresh_world(alloc)?;
+    drive(alloc, &mut world, input, text, fails, turns)
+}
+
+// What it gave and wrote.
 fn driven(alloc: Global, input: &[u8], fails: Failing, turns: u64) -> Result<Outcome, NoMemory> {
     let mut text = Vec::with_capacity(alloc, 200)?;
-    let mut world = fresh_world(alloc)?;
-    match drive(alloc, &mut world, input, &mut text, fails, turns) {
+    match drive_fresh(alloc, input, &mut text, fails, turns) {
         Err(DriveFault::Memory) => Err(NoMemory),
         end => Ok(Outcome { end, text }),
     }

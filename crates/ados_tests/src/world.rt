@@ -227,41 +227,6 @@ fn want_of_memory_changes_nothing_and_the_event_is_taken_later(
     Ok(())
 }
 
-// Each event of a run has its answer, the refused one too; where memory was wanting for the answers the
-// world came back as it was, and the same run is made later.
-fn runs(world: World, events: &[Event]) -> bool {
-    let before = views(&world);
-    match world.run(events) {
-        Ok(run) => are_answers(run.outs.as_slice()),
-        Err(world) => {
-            if views(&world) != before {
-                return false;
-            }
-            match world.run(events) {
-                Ok(run) => are_answers(run.outs.as_slice()),
-                Err(_) => false,
-            }
-        }
-    }
-}
-
-fn are_answers(answers: &[Result<Out, Refusal>]) -> bool {
-    answers.len() == 3
-        && is_refused(&answers[0], Refusal::NotReady)
-        && prints(&answers[1], b"")
-        && prints(&answers[2], b"a\n")
-}
-
-#[test]
-fn a_run_answers_each_event_the_refused_ones_too(rt: HostRuntime) -> Result<(), NoMemory> {
-    let mut events = Vec::new(rt.alloc());
-    events.push(Event::Turn(1))?;
-    events.push(typed(rt.alloc(), b"Echo a")?)?;
-    events.push(Event::Turn(1))?;
-    assert!(rt; runs(fresh_world(rt.alloc())?, events.as_slice()));
-    Ok(())
-}
-
 #[test]
 fn no_host_is_taken_yet(rt: HostRuntime) -> Result<(), Fail> {
     let host = HostEntry {
