@@ -11,8 +11,8 @@ use Rattle.ados_text.specs.Text.{folded}
 use Rattle.ados_ram.specs.Place.{name_cmp, name_cmp_total, name_cmp_exact}
 use Rattle.ados_ram.specs.InUse.{InUse}
 use Rattle.ados_assign.specs.declared.assigns.Assign.{Assign}
-use Rattle.ados_assign.specs.Assigns.{AssignMap, binding, keyed, first_assigns, bound, set_of, carried_row, carry_of}
-use Rattle.ados_assign.specs.Rows.{first_rows, rows_with, rows_without, carried_assign}
+use Rattle.ados_assign.specs.Assigns.{AssignMap, binding, keyed, first_rows, first_assigns, bound, set_of, carried_row, carry_of}
+use Rattle.ados_assign.specs.Rows.{rows_with, rows_without, carried_assign}
 
 abbrev in_use_by : List (List (List ℕ)) → List (List (List ℕ)) → InUse
 in_use_by dirs outputs = record { dirs = dirs; outputs = outputs }

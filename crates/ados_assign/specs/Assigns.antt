@@ -28,17 +28,18 @@ binding name directory = record { name = name; directory = directory }
 abbrev pub keyed : List Assign → List (List ℕ × Assign)
 keyed = each (λ a. (folded a.name, a))
 
--- the assigns at first: the RAM disk is SYS, and its directories have names of their own
-abbrev pub first_assigns : AssignMap
-first_assigns =
-    map.from_entries (keyed (
+-- the assigns at first, in order: the RAM disk is SYS, and its directories have names of their own
+abbrev pub first_rows : List Assign
+first_rows =
     binding (codes "C") (codes "C" ∷ [])
     ∷ binding (codes "ENV") (codes "Env" ∷ [])
     ∷ binding (codes "S") (codes "S" ∷ [])
     ∷ binding (codes "SYS") []
     ∷ binding (codes "T") (codes "T" ∷ [])
     ∷ []
-    ))
+
+abbrev pub first_assigns : AssignMap
+first_assigns = map.from_entries (keyed first_rows)
 
 -- Set: a name that is bound already keeps its first spelling
 abbrev pub bound : Option Assign → List ℕ → List (List ℕ) → Assign

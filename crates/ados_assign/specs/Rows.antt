@@ -1,21 +1,11 @@
 -- Assigns in a list.
-use Rattle.std.specs.Prelude.{ℕ, List, [], ◌∷◌, if◌then◌else◌, codes}
+use Rattle.std.specs.Prelude.{ℕ, List, [], ◌∷◌, if◌then◌else◌}
 use Rattle.std.specs.Ordering.{eq_by_cmp}
 use Rattle.std.specs.FinMap.Entries.{by_order}
 use Rattle.ados_text.specs.Text.{folded}
 use Rattle.ados_ram.specs.Place.{name_cmp, carried}
 use Rattle.ados_assign.specs.Assigns.{binding}
 use Rattle.ados_assign.specs.declared.assigns.Assign.{Assign}
-
--- the assigns at first, in order
-abbrev pub first_rows : List Assign
-first_rows =
-    binding (codes "C") (codes "C" ∷ [])
-    ∷ binding (codes "ENV") (codes "Env" ∷ [])
-    ∷ binding (codes "S") (codes "S" ∷ [])
-    ∷ binding (codes "SYS") []
-    ∷ binding (codes "T") (codes "T" ∷ [])
-    ∷ []
 
 -- the assigns with a name bound to a directory
 abbrev pub rows_with : List ℕ → List (List ℕ) → List Assign → List Assign

@@ -1,8 +1,8 @@
-ghost use Rattle.std.specs.Prelude.{◌≡◌, ◌++◌, [], List, ℕ, IfOk};
+ghost use Rattle.std.specs.Prelude.{◌≡◌, ◌++◌, [], List, ℕ, IfOk, IsTrue};
 ghost use Rattle.std.specs.Option.{option_copied};
 ghost use Rattle.std.specs.FinMap as map;
 ghost use Rattle.ados_text.specs.Text.{folded};
-ghost use Rattle.ados_ram.specs.Place.{key_of};
+ghost use Rattle.ados_ram.specs.Place.{key_of, name_cmp};
 
 use crate::faults::AssignFault;
 use crate::rows::{carried_rows, find, first_rows, holders, push_directories, with_name, without};
@@ -10,6 +10,7 @@ use ados_ram::{Busy, Place};
 use ados_text::{Name, NoMemory};
 use std::alloc::Global;
 use std::marker::Model;
+use std::rc::Rc;
 
 /// An assign: its name, as it was first written, and the directory that it stands for.
 #[derive(Clone, Debug, Drop)]
@@ -31,10 +32,10 @@ impl Assign {
 }
 
 /// One version of the assigns, by their names, where case is ignored. A change gives a new version, and the old one
-/// stands.
+/// stands. Copies share their rows.
 #[derive(Clone, Debug, Drop)]
 pub struct Assigns {
-    rows: Vec<Assign>,
+    rows: Rc<Vec<Assign>>,
 }
 
 impl Model for Assigns {
@@ -47,32 +48,47 @@ impl Model for Assigns {
 
     ghost coded = { coded_assigns };
 
-    ghost view = { λ a. map.from_sorted (keyed a.rows.items) };
+    ghost view = { λ a. map.from_sorted (keyed a.rows.value.items) };
 
-    ghost invariant = { λ a. IsTrue (map.is_sorted name_cmp (keyed a.rows.items)) };
+    ghost invariant = { λ a. IsTrue (map.is_sorted name_cmp (keyed a.rows.value.items)) };
 }
 
 impl Assigns {
-    ghost use Rattle.ados_assign.specs.Assigns.{first_assigns, set_of, Removes, carry_of, holders_in};
+    ghost use Rattle.ados_assign.specs.Assigns.{keyed, first_assigns, set_of, Removes, carry_of, holders_in};
     ghost use Rattle.ados_assign.specs.InUse.{held_by, is_in_use, busy_of};
     ghost use Rattle.ados_ram.specs.InUse.{is_in_use as is_busy};
+
+    // The assigns in the order of their folded names.
+    fn rows(&self) -> &[Assign]
+        ensures map { map.from_sorted (keyed result.now) ≡ self.now }
+        ensures sorted { IsTrue (map.is_sorted name_cmp (keyed result.now)) }
+    {
+        self.rows.as_slice()
+    }
+
+    // The assigns of a list that is in the order of the folded names.
+    fn of(alloc: Global, rows: Vec<Assign>) -> Result<Assigns, NoMemory>
+        requires { IsTrue (map.is_sorted name_cmp (keyed rows.items)) }
+        ensures { IfOk result (λ assigns. assigns ≡ map.from_sorted (keyed rows.items)) }
+    {
+        Ok(Assigns {
+            rows: Rc::new(alloc, rows)?,
+        })
+    }
 
     /// The assigns at first: C, ENV, S, SYS, which is the RAM disk itself, and T.
     pub fn first(alloc: Global) -> Result<Assigns, NoMemory>
         ensures { IfOk result (λ assigns. assigns ≡ first_assigns) }
     {
-        Ok(Assigns {
-            rows: first_rows(alloc)?,
-        })
+        Assigns::of(alloc, first_rows(alloc)?)
     }
 
     /// The assigns with a name bound to a directory. A name that is bound already keeps its first spelling.
     pub fn set(&self, name: Name, directory: Place) -> Result<Assigns, NoMemory>
         ensures { IfOk result (λ new. new ≡ set_of self.now name directory) }
     {
-        Ok(Assigns {
-            rows: with_name(*self.rows.allocator(), &self.rows, name, directory)?,
-        })
+        let alloc = *self.rows.allocator();
+        Assigns::of(alloc, with_name(alloc, self.rows(), name, directory)?)
     }
 
     /// The assigns without a name.
@@ -82,13 +98,21 @@ impl Assigns {
         ensures ok { IfOk result (λ new. new ≡ map.remove self.now (folded name.now)) }
         ensures fault { Removes result (map.get self.now (folded name.now)) }
     {
-        match find(&self.rows, name) {
+        match find(self.rows(), name) {
             None => Err(AssignFault::NotFound),
-            Some(_) => match without(*self.rows.allocator(), &self.rows, name) {
-                Ok(rows) => Ok(Assigns { rows }),
-                Err(_) => Err(AssignFault::NoMemory),
+            Some(_) => match self.without(name) {
+                Ok(left) => Ok(left),
+                Err(NoMemory) => Err(AssignFault::NoMemory),
             },
         }
+    }
+
+    // The assigns but for that of a name.
+    fn without(&self, name: &Name) -> Result<Assigns, NoMemory>
+        ensures { IfOk result (λ left. left ≡ map.remove self.now (folded name.now)) }
+    {
+        let alloc = *self.rows.allocator();
+        Assigns::of(alloc, without(alloc, self.rows(), name)?)
     }
 
     /// The assigns after the object at `from` was renamed to be at `to`: a directory that was at it or below it is
@@ -96,30 +120,29 @@ impl Assigns {
     pub fn carry(&self, from: &Place, to: &Place) -> Result<Assigns, NoMemory>
         ensures { IfOk result (λ new. new ≡ carry_of from.now to.now self.now) }
     {
-        Ok(Assigns {
-            rows: carried_rows(*self.rows.allocator(), &self.rows, from, to)?,
-        })
+        let alloc = *self.rows.allocator();
+        Assigns::of(alloc, carried_rows(alloc, self.rows(), from, to)?)
     }
 
     /// The assign of a name. Takes no memory.
     pub fn get(&self, name: &Name) -> Option<&Assign>
         ensures { option_copied result ≡ map.get self.now (folded name.now) }
     {
-        find(&self.rows, name)
+        find(self.rows(), name)
     }
 
     /// All assigns, in the order of their folded names.
     pub fn list(&self) -> &[Assign]
         ensures { result.now ≡ map.values self.now }
     {
-        self.rows.as_slice()
+        self.rows()
     }
 
     /// The names, as they are written, that are bound to a place, in the order of the folded names.
     pub fn holders(&self, place: &Place) -> Result<Vec<Name>, NoMemory>
         ensures { IfOk result (λ names. names.items ≡ holders_in (key_of place.now) (map.values self.now)) }
     {
-        holders(*self.rows.allocator(), &self.rows, place)
+        holders(*self.rows.allocator(), self.rows(), place)
     }
 
     /// The directories of all assigns, in the order of the folded names.
@@ -127,7 +150,7 @@ impl Assigns {
         ensures { IfOk result (λ places. places.items ≡ held_by self.now) }
     {
         let mut places = Vec::new(*self.rows.allocator());
-        push_directories(&mut places, &self.rows)?;
+        push_directories(&mut places, self.rows())?;
         Ok(places)
     }
 
@@ -137,12 +160,12 @@ impl Assigns {
         ensures value { IfOk result (λ busy. busy ≡ busy_of current.items self.now) }
     {
         let mut dirs = current;
-        push_directories(&mut dirs, &self.rows)?;
+        push_directories(&mut dirs, self.rows())?;
         let outputs = Vec::new(*self.rows.allocator());
         Ok(Busy { dirs, outputs })
     }
 
-    /// An equal version.
+    /// The same version, shared.
     pub fn copy(&self) -> Result<Assigns, NoMemory>
         ensures { IfOk result (λ assigns. assigns ≡ self.now) }
     {

@@ -3,8 +3,8 @@ ghost use Rattle.std.specs.Option.{option_copied};
 ghost use Rattle.std.specs.FinMap as map;
 ghost use Rattle.ados_text.specs.Text.{folded, to_ascii};
 ghost use Rattle.ados_ram.specs.Place.{key_of, name_cmp};
-ghost use Rattle.ados_assign.specs.Assigns.{keyed, binding, holders_in};
-ghost use Rattle.ados_assign.specs.Rows.{first_rows, rows_with, rows_without, carried_assign};
+ghost use Rattle.ados_assign.specs.Assigns.{keyed, binding, first_rows, holders_in};
+ghost use Rattle.ados_assign.specs.Rows.{rows_with, rows_without, carried_assign};
 
 use crate::assigns::Assign;
 use crate::order::order;

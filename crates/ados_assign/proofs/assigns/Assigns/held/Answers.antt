@@ -5,6 +5,6 @@ use Rattle.ados_assign.proofs.assigns.Assigns.held.Goals as goal
 
 pub returns : goal.returns
 returns c =
-    let r : AreRowsOf c.self.inside.rows.items c.args.self.now = record { is = c.self.view_is; sorted = c.self.invariant } in
-    c.in_ok-push_directories.ensures ∙ ap (λ (places : List (List (List ℕ))). places ++ map (λ a. a.directory) c.deref.result.now) c.new-places.ensures.items
-    ∙ ap (λ (rows : List Assign). map (λ a. a.directory) rows) (c.deref.ensures.value ∙ sym (values_rows c.self.inside.rows.items r))
+    let r : AreRowsOf c.rows.result.now c.args.self.now = record { is = c.rows.ensures.map; sorted = c.rows.ensures.sorted } in
+    c.in_ok-push_directories.ensures ∙ ap (λ (places : List (List (List ℕ))). places ++ map (λ a. a.directory) c.rows.result.now) c.new-places.ensures.items
+    ∙ ap (λ (rows : List Assign). map (λ a. a.directory) rows) (sym (values_rows c.rows.result.now r))
