@@ -1,10 +1,10 @@
 -- The texts of the templates are ASCII, and templates.
-use Rattle.std.proofs.Common.{◌≡◌, map, refl}
+use Rattle.std.proofs.Common.{◌≡◌, [], map, get_or, refl}
 use Rattle.ados_text.specs.Text.{to_ascii}
 use Rattle.ados_readargs.specs.Template.{IsTemplate}
 use Rattle.ados_files.specs.declared.commands.Command.{Command}
 use Rattle.ados_files.specs.declared.commands.Command.TheVariants.{Copy, Delete, Dir, Filenote, Join, List as Listed, MakeDir, Protect, Rename, «Type»}
-use Rattle.ados_files.specs.Commands.{template_of_command}
+use Rattle.ados_files.specs.Commands.{all_commands, place_of_command, template_of_command}
 
 pub ascii : (command : Command) → map to_ascii (template_of_command command) ≡ template_of_command command
 ascii Copy = refl
@@ -31,3 +31,16 @@ are_templates Rename = refl
 are_templates «Type» = refl
 
 pub ruleset templates = (ascii, are_templates)
+
+-- each stands at its place
+pub at_place : (command : Command) → get_or (map template_of_command all_commands) (place_of_command command) [] ≡ template_of_command command
+at_place Copy = refl
+at_place Delete = refl
+at_place Dir = refl
+at_place Filenote = refl
+at_place Join = refl
+at_place Listed = refl
+at_place MakeDir = refl
+at_place Protect = refl
+at_place Rename = refl
+at_place «Type» = refl

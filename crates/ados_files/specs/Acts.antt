@@ -1,10 +1,25 @@
 -- What is done with the objects that arguments name.
-use Rattle.std.specs.Prelude.{ℕ, List, Result, Ok, Err}
+use Rattle.std.specs.Prelude.{ℕ, Bool, List, ◌++◌, Option, Result, Ok, Err}
+use Rattle.ados_text.specs.declared.codes.Result2.{Result2}
+use Rattle.ados_ram.specs.Files.{Files}
+use Rattle.ados_ram.specs.Written.{full_path}
 use Rattle.ados_find.specs.declared.codes.Codes.{Codes}
 use Rattle.ados_find.specs.Views.{View}
-use Rattle.ados_find.specs.Done.{Done, stopped_by, each}
+use Rattle.ados_find.specs.Shared.{with_files}
+use Rattle.ados_find.specs.Done.{Done, stopped_by, refused_or, each}
 use Rattle.ados_find.specs.Paths.{place_of}
 use Rattle.ados_files.specs.Names.{FoundPlaces, named}
+use Rattle.ados_files.specs.Lines.{say}
+
+-- the files are new ones, or it stops at a fault
+abbrev pub in_files : Option Result2 → Files → Done → Done
+in_files fault files done = refused_or fault done (record done { shared = with_files done.shared files })
+
+-- and the path of a place, as it was, is told with some words
+abbrev pub in_files_saying : Option Result2 → Files → Bool → List (List ℕ) → List ℕ → Done → Done
+in_files_saying fault files quiet place words done =
+    refused_or fault done
+    (record done { shared = with_files done.shared files; output = say quiet done.output (full_path done.shared.files place ++ words) })
 
 -- with the place that is there, or it stops
 abbrev pub at_place : (Done → List (List ℕ) → Done) → Done → Result (List (List ℕ)) Codes → Done

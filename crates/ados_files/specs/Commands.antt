@@ -1,5 +1,5 @@
 -- The commands of this crate, by their names, and the options that each takes.
-use Rattle.std.specs.Prelude.{ℕ, List, Option, Some, None, codes, if◌then◌else◌}
+use Rattle.std.specs.Prelude.{ℕ, List, [], ◌∷◌, Option, Some, None, codes, if◌then◌else◌}
 use Rattle.ados_text.specs.Text.{is_same}
 use Rattle.ados_files.specs.declared.commands.Command.{Command}
 use Rattle.ados_files.specs.declared.commands.Command.TheVariants.{Copy, Delete, Dir, Filenote, Join, List as Listed, MakeDir, Protect, Rename, «Type»}
@@ -30,3 +30,19 @@ template_of_command MakeDir = codes "NAME/M"
 template_of_command Protect = codes "FILE/A,FLAGS,ADD/S,SUB/S"
 template_of_command Rename = codes "FROM/A,TO=AS/A"
 template_of_command «Type» = codes "FROM/A/M"
+
+abbrev pub all_commands : List Command
+all_commands = Copy ∷ Delete ∷ Dir ∷ Filenote ∷ Join ∷ Listed ∷ MakeDir ∷ Protect ∷ Rename ∷ «Type» ∷ []
+
+-- where a command stands among all
+abbrev pub place_of_command : Command → ℕ
+place_of_command Copy = 0
+place_of_command Delete = 1
+place_of_command Dir = 2
+place_of_command Filenote = 3
+place_of_command Join = 4
+place_of_command Listed = 5
+place_of_command MakeDir = 6
+place_of_command Protect = 7
+place_of_command Rename = 8
+place_of_command «Type» = 9

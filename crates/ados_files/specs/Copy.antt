@@ -9,7 +9,7 @@ use Rattle.ados_readargs.specs.Args.{texts_at, text_at, is_on}
 use Rattle.ados_ram.specs.Place.{key_of, last_name, is_same_key}
 use Rattle.ados_ram.specs.Entry.{is_directory, bytes_of}
 use Rattle.ados_ram.specs.Files.{Files, is_some_file, is_some_directory}
-use Rattle.ados_ram.specs.InUse.{is_output}
+use Rattle.ados_ram.specs.InUse.{InUse, is_output}
 use Rattle.ados_ram.specs.FileOperations.{read_fault, write_as_of, write_fault}
 use Rattle.ados_ram.specs.Written.{full_path}
 use Rattle.ados_ram.specs.declared.entries.Entry.{Entry}
@@ -44,6 +44,11 @@ make_missing done place = made_at done place (map.get done.shared.files (key_of 
 abbrev pub itself_fault : List (List ℕ) → List (List ℕ) → Option Result2
 itself_fault source target = if is_same_key (key_of source) (key_of target) then Some OBJECT_IN_USE else None
 
+-- then where it cannot be read
+abbrev pub copy_fault : InUse → Files → List (List ℕ) → List (List ℕ) → Option Result2
+copy_fault busy files source target =
+    option_or (itself_fault source target) (read_fault (is_output busy (key_of source)) (map.get files (key_of source)))
+
 abbrev pub copied_line : Files → List (List ℕ) → List ℕ
 copied_line files source = full_path files source ++ codes "..copied\n"
 
@@ -65,11 +70,11 @@ copy_entry view quiet to done job None = done
 copy_entry view quiet to done job (Some e) =
     copy_unless view quiet job.source (to ++ job.names) e (each make_missing done (between to job.names))
 
--- one file is copied: onto itself it is refused, and then where it cannot be read
+-- one file is copied, unless it is refused
 abbrev pub copy_one : View → Bool → List (List ℕ) → Done → Job → Done
-copy_one view quiet to done job = (let there = map.get done.shared.files (key_of job.source) in
-    refused_or (option_or (itself_fault job.source (to ++ job.names)) (read_fault (is_output view.busy (key_of job.source)) there)) done
-    (copy_entry view quiet to done job there))
+copy_one view quiet to done job =
+    refused_or (copy_fault view.busy done.shared.files job.source (to ++ job.names)) done
+    (copy_entry view quiet to done job (map.get done.shared.files (key_of job.source)))
 
 -- what stands at the one source, where there is just one that is named by its path
 abbrev pub first_entry : Files → List (List (List ℕ)) → Option Entry

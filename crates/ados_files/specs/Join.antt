@@ -28,10 +28,14 @@ silent done = record done { output = [] }
 abbrev pub written_to : View → List ℕ → Done → Done
 written_to view to read = unless read.stopped (silent read) (at_path (write_one view read.output) view (silent read) to)
 
--- all files are read first; the template does not let TO be missing
+-- all files are read first
+abbrev pub joined_to : View → List (List ℕ) → Done → List ℕ → Done
+joined_to view texts done to = written_to view to (each (at_path (type_one view) view) done texts)
+
+-- the template does not let TO be missing
 abbrev pub joined : SharedState → View → List (List ℕ) → Option (List ℕ) → Effect
 joined shared view texts None = answering shared view.limit (failed ARGUMENT_MISSING)
-joined shared view texts (Some to) = ended view.limit (written_to view to (each (at_path (type_one view) view) (fresh shared) texts))
+joined shared view texts (Some to) = ended view.limit (joined_to view texts (fresh shared) to)
 
 abbrev pub join_row : SharedState → View → List Arg → Effect
 join_row shared view args = joined shared view (texts_at args 0) (text_at args 1)

@@ -64,14 +64,15 @@ list_found shape done (Ok found) = list_places shape done (listed done.shared.fi
 abbrev pub list_text : Shape → View → Done → List ℕ → Done
 list_text shape view done text = list_found shape done (named done.shared view.directory text)
 
--- the entries of the current directory
-abbrev pub list_current : Shape → View → Done → Done
-list_current shape view done =
-    refused_or (list_fault (map.get done.shared.files (key_of view.directory))) done
-    (list_places shape done (children (key_of view.directory) (map.entries done.shared.files)))
+-- the entries of a directory
+abbrev pub list_at : Shape → Done → List (List ℕ) → Done
+list_at shape done place =
+    refused_or (list_fault (map.get done.shared.files (key_of place))) done
+    (list_places shape done (children (key_of place) (map.entries done.shared.files)))
 
+-- without arguments the current directory
 abbrev pub list_texts : Shape → View → Done → List (List ℕ) → Done
-list_texts shape view done [] = list_current shape view done
+list_texts shape view done [] = list_at shape done view.directory
 list_texts shape view done (text ∷ texts) = each (list_text shape view) done (text ∷ texts)
 
 -- the pattern of PAT, where it is given

@@ -1,12 +1,86 @@
 // What is done with the objects that arguments name.
-ghost use Rattle.std.specs.Prelude.{◌≡◌, OnOk};
-ghost use Rattle.ados_find.specs.Done.{done_of};
-ghost use Rattle.ados_files.specs.Acts.{at_path, at_names};
+ghost use Rattle.std.specs.Prelude.{◌≡◌, Option, IfOk, OnOk};
+ghost use Rattle.ados_text.specs.declared.codes.Result2.{Result2};
+ghost use Rattle.ados_ram.specs.Files.{Files};
+ghost use Rattle.ados_ram.specs.FileOperations.{Answers};
+ghost use Rattle.ados_find.specs.Done.{done_of, fresh, each, ended};
+ghost use Rattle.ados_find.specs.Effects.{effect_of};
+ghost use Rattle.ados_files.specs.Acts.{at_path, at_names, in_files, in_files_saying};
 
+use crate::lines::say_path;
 use crate::names::named;
-use ados_find::{Act, Refusal, Shared, ShellView, Work, current, each, place_of};
-use ados_ram::Place;
+use ados_find::{Act, Codes, Outcome, Refusal, Shared, ShellView, Work, current, each, place_of};
+use ados_ram::{FsFault, Place, Ram};
 use ados_text::{NoMemory, Text};
+use std::alloc::Global;
+
+/// What a command makes that does an act with each of a list.
+pub fn done_with<X, A: Act<X>>(
+    alloc: Global,
+    shared: &Shared,
+    view: &ShellView,
+    act: &A,
+    items: &[X],
+) -> Result<Outcome, NoMemory>
+    ensures { IfOk result (λ outcome. effect_of shared.now outcome ≡ ended view.now.limit (each (A.act act.now) (fresh shared.now) items.now)) }
+{
+    let mut work = Work::new(alloc);
+    each(act, shared, &mut work, items)?;
+    Ok(work.end(view.limit))
+}
+
+/// What a command makes that does an act with each of the objects that its arguments name.
+pub fn done_with_named<A: Act<Place>>(
+    alloc: Global,
+    shared: &Shared,
+    view: &ShellView,
+    act: &A,
+    texts: &[Text],
+) -> Result<Outcome, NoMemory>
+    ensures { IfOk result (λ outcome. effect_of shared.now outcome ≡ ended view.now.limit (each (at_names (A.act act.now) view.now) (fresh shared.now) texts.now)) }
+{
+    done_with(alloc, shared, view, &Names { act, view }, texts)
+}
+
+/// The files go on as changed, or it stops at the refusal of the change.
+pub fn go_on(
+    shared: &Shared,
+    work: &mut Work,
+    change: Result<Ram, FsFault>,
+    place: &Place,
+) -> Result<(), NoMemory>
+    ensures { (fault : Option Result2) → (files : Files) → Answers change fault → IfOk change (λ new. new ≡ files) →
+        OnOk result (done_of shared.now work.new ≡ in_files fault files (done_of shared.now work.old)) }
+{
+    go_on_saying(shared, work, change, true, place, b"")
+}
+
+/// As `go_on`, and says so with the path as it was, unless QUIET.
+pub fn go_on_saying(
+    shared: &Shared,
+    work: &mut Work,
+    change: Result<Ram, FsFault>,
+    quiet: bool,
+    place: &Place,
+    words: &[u8],
+) -> Result<(), NoMemory>
+    ensures { (fault : Option Result2) → (files : Files) → Answers change fault → IfOk change (λ new. new ≡ files) →
+        OnOk result (done_of shared.now work.new ≡ in_files_saying fault files quiet place.now words.now (done_of shared.now work.old)) }
+{
+    match change {
+        Err(FsFault::NoMemory) => Err(NoMemory),
+        Err(FsFault::Refused(fault)) => {
+            work.stopped = Some(Codes::erred(fault));
+            Ok(())
+        }
+        Ok(ram) => {
+            let old = current(shared, &work.shared);
+            say_path(quiet, &mut work.output, &old.ram, place, words)?;
+            work.shared = Some(old.with_files(ram)?);
+            Ok(())
+        }
+    }
+}
 
 /// An act with the place of each path.
 #[derive(Drop)]

@@ -9,16 +9,18 @@ ghost use Rattle.ados_find.specs.Effects.{effect_of};
 ghost use Rattle.ados_find.specs.Paths.{place_of};
 ghost use Rattle.ados_files.specs.Copy.{directory_for, copy_into, is_onto, one_entry, copy_found, copied_to, copy_row};
 
+use crate::acts::done_with;
 use crate::copy_one::Copying;
 use crate::jobs::{all_jobs, jobs_onto, sources_of};
 use crate::make_dir::made;
 use crate::names::Found;
 use crate::rename::is_directory;
-use ados_find::{Codes, Outcome, Refusal, Shared, ShellView, Work, current, each, place_of};
+use ados_find::{Act, Codes, Outcome, Refusal, Shared, ShellView, Work, current, each, place_of};
 use ados_ram::{Entry, Place, Ram};
 use ados_readargs::Args;
 use ados_text::{NoMemory, Result2, Text};
 use std::alloc::Global;
+use std::slice;
 
 /// Copy copies files.
 pub fn copy_files(
@@ -61,6 +63,14 @@ pub struct Copy<'a> {
     pub found: Found,
 }
 
+impl<'a> Act<Place> for Copy<'a> {
+    ghost act = { λ s. copy_found s.view.now s.all s.quiet s.found };
+
+    fn act(&self, shared: &Shared, work: &mut Work, item: &Place) -> Result<(), NoMemory> {
+        copy_found(self, shared, work, item)
+    }
+}
+
 fn copied_to(alloc: Global, shared: &Shared, copy: &Copy, to: &Text) -> Result<Outcome, NoMemory>
     ensures { IfOk result (λ outcome. effect_of shared.now outcome ≡
         copied_to shared.now copy.now.view.now copy.now.all copy.now.quiet copy.now.found (place_of shared.now copy.now.view.now.directory to.now)) }
@@ -69,11 +79,7 @@ fn copied_to(alloc: Global, shared: &Shared, copy: &Copy, to: &Text) -> Result<O
     match place_of(alloc, shared, &view.directory, to) {
         Err(Refusal::NoMemory) => Err(NoMemory),
         Err(Refusal::Stopped(codes)) => Ok(Outcome::answering(alloc, view.limit, codes)),
-        Ok(to) => {
-            let mut work = Work::new(alloc);
-            copy_found(copy, shared, &mut work, &to)?;
-            Ok(work.end(view.limit))
-        }
+        Ok(to) => done_with(alloc, shared, view, copy, slice::from_ref(&to)),
     }
 }
 

@@ -1,14 +1,18 @@
 // The copying of one file.
 ghost use Rattle.std.specs.Prelude.{◌≡◌, ◌++◌, OnOk};
+ghost use Rattle.std.specs.FinMap as map;
+ghost use Rattle.ados_ram.specs.Place.{key_of};
 ghost use Rattle.ados_find.specs.Done.{done_of, each};
-ghost use Rattle.ados_files.specs.Copy.{between, make_missing, itself_fault, copy_written, copy_unless, copy_one};
+ghost use Rattle.ados_find.specs.Shared.{version};
+ghost use Rattle.ados_files.specs.Copy.{between, make_missing, copy_fault, copy_written, copy_unless, copy_entry, copy_one};
 
+use crate::acts::go_on_saying;
 use crate::jobs::Job;
-use crate::lines::say_path;
 use crate::make_dir::made;
 use ados_find::{Act, Codes, Shared, ShellView, Work, current, each};
-use ados_ram::{Entry, FsFault, Place};
+use ados_ram::{Busy, Entry, Place, Ram};
 use ados_text::{Name, NoMemory, Result2};
+use std::slice;
 
 /// The copying of a file to a place below another.
 #[derive(Drop)]
@@ -34,20 +38,64 @@ fn copy_one(copying: &Copying, shared: &Shared, work: &mut Work, job: &Job) -> R
     let view = copying.view;
     let target = copying.to.joined(job.names.names())?;
     let ram = &current(shared, &work.shared).ram;
-    let unread = ram.read(&view.busy, &job.source).err();
-    match itself_fault(&job.source, &target).or(unread) {
+    match copy_fault(&view.busy, ram, &job.source, &target) {
         Some(fault) => {
             work.stopped = Some(Codes::erred(fault));
             Ok(())
         }
-        None => match ram.look(&job.source) {
-            None => Ok(()),
-            Some(entry) => {
-                let entry = entry.copy()?;
-                make_between(copying.to, shared, work, job)?;
-                copy_unless(copying, shared, work, &job.source, &target, &entry)
-            }
-        },
+        None => copy_entry(copying, shared, work, job, &target),
+    }
+}
+
+// A file onto itself is refused, and then one that cannot be read.
+fn copy_fault(busy: &Busy, ram: &Ram, source: &Place, target: &Place) -> Option<Result2>
+    ensures { result ≡ copy_fault busy.now ram.now source.now target.now }
+{
+    if *source == *target {
+        return Some(Result2::OBJECT_IN_USE);
+    }
+    ram.read(busy, source).err()
+}
+
+// Copies what is there.
+fn copy_entry(
+    copying: &Copying,
+    shared: &Shared,
+    work: &mut Work,
+    job: &Job,
+    target: &Place,
+) -> Result<(), NoMemory>
+    requires { target.now ≡ copying.now.to.now ++ job.now.names }
+    ensures { OnOk result (done_of shared.now work.new ≡
+        copy_entry copying.now.view.now copying.now.quiet copying.now.to.now (done_of shared.now work.old) job.now
+        (map.get (version shared.now work.old.shared).files (key_of job.now.source))) }
+{
+    match current(shared, &work.shared).ram.look(&job.source) {
+        None => Ok(()),
+        Some(entry) => {
+            let entry = entry.copy()?;
+            copy_below(copying, shared, work, job, target, &entry)
+        }
+    }
+}
+
+// Makes the directories that are missing and writes a copy, unless it stopped.
+fn copy_below(
+    copying: &Copying,
+    shared: &Shared,
+    work: &mut Work,
+    job: &Job,
+    target: &Place,
+    entry: &Entry,
+) -> Result<(), NoMemory>
+    ensures { OnOk result (done_of shared.now work.new ≡
+        copy_unless copying.now.view.now copying.now.quiet job.now.source target.now entry.now
+        (each make_missing (done_of shared.now work.old) (between copying.now.to.now job.now.names))) }
+{
+    make_between(copying.to, shared, work, job)?;
+    match work.stopped {
+        Some(_) => Ok(()),
+        None => copy_written(copying, shared, work, &job.source, target, entry),
     }
 }
 
@@ -56,24 +104,13 @@ fn make_between(to: &Place, shared: &Shared, work: &mut Work, job: &Job) -> Resu
     ensures { OnOk result (done_of shared.now work.new ≡ each make_missing (done_of shared.now work.old) (between to.now job.now.names)) }
 {
     let mut places = Vec::new(*work.output.allocator());
-    push_between(&mut places, to.copy()?, job.names.names())?;
+    push_between(&mut places, to, job.names.names())?;
     each(&MakingMissing, shared, work, &places)
 }
 
-// A file onto itself is refused.
-fn itself_fault(source: &Place, target: &Place) -> Option<Result2>
-    ensures { result ≡ itself_fault source.now target.now }
-{
-    if *source == *target {
-        Some(Result2::OBJECT_IN_USE)
-    } else {
-        None
-    }
-}
-
 // Adds the directories between a place and one below it.
-fn push_between(places: &mut Vec<Place>, above: Place, names: &[Name]) -> Result<(), NoMemory>
-    ensures { OnOk result (places.new.items ≡ places.old.items ++ between above names.now) }
+fn push_between(places: &mut Vec<Place>, above: &Place, names: &[Name]) -> Result<(), NoMemory>
+    ensures { OnOk result (places.new.items ≡ places.old.items ++ between above.now names.now) }
 {
     let Some((name, rest)) = names.split_first() else {
         return Ok(());
@@ -81,9 +118,9 @@ fn push_between(places: &mut Vec<Place>, above: Place, names: &[Name]) -> Result
     if rest.is_empty() {
         return Ok(());
     }
-    let next = above.with(name.copy()?)?;
+    let next = above.joined(slice::from_ref(name))?;
     places.push(next.copy()?)?;
-    push_between(places, next, rest)
+    push_between(places, &next, rest)
 }
 
 /// The making of a directory that is missing.
@@ -113,24 +150,6 @@ fn make_missing(shared: &Shared, work: &mut Work, place: &Place) -> Result<(), N
     }
 }
 
-// Writes a copy, unless it stopped.
-fn copy_unless(
-    copying: &Copying,
-    shared: &Shared,
-    work: &mut Work,
-    source: &Place,
-    target: &Place,
-    entry: &Entry,
-) -> Result<(), NoMemory>
-    ensures { OnOk result (done_of shared.now work.new ≡
-        copy_unless copying.now.view.now copying.now.quiet source.now target.now entry.now (done_of shared.now work.old)) }
-{
-    match work.stopped {
-        Some(_) => Ok(()),
-        None => copy_written(copying, shared, work, source, target, entry),
-    }
-}
-
 // Writes a copy, and says so.
 fn copy_written(
     copying: &Copying,
@@ -143,27 +162,8 @@ fn copy_written(
     ensures { OnOk result (done_of shared.now work.new ≡
         copy_written copying.now.view.now copying.now.quiet source.now target.now entry.now (done_of shared.now work.old)) }
 {
-    let now = current(shared, &work.shared);
+    let ram = &current(shared, &work.shared).ram;
     let view = copying.view;
-    match now
-        .ram
-        .write_as(&view.busy, target, entry.bytes(), entry.bits)
-    {
-        Err(FsFault::NoMemory) => Err(NoMemory),
-        Err(FsFault::Refused(fault)) => {
-            work.stopped = Some(Codes::erred(fault));
-            Ok(())
-        }
-        Ok(ram) => {
-            say_path(
-                copying.quiet,
-                &mut work.output,
-                &now.ram,
-                source,
-                b"..copied\n",
-            )?;
-            work.shared = Some(now.with_files(ram)?);
-            Ok(())
-        }
-    }
+    let change = ram.write_as(&view.busy, target, entry.bytes(), entry.bits);
+    go_on_saying(shared, work, change, copying.quiet, source, b"..copied\n")
 }

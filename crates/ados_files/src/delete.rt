@@ -3,11 +3,10 @@ ghost use Rattle.ados_find.specs.Done.{done_of};
 ghost use Rattle.ados_find.specs.Effects.{effect_of};
 ghost use Rattle.ados_files.specs.Delete.{delete_one, targets, delete_place, delete_row};
 
-use crate::acts::Names;
-use crate::lines::say_path;
+use crate::acts::{done_with_named, go_on_saying};
 use crate::names::only;
-use ados_find::{Act, Codes, Outcome, Shared, ShellView, Work, current, each};
-use ados_ram::{FsFault, Place, Ram};
+use ados_find::{Act, Outcome, Shared, ShellView, Work, current, each};
+use ados_ram::{Place, Ram};
 use ados_readargs::Args;
 use ados_text::NoMemory;
 use std::alloc::Global;
@@ -26,9 +25,7 @@ pub fn delete(
         all: args.is_on(1),
         quiet: args.is_on(2),
     };
-    let mut work = Work::new(alloc);
-    each(&Names { act: &act, view }, shared, &mut work, args.texts(0))?;
-    Ok(work.end(view.limit))
+    done_with_named(alloc, shared, view, &act, args.texts(0))
 }
 
 /// The deleting of an object, with ALL behind what is below it.
@@ -100,17 +97,6 @@ fn delete_one(
 ) -> Result<(), NoMemory>
     ensures { OnOk result (done_of shared.now work.new ≡ delete_one view.now quiet (done_of shared.now work.old) place.now) }
 {
-    let now = current(shared, &work.shared);
-    match now.ram.delete(&view.busy, place) {
-        Err(FsFault::NoMemory) => Err(NoMemory),
-        Err(FsFault::Refused(fault)) => {
-            work.stopped = Some(Codes::erred(fault));
-            Ok(())
-        }
-        Ok(ram) => {
-            say_path(quiet, &mut work.output, &now.ram, place, b"  Deleted\n")?;
-            work.shared = Some(now.with_files(ram)?);
-            Ok(())
-        }
-    }
+    let change = current(shared, &work.shared).ram.delete(&view.busy, place);
+    go_on_saying(shared, work, change, quiet, place, b"  Deleted\n")
 }

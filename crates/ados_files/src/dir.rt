@@ -1,11 +1,13 @@
 ghost use Rattle.std.specs.Prelude.{◌≡◌, ◌++◌, IfOk, OnOk, Ok};
+ghost use Rattle.std.specs.FinMap as map;
 ghost use Rattle.std.specs.Option.{option_copied};
+ghost use Rattle.ados_ram.specs.Place.{key_of};
+ghost use Rattle.ados_ram.specs.Contents.{children};
 ghost use Rattle.ados_find.specs.Effects.{effect_of};
 ghost use Rattle.ados_find.specs.Paths.{Gives};
-ghost use Rattle.ados_files.specs.Lines.{lines_by};
 ghost use Rattle.ados_files.specs.Dir.{directory_line, file_line, directories_text, files_text, dir_text, dir_at, directory_given, dir_row};
 
-use crate::lines::keeps;
+use crate::lines::{Line, keeps, push_lines, put_between};
 use crate::listing::list_fault;
 use ados_find::{Codes, Outcome, Refusal, Shared, ShellView, place_of};
 use ados_ram::{Entry, Place, Ram};
@@ -57,8 +59,7 @@ fn dir_at(
     match list_fault(shared.ram.look(place)) {
         Some(fault) => Ok(Outcome::answering(alloc, view.limit, Codes::erred(fault))),
         None => {
-            let places = shared.ram.children(place)?;
-            let output = dir_text(alloc, dirs, files, &shared.ram, &places)?;
+            let output = dir_text(alloc, dirs, files, &shared.ram, place)?;
             Ok(Outcome::putting(view.limit, output))
         }
     }
@@ -69,13 +70,14 @@ fn dir_text(
     dirs: bool,
     files: bool,
     ram: &Ram,
-    places: &[Place],
+    place: &Place,
 ) -> Result<Vec<u8>, NoMemory>
-    ensures { IfOk result (λ text. text.items ≡ dir_text dirs files ram.now places.now) }
+    ensures { IfOk result (λ text. text.items ≡ dir_text dirs files ram.now (children (key_of place.now) (map.entries ram.now))) }
 {
+    let places = ram.children(place)?;
     let mut output = Vec::new(alloc);
-    push_directories(&mut output, keeps(dirs, files), ram, places)?;
-    push_files(&mut output, keeps(files, dirs), ram, places)?;
+    push_directories(&mut output, keeps(dirs, files), ram, &places)?;
+    push_files(&mut output, keeps(files, dirs), ram, &places)?;
     Ok(output)
 }
 
@@ -90,10 +92,7 @@ fn push_directories(
     if !kept {
         return Ok(());
     }
-    for place in places {
-        push_directory(output, ram.look(place))?;
-    }
-    Ok(())
+    push_lines(output, &DirectoryLine, ram, places)
 }
 
 fn push_files(output: &mut Vec<u8>, kept: bool, ram: &Ram, places: &[Place]) -> Result<(), NoMemory>
@@ -102,44 +101,40 @@ fn push_files(output: &mut Vec<u8>, kept: bool, ram: &Ram, places: &[Place]) -> 
     if !kept {
         return Ok(());
     }
-    for place in places {
-        push_file(output, ram.look(place))?;
-    }
-    Ok(())
+    push_lines(output, &FileLine, ram, places)
 }
 
-// The line of a directory, if one is there.
-fn push_directory(output: &mut Vec<u8>, there: Option<&Entry>) -> Result<(), NoMemory>
-    ensures { OnOk result (output.new.items ≡ output.old.items ++ directory_line (option_copied there.entry)) }
-{
-    match there {
-        None => Ok(()),
-        Some(entry) => {
-            if !entry.is_directory() {
-                return Ok(());
+/// The line of a directory, if one is there.
+#[derive(Drop)]
+pub struct DirectoryLine;
+
+impl Line for DirectoryLine {
+    ghost line = { λ _. directory_line };
+
+    fn push(&self, output: &mut Vec<u8>, there: Option<&Entry>) -> Result<(), NoMemory> {
+        match there {
+            Some(entry) if entry.is_directory() => {
+                let name = entry.name.text().as_bytes();
+                put_between(output, b"     ", name, b" (dir)\n")
             }
-            output.extend_from_slice(b"     ")?;
-            output.extend_from_slice(entry.name.text().as_bytes())?;
-            output.extend_from_slice(b" (dir)\n")?;
-            Ok(())
+            _ => Ok(()),
         }
     }
 }
 
-// The line of a file, if one is there.
-fn push_file(output: &mut Vec<u8>, there: Option<&Entry>) -> Result<(), NoMemory>
-    ensures { OnOk result (output.new.items ≡ output.old.items ++ file_line (option_copied there.entry)) }
-{
-    match there {
-        None => Ok(()),
-        Some(entry) => {
-            if entry.is_directory() {
-                return Ok(());
+/// The line of a file, if one is there.
+#[derive(Drop)]
+pub struct FileLine;
+
+impl Line for FileLine {
+    ghost line = { λ _. file_line };
+
+    fn push(&self, output: &mut Vec<u8>, there: Option<&Entry>) -> Result<(), NoMemory> {
+        match there {
+            Some(entry) if !entry.is_directory() => {
+                put_between(output, b"  ", entry.name.text().as_bytes(), b"\n")
             }
-            output.extend_from_slice(b"  ")?;
-            output.extend_from_slice(entry.name.text().as_bytes())?;
-            output.push(b'\n')?;
-            Ok(())
+            _ => Ok(()),
         }
     }
 }

@@ -3,9 +3,9 @@ ghost use Rattle.ados_find.specs.Done.{done_of};
 ghost use Rattle.ados_find.specs.Effects.{effect_of};
 ghost use Rattle.ados_files.specs.Filenote.{note_one, noted, filenote_row};
 
-use crate::acts::Names;
-use ados_find::{Act, Codes, Outcome, Shared, ShellView, Work, current, each};
-use ados_ram::{FsFault, Place};
+use crate::acts::{done_with_named, go_on};
+use ados_find::{Act, Outcome, Shared, ShellView, Work, current};
+use ados_ram::Place;
 use ados_readargs::Args;
 use ados_text::{NoMemory, Text};
 use std::alloc::Global;
@@ -34,10 +34,7 @@ fn noted(
 ) -> Result<Outcome, NoMemory>
     ensures { IfOk result (λ outcome. effect_of shared.now outcome ≡ noted shared.now view.now comment.now texts.now) }
 {
-    let mut work = Work::new(alloc);
-    let act = Noting { comment };
-    each(&Names { act: &act, view }, shared, &mut work, texts)?;
-    Ok(work.end(view.limit))
+    done_with_named(alloc, shared, view, &Noting { comment }, texts)
 }
 
 /// The setting of one object's comment.
@@ -58,16 +55,6 @@ impl<'a> Act<Place> for Noting<'a> {
 fn note_one(comment: &Text, shared: &Shared, work: &mut Work, place: &Place) -> Result<(), NoMemory>
     ensures { OnOk result (done_of shared.now work.new ≡ note_one comment.now (done_of shared.now work.old) place.now) }
 {
-    let now = current(shared, &work.shared);
-    match now.ram.comment(place, comment) {
-        Err(FsFault::NoMemory) => Err(NoMemory),
-        Err(FsFault::Refused(fault)) => {
-            work.stopped = Some(Codes::erred(fault));
-            Ok(())
-        }
-        Ok(ram) => {
-            work.shared = Some(now.with_files(ram)?);
-            Ok(())
-        }
-    }
+    let change = current(shared, &work.shared).ram.comment(place, comment);
+    go_on(shared, work, change, place)
 }

@@ -1,7 +1,8 @@
 // The files that Copy copies.
-ghost use Rattle.std.specs.Prelude.{◌≡◌, ◌++◌, ◌∷◌, [], IfOk, OnOk};
+ghost use Rattle.std.specs.Prelude.{◌≡◌, ◌++◌, ◌∷◌, [], drop, length, IfOk, OnOk};
 ghost use Rattle.std.specs.FinMap as map;
 ghost use Rattle.ados_ram.specs.Place.{key_of};
+ghost use Rattle.ados_ram.specs.Written.{written_place};
 ghost use Rattle.ados_find.specs.Paths.{Gives};
 
 use crate::names::{Found, named, push_places};
@@ -9,12 +10,24 @@ use ados_find::{Refusal, Shared};
 use ados_ram::{Entry, Place, Ram};
 use ados_text::{NoMemory, Text};
 use std::alloc::Global;
+use std::slice;
 
 /// A file, and the names below TO under which it goes.
-#[derive(Debug, Drop)]
+#[derive(Drop)]
 pub struct Job {
     pub source: Place,
     pub names: Place,
+}
+
+impl Job {
+    fn new(source: &Place, names: Place) -> Result<Job, NoMemory>
+        ensures { IfOk result (λ job. job ≡ record { source = source.now; names = names }) }
+    {
+        Ok(Job {
+            source: source.copy()?,
+            names,
+        })
+    }
 }
 
 ghost use Rattle.ados_files.specs.Jobs.{gathered, sources_of, job_below, jobs_below, jobs_there, all_jobs, jobs_onto};
@@ -92,22 +105,28 @@ fn push_below(
 fn job_below(alloc: Global, ram: &Ram, directory: &Place, place: &Place) -> Result<Job, NoMemory>
     ensures { IfOk result (λ job. job ≡ job_below ram.now directory.now place.now) }
 {
+    Job::new(place, names_below(alloc, ram, directory, place)?)
+}
+
+// The path of a file below a directory, with its names as they are written.
+fn names_below(
+    alloc: Global,
+    ram: &Ram,
+    directory: &Place,
+    place: &Place,
+) -> Result<Place, NoMemory>
+    ensures { IfOk result (λ names. names ≡ drop (length directory.now) (written_place ram.now place.now)) }
+{
     let written = ram.written(place)?;
-    Ok(Job {
-        source: place.copy()?,
-        names: Place::root(alloc).joined(written.names_behind(directory))?,
-    })
+    Place::root(alloc).joined(written.names_behind(directory))
 }
 
 // A file goes under its name.
 fn push_named(jobs: &mut Vec<Job>, place: &Place, entry: &Entry) -> Result<(), NoMemory>
     ensures { OnOk result (jobs.new.items ≡ jobs.old.items ++ record { source = place.now; names = entry.now.name ∷ [] } ∷ []) }
 {
-    let names = Place::root(*jobs.allocator()).with(entry.name.copy()?)?;
-    jobs.push(Job {
-        source: place.copy()?,
-        names,
-    })?;
+    let names = Place::root(*jobs.allocator()).joined(slice::from_ref(&entry.name))?;
+    jobs.push(Job::new(place, names)?)?;
     Ok(())
 }
 
@@ -117,10 +136,7 @@ pub fn jobs_onto(alloc: Global, places: &[Place]) -> Result<Vec<Job>, NoMemory>
 {
     let mut jobs = Vec::new(alloc);
     for place in places {
-        jobs.push(Job {
-            source: place.copy()?,
-            names: Place::root(alloc),
-        })?;
+        jobs.push(Job::new(place, Place::root(alloc))?)?;
     }
     Ok(jobs)
 }

@@ -1,15 +1,16 @@
 ghost use Rattle.std.specs.Prelude.{◌≡◌, IfOk, OnOk};
 ghost use Rattle.ados_find.specs.Done.{done_of};
 ghost use Rattle.ados_find.specs.Effects.{effect_of};
-ghost use Rattle.ados_files.specs.Join.{write_one, written_to, join_row};
+ghost use Rattle.ados_files.specs.Join.{write_one, written_to, joined_to, join_row};
 
-use crate::acts::{Paths, at_path};
+use crate::acts::{Paths, at_path, done_with, go_on};
 use crate::type_files::Typing;
 use ados_find::{Act, Codes, Outcome, Shared, ShellView, Work, current, each};
-use ados_ram::{FsFault, Place};
+use ados_ram::Place;
 use ados_readargs::Args;
 use ados_text::{NoMemory, Result2, Text};
 use std::alloc::Global;
+use std::{mem, slice};
 
 /// Join writes files, one behind the other, to a file.
 pub fn join_files(
@@ -24,38 +25,54 @@ pub fn join_files(
         let codes = Codes::failed(Result2::ARGUMENT_MISSING);
         return Ok(Outcome::answering(alloc, view.limit, codes));
     };
-    let mut read = Work::new(alloc);
+    let act = Joining {
+        view,
+        texts: args.texts(0),
+    };
+    done_with(alloc, shared, view, &act, slice::from_ref(to))
+}
+
+/// The joining of files to one.
+#[derive(Drop)]
+pub struct Joining<'a> {
+    pub view: &'a ShellView,
+    pub texts: &'a [Text],
+}
+
+impl<'a> Act<Text> for Joining<'a> {
+    ghost act = { λ s. joined_to s.view.now s.texts.now };
+
+    fn act(&self, shared: &Shared, work: &mut Work, item: &Text) -> Result<(), NoMemory> {
+        joined_to(self.view, self.texts, shared, work, item)
+    }
+}
+
+// Reads all, and then writes it.
+fn joined_to(
+    view: &ShellView,
+    texts: &[Text],
+    shared: &Shared,
+    work: &mut Work,
+    to: &Text,
+) -> Result<(), NoMemory>
+    ensures { OnOk result (done_of shared.now work.new ≡ joined_to view.now texts.now (done_of shared.now work.old) to.now) }
+{
     let act = Typing { view };
-    each(&Paths { act: &act, view }, shared, &mut read, args.texts(0))?;
-    let work = written_to(alloc, view, shared, read, to)?;
-    Ok(work.end(view.limit))
+    each(&Paths { act: &act, view }, shared, work, texts)?;
+    written_to(view, shared, work, to)
 }
 
 // Writes all that was read, where nothing was refused.
-fn written_to(
-    alloc: Global,
-    view: &ShellView,
-    shared: &Shared,
-    read: Work,
-    to: &Text,
-) -> Result<Work, NoMemory>
-    ensures { IfOk result (λ work. done_of shared.now work ≡ written_to view.now to.now (done_of shared.now read)) }
+fn written_to(view: &ShellView, shared: &Shared, work: &mut Work, to: &Text) -> Result<(), NoMemory>
+    ensures { OnOk result (done_of shared.now work.new ≡ written_to view.now to.now (done_of shared.now work.old)) }
 {
-    let bytes = read.output;
-    let mut work = Work {
-        shared: read.shared,
-        output: Vec::new(alloc),
-        stopped: read.stopped,
-    };
+    let none = Vec::new(*work.output.allocator());
+    let read = mem::replace(&mut work.output, none);
     match work.stopped {
-        Some(_) => Ok(work),
+        Some(_) => Ok(()),
         None => {
-            let act = Writing {
-                view,
-                bytes: &bytes,
-            };
-            at_path(&act, view, shared, &mut work, to)?;
-            Ok(work)
+            let act = Writing { view, bytes: &read };
+            at_path(&act, view, shared, work, to)
         }
     }
 }
@@ -85,16 +102,8 @@ fn write_one(
 ) -> Result<(), NoMemory>
     ensures { OnOk result (done_of shared.now work.new ≡ write_one view.now bytes.now (done_of shared.now work.old) place.now) }
 {
-    let now = current(shared, &work.shared);
-    match now.ram.write(&view.busy, place, bytes) {
-        Err(FsFault::NoMemory) => Err(NoMemory),
-        Err(FsFault::Refused(fault)) => {
-            work.stopped = Some(Codes::erred(fault));
-            Ok(())
-        }
-        Ok(ram) => {
-            work.shared = Some(now.with_files(ram)?);
-            Ok(())
-        }
-    }
+    let change = current(shared, &work.shared)
+        .ram
+        .write(&view.busy, place, bytes);
+    go_on(shared, work, change, place)
 }

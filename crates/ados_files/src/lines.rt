@@ -1,12 +1,29 @@
 // Lines of a listing.
-ghost use Rattle.std.specs.Prelude.{◌≡◌, ◌++◌, ◌-◌, OnOk};
+ghost use Rattle.std.specs.Prelude.{◌≡◌, ℕ, List, Option, ◌++◌, ◌∷◌, [], ◌-◌, OnOk};
 ghost use Rattle.std.proofs.Math.ListN.{replicate};
+ghost use Rattle.std.specs.Option.{option_copied};
 ghost use Rattle.ados_ram.specs.Written.{full_path};
-ghost use Rattle.ados_files.specs.Lines.{say, keeps, left_in, right_in, letter, bits_text, size_text, comment_line, list_line};
+ghost use Rattle.ados_ram.specs.declared.entries.Entry.{Entry};
+ghost use Rattle.ados_files.specs.Lines.{say, keeps, lines_by, left_in, right_in, letter, bits_text, size_text, comment_line, list_line};
 
 use ados_ram::{Bits, Body, Entry, Place, Ram};
 use ados_text::NoMemory;
 use itoa::Buffer;
+
+/// Puts out a text between two others.
+pub fn put_between(
+    output: &mut Vec<u8>,
+    before: &[u8],
+    text: &[u8],
+    behind: &[u8],
+) -> Result<(), NoMemory>
+    ensures { OnOk result (output.new.items ≡ output.old.items ++ (before.now ++ (text.now ++ behind.now))) }
+{
+    output.extend_from_slice(before)?;
+    output.extend_from_slice(text)?;
+    output.extend_from_slice(behind)?;
+    Ok(())
+}
 
 /// Puts out the path of a place with some words behind it, unless QUIET.
 pub fn say_path(
@@ -26,6 +43,30 @@ pub fn say_path(
     Ok(())
 }
 
+/// The line of what stands at a place.
+pub trait Line {
+    ghost line: { Self → Option Entry → List ℕ };
+
+    /// Puts it out.
+    fn push(&self, output: &mut Vec<u8>, there: Option<&Entry>) -> Result<(), NoMemory>
+        ensures { OnOk result (output.new.items ≡ output.old.items ++ line self.now (option_copied there.entry)) };
+}
+
+/// Puts out the lines of places.
+pub fn push_lines<L: Line>(
+    output: &mut Vec<u8>,
+    line: &L,
+    ram: &Ram,
+    places: &[Place],
+) -> Result<(), NoMemory>
+    ensures { OnOk result (output.new.items ≡ output.old.items ++ lines_by (L.line line.now) ram.now places.now) }
+{
+    for place in places {
+        line.push(output, ram.look(place))?;
+    }
+    Ok(())
+}
+
 /// A kind is kept by its own switch, and where the other has none either.
 pub fn keeps(own: bool, other: bool) -> bool
     ensures { result ≡ keeps own other }
@@ -40,11 +81,8 @@ pub fn push_line(output: &mut Vec<u8>, entry: &Entry) -> Result<(), NoMemory>
     push_left(output, 30, entry.name.text().as_bytes())?;
     output.push(b' ')?;
     push_size(output, &entry.body)?;
-    output.push(b' ')?;
     push_bits(output, entry.bits)?;
-    output.push(b'\n')?;
-    push_comment(output, entry.comment.as_bytes())?;
-    Ok(())
+    push_comment(output, entry.comment.as_bytes())
 }
 
 fn push_left(output: &mut Vec<u8>, width: usize, text: &[u8]) -> Result<(), NoMemory>
@@ -83,10 +121,12 @@ fn push_size(output: &mut Vec<u8>, body: &Body) -> Result<(), NoMemory>
     }
 }
 
+// The bits, a space before them and the end of the line behind them.
 fn push_bits(output: &mut Vec<u8>, bits: Bits) -> Result<(), NoMemory>
-    ensures { OnOk result (output.new.items ≡ output.old.items ++ bits_text bits) }
+    ensures { OnOk result (output.new.items ≡ output.old.items ++ (32 ∷ (bits_text bits ++ 10 ∷ []))) }
 {
     let text = [
+        b' ',
         letter(bits.hold, b'h'),
         letter(bits.script, b's'),
         letter(bits.pure, b'p'),
@@ -95,6 +135,7 @@ fn push_bits(output: &mut Vec<u8>, bits: Bits) -> Result<(), NoMemory>
         letter(bits.write, b'w'),
         letter(bits.execute, b'e'),
         letter(bits.delete, b'd'),
+        b'\n',
     ];
     output.extend_from_slice(&text)?;
     Ok(())
@@ -112,8 +153,5 @@ fn push_comment(output: &mut Vec<u8>, comment: &[u8]) -> Result<(), NoMemory>
     if comment.is_empty() {
         return Ok(());
     }
-    output.extend_from_slice(b": ")?;
-    output.extend_from_slice(comment)?;
-    output.push(b'\n')?;
-    Ok(())
+    put_between(output, b": ", comment, b"\n")
 }

@@ -3,20 +3,21 @@ ghost use Rattle.std.specs.FinMap as map;
 ghost use Rattle.std.specs.Option.{option_copied};
 ghost use Rattle.ados_ram.specs.Place.{key_of};
 ghost use Rattle.ados_ram.specs.FileOperations.{list_fault};
-ghost use Rattle.ados_find.specs.Done.{done_of};
+ghost use Rattle.ados_find.specs.Done.{done_of, fresh, ended};
 ghost use Rattle.ados_find.specs.Effects.{effect_of};
 ghost use Rattle.ados_find.specs.Paths.{Gives};
-ghost use Rattle.ados_files.specs.Lines.{lines_by};
 
-use crate::lines::{keeps, push_line};
+use crate::acts::done_with;
+use crate::lines::{Line, keeps, push_line, push_lines};
 use crate::matching::is_match;
 use crate::names::{Found, named, only, pattern_of, push_places};
-use ados_find::{Act, Codes, Outcome, Refusal, Shared, ShellView, Work, current, each};
+use ados_find::{Act, Codes, Outcome, Refusal, Shared, ShellView, Work, current};
 use ados_pattern::Pattern;
 use ados_ram::{Entry, Place, Ram};
 use ados_readargs::Args;
 use ados_text::{NoMemory, Result2, Text};
 use std::alloc::Global;
+use std::slice;
 
 /// What List shows: the names that match a pattern, the name alone, files, directories.
 #[derive(Drop)]
@@ -28,7 +29,7 @@ pub struct Shape {
 }
 
 ghost use Rattle.ados_files.specs.Listing.{passes, is_kept, shown_line, kept_line, line_there, entries_of, all_entries, listed};
-ghost use Rattle.ados_files.specs.Listing.{list_places, list_text, list_current, list_texts, pattern_given, list_row};
+ghost use Rattle.ados_files.specs.Listing.{list_places, list_text, list_at, list_texts, pattern_given, list_row};
 
 /// List puts out lines of objects, and of what is in directories.
 pub fn list(
@@ -49,9 +50,7 @@ pub fn list(
                 files: args.is_on(3),
                 dirs: args.is_on(4),
             };
-            let mut work = Work::new(alloc);
-            list_texts(&shape, view, shared, &mut work, args.texts(0))?;
-            Ok(work.end(view.limit))
+            list_texts(alloc, shared, view, &shape, args.texts(0))
         }
     }
 }
@@ -68,18 +67,20 @@ fn pattern_given(alloc: Global, text: Option<&Text>) -> Result<Option<Pattern>, 
 
 // Lists what arguments name; without one the current directory.
 fn list_texts(
-    shape: &Shape,
-    view: &ShellView,
+    alloc: Global,
     shared: &Shared,
-    work: &mut Work,
+    view: &ShellView,
+    shape: &Shape,
     texts: &[Text],
-) -> Result<(), NoMemory>
-    ensures { OnOk result (done_of shared.now work.new ≡ list_texts shape.now view.now (done_of shared.now work.old) texts.now) }
+) -> Result<Outcome, NoMemory>
+    ensures { IfOk result (λ outcome. effect_of shared.now outcome ≡
+        ended view.now.limit (list_texts shape.now view.now (fresh shared.now) texts.now)) }
 {
     if texts.is_empty() {
-        return list_current(shape, view, shared, work);
+        let here = slice::from_ref(&view.directory);
+        return done_with(alloc, shared, view, &ListingAt { shape }, here);
     }
-    each(&Listing { shape, view }, shared, work, texts)
+    done_with(alloc, shared, view, &Listing { shape, view }, texts)
 }
 
 /// The listing of what an argument names.
@@ -117,31 +118,38 @@ fn list_text(
         }
         Ok(found) => {
             let places = listed(alloc, &now.ram, &found)?;
-            push_lines(&mut work.output, shape, &now.ram, &places)?;
-            Ok(())
+            push_lines(&mut work.output, shape, &now.ram, &places)
         }
     }
 }
 
-// Lists the current directory.
-fn list_current(
-    shape: &Shape,
-    view: &ShellView,
-    shared: &Shared,
-    work: &mut Work,
-) -> Result<(), NoMemory>
-    ensures { OnOk result (done_of shared.now work.new ≡ list_current shape.now view.now (done_of shared.now work.old)) }
+/// The listing of a directory.
+#[derive(Drop)]
+pub struct ListingAt<'a> {
+    pub shape: &'a Shape,
+}
+
+impl<'a> Act<Place> for ListingAt<'a> {
+    ghost act = { λ s. list_at s.shape.now };
+
+    fn act(&self, shared: &Shared, work: &mut Work, item: &Place) -> Result<(), NoMemory> {
+        list_at(self.shape, shared, work, item)
+    }
+}
+
+// Lists a directory.
+fn list_at(shape: &Shape, shared: &Shared, work: &mut Work, place: &Place) -> Result<(), NoMemory>
+    ensures { OnOk result (done_of shared.now work.new ≡ list_at shape.now (done_of shared.now work.old) place.now) }
 {
     let ram = &current(shared, &work.shared).ram;
-    match list_fault(ram.look(&view.directory)) {
+    match list_fault(ram.look(place)) {
         Some(fault) => {
             work.stopped = Some(Codes::erred(fault));
             Ok(())
         }
         None => {
-            let places = ram.children(&view.directory)?;
-            push_lines(&mut work.output, shape, ram, &places)?;
-            Ok(())
+            let places = ram.children(place)?;
+            push_lines(&mut work.output, shape, ram, &places)
         }
     }
 }
@@ -190,19 +198,12 @@ fn entries_of(alloc: Global, ram: &Ram, place: &Place) -> Result<Vec<Place>, NoM
     }
 }
 
-// Puts out the lines of places.
-fn push_lines(
-    output: &mut Vec<u8>,
-    shape: &Shape,
-    ram: &Ram,
-    places: &[Place],
-) -> Result<(), NoMemory>
-    ensures { OnOk result (output.new.items ≡ output.old.items ++ lines_by (line_there shape.now) ram.now places.now) }
-{
-    for place in places {
-        push_there(output, shape, ram.look(place))?;
+impl Line for Shape {
+    ghost line = { λ s. line_there s };
+
+    fn push(&self, output: &mut Vec<u8>, there: Option<&Entry>) -> Result<(), NoMemory> {
+        push_there(output, self, there)
     }
-    Ok(())
 }
 
 fn push_there(output: &mut Vec<u8>, shape: &Shape, there: Option<&Entry>) -> Result<(), NoMemory>

@@ -3,9 +3,9 @@ ghost use Rattle.ados_find.specs.Done.{done_of};
 ghost use Rattle.ados_find.specs.Effects.{effect_of};
 ghost use Rattle.ados_files.specs.MakeDir.{made, make_dir_row};
 
-use crate::acts::Paths;
-use ados_find::{Act, Codes, Outcome, Shared, ShellView, Work, current, each};
-use ados_ram::{FsFault, Place};
+use crate::acts::{Paths, done_with, go_on};
+use ados_find::{Act, Codes, Outcome, Shared, ShellView, Work, current};
+use ados_ram::Place;
 use ados_readargs::Args;
 use ados_text::{NoMemory, Result2};
 use std::alloc::Global;
@@ -24,9 +24,7 @@ pub fn make_dir(
         let codes = Codes::failed(Result2::ARGUMENT_MISSING);
         return Ok(Outcome::answering(alloc, view.limit, codes));
     }
-    let mut work = Work::new(alloc);
-    each(&Paths { act: &Making, view }, shared, &mut work, texts)?;
-    Ok(work.end(view.limit))
+    done_with(alloc, shared, view, &Paths { act: &Making, view }, texts)
 }
 
 /// The making of one directory.
@@ -45,16 +43,6 @@ impl Act<Place> for Making {
 pub fn made(shared: &Shared, work: &mut Work, place: &Place) -> Result<(), NoMemory>
     ensures { OnOk result (done_of shared.now work.new ≡ made (done_of shared.now work.old) place.now) }
 {
-    let now = current(shared, &work.shared);
-    match now.ram.make_dir(place) {
-        Err(FsFault::NoMemory) => Err(NoMemory),
-        Err(FsFault::Refused(fault)) => {
-            work.stopped = Some(Codes::erred(fault));
-            Ok(())
-        }
-        Ok(ram) => {
-            work.shared = Some(now.with_files(ram)?);
-            Ok(())
-        }
-    }
+    let change = current(shared, &work.shared).ram.make_dir(place);
+    go_on(shared, work, change, place)
 }

@@ -3,7 +3,7 @@ ghost use Rattle.std.specs.Prelude.{◌≡◌, ◌∷◌, ◌++◌, [], false, I
 ghost use Rattle.std.specs.FinMap as map;
 ghost use Rattle.std.specs.Option.{option_copied};
 ghost use Rattle.ados_ram.specs.Place.{key_of};
-ghost use Rattle.ados_find.specs.Paths.{Gives};
+ghost use Rattle.ados_find.specs.Paths.{place_of, Gives};
 
 use crate::matching::is_match;
 use ados_find::{Codes, Refusal, Shared, place_of};
@@ -15,7 +15,7 @@ use std::alloc::Global;
 use std::marker::Model;
 
 /// The objects that an argument names.
-#[derive(Debug, Drop)]
+#[derive(Drop)]
 pub struct Found {
     literal: bool,
     places: Vec<Place>,
@@ -29,7 +29,7 @@ impl Model for Found {
     ghost view = { λ n. record { literal = n.literal; places = n.places.items } };
 }
 
-ghost use Rattle.ados_files.specs.Names.{pattern_of, wants, matching, some_matches, matches_in, the_one, named_by, head_of, piece_of, named};
+ghost use Rattle.ados_files.specs.Names.{pattern_of, wants, matching, some_matches, matches_in, the_one, one_at, named_by, head_of, piece_of, named};
 
 impl Found {
     /// Several objects.
@@ -115,16 +115,20 @@ fn named_by(
     ensures { Gives result (named_by shared.now directory.now head.now pattern.now.form pattern.now.name) }
 {
     match pattern.literal() {
-        Some(name) => {
-            let place = place_of(alloc, shared, directory, &head.join(name)?)?;
-            let there = shared.ram.look(&place);
-            the_one(alloc, &place, there)
-        }
+        Some(name) => one_at(alloc, shared, directory, &head.join(name)?),
         None => {
             let place = place_of(alloc, shared, directory, head)?;
             matches_in(alloc, pattern, &shared.ram, &place)
         }
     }
+}
+
+// The one object to which a path leads.
+fn one_at(alloc: Global, shared: &Shared, directory: &Place, path: &Text) -> Result<Found, Refusal>
+    ensures { Gives result (one_at shared.now.files (place_of shared.now directory.now path.now)) }
+{
+    let place = place_of(alloc, shared, directory, path)?;
+    the_one(alloc, &place, shared.ram.look(&place))
 }
 
 // The one object at a place.

@@ -3,15 +3,15 @@ ghost use Rattle.std.specs.Option.{option_copied};
 ghost use Rattle.ados_find.specs.Done.{done_of};
 ghost use Rattle.ados_find.specs.Effects.{effect_of};
 
-use crate::acts::Names;
-use ados_find::{Act, Codes, Outcome, Shared, ShellView, Work, current, each};
-use ados_ram::{Bits, Entry, FsFault, Place};
+use crate::acts::{done_with_named, go_on};
+use ados_find::{Act, Codes, Outcome, Shared, ShellView, Work, current};
+use ados_ram::{Bits, Entry, Place};
 use ados_readargs::Args;
 use ados_text::{NoMemory, Result2, Text, fold};
 use std::alloc::Global;
 
 /// What is done with the bits that are given.
-#[derive(Clone, Copy, Debug, PartialEq, Eq)]
+#[derive(Clone, Copy)]
 pub enum Way {
     Set,
     Add,
@@ -19,7 +19,7 @@ pub enum Way {
 }
 
 /// A change of bits.
-#[derive(Clone, Copy, Debug, PartialEq, Eq)]
+#[derive(Clone, Copy)]
 pub struct Change {
     pub way: Way,
     pub bits: Bits,
@@ -53,12 +53,7 @@ fn protected_by(
 {
     match change {
         Err(fault) => Ok(Outcome::answering(alloc, view.limit, Codes::failed(fault))),
-        Ok(change) => {
-            let mut work = Work::new(alloc);
-            let act = Protecting { change };
-            each(&Names { act: &act, view }, shared, &mut work, texts)?;
-            Ok(work.end(view.limit))
-        }
+        Ok(change) => done_with_named(alloc, shared, view, &Protecting { change }, texts),
     }
 }
 
@@ -220,15 +215,6 @@ fn protect_one(
 {
     let now = current(shared, &work.shared);
     let bits = changed_bits(change, bits_at(now.ram.look(place)));
-    match now.ram.protect(place, bits) {
-        Err(FsFault::NoMemory) => Err(NoMemory),
-        Err(FsFault::Refused(fault)) => {
-            work.stopped = Some(Codes::erred(fault));
-            Ok(())
-        }
-        Ok(ram) => {
-            work.shared = Some(now.with_files(ram)?);
-            Ok(())
-        }
-    }
+    let protected = now.ram.protect(place, bits);
+    go_on(shared, work, protected, place)
 }

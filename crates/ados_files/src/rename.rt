@@ -3,17 +3,19 @@ ghost use Rattle.std.specs.FinMap as map;
 ghost use Rattle.std.specs.Option.{option_copied};
 ghost use Rattle.ados_ram.specs.Place.{key_of};
 ghost use Rattle.ados_ram.specs.Files.{is_some_directory};
+ghost use Rattle.ados_ram.specs.FileOperations.{Answers, rename_fault};
 ghost use Rattle.ados_text.specs.declared.codes.TheConstants.Result2.{ARGUMENT_MISSING};
 ghost use Rattle.ados_find.specs.Codes.{failed};
 ghost use Rattle.ados_find.specs.Effects.{DoesTo, answering, effect_of};
 ghost use Rattle.ados_find.specs.Paths.{place_of};
-ghost use Rattle.ados_files.specs.Rename.{target_of, renamed_to, renamed_from, renamed_at, rename_row};
+ghost use Rattle.ados_files.specs.Rename.{target_of, moved, renamed_to, renamed_from, renamed_at, rename_row};
 
 use ados_find::{Codes, Outcome, Refusal, Renamed, Shared, ShellView, place_of};
-use ados_ram::{Entry, FsFault, Place, Ram};
+use ados_ram::{Busy, Entry, FsFault, Place, Ram};
 use ados_readargs::Args;
 use ados_text::{NoMemory, Octets, Result2, Text};
 use std::alloc::Global;
+use std::slice;
 
 /// Rename moves an object, and all that is below it.
 pub fn rename_object(
@@ -33,7 +35,7 @@ pub fn rename_object(
     match place_of(alloc, shared, &view.directory, from) {
         Err(Refusal::NoMemory) => Err(NoMemory),
         Err(Refusal::Stopped(codes)) => Ok(Outcome::answering(alloc, view.limit, codes)),
-        Ok(from) => renamed_at(alloc, shared, view, from, to),
+        Ok(from) => renamed_at(alloc, shared, view, &from, to),
     }
 }
 
@@ -48,15 +50,15 @@ fn renamed_at(
     alloc: Global,
     shared: &Shared,
     view: &ShellView,
-    from: Place,
+    from: &Place,
     to: &Text,
 ) -> Result<Outcome, NoMemory>
-    ensures { IfOk result (λ outcome. effect_of shared.now outcome ≡ renamed_at shared.now view.now (Ok from) (place_of shared.now view.now.directory to.now)) }
+    ensures { IfOk result (λ outcome. effect_of shared.now outcome ≡ renamed_at shared.now view.now (Ok from.now) (place_of shared.now view.now.directory to.now)) }
 {
     match place_of(alloc, shared, &view.directory, to) {
         Err(Refusal::NoMemory) => Err(NoMemory),
         Err(Refusal::Stopped(codes)) => Ok(Outcome::answering(alloc, view.limit, codes)),
-        Ok(to) => renamed_from(alloc, shared, view, from, to),
+        Ok(to) => renamed_from(alloc, shared, view, from, &to),
     }
 }
 
@@ -64,28 +66,29 @@ fn renamed_from(
     alloc: Global,
     shared: &Shared,
     view: &ShellView,
-    from: Place,
-    to: Place,
+    from: &Place,
+    to: &Place,
 ) -> Result<Outcome, NoMemory>
-    ensures { IfOk result (λ outcome. effect_of shared.now outcome ≡ renamed_from shared.now view.now from (map.get shared.now.files (key_of from)) to) }
+    ensures { IfOk result (λ outcome. effect_of shared.now outcome ≡ renamed_from shared.now view.now from.now (map.get shared.now.files (key_of from.now)) to.now) }
 {
-    match shared.ram.look(&from) {
+    match shared.ram.look(from) {
         None => Ok(Outcome::answering(alloc, view.limit, Codes::erred(Result2::OBJECT_NOT_FOUND))),
         Some(entry) => {
-            let target = target_of(&shared.ram, &from, entry, to)?;
-            renamed_to(alloc, shared, view, from, target)
+            let to = target_of(&shared.ram, from, entry, to)?;
+            let from = from.copy()?;
+            renamed_to(alloc, shared, view, Renamed { from, to })
         }
     }
 }
 
 // Into a directory under its own name, or to the place itself.
-fn target_of(ram: &Ram, from: &Place, entry: &Entry, to: Place) -> Result<Place, NoMemory>
-    ensures { IfOk result (λ place. place ≡ target_of ram.now from.now entry.now to) }
+fn target_of(ram: &Ram, from: &Place, entry: &Entry, to: &Place) -> Result<Place, NoMemory>
+    ensures { IfOk result (λ place. place ≡ target_of ram.now from.now entry.now to.now) }
 {
-    if is_directory(ram.look(&to)) && to != *from {
-        return to.with(entry.name.copy()?);
+    if is_directory(ram.look(to)) && *to != *from {
+        return to.joined(slice::from_ref(&entry.name));
     }
-    Ok(to)
+    to.copy()
 }
 
 /// A directory stands there.
@@ -98,31 +101,38 @@ pub fn is_directory(there: Option<&Entry>) -> bool
     }
 }
 
-// Renames an object, and carries the assigns along.
 fn renamed_to(
     alloc: Global,
     shared: &Shared,
     view: &ShellView,
-    from: Place,
-    to: Place,
+    renamed: Renamed,
 ) -> Result<Outcome, NoMemory>
-    ensures { IfOk result (λ outcome. effect_of shared.now outcome ≡ renamed_to shared.now view.now from to) }
+    ensures { IfOk result (λ outcome. effect_of shared.now outcome ≡ renamed_to shared.now view.now renamed.from renamed.to) }
 {
-    match shared.ram.rename(&view.busy, &from, &to) {
+    match moved(shared, &view.busy, &renamed.from, &renamed.to) {
         Err(FsFault::NoMemory) => Err(NoMemory),
         Err(FsFault::Refused(fault)) => {
             Ok(Outcome::answering(alloc, view.limit, Codes::erred(fault)))
         }
-        Ok(ram) => Ok(Outcome {
-            shared: Some(Shared {
-                ram,
-                assigns: shared.assigns.carry(&from, &to)?,
-            }),
+        Ok(moved) => Ok(Outcome {
+            shared: Some(moved),
             limit: view.limit,
             codes: Codes::NONE,
             output: Octets::from_vec(Vec::new(alloc)),
             directory: None,
-            renamed: Some(Renamed { from, to }),
+            renamed: Some(renamed),
         }),
     }
+}
+
+// Renames an object, and carries the assigns along.
+fn moved(shared: &Shared, busy: &Busy, from: &Place, to: &Place) -> Result<Shared, FsFault>
+    ensures ok { IfOk result (λ new. new ≡ moved shared.now from.now to.now) }
+    ensures fault { Answers result (rename_fault busy.now shared.now.files (key_of from.now) (key_of to.now)) }
+{
+    let ram = shared.ram.rename(busy, from, to)?;
+    Ok(Shared {
+        ram,
+        assigns: shared.assigns.carry(from, to)?,
+    })
 }

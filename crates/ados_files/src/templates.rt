@@ -1,5 +1,5 @@
 // The templates, each parsed once.
-ghost use Rattle.std.specs.Prelude.{◌≡◌, IfOk};
+ghost use Rattle.std.specs.Prelude.{◌≡◌, map, IfOk};
 ghost use Rattle.ados_files.specs.Commands.{template_of_command};
 
 use crate::commands::Command;
@@ -9,75 +9,48 @@ use std::alloc::Global;
 use std::marker::Model;
 
 /// The templates of the commands, parsed.
-#[derive(Debug, Drop)]
+#[derive(Drop)]
 pub struct Templates {
-    copy: Template,
-    delete: Template,
-    dir: Template,
-    filenote: Template,
-    join: Template,
-    list: Template,
-    make_dir: Template,
-    protect: Template,
-    rename: Template,
-    type_files: Template,
+    // In the order of `Command::ALL`.
+    parsed: Vec<Template>,
 }
 
 impl Model for Templates {
-    ghost use Rattle.std.specs.Prelude.{◌≡◌};
-    ghost use Rattle.ados_files.specs.declared.commands.Command.TheVariants.{Copy, Delete, Dir, Filenote, Join, List as Listed, MakeDir, Protect, Rename, «Type»};
-    ghost use Rattle.ados_files.specs.Commands.{template_of_command};
+    ghost use Rattle.std.specs.Prelude.{◌≡◌, map};
+    ghost use Rattle.ados_files.specs.Commands.{all_commands, template_of_command};
 
     ghost Value = { Unit {0} };
 
     ghost view = { λ _. tt };
 
-    ghost invariant = { λ t. (t.copy ≡ template_of_command Copy)
-        × (t.delete ≡ template_of_command Delete)
-        × (t.dir ≡ template_of_command Dir)
-        × (t.filenote ≡ template_of_command Filenote)
-        × (t.join ≡ template_of_command Join)
-        × (t.list ≡ template_of_command Listed)
-        × (t.make_dir ≡ template_of_command MakeDir)
-        × (t.protect ≡ template_of_command Protect)
-        × (t.rename ≡ template_of_command Rename)
-        × (t.type_files ≡ template_of_command «Type») };
+    ghost invariant = { λ t. t.parsed.items ≡ map template_of_command all_commands };
 }
 
 impl Templates {
     /// Parses each template; `NoMemory` only where a growth was refused.
     pub fn new(alloc: Global) -> Result<Templates, NoMemory> {
         Ok(Templates {
-            copy: template(alloc, Command::Copy)?,
-            delete: template(alloc, Command::Delete)?,
-            dir: template(alloc, Command::Dir)?,
-            filenote: template(alloc, Command::Filenote)?,
-            join: template(alloc, Command::Join)?,
-            list: template(alloc, Command::List)?,
-            make_dir: template(alloc, Command::MakeDir)?,
-            protect: template(alloc, Command::Protect)?,
-            rename: template(alloc, Command::Rename)?,
-            type_files: template(alloc, Command::Type)?,
+            parsed: parse_all(alloc, &Command::ALL)?,
         })
     }
 
     /// The template of a command.
+    #[tactic(auto, using(crate::proofs::TemplatesLemmas::at_place))]
     pub fn of(&self, command: Command) -> &Template
         ensures { result.now ≡ template_of_command command }
     {
-        match command {
-            Command::Copy => &self.copy,
-            Command::Delete => &self.delete,
-            Command::Dir => &self.dir,
-            Command::Filenote => &self.filenote,
-            Command::Join => &self.join,
-            Command::List => &self.list,
-            Command::MakeDir => &self.make_dir,
-            Command::Protect => &self.protect,
-            Command::Rename => &self.rename,
-            Command::Type => &self.type_files,
-        }
+        &self.parsed[command.place()]
     }
+}
+
+fn parse_all(alloc: Global, commands: &[Command]) -> Result<Vec<Template>, NoMemory>
+    ensures { IfOk result (λ templates. templates.items ≡ map template_of_command commands.now) }
+{
+    let mut templates = Vec::new(alloc);
+    for command in commands {
+        templates.push(template(alloc, *command)?)?;
+    }
+    Ok(templates)
 }
 
 #[tactic(auto, using(crate::proofs::TemplatesLemmas::templates))]

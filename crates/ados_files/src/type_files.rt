@@ -3,8 +3,8 @@ ghost use Rattle.ados_find.specs.Done.{done_of};
 ghost use Rattle.ados_find.specs.Effects.{effect_of};
 ghost use Rattle.ados_files.specs.TypeFiles.{type_one, type_row};
 
-use crate::acts::Names;
-use ados_find::{Act, Codes, Outcome, Shared, ShellView, Work, current, each};
+use crate::acts::done_with_named;
+use ados_find::{Act, Codes, Outcome, Shared, ShellView, Work, current};
 use ados_ram::Place;
 use ados_readargs::Args;
 use ados_text::NoMemory;
@@ -19,10 +19,7 @@ pub fn type_files(
 ) -> Result<Outcome, NoMemory>
     ensures { IfOk result (λ outcome. effect_of shared.now outcome ≡ type_row shared.now view.now args.now) }
 {
-    let mut work = Work::new(alloc);
-    let act = Typing { view };
-    each(&Names { act: &act, view }, shared, &mut work, args.texts(0))?;
-    Ok(work.end(view.limit))
+    done_with_named(alloc, shared, view, &Typing { view }, args.texts(0))
 }
 
 /// The putting out of one file.

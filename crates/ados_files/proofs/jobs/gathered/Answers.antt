@@ -1,0 +1,15 @@
+use Rattle.std.proofs.Common.{◌≡◌, ℕ, List, ◌++◌, append_assoc, refl, arith}
+use Rattle.std.specs.Prelude.{Result, Ok, Err}
+use Rattle.std.proofs.lemmas.Grind.{common_steps}
+use Rattle.ados_find.specs.declared.codes.Codes.{Codes}
+use Rattle.ados_files.specs.Names.{FoundPlaces}
+use Rattle.ados_files.specs.Jobs.{in_front}
+use Rattle.ados_files.proofs.jobs.gathered.Goals as goal
+
+-- what stands in front of what is in front
+in_front-twice : (a b : List (List (List ℕ))) (more : Result FoundPlaces Codes) → in_front a (in_front b more) ≡ in_front (a ++ b) more
+in_front-twice a b (Err codes) = refl
+in_front-twice a b (Ok more) = simp append_assoc
+
+pub loop-text-preserved : goal.loop-text-preserved
+loop-text-preserved c = grind (arith, common_steps, in_front-twice)
