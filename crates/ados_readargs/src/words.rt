@@ -1,5 +1,5 @@
-ghost use Rattle.std.specs.Prelude.{◌≡◌, ◌+◌, ◌≤◌, length, IfOk};
-ghost use Rattle.ados_readargs.specs.Words.{run_end_from, line_words_of, item_of, start_of, is_open_quote, is_equal};
+ghost use Rattle.std.specs.Prelude.{◌≡◌, ◌+◌, ◌≤◌, true, length, IfOk};
+ghost use Rattle.ados_readargs.specs.Words.{run_end, run_end_from, line_words_of, item_of, start_of, is_open_quote, is_equal};
 
 use ados_items::{Item, next_item};
 use ados_text::NoMemory;
@@ -63,10 +63,24 @@ impl LineWord {
     }
 }
 
+// A blank or the line's end stands at a place, so that a run which has come there ends.
+fn is_run_over(line: &[u8], place: usize) -> bool
+    ensures { result ≡ true → run_end line.now place ≡ place }
+{
+    match line.get(place) {
+        None => true,
+        Some(byte) => *byte == b' ' || *byte == b'\t',
+    }
+}
+
 // Where the touching Word and Equal items from a place on end.
 fn run_end(line: &[u8], from: usize) -> usize
     ensures { result ≡ run_end_from (length line.now + 1) line.now from }
 {
+    if is_run_over(line, from) {
+        // nearly always: the word behind the blank is not read here, only to be read again
+        return from;
+    }
     let mut end = from;
     for step in 0..line.len() + 1 {
         match next_item(line, end) {
