@@ -1,4 +1,4 @@
-use Rattle.std.specs.Prelude.{ℕ, zero, suc, ◌+◌, ◌-◌, ◌==◌, ◌&&◌, List, [], ◌∷◌, Bool, true, false, if◌then◌else◌, length}
+use Rattle.std.specs.Prelude.{ℕ, zero, suc, ◌+◌, ◌-◌, ◌==◌, ◌&&◌, List, [], ◌∷◌, Bool, true, false, Option, Some, None, if◌then◌else◌, length}
 use Rattle.ados_items.specs.Items.{item_at}
 use Rattle.ados_items.specs.declared.items.Item.{Item}
 use Rattle.ados_items.specs.declared.items.Item.TheVariants as item
@@ -21,6 +21,14 @@ run_end_from (suc count) line place = run_end_behind (λ to. run_end_from count 
 -- where the run that has come to a place ends
 abbrev pub run_end : List ℕ → ℕ → ℕ
 run_end line place = run_end_from (length line + 1) line place
+
+-- the word that begins with an item, and where the words behind it begin; none at the line's end
+abbrev pub word_of : List ℕ → Item → Option (LineWord × ℕ)
+word_of line (item.Word from to) = Some (Run from to (run_end line to), run_end line to)
+word_of line (item.Equal from) = Some (Run from from (run_end line (from + 1)), run_end line (from + 1))
+word_of line (item.Quoted from to) = Some (Quoted from to, to + 1)
+word_of line (item.Unmatched from) = Some (Open from, length line)
+word_of line (item.End from) = None
 
 -- the words of a line from an item on, where `next` gives those from a place on
 abbrev pub words_behind : (ℕ → List LineWord) → List ℕ → Item → List LineWord

@@ -12,7 +12,6 @@ use crate::meanings::read;
 use crate::options::TemplateOption;
 use crate::readings::{Reading, plain_items};
 use crate::shares::is_left;
-use crate::words::line_words;
 use std::alloc::Global;
 
 // The arguments, where no word is left over, none is missing and numbers are numbers.
@@ -52,7 +51,6 @@ pub fn fill_options(
     ensures taken { IfOk result (λ _. LosesNoWord options.now line.now) }
     ensures fault { IfErr result (λ e. IsFaultOf (args_for options.now line.now) e) }
 {
-    let words = line_words(alloc, line)?;
-    let readings = read(alloc, options, line, words.as_slice())?;
+    let readings = read(alloc, options, line)?;
     args_read(alloc, options, line, readings.as_slice())
 }

@@ -2,14 +2,14 @@ ghost use Rattle.std.specs.Prelude.{◌≡◌, Ok, [], IfOk, IfErr, position};
 ghost use Rattle.std.specs.List.{list_any};
 ghost use Rattle.ados_items.specs.Items.{bytes_between};
 ghost use Rattle.ados_readargs.specs.Faults.{IsFaultOf};
-ghost use Rattle.ados_readargs.specs.Words.{is_open_quote};
-ghost use Rattle.ados_readargs.specs.Meanings.{is_keyword, keyword_of, trimmed_from, is_full, given_meaning, value_behind, switch_meaning, keyword_meaning, plain_meaning, word_meaning, value_meaning, next_meaning, rest_of, free_meaning, meaning_of, read_from, read_of, quotes_first};
+ghost use Rattle.ados_readargs.specs.Words.{line_words_of};
+ghost use Rattle.ados_readargs.specs.Meanings.{is_keyword, keyword_of, trimmed_from, is_full, given_meaning, value_behind, switch_meaning, keyword_meaning, plain_meaning, word_meaning, value_meaning, next_meaning, rest_of, free_meaning, meaning_of, read_end, read_from, read_of, quotes_first};
 ghost use Rattle.ados_readargs.specs.declared.meanings.Pending.TheVariants.{Free};
 
 use crate::errors::ArgFault;
 use crate::options::{Qualifiers, TemplateOption, has_rest, qualifiers_at};
 use crate::readings::{Reading, first_open, is_filled};
-use crate::words::LineWord;
+use crate::words::{LineWord, is_unclosed, word_at};
 use ados_items::Item;
 use std::alloc::Global;
 
@@ -269,19 +269,33 @@ fn meaning_of(
     }
 }
 
+// The readings where no word is left.
+fn read_end(readings: Vec<Reading>, pending: Pending) -> Result<Vec<Reading>, ArgFault>
+    ensures ok { IfOk result (λ left. read_end readings.items pending ≡ Ok left.items) }
+    ensures fault { IfErr result (λ e. IsFaultOf (read_end readings.items pending) e) }
+{
+    match pending {
+        Pending::Free => Ok(readings),
+        Pending::Value { .. } => Err(ArgFault::ValueMissing),
+    }
+}
+
 fn read_words(
     alloc: Global,
     options: &[TemplateOption],
     line: &[u8],
-    words: &[LineWord],
 ) -> Result<Vec<Reading>, ArgFault>
-    ensures ok { IfOk result (λ readings. read_from options.now line.now [] Free words.now ≡ Ok readings.items) }
-    ensures fault { IfErr result (λ e. IsFaultOf (read_from options.now line.now [] Free words.now) e) }
+    ensures ok { IfOk result (λ readings. read_from options.now line.now [] Free (line_words_of line.now) ≡ Ok readings.items) }
+    ensures fault { IfErr result (λ e. IsFaultOf (read_from options.now line.now [] Free (line_words_of line.now)) e) }
 {
-    let mut readings = Vec::with_capacity(alloc, words.len())?;
+    let mut readings = Vec::new(alloc);
     let mut pending = Pending::Free;
-    for word in words {
-        match meaning_of(options, line, readings.as_slice(), pending, *word) {
+    let mut place = 0;
+    for step in 0..line.len() + 1 {
+        let Some((word, behind)) = word_at(line, place) else {
+            return read_end(readings, pending);
+        };
+        match meaning_of(options, line, readings.as_slice(), pending, word) {
             Meaning::Read(reading) => {
                 readings.push(reading)?;
                 pending = Pending::Free;
@@ -293,17 +307,9 @@ fn read_words(
             }
             Meaning::Refuse(fault) => return Err(fault),
         }
+        place = behind;
     }
-    match pending {
-        Pending::Free => Ok(readings),
-        Pending::Value { .. } => Err(ArgFault::ValueMissing),
-    }
-}
-
-fn is_unclosed(words: &[LineWord]) -> bool
-    ensures { result ≡ list_any is_open_quote words.now }
-{
-    words.iter().any(|word| word.is_open_quote())
+    read_end(readings, pending)
 }
 
 fn quotes_first(unclosed: bool, fault: ArgFault) -> ArgFault
@@ -324,13 +330,12 @@ pub fn read(
     alloc: Global,
     options: &[TemplateOption],
     line: &[u8],
-    words: &[LineWord],
 ) -> Result<Vec<Reading>, ArgFault>
-    ensures ok { IfOk result (λ readings. read_of options.now line.now words.now ≡ Ok readings.items) }
-    ensures fault { IfErr result (λ e. IsFaultOf (read_of options.now line.now words.now) e) }
+    ensures ok { IfOk result (λ readings. read_of options.now line.now (line_words_of line.now) ≡ Ok readings.items) }
+    ensures fault { IfErr result (λ e. IsFaultOf (read_of options.now line.now (line_words_of line.now)) e) }
 {
-    match read_words(alloc, options, line, words) {
+    match read_words(alloc, options, line) {
         Ok(readings) => Ok(readings),
-        Err(fault) => Err(quotes_first(is_unclosed(words), fault)),
+        Err(fault) => Err(quotes_first(is_unclosed(line), fault)),
     }
 }

@@ -1,9 +1,9 @@
-ghost use Rattle.std.specs.Prelude.{◌≡◌, ◌+◌, ◌≤◌, length, IfOk};
-ghost use Rattle.ados_readargs.specs.Words.{run_end_from, line_words_of, item_of, start_of, is_open_quote, is_equal};
+ghost use Rattle.std.specs.Prelude.{◌≡◌, ◌+◌, ◌≤◌, true, length};
+ghost use Rattle.std.specs.List.{list_any};
+ghost use Rattle.ados_items.specs.Items.{item_at};
+ghost use Rattle.ados_readargs.specs.Words.{run_end, run_end_from, word_of, line_words_of, item_of, start_of, is_open_quote, is_equal};
 
 use ados_items::{Item, next_item};
-use ados_text::NoMemory;
-use std::alloc::Global;
 
 /// A word of a line, by its places; bytes count from 0, and `to` is the place behind the last.
 #[derive(Clone, Copy)]
@@ -63,10 +63,24 @@ impl LineWord {
     }
 }
 
+// A blank or the line's end stands at a place, so that a run which has come there ends.
+fn is_run_over(line: &[u8], place: usize) -> bool
+    ensures { result ≡ true → run_end line.now place ≡ place }
+{
+    match line.get(place) {
+        None => true,
+        Some(byte) => *byte == b' ' || *byte == b'\t',
+    }
+}
+
 // Where the touching Word and Equal items from a place on end.
 fn run_end(line: &[u8], from: usize) -> usize
     ensures { result ≡ run_end_from (length line.now + 1) line.now from }
 {
+    if is_run_over(line, from) {
+        // nearly always: the word behind the blank is not read here, only to be read again
+        return from;
+    }
     let mut end = from;
     for step in 0..line.len() + 1 {
         match next_item(line, end) {
@@ -90,42 +104,49 @@ fn run_end(line: &[u8], from: usize) -> usize
     end
 }
 
-/// The words of a line, in order; a quote that none closes is the last.
-pub fn line_words(alloc: Global, line: &[u8]) -> Result<Vec<LineWord>, NoMemory>
-    ensures { IfOk result (λ words. words.items ≡ line_words_of line.now) }
+/// The word at a place of a line, behind the blanks there, and where the words behind it begin; `None`
+/// at the line's end.
+pub fn word_at(line: &[u8], place: usize) -> Option<(LineWord, usize)>
+    ensures { result ≡ word_of line.now (item_at true line.now place) }
 {
-    let mut words = Vec::new(alloc);
+    match next_item(line, place) {
+        Item::Word { from, to } => {
+            let end = run_end(line, to);
+            let word = LineWord::Run {
+                from,
+                key: to,
+                to: end,
+            };
+            Some((word, end))
+        }
+        Item::Equal(from) => {
+            let end = run_end(line, from + 1);
+            let word = LineWord::Run {
+                from,
+                key: from,
+                to: end,
+            };
+            Some((word, end))
+        }
+        Item::Quoted { from, to } => Some((LineWord::Quoted { from, to }, to + 1)),
+        Item::Unmatched(from) => Some((LineWord::Open(from), line.len())),
+        Item::End(_) => None,
+    }
+}
+
+/// Whether one of the words of a line is a quote that none closes.
+pub fn is_unclosed(line: &[u8]) -> bool
+    ensures { result ≡ list_any is_open_quote (line_words_of line.now) }
+{
     let mut place = 0;
     for step in 0..line.len() + 1 {
-        match next_item(line, place) {
-            Item::Word { from, to } => {
-                let end = run_end(line, to);
-                words.push(LineWord::Run {
-                    from,
-                    key: to,
-                    to: end,
-                })?;
-                place = end;
-            }
-            Item::Equal(from) => {
-                let end = run_end(line, from + 1);
-                words.push(LineWord::Run {
-                    from,
-                    key: from,
-                    to: end,
-                })?;
-                place = end;
-            }
-            Item::Quoted { from, to } => {
-                words.push(LineWord::Quoted { from, to })?;
-                place = to + 1;
-            }
-            Item::Unmatched(from) => {
-                words.push(LineWord::Open(from))?;
-                return Ok(words);
-            }
-            Item::End(_) => return Ok(words),
+        let Some((word, behind)) = word_at(line, place) else {
+            return false;
+        };
+        if word.is_open_quote() {
+            return true;
         }
+        place = behind;
     }
-    Ok(words)
+    false
 }

@@ -1,6 +1,7 @@
 ghost use Rattle.std.specs.Prelude.{◌≡◌, ◌<◌, ◌≤◌, ◌-◌, ◌++◌, [], ◌∷◌, OnOk, OnErr, take, drop, ◌↔◌, List, length, map, position, IsTrue, IfOk, IfNone, IsOkUnless, MatchOption};
 ghost use Rattle.ados_text.specs.Text.{fold_of, folded, is_past_ascii, is_same, to_ascii, IsText};
 
+use crate::bytes::Bytes;
 use crate::errors::{NoMemory, TextFault};
 use std::alloc::{AllocError, Global};
 use std::marker::Model;
@@ -8,7 +9,7 @@ use std::marker::Model;
 /// ASCII text: bytes below 128.
 #[derive(Clone, Debug, Drop)]
 pub struct Text {
-    bytes: Vec<u8>,
+    bytes: Bytes,
 }
 
 impl Model for Text {
@@ -17,9 +18,9 @@ impl Model for Text {
 
     ghost Value = { List ℕ };
 
-    ghost view = { λ t. t.bytes.items };
+    ghost view = { λ t. t.bytes };
 
-    ghost invariant = { λ t. IsText t.bytes.items };
+    ghost invariant = { λ t. IsText t.bytes };
 }
 
 impl Text {
@@ -36,7 +37,7 @@ impl Text {
         match first_past_ascii(bytes) {
             Some(place) => Err(TextFault::NotAscii(place)),
             None => {
-                let bytes = Vec::from_slice(alloc, bytes)?;
+                let bytes = Bytes::from_slice(alloc, bytes)?;
                 Ok(Text { bytes })
             }
         }
@@ -55,7 +56,7 @@ impl Text {
         ensures { result ≡ [] }
     {
         Text {
-            bytes: Vec::new(alloc),
+            bytes: Bytes::new(alloc),
         }
     }
 
@@ -103,7 +104,7 @@ impl Text {
         requires within { to ≤ length self.now }
         ensures { IfOk result (λ t. t ≡ take (to - from) (drop from self.now)) }
     {
-        let bytes = Vec::from_slice(*self.bytes.allocator(), &self.bytes.as_slice()[from..to])?;
+        let bytes = Bytes::from_slice(self.bytes.allocator(), &self.bytes.as_slice()[from..to])?;
         Ok(Text { bytes })
     }
 
@@ -112,7 +113,7 @@ impl Text {
     pub fn join(&self, behind: &Text) -> Result<Text, NoMemory>
         ensures { IfOk result (λ t. t ≡ self.now ++ behind.now) }
     {
-        let mut bytes = Vec::from_slice(*self.bytes.allocator(), self.bytes.as_slice())?;
+        let mut bytes = Bytes::from_slice(self.bytes.allocator(), self.bytes.as_slice())?;
         bytes.extend_from_slice(behind.bytes.as_slice())?;
         Ok(Text { bytes })
     }
@@ -121,7 +122,7 @@ impl Text {
     pub fn is(&self, name: &str) -> bool
         ensures { result ≡ is_same self.now name.now }
     {
-        self.bytes.eq_ignore_ascii_case(name.as_bytes())
+        self.as_bytes().eq_ignore_ascii_case(name.as_bytes())
     }
 
     /// An equal text.
@@ -162,14 +163,15 @@ fn ascii(byte: u8) -> u8
 // The bytes with `?` in place of each past ASCII: nearly always there is none, and they are copied as
 // they stand.
 #[tactic(auto, using(crate::proofs::TextLemmas::ascii_kept))]
-fn ascii_bytes(alloc: Global, bytes: &[u8]) -> Result<Vec<u8>, AllocError>
-    ensures value { IfOk result (λ copied. copied.items ≡ map to_ascii bytes.now) }
-    ensures text { IfOk result (λ copied. IsText copied.items) }
+fn ascii_bytes(alloc: Global, bytes: &[u8]) -> Result<Bytes, AllocError>
+    ensures value { IfOk result (λ copied. copied ≡ map to_ascii bytes.now) }
+    ensures text { IfOk result (λ copied. IsText copied) }
 {
     if bytes.is_ascii() {
-        Vec::from_slice(alloc, bytes)
+        Bytes::from_slice(alloc, bytes)
     } else {
-        bytes.iter().map(|b| ascii(*b)).collect(alloc)
+        let vec = bytes.iter().map(|b| ascii(*b)).collect(alloc)?;
+        Ok(Bytes::from_vec(vec))
     }
 }
 
@@ -192,5 +194,5 @@ pub fn fold(byte: u8) -> u8
 pub fn same(a: &Text, b: &Text) -> bool
     ensures { IsTrue result ↔ (folded a.now ≡ folded b.now) }
 {
-    a.bytes.eq_ignore_ascii_case(b.bytes.as_slice())
+    a.as_bytes().eq_ignore_ascii_case(b.as_bytes())
 }

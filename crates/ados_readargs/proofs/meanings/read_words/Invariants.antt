@@ -1,8 +1,10 @@
-use Rattle.std.proofs.Common.{◌≡◌, [], drop}
+use Rattle.std.proofs.Common.{◌≡◌, ◌+◌, ℕ, []}
 use Rattle.ados_readargs.specs.Meanings.{read_from}
+use Rattle.ados_readargs.specs.Words.{line_words_of, words_from}
 use Rattle.ados_readargs.specs.declared.meanings.Pending.TheVariants.{Free}
 use Rattle.ados_readargs.proofs.meanings.read_words.Given as goal
 
-abbrev pub invariant-loop-word : goal.invariant-loop-word
-invariant-loop-word l =
-    read_from l.options l.line [] Free l.words ≡ read_from l.options l.line l.readings.items l.pending (drop l.word-index l.words)
+abbrev pub invariant-loop-step : goal.invariant-loop-step
+invariant-loop-step l =
+    (n : ℕ) → n + l.step ≡ l.step-end
+    → read_from l.options l.line [] Free (line_words_of l.line) ≡ read_from l.options l.line l.readings.items l.pending (words_from n l.line l.place)
