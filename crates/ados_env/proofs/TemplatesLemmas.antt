@@ -1,10 +1,10 @@
 -- The texts of the templates are ASCII, and templates.
-use Rattle.std.proofs.Common.{◌≡◌, map, refl}
+use Rattle.std.proofs.Common.{◌≡◌, [], map, get_or, refl}
 use Rattle.ados_text.specs.Text.{to_ascii}
 use Rattle.ados_readargs.specs.Template.{IsTemplate}
 use Rattle.ados_env.specs.declared.commands.Command.{Command}
 use Rattle.ados_env.specs.declared.commands.Command.TheVariants.{Assign, Cd, Echo, Eval, FailAt, Fault, Why}
-use Rattle.ados_env.specs.Commands.{template_of_command}
+use Rattle.ados_env.specs.Commands.{all_commands, place_of_command, template_of_command}
 
 pub ascii : (command : Command) → map to_ascii (template_of_command command) ≡ template_of_command command
 ascii Assign = refl
@@ -24,4 +24,12 @@ are_templates FailAt = refl
 are_templates Fault = refl
 are_templates Why = refl
 
-pub ruleset templates = (ascii, are_templates)
+-- each stands at its place
+pub at_place : (command : Command) → get_or (map template_of_command all_commands) (place_of_command command) [] ≡ template_of_command command
+at_place Assign = refl
+at_place Cd = refl
+at_place Echo = refl
+at_place Eval = refl
+at_place FailAt = refl
+at_place Fault = refl
+at_place Why = refl

@@ -30,8 +30,6 @@ are_templates Protect = refl
 are_templates Rename = refl
 are_templates «Type» = refl
 
-pub ruleset templates = (ascii, are_templates)
-
 -- each stands at its place
 pub at_place : (command : Command) → get_or (map template_of_command all_commands) (place_of_command command) [] ≡ template_of_command command
 at_place Copy = refl

@@ -53,7 +53,6 @@ fn parse_all(alloc: Global, commands: &[Command]) -> Result<Vec<Template>, NoMem
     Ok(templates)
 }
 
-#[tactic(auto, using(crate::proofs::TemplatesLemmas::templates))]
 fn template(alloc: Global, command: Command) -> Result<Template, NoMemory>
     ensures { IfOk result (λ template. template ≡ template_of_command command) }
 {
