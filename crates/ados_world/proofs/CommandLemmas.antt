@@ -19,5 +19,3 @@ are_templates (Env command) = env.are_templates command
 are_templates (Files command) = files.are_templates command
 are_templates Execute = refl
 are_templates Quit = refl
-
-pub ruleset templates = (ascii, are_templates)

@@ -11,33 +11,37 @@ use Rattle.ados_machine.specs.Frames.{ShellState, FrameState, Course, Turned, li
 use Rattle.ados_world.specs.Frames.{report_of}
 use Rattle.ados_machine.specs.Shell as shell
 use Rattle.ados_machine.specs.Step.{script_turned}
+use Rattle.ados_machine.specs.World.{directories_in}
 use Rattle.ados_world.specs.declared.drafts.Draft.{Draft}
 use Rattle.ados_world.specs.declared.outputs.Opened.{Opened}
+use Rattle.ados_world.specs.declared.scenes.Scene.{Scene}
 use Rattle.ados_world.specs.declared.outputs.Opened.TheVariants.{Console, Nil, File}
+
+-- where a turn begins, in which nothing is done yet
+abbrev pub start_of : Scene → Course
+start_of scene = shell.quietly scene.shared.now (directories_in scene.shells.now)
 
 -- what a draft holds beside its shell, what it prints, and its reports
 pub record Made : Type 0 where
   pub shared : Option SharedState
-  pub directories : List (List (List ℕ))
   pub renamed : Option Renamed
 
 abbrev pub made_of : Draft → Made
-made_of draft = record { shared = draft.shared; directories = draft.directories.items; renamed = draft.renamed }
+made_of draft = record { shared = draft.shared; renamed = draft.renamed }
 
-abbrev pub course_by : SharedState → Made → List ℕ → Course
-course_by old made printed =
-    record { shared = version old made.shared; printed = printed; directories = made.directories; renamed = made.renamed }
+abbrev pub course_by : Scene → Made → List ℕ → Course
+course_by scene made printed =
+    record (start_of scene) { shared = version scene.shared.now made.shared; printed = printed; renamed = made.renamed }
 
--- what a draft hands on
-abbrev pub course_of : SharedState → Draft → Course
-course_of old draft = course_by old (made_of draft) draft.printed.items
+-- what a draft hands on, in a turn that sees this
+abbrev pub course_of : Scene → Draft → Course
+course_of scene draft = course_by scene (made_of draft) draft.printed.items
 
 -- nothing is changed yet of a shell
-pub record IsFresh (number : ℕ) (shell : ShellState) (directories : List (List (List ℕ))) (draft : Draft) : Type 0 where
+pub record IsFresh (number : ℕ) (shell : ShellState) (draft : Draft) : Type 0 where
   pub number_is : draft.number ≡ number
   pub shell_is : draft.shell ≡ shell
   pub shared_is : draft.shared ≡ None
-  pub directories_are : draft.directories.items ≡ directories
   pub renamed_is : draft.renamed ≡ None
   pub printed_is : draft.printed.items ≡ []
   pub reports_are : draft.reports.items ≡ []
@@ -66,10 +70,10 @@ pub record IsReported (before after : Draft) (frame : FrameState) : Type 0 where
   pub reports : after.reports.items ≡ before.reports.items ++ report_of before.number frame ∷ []
 
 -- a draft went on by what a definition leaves
-pub record GoesOn (old : SharedState) (before after : Draft) (turned : Turned) : Type 0 where
+pub record GoesOn (scene : Scene) (before after : Draft) (turned : Turned) : Type 0 where
   pub number : after.number ≡ before.number
   pub shell : after.shell ≡ turned.shell
-  pub course : course_of old after ≡ turned.course
+  pub course : course_of scene after ≡ turned.course
   pub reports : after.reports.items ≡ before.reports.items ++ reports_of before.number turned.log
 
 -- an output was opened: a file, with the shared parts behind that, or another, for which nothing changes
@@ -86,15 +90,14 @@ pub record IsRenewed (before after : Draft) (new : Option SharedState) : Type 0 
   pub number : after.number ≡ before.number
   pub shell : after.shell ≡ before.shell
   pub shared : (old : SharedState) → version old after.shared ≡ version (version old before.shared) new
-  pub directories : after.directories.items ≡ before.directories.items
   pub renamed : after.renamed ≡ before.renamed
   pub printed : after.printed.items ≡ before.printed.items
   pub reports : after.reports.items ≡ before.reports.items
 
 -- a draft after output was put, and what the command answers then
-pub record IsPut (old : SharedState) (before after : Draft) (codes : Codes) (done : shell.Put) : Type 0 where
+pub record IsPut (scene : Scene) (before after : Draft) (codes : Codes) (done : shell.Put) : Type 0 where
   pub number : after.number ≡ before.number
   pub shell : after.shell ≡ before.shell
   pub codes_are : codes ≡ done.codes
-  pub course : course_of old after ≡ done.course
+  pub course : course_of scene after ≡ done.course
   pub reports : after.reports.items ≡ before.reports.items

@@ -2,8 +2,16 @@
 use Rattle.std.specs.Prelude.{◌≡◌, ◌+◌, ◌<◌, ◌^◌, List, [], ◌∷◌, Option, Some, None}
 use Rattle.ados_ram.specs.InUse.{InUse}
 use Rattle.ados_find.specs.Views.{View}
+use Rattle.ados_machine.specs.declared.phases.Asking.{Asking as Question}
+use Rattle.ados_machine.specs.declared.phases.Phase.{Phase}
+use Rattle.ados_machine.specs.declared.phases.Phase.TheVariants.{Ready, Asking}
 use Rattle.ados_machine.specs.Frames.{FrameState, ShellState}
 use Rattle.ados_machine.specs.Step.{moved}
+
+-- a shell waits where its command asked for its arguments
+abbrev pub phase_of : Option Question → Phase
+phase_of None = Ready
+phase_of (Some question) = Asking question
 
 -- what commands read of a shell, with what is in use
 abbrev pub seen : ShellState → InUse → View

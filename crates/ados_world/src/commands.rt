@@ -79,7 +79,6 @@ impl Commands {
     }
 }
 
-#[tactic(auto, using(crate::proofs::CommandLemmas::templates))]
 fn template(alloc: Global, builtin: Builtin) -> Result<Template, NoMemory>
     ensures { IfOk result (λ template. template ≡ template_of builtin) }
 {

@@ -1,15 +1,16 @@
 // What a turn changes, not moved in yet.
 ghost use Rattle.std.specs.Prelude.{◌≡◌, Some, IfOk, OnOk};
 ghost use Rattle.std.specs.Option.{option_copied};
-ghost use Rattle.ados_find.specs.Shared.{SharedState, version};
+ghost use Rattle.ados_find.specs.Shared.{version};
 ghost use Rattle.ados_machine.specs.Frames.{is_ended, finish, passed};
 ghost use Rattle.ados_machine.specs.Shell.{answered, put, called, view_of};
-ghost use Rattle.ados_machine.specs.World.{directories_in};
 ghost use Rattle.ados_machine.specs.declared.targets.Target.TheVariants.{At};
+ghost use Rattle.ados_world.specs.declared.scenes.Scene.{Scene as Seen};
 
 use crate::console::{is_reached, push_failed, push_fault};
 use crate::frames::{Frame, Script};
-use crate::renames::{copies, directories};
+use crate::renames::directories;
+use crate::scenes::Scene;
 use crate::shells::Shell;
 use ados_find::{Codes, Renamed, Shared, ShellView};
 use ados_machine::{Builtin, Called, EndReport, Target};
@@ -18,14 +19,12 @@ use ados_text::{Code, NoMemory, Text};
 use std::alloc::Global;
 
 /// What a turn of a shell changes: the shell, a new version of the shared parts where there is one, the object that it
-/// renamed, what it prints, and the scripts that it ends. The current directories of all shells stay in it as they were
-/// before.
+/// renamed, what it prints, and the scripts that it ends.
 #[derive(Debug, Drop)]
 pub struct Draft {
     pub number: u8,
     pub shell: Shell,
     pub shared: Option<Shared>,
-    pub directories: Vec<Place>,
     pub renamed: Option<Renamed>,
     pub printed: Vec<u8>,
     pub reports: Vec<EndReport>,
@@ -35,20 +34,14 @@ impl Draft {
     ghost use Rattle.ados_world.specs.Views.{Serves};
     ghost use Rattle.ados_world.specs.Drafts.{GoesOn, IsPut, IsFresh, IsRenewed, IsReported, course_of};
 
-    /// Nothing is changed yet of a shell, of which this is a copy, among these shells.
-    pub fn new(
-        alloc: Global,
-        number: u8,
-        shells: &[Option<Shell>],
-        shell: &Shell,
-    ) -> Result<Draft, NoMemory>
-        ensures { IfOk result (λ draft. IsFresh number shell.now (directories_in shells.now) draft) }
+    /// Nothing is changed yet of a shell, of which this is a copy.
+    pub fn new(alloc: Global, number: u8, shell: &Shell) -> Result<Draft, NoMemory>
+        ensures { IfOk result (λ draft. IsFresh number shell.now draft) }
     {
         Ok(Draft {
             number,
             shell: shell.share()?,
             shared: None,
-            directories: directories(alloc, shells)?,
             renamed: None,
             printed: Vec::new(alloc),
             reports: Vec::new(alloc),
@@ -76,38 +69,38 @@ impl Draft {
     }
 
     /// What commands read of the shell, and of the others.
-    fn view(&self, shared: &Shared) -> Result<ShellView, NoMemory>
-        ensures { IfOk result (λ view. view ≡ view_of self.now.shell (course_of shared.now self.now)) }
+    fn view(&self, scene: &Scene) -> Result<ShellView, NoMemory>
+        ensures { IfOk result (λ view. view ≡ view_of self.now.shell (course_of scene.now self.now)) }
     {
-        let directories = copies(*self.directories.allocator(), &self.directories)?;
-        let busy = self.current(shared).assigns.busy(directories)?;
+        let directories = directories(scene.alloc, scene.shells)?;
+        let busy = self.current(scene.shared).assigns.busy(directories)?;
         self.shell.view(busy)
     }
 
     /// What a command reads of the shell, and of the others. What is in use is gathered only for commands that
     /// read it: not for those that print and set.
     #[tactic(auto, using(crate::proofs::ViewLemmas::env_serves))]
-    pub fn view_for(&self, builtin: Builtin, shared: &Shared) -> Result<ShellView, NoMemory>
-        ensures { IfOk result (λ view. Serves builtin view (view_of self.now.shell (course_of shared.now self.now))) }
+    pub fn view_for(&self, scene: &Scene, builtin: Builtin) -> Result<ShellView, NoMemory>
+        ensures { IfOk result (λ view. Serves builtin view (view_of self.now.shell (course_of scene.now self.now))) }
     {
         match builtin {
-            Builtin::Env(_) => self.shell.view(Busy::none(*self.printed.allocator())),
-            Builtin::Files(_) => self.view(shared),
-            Builtin::Execute => self.view(shared),
-            Builtin::Quit => self.view(shared),
+            Builtin::Env(_) => self.shell.view(Busy::none(scene.alloc)),
+            Builtin::Files(_) => self.view(scene),
+            Builtin::Execute => self.view(scene),
+            Builtin::Quit => self.view(scene),
         }
     }
 
     /// Puts a command's output to its file, or to the console, or drops it; what it answers then.
     pub fn put(
         &mut self,
+        scene: &Scene,
         target: Option<&Target>,
         output: &[u8],
         codes: Codes,
-        shared: &Shared,
     ) -> Result<Codes, NoMemory>
-        ensures { IfOk result (λ answered. IsPut shared.now self.old self.new answered
-            (put (option_copied target.entry) output.now codes (course_of shared.now self.old))) }
+        ensures { IfOk result (λ answered. IsPut scene.now self.old self.new answered
+            (put (option_copied target.entry) output.now codes (course_of scene.now self.old))) }
     {
         match target {
             None => {
@@ -115,24 +108,24 @@ impl Draft {
                 Ok(codes)
             }
             Some(Target::Nil) => Ok(codes),
-            Some(Target::At(place)) => self.put_at(place, output, codes, shared),
+            Some(Target::At(place)) => self.put_at(scene, place, output, codes),
         }
     }
 
     fn put_at(
         &mut self,
+        scene: &Scene,
         place: &Place,
         output: &[u8],
         codes: Codes,
-        shared: &Shared,
     ) -> Result<Codes, NoMemory>
-        ensures { IfOk result (λ answered. IsPut shared.now self.old self.new answered
-            (put (Some (At place.now)) output.now codes (course_of shared.now self.old))) }
+        ensures { IfOk result (λ answered. IsPut scene.now self.old self.new answered
+            (put (Some (At place.now)) output.now codes (course_of scene.now self.old))) }
     {
         if output.is_empty() {
             return Ok(codes);
         }
-        let current = self.current(shared);
+        let current = self.current(scene.shared);
         match current.ram.put_open(place, output) {
             Err(FsFault::NoMemory) => Err(NoMemory),
             Err(FsFault::Refused(fault)) => Ok(Codes::failed(fault)),
@@ -145,8 +138,8 @@ impl Draft {
 
     /// A script begins, with the limit that stands, and ends at once where it has no line.
     pub fn call(&mut self, alloc: Global, word: &Text, script: Called) -> Result<(), NoMemory>
-        ensures { OnOk result ((shared : SharedState) → GoesOn shared self.old self.new
-            (called word.now script self.old.shell (course_of shared self.old))) }
+        ensures { OnOk result ((scene : Seen) → GoesOn scene self.old self.new
+            (called word.now script self.old.shell (course_of scene self.old))) }
     {
         let script = Script {
             name: script.name,
@@ -160,8 +153,8 @@ impl Draft {
 
     /// A command answered: the text of its fault is printed, and the code rule follows.
     pub fn answer(&mut self, word: &[u8], codes: Codes, quits: bool) -> Result<(), NoMemory>
-        ensures { OnOk result ((shared : SharedState) → GoesOn shared self.old self.new
-            (answered word.now codes quits self.old.shell (course_of shared self.old))) }
+        ensures { OnOk result ((scene : Seen) → GoesOn scene self.old self.new
+            (answered word.now codes quits self.old.shell (course_of scene self.old))) }
     {
         push_fault(&mut self.printed, word, codes.result2)?;
         self.finish(word, codes, quits)
@@ -170,8 +163,8 @@ impl Draft {
     /// The code rule: the newest frame ends where it quits, at the limit, or where no line is left,
     /// and its end is the answer of the command that made it, and so on down.
     fn finish(&mut self, word: &[u8], codes: Codes, quits: bool) -> Result<(), NoMemory>
-        ensures { OnOk result ((shared : SharedState) → GoesOn shared self.old self.new
-            (finish word.now codes quits self.old.shell self.old.shell.frames (course_of shared self.old))) }
+        ensures { OnOk result ((scene : Seen) → GoesOn scene self.old self.new
+            (finish word.now codes quits self.old.shell self.old.shell.frames (course_of scene self.old))) }
     {
         let limit = self.shell.limit();
         self.shell.answer(codes);
@@ -189,8 +182,8 @@ impl Draft {
 
     /// No command was there to answer: the newest frame ends where no line is left.
     pub fn pass(&mut self) -> Result<(), NoMemory>
-        ensures { OnOk result ((shared : SharedState) → GoesOn shared self.old self.new
-            (passed self.old.shell (course_of shared self.old))) }
+        ensures { OnOk result ((scene : Seen) → GoesOn scene self.old self.new
+            (passed self.old.shell (course_of scene self.old))) }
     {
         let Some(frame) = self.shell.pop() else {
             return Ok(());

@@ -3,7 +3,8 @@ ghost use Rattle.std.specs.Prelude.{◌≡◌, ◌<◌, length, position, IfOk, 
 ghost use Rattle.std.specs.Option.{option_copied};
 ghost use Rattle.ados_items.specs.Items.{IsWithin};
 ghost use Rattle.ados_machine.specs.ScriptLines.{first_line, is_newline};
-ghost use Rattle.ados_machine.specs.Shell.{asks, is_question, is_end, input_of};
+ghost use Rattle.ados_machine.specs.Shell.{asks, first_of, is_question, is_end, input_of};
+ghost use Rattle.ados_machine.specs.Targets.{read_at};
 ghost use Rattle.ados_world.specs.Answers.{Gives};
 
 use crate::files::read;
@@ -32,10 +33,17 @@ pub fn input_line(
     match target(alloc, shared, directory, name) {
         Err(fault) => Err(fault),
         Ok(Target::Nil) => Ok(Some(Text::new(alloc))),
-        Ok(Target::At(place)) => match read(alloc, &shared.ram, &place) {
-            Ok(bytes) => Ok(Some(first_line(alloc, bytes)?)),
-            Err(fault) => Err(FsFault::Refused(fault)),
-        },
+        Ok(Target::At(place)) => first_line_at(alloc, shared, &place),
+    }
+}
+
+/// The first line of the file at a place.
+fn first_line_at(alloc: Global, shared: &Shared, place: &Place) -> Result<Option<Text>, FsFault>
+    ensures { Gives result (first_of (read_at shared.now.files place.now)) }
+{
+    match read(alloc, &shared.ram, place) {
+        Err(fault) => Err(FsFault::Refused(fault)),
+        Ok(bytes) => Ok(Some(first_line(alloc, bytes)?)),
     }
 }
 

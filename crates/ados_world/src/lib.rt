@@ -13,6 +13,7 @@ mod inputs;
 mod outputs;
 mod renames;
 mod runs;
+mod scenes;
 mod script_lines;
 mod scripts;
 mod settled;

@@ -12,7 +12,7 @@ use std::alloc::Global;
 use std::marker::Model;
 
 /// The current directories of the shells that run, in order of their numbers.
-pub fn directories(alloc: Global, shells: &[Option<Shell>]) -> Result<Vec<Place>, NoMemory>
+pub fn directories(alloc: Global, shells: &[Option<Shell>; 20]) -> Result<Vec<Place>, NoMemory>
     ensures { IfOk result (λ places. places.items ≡ directories_in shells.now) }
 {
     let mut places = Vec::new(alloc);
@@ -23,17 +23,6 @@ pub fn directories(alloc: Global, shells: &[Option<Shell>]) -> Result<Vec<Place>
         }
     }
     Ok(places)
-}
-
-/// Equal places.
-pub fn copies(alloc: Global, places: &[Place]) -> Result<Vec<Place>, NoMemory>
-    ensures { IfOk result (λ copies. copies.items ≡ places.now) }
-{
-    let mut copies = Vec::new(alloc);
-    for place in places {
-        copies.push(place.copy()?)?;
-    }
-    Ok(copies)
 }
 
 /// All shells, at their numbers: they stand apart, so that a draft without them stays small.

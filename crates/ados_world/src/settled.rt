@@ -1,19 +1,18 @@
 // What a turn changes, ready to be moved in.
 ghost use Rattle.std.specs.Prelude.{◌≡◌, IfOk};
 ghost use Rattle.ados_machine.specs.Limits.{AllRunOn};
-ghost use Rattle.ados_machine.specs.Shell.{quietly, resumed, turn_of};
-ghost use Rattle.ados_machine.specs.World.{directories_in};
+ghost use Rattle.ados_machine.specs.Shell.{resumed, turn_of};
+ghost use Rattle.ados_world.specs.Drafts.{start_of};
 ghost use Rattle.ados_world.specs.Steps.{IsConcluded, IsSettled, IsScriptSettled, RunsOn};
 
-use crate::commands::Commands;
 use crate::drafts::Draft;
 use crate::renames::{Shells, carried_shells};
+use crate::scenes::Scene;
 use crate::shells::Shell;
 use crate::turns::{console_draft, prompt_draft, script_draft};
 use ados_find::Shared;
 use ados_machine::{Asking, EndReport};
 use ados_text::{NoMemory, Text};
-use std::alloc::Global;
 
 /// What a turn of a shell changes, ready to be moved in, which takes no memory.
 #[derive(Debug, Drop)]
@@ -39,7 +38,6 @@ impl Draft {
             number: _,
             shell,
             shared,
-            directories: _,
             renamed,
             printed,
             reports,
@@ -64,54 +62,34 @@ impl Draft {
 }
 
 /// What a turn of shell 1 that takes a typed line changes.
-pub fn console_settled(
-    alloc: Global,
-    commands: &Commands,
-    shells: &[Option<Shell>; 20],
-    shell: &Shell,
-    line: &Text,
-    shared: &Shared,
-) -> Result<Settled, NoMemory>
-    ensures settled { IfOk result (λ done. IsSettled 1 shells.now shared.now done
-        (turn_of line.now shell.now (quietly shared.now (directories_in shells.now)))) }
-    ensures runs_on { AllRunOn shell.now.frames → IfOk result (λ done. RunsOn shells.now done) }
+pub fn console_settled(scene: &Scene, shell: &Shell, line: &Text) -> Result<Settled, NoMemory>
+    ensures settled { IfOk result (λ done. IsSettled 1 scene.now.shells.now scene.now.shared.now done
+        (turn_of line.now shell.now (start_of scene.now))) }
+    ensures runs_on { AllRunOn shell.now.frames → IfOk result (λ done. RunsOn scene.now.shells.now done) }
 {
-    console_draft(alloc, commands, shells, shell, line, shared)?.conclude(shells)
+    console_draft(scene, shell, line)?.conclude(scene.shells)
 }
 
 /// What a turn that takes the next line of its newest script changes.
-pub fn script_settled(
-    alloc: Global,
-    commands: &Commands,
-    number: u8,
-    shells: &[Option<Shell>; 20],
-    shell: &Shell,
-    shared: &Shared,
-) -> Result<Settled, NoMemory>
-    ensures settled { IfOk result (λ done. IsScriptSettled number shells.now
-        (quietly shared.now (directories_in shells.now)) done shell.now shell.now.frames) }
-    ensures runs_on { AllRunOn shell.now.frames → IfOk result (λ done. RunsOn shells.now done) }
+pub fn script_settled(scene: &Scene, number: u8, shell: &Shell) -> Result<Settled, NoMemory>
+    ensures settled { IfOk result (λ done. IsScriptSettled number scene.now.shells.now
+        (start_of scene.now) done shell.now shell.now.frames) }
+    ensures runs_on { AllRunOn shell.now.frames → IfOk result (λ done. RunsOn scene.now.shells.now done) }
 {
-    script_draft(alloc, commands, number, shells, shell, shared)?.conclude(shells)
+    script_draft(scene, number, shell)?.conclude(scene.shells)
 }
 
 /// What a turn that takes the answer to a prompt changes.
 pub fn prompt_settled(
-    alloc: Global,
-    commands: &Commands,
+    scene: &Scene,
     number: u8,
-    shells: &[Option<Shell>; 20],
     shell: &Shell,
     question: &Asking,
     answer: &Text,
-    shared: &Shared,
 ) -> Result<Settled, NoMemory>
-    ensures settled { IfOk result (λ done. IsSettled number shells.now shared.now done
-        (resumed answer.now question.now shell.now (quietly shared.now (directories_in shells.now)))) }
-    ensures runs_on { AllRunOn shell.now.frames → IfOk result (λ done. RunsOn shells.now done) }
+    ensures settled { IfOk result (λ done. IsSettled number scene.now.shells.now scene.now.shared.now done
+        (resumed answer.now question.now shell.now (start_of scene.now))) }
+    ensures runs_on { AllRunOn shell.now.frames → IfOk result (λ done. RunsOn scene.now.shells.now done) }
 {
-    prompt_draft(
-        alloc, commands, number, shells, shell, question, answer, shared,
-    )?
-    .conclude(shells)
+    prompt_draft(scene, number, shell, question, answer)?.conclude(scene.shells)
 }

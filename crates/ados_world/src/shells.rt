@@ -1,39 +1,42 @@
 // A shell: its scripts, its fail limit, what its last command answered.
-ghost use Rattle.std.specs.Prelude.{◌≡◌, [], ◌∷◌, IfOk, IfNone, IfSome, OnOk, reverse, unwrap_or};
+ghost use Rattle.std.specs.Prelude.{◌≡◌, [], ◌∷◌, IfOk, IfNone, IfSome, OnOk, option_map, reverse, unwrap_or};
 ghost use Rattle.std.specs.Option.{option_copied};
 ghost use Rattle.ados_machine.specs.Frames.{fresh_shell, limit_behind};
 ghost use Rattle.ados_machine.specs.Shell.{is_free};
 ghost use Rattle.ados_machine.specs.Step.{carried_shell};
 ghost use Rattle.ados_machine.specs.declared.phases.Phase.TheVariants.{Ready, Asking as Waits};
+ghost use Rattle.ados_world.specs.Shells.{phase_of};
 
 use crate::frames::Frame;
 use ados_find::{Codes, Renamed, ShellView};
-use ados_machine::{Asking, Phase};
+use ados_machine::Asking;
 use ados_ram::{Busy, Place};
 use ados_text::{Code, NoMemory};
 use std::alloc::Global;
 use std::marker::Model;
+use std::rc::Rc;
 
 /// The limit with which a shell begins, and which stands again where no script is left.
 pub const FIRST_LIMIT: Code = Code(10);
 
-/// A shell. The newest frame is the last.
+/// A shell. The newest frame is the last. The question is there where the shell waits for the answer to a prompt.
 #[derive(Debug, Drop)]
 pub struct Shell {
     frames: Vec<Frame>,
     limit: Code,
     codes: Codes,
     directory: Place,
-    phase: Phase,
+    question: Option<Rc<Asking>>,
 }
 
 impl Model for Shell {
-    ghost use Rattle.std.specs.Prelude.{reverse};
+    ghost use Rattle.std.specs.Prelude.{reverse, option_map};
     ghost use Rattle.ados_machine.specs.Frames.{ShellState};
+    ghost use Rattle.ados_world.specs.Shells.{phase_of};
 
     ghost Value = { ShellState };
 
-    ghost view = { λ s. record { frames = reverse s.frames.items; limit = s.limit; codes = s.codes; directory = s.directory; phase = s.phase } };
+    ghost view = { λ s. record { frames = reverse s.frames.items; limit = s.limit; codes = s.codes; directory = s.directory; phase = phase_of (option_map (λ q. q.value) s.question) } };
 }
 
 impl Shell {
@@ -48,11 +51,11 @@ impl Shell {
             limit: FIRST_LIMIT,
             codes: Codes::NONE,
             directory: Place::root(alloc),
-            phase: Phase::Ready,
+            question: None,
         }
     }
 
-    /// The same shell; its scripts are shared.
+    /// The same shell; its scripts and its question are shared.
     pub fn share(&self) -> Result<Shell, NoMemory>
         ensures { IfOk result (λ shell. shell ≡ self.now) }
     {
@@ -65,7 +68,7 @@ impl Shell {
             limit: self.limit,
             codes: self.codes,
             directory: self.directory.copy()?,
-            phase: copy_of(&self.phase)?,
+            question: shared(&self.question)?,
         })
     }
 
@@ -97,11 +100,14 @@ impl Shell {
         self.frames.is_empty()
     }
 
-    /// What the shell waits for.
-    pub fn phase(&self) -> &Phase
-        ensures { result.now ≡ self.now.phase }
+    /// The command that asked for its arguments, where the shell waits for them.
+    pub fn question(&self) -> Option<&Asking>
+        ensures { phase_of (option_copied result) ≡ self.now.phase }
     {
-        &self.phase
+        match &self.question {
+            None => None,
+            Some(question) => Some(question),
+        }
     }
 
     /// Its current directory.
@@ -137,21 +143,22 @@ impl Shell {
         ensures { self.new ≡ record self.old { codes = answered; phase = Ready } }
     {
         self.codes = answered;
-        self.phase = Phase::Ready;
+        self.question = None;
     }
 
     /// A command asked for its arguments.
-    pub fn ask(&mut self, question: Asking)
-        ensures { self.new ≡ record self.old { phase = Waits question } }
+    pub fn ask(&mut self, question: Asking) -> Result<(), NoMemory>
+        ensures { OnOk result (self.new ≡ record self.old { phase = Waits question }) }
     {
-        self.phase = Phase::Asking(question);
+        self.question = Some(Rc::new(*self.frames.allocator(), question)?);
+        Ok(())
     }
 
     /// The answer to a prompt was taken.
     pub fn be_ready(&mut self)
         ensures { self.new ≡ record self.old { phase = Ready } }
     {
-        self.phase = Phase::Ready;
+        self.question = None;
     }
 
     /// The fail limit is this, and the current directory, where there is a new one.
@@ -204,15 +211,12 @@ impl Shell {
     }
 }
 
-/// An equal phase.
-fn copy_of(phase: &Phase) -> Result<Phase, NoMemory>
-    ensures { IfOk result (λ same. same ≡ phase.now) }
+/// The same question, if there is one.
+fn shared(question: &Option<Rc<Asking>>) -> Result<Option<Rc<Asking>>, NoMemory>
+    ensures { IfOk result (λ same. option_map (λ q. q.value) same ≡ option_map (λ q. q.value) question.now) }
 {
-    match phase {
-        Phase::Ready => Ok(Phase::Ready),
-        Phase::Asking(question) => Ok(Phase::Asking(Asking {
-            builtin: question.builtin,
-            line: question.line.copy()?,
-        })),
+    match question {
+        None => Ok(None),
+        Some(question) => Ok(Some(question.clone()?)),
     }
 }

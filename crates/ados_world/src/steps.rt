@@ -13,7 +13,7 @@ use crate::settled::{Settled, console_settled, prompt_settled, script_settled};
 use crate::shells::Shell;
 use crate::worlds::World;
 use ados_find::{Codes, Shared};
-use ados_machine::{Event, Out, Phase, Refusal};
+use ados_machine::{Event, Out, Refusal};
 use ados_text::Text;
 
 const QUEUE_LINES: usize = 256;
@@ -80,20 +80,13 @@ impl World {
         let Some(shell) = self.shell_at(number) else {
             return Err(Refusal::NoSuchShell);
         };
-        if let Phase::Asking(question) = shell.phase() {
+        if shell.question().is_some() {
             return self.prompt_turn(number);
         }
         if shell.is_free() {
             return self.console_turn(number);
         }
-        match script_settled(
-            self.alloc,
-            &self.commands,
-            number,
-            &self.shells,
-            shell,
-            &self.shared,
-        ) {
+        match script_settled(&self.scene(), number, shell) {
             Ok(done) => Ok(self.take(number, done)),
             Err(_) => Err(Refusal::NoMemory),
         }
@@ -106,42 +99,25 @@ impl World {
         ensures answer { IsAnswer (Event.Turn number) result (turned self.old number (shell_at self.old number)) }
         ensures world { self.new ≡ world_after self.old result (turned self.old number (shell_at self.old number)) }
     {
-        let Some(shell) = self.shell_at(number) else {
+        let world = &*self;
+        let Some(shell) = world.shell_at(number) else {
             return Err(Refusal::NoSuchShell);
         };
-        let Phase::Asking(question) = shell.phase() else {
+        let Some(question) = shell.question() else {
             return Err(Refusal::NotReady);
         };
-        if number == 1 && !self.has_input() {
+        if number == 1 && !world.has_input() {
             return Err(Refusal::NotReady);
         }
-        match self.waiting_line(number) {
+        match world.waiting_line(number) {
             None => {
-                let empty = Text::new(self.alloc);
-                match prompt_settled(
-                    self.alloc,
-                    &self.commands,
-                    number,
-                    &self.shells,
-                    shell,
-                    question,
-                    &empty,
-                    &self.shared,
-                ) {
+                let empty = Text::new(world.alloc);
+                match prompt_settled(&world.scene(), number, shell, question, &empty) {
                     Ok(done) => Ok(self.take(number, done)),
                     Err(_) => Err(Refusal::NoMemory),
                 }
             }
-            Some(line) => match prompt_settled(
-                self.alloc,
-                &self.commands,
-                number,
-                &self.shells,
-                shell,
-                question,
-                line,
-                &self.shared,
-            ) {
+            Some(line) => match prompt_settled(&world.scene(), number, shell, question, line) {
                 Ok(done) => Ok(self.take_typed(done)),
                 Err(_) => Err(Refusal::NoMemory),
             },
@@ -167,21 +143,15 @@ impl World {
         ensures answer { IsAnswer (Event.Turn number) result (turned self.old number (shell_at self.old number)) }
         ensures world { self.new ≡ world_after self.old result (turned self.old number (shell_at self.old number)) }
     {
-        let Some(shell) = self.shell_at(number) else {
+        let world = &*self;
+        let Some(shell) = world.shell_at(number) else {
             return Err(Refusal::NoSuchShell);
         };
-        if number != 1 || !self.has_input() {
+        if number != 1 || !world.has_input() {
             return Err(Refusal::NotReady);
         }
-        match self.queue.front() {
-            Some(line) => match console_settled(
-                self.alloc,
-                &self.commands,
-                &self.shells,
-                shell,
-                line,
-                &self.shared,
-            ) {
+        match world.queue.front() {
+            Some(line) => match console_settled(&world.scene(), shell, line) {
                 Ok(done) => Ok(self.take_typed(done)),
                 Err(_) => Err(Refusal::NoMemory),
             },

@@ -9,9 +9,10 @@ ghost use Rattle.ados_machine.specs.World.{flatten, numbered, fresh_world, shell
 
 use crate::commands::Commands;
 use crate::hosts::{HostEntry, NewFault};
+use crate::scenes::Scene;
 use crate::shells::Shell;
 use ados_find::{Codes, Shared};
-use ados_machine::{Phase, Request};
+use ados_machine::Request;
 use ados_text::Text;
 use std::alloc::Global;
 use std::collections::VecDeque;
@@ -120,9 +121,9 @@ impl World {
     {
         match self.shell_at(number) {
             None => false,
-            Some(shell) => match shell.phase() {
-                Phase::Ready => !shell.is_free() || (number == 1 && self.has_input()),
-                Phase::Asking(_) => number != 1 || self.has_input(),
+            Some(shell) => match shell.question() {
+                None => !shell.is_free() || (number == 1 && self.has_input()),
+                Some(_) => number != 1 || self.has_input(),
             },
         }
     }
@@ -142,6 +143,19 @@ impl World {
         ensures { result ≡ wants_line self.now }
     {
         self.shell_at(1).is_some() && !self.ready(1)
+    }
+
+    /// What a turn of a shell sees.
+    pub(crate) fn scene(&self) -> Scene<'_>
+        ensures shells { result.shells.now ≡ self.now.shells }
+        ensures shared { result.shared.now ≡ self.now.shared }
+    {
+        Scene {
+            alloc: self.alloc,
+            commands: &self.commands,
+            shells: &self.shells,
+            shared: &self.shared,
+        }
     }
 
     pub(crate) fn is_over(&self) -> bool

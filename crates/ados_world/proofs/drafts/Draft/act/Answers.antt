@@ -11,11 +11,11 @@ use Rattle.ados_world.proofs.drafts.Draft.act.Goals as goal
 
 pub returns-in-Answers : goal.returns-in-Answers
 returns-in-Answers c =
-    let shared = c.args.shared.now in
+    let scene = c.args.scene.now in
     let before = c.args.self.now in
-    let course = course_of shared before in
+    let course = course_of scene before in
     on_ok_weaker c.settle.result
-    (λ g. goes-same shared before before c.settle.new.self _ _ refl refl
+    (λ g. goes-same scene before before c.settle.new.self _ _ refl refl
     (ap (λ a. acted c.args.line.now.command (option_copied c.args.target) a before.shell course)
     (ap (acting course.shared) (sym c.in-Answers.is) ∙ c.in_ok-outcome.ensures
     ∙ ap (λ b. action_of c.args.builtin (is_free before.shell.frames && b) course.shared (view_of before.shell course) c.args.line.now.args)

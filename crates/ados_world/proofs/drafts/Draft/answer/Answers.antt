@@ -6,6 +6,6 @@ use Rattle.ados_world.proofs.drafts.Draft.answer.Goals as goal
 pub returns : goal.returns
 returns c =
     on_ok_weaker c.finish.result
-    (λ g shared. answer-goes shared c.args.self.now _ c.finish.new.self c.args.word.now c.args.codes c.args.quits refl refl refl refl
-    c.in_ok-push_fault.ensures (g shared))
+    (λ g scene. answer-goes scene c.args.self.now _ c.finish.new.self c.args.word.now c.args.codes c.args.quits refl refl refl refl
+    c.in_ok-push_fault.ensures (g scene))
     c.finish.ensures

@@ -7,10 +7,10 @@ use Rattle.ados_world.proofs.drafts.Draft.call.Goals as goal
 pub returns : goal.returns
 returns c =
     on_ok_weaker c.pass.result
-    (λ g shared. call-goes shared c.args.self.now _ c.pass.new.self c.args.word.now c.args.script c.in_ok-frame.frame
+    (λ g scene. call-goes scene c.args.self.now _ c.pass.new.self c.args.word.now c.args.script c.in_ok-frame.frame
     refl c.in_ok-push.ensures refl refl refl
     (c.in_ok-frame.ensures
     ∙ ap (λ l. begun (record { name = c.args.script.name; lines = c.args.script.lines; command = c.in_ok-copy.field-0 }) l) c.limit.ensures
     ∙ ap (λ w. begun (record { name = c.args.script.name; lines = c.args.script.lines; command = w }) c.args.self.now.shell.limit) c.in_ok-copy.ensures)
-    (g shared))
+    (g scene))
     c.pass.ensures

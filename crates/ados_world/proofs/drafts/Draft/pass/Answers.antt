@@ -9,12 +9,12 @@ pub returns : goal.returns
 returns c =
     let over : is_over c.in-Some.frame ≡ true = sym c.is_over.ensures ∙ c.if-not-is_over.false in
     on_ok_weaker c.finish.result
-    (λ g shared. pass-ends shared c.args.self.now _ c.end.new.self c.finish.new.self
+    (λ g scene. pass-ends scene c.args.self.now _ c.end.new.self c.finish.new.self
     c.in-Some.frame c.in-Some.ensures.some refl refl refl refl over c.in_ok-end.ensures
-    (goes-same shared c.end.new.self c.end.new.self c.finish.new.self _ _ refl refl
-    (ap (λ w. finish w c.last_codes.result false c.end.new.self.shell c.end.new.self.shell.frames (course_of shared c.end.new.self))
+    (goes-same scene c.end.new.self c.end.new.self c.finish.new.self _ _ refl refl
+    (ap (λ w. finish w c.last_codes.result false c.end.new.self.shell c.end.new.self.shell.frames (course_of scene c.end.new.self))
     (c.as_bytes.ensures.value ∙ c.command.ensures)
-    ∙ ap (λ k. finish c.in-Some.frame.command k false c.end.new.self.shell c.end.new.self.shell.frames (course_of shared c.end.new.self))
+    ∙ ap (λ k. finish c.in-Some.frame.command k false c.end.new.self.shell c.end.new.self.shell.frames (course_of scene c.end.new.self))
     c.last_codes.ensures)
-    (g shared)))
+    (g scene)))
     c.finish.ensures

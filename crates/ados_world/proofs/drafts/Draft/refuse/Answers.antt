@@ -7,6 +7,6 @@ use Rattle.ados_world.proofs.drafts.Draft.refuse.Goals as goal
 pub returns : goal.returns
 returns c =
     on_ok_weaker c.answer.result
-    (λ g shared. answered-goes shared c.args.self.now c.answer.new.self _ _ _ _ false c.args.self.now.shell (course_of shared c.args.self.now)
-    c.as_bytes.ensures.value c.failed.ensures (g shared))
+    (λ g scene. answered-goes scene c.args.self.now c.answer.new.self _ _ _ _ false c.args.self.now.shell (course_of scene c.args.self.now)
+    c.as_bytes.ensures.value c.failed.ensures (g scene))
     c.answer.ensures

@@ -8,13 +8,13 @@ use Rattle.ados_world.proofs.drafts.Draft.settle.Goals as goal
 
 pub returns : goal.returns
 returns c =
-    let shared = c.args.shared.now in
+    let scene = c.args.scene.now in
     let before = c.args.self.now in
     on_ok_weaker c.answer.result
-    (λ g. act-goes shared before (record c.renew.new.self { renamed = c.args.outcome.renamed }) c.put.new.self c.answer.new.self c.args.word.now (option_copied c.args.target)
-    (effect_of (course_of shared before).shared c.args.outcome) c.as_bytes.result.now c.in_ok-answered.answered
-    c.renew.ensures.number (c.renew.ensures.shell ∙ c.affect.ensures) (c.renew.ensures.shared shared) c.renew.ensures.directories refl c.renew.ensures.printed c.renew.ensures.reports
+    (λ g. act-goes scene before (record c.renew.new.self { renamed = c.args.outcome.renamed }) c.put.new.self c.answer.new.self c.args.word.now (option_copied c.args.target)
+    (effect_of (course_of scene before).shared c.args.outcome) c.as_bytes.result.now c.in_ok-answered.answered
+    c.renew.ensures.number (c.renew.ensures.shell ∙ c.affect.ensures) (c.renew.ensures.shared scene.shared.now) refl c.renew.ensures.printed c.renew.ensures.reports
     c.as_bytes.ensures c.in_ok-answered.ensures
-    (answered-goes shared c.put.new.self c.answer.new.self _ _ _ _ false c.put.new.self.shell (course_of shared c.put.new.self)
-    c.as_bytes-2.ensures.value refl (g shared)))
+    (answered-goes scene c.put.new.self c.answer.new.self _ _ _ _ false c.put.new.self.shell (course_of scene c.put.new.self)
+    c.as_bytes-2.ensures.value refl (g scene)))
     c.answer.ensures
