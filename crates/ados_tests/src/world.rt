@@ -227,6 +227,33 @@ fn want_of_memory_changes_nothing_and_the_event_is_taken_later(
     Ok(())
 }
 
+// A line is typed and obeyed, with this printed, each where there is memory.
+fn obeys(world: &mut World, alloc: Global, line: &[u8], want: &[u8]) -> Result<bool, NoMemory> {
+    Ok(takes_later(world, &typed(alloc, line)?, b"") && takes_later(world, &Event::Turn(1), want))
+}
+
+// The copy of `a` can't be written over: had a refused Copy left it, the next would be refused for that.
+fn half_copied(world: &mut World, alloc: Global) -> Result<bool, NoMemory> {
+    Ok(
+        obeys(world, alloc, b"Echo >a A", b"")?
+            && obeys(world, alloc, b"Echo >b B", b"")?
+            && obeys(world, alloc, b"Protect a w SUB", b"")?
+            && obeys(world, alloc, b"MakeDir d", b"")?
+            && obeys(
+                world,
+                alloc,
+                b"Copy a b d",
+                b"RAM:a..copied\nRAM:b..copied\n",
+            )?,
+    )
+}
+
+#[test]
+fn half_copied_file(rt: HostRuntime) -> Result<(), NoMemory> {
+    assert!(rt; says(rt.alloc(), half_copied)?);
+    Ok(())
+}
+
 #[test]
 fn no_host_is_taken_yet(rt: HostRuntime) -> Result<(), Fail> {
     let host = HostEntry {
