@@ -14,19 +14,35 @@ fn a_byte_past_ascii_is_named_or_replaced(rt: HostRuntime) -> Result<(), NoMemor
     Ok(())
 }
 
+// Each of these owns few texts: each exit drops them all, and the prover follows each of them.
 #[test]
-fn texts_are_made_grown_and_parted(rt: HostRuntime) -> Result<(), TextFault> {
-    let alloc = rt.alloc();
-    let mut text = Text::of(alloc, b"RAM")?;
+fn a_text_grows(rt: HostRuntime) -> Result<(), TextFault> {
+    let mut text = Text::of(rt.alloc(), b"RAM")?;
     text.push(b':')?;
     text.push(b'\x80')?;
     text.push_bytes(b"ab")?;
     assert_eq!(rt; text.as_bytes(), b"RAM:?ab".as_slice());
+    Ok(())
+}
+
+#[test]
+fn a_part_of_a_text_is_copied(rt: HostRuntime) -> Result<(), NoMemory> {
+    let text = Text::from_bytes(rt.alloc(), b"RAM:?ab")?;
     assert_eq!(rt; text.part(3, 5)?.as_bytes(), b":?".as_slice());
-    let same = text.copy()?;
-    assert!(rt; same == text);
-    let joined = text.part(0, 4)?.join(&Text::from_bytes(alloc, b"S")?)?;
-    assert_eq!(rt; joined.as_bytes(), b"RAM:S".as_slice());
+    Ok(())
+}
+
+#[test]
+fn texts_are_joined(rt: HostRuntime) -> Result<(), NoMemory> {
+    let text = Text::from_bytes(rt.alloc(), b"RAM:")?;
+    assert_eq!(rt; text.join(&text)?.as_bytes(), b"RAM:RAM:".as_slice());
+    Ok(())
+}
+
+#[test]
+fn a_copy_of_a_text_is_equal(rt: HostRuntime) -> Result<(), NoMemory> {
+    let text = Text::from_bytes(rt.alloc(), b"RAM:")?;
+    assert!(rt; text.copy()? == text);
     Ok(())
 }
 
