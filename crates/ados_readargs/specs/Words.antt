@@ -30,18 +30,15 @@ word_of line (item.Quoted from to) = Some (Quoted from to, to + 1)
 word_of line (item.Unmatched from) = Some (Open from, length line)
 word_of line (item.End from) = None
 
--- the words of a line from an item on, where `next` gives those from a place on
-abbrev pub words_behind : (ℕ → List LineWord) → List ℕ → Item → List LineWord
-words_behind next line (item.Word from to) = Run from to (run_end line to) ∷ next (run_end line to)
-words_behind next line (item.Equal from) = Run from from (run_end line (from + 1)) ∷ next (run_end line (from + 1))
-words_behind next line (item.Quoted from to) = Quoted from to ∷ next (to + 1)
-words_behind next line (item.Unmatched from) = Open from ∷ []
-words_behind next line (item.End from) = []
+-- the words from one that was found on, where `next` gives those from a place on
+abbrev pub words_behind : (ℕ → List LineWord) → Option (LineWord × ℕ) → List LineWord
+words_behind next None = []
+words_behind next (Some (word, behind)) = word ∷ next behind
 
 -- the words of a line from a place on, at most so many
 abbrev pub words_from : ℕ → List ℕ → ℕ → List LineWord
 words_from zero line place = []
-words_from (suc count) line place = words_behind (λ to. words_from count line to) line (item_at true line place)
+words_from (suc count) line place = words_behind (λ to. words_from count line to) (word_of line (item_at true line place))
 
 -- the words of a line, which are no more than its bytes; a quote that none closes is the last
 abbrev pub line_words_of : List ℕ → List LineWord
