@@ -1,2 +1,1 @@
 pub mod EchoLemmas
-pub mod TemplatesLemmas

@@ -24,17 +24,3 @@ template_of_command Eval = codes "VALUE1/A,OP,VALUE2"
 template_of_command FailAt = codes "RCLIM/N"
 template_of_command Fault = codes "/N/M"
 template_of_command Why = []
-
--- all commands, by their names in order
-abbrev pub all_commands : List Command
-all_commands = Assign ∷ Cd ∷ Echo ∷ Eval ∷ FailAt ∷ Fault ∷ Why ∷ []
-
--- where a command stands among all
-abbrev pub place_of_command : Command → ℕ
-place_of_command Assign = 0
-place_of_command Cd = 1
-place_of_command Echo = 2
-place_of_command Eval = 3
-place_of_command FailAt = 4
-place_of_command Fault = 5
-place_of_command Why = 6

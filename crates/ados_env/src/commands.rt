@@ -16,33 +16,7 @@ pub enum Command {
 }
 
 impl Command {
-    ghost use Rattle.ados_env.specs.Commands.{command_of, place_of_command, template_of_command};
-
-    // All commands, by their names in order.
-    pub(crate) const ALL: [Command; 7] = [
-        Command::Assign,
-        Command::Cd,
-        Command::Echo,
-        Command::Eval,
-        Command::FailAt,
-        Command::Fault,
-        Command::Why,
-    ];
-
-    // Where it stands among all commands.
-    pub(crate) fn place(self) -> usize
-        ensures { result ≡ place_of_command self }
-    {
-        match self {
-            Command::Assign => 0,
-            Command::Cd => 1,
-            Command::Echo => 2,
-            Command::Eval => 3,
-            Command::FailAt => 4,
-            Command::Fault => 5,
-            Command::Why => 6,
-        }
-    }
+    ghost use Rattle.ados_env.specs.Commands.{command_of, template_of_command};
 
     /// The command of this name; case is ignored.
     pub fn named(word: &Text) -> Option<Command>

@@ -12,9 +12,7 @@ mod fail_at;
 mod fault;
 mod operators;
 mod rows;
-mod templates;
 mod why;
 
 pub use commands::Command;
 pub use rows::run;
-pub use templates::Templates;

@@ -1,2 +1,1 @@
 pub mod MatchLemmas
-pub mod TemplatesLemmas

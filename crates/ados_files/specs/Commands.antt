@@ -30,19 +30,3 @@ template_of_command MakeDir = codes "NAME/M"
 template_of_command Protect = codes "FILE/A,FLAGS,ADD/S,SUB/S"
 template_of_command Rename = codes "FROM/A,TO=AS/A"
 template_of_command «Type» = codes "FROM/A/M"
-
-abbrev pub all_commands : List Command
-all_commands = Copy ∷ Delete ∷ Dir ∷ Filenote ∷ Join ∷ Listed ∷ MakeDir ∷ Protect ∷ Rename ∷ «Type» ∷ []
-
--- where a command stands among all
-abbrev pub place_of_command : Command → ℕ
-place_of_command Copy = 0
-place_of_command Delete = 1
-place_of_command Dir = 2
-place_of_command Filenote = 3
-place_of_command Join = 4
-place_of_command Listed = 5
-place_of_command MakeDir = 6
-place_of_command Protect = 7
-place_of_command Rename = 8
-place_of_command «Type» = 9

@@ -18,39 +18,7 @@ pub enum Command {
 }
 
 impl Command {
-    ghost use Rattle.ados_files.specs.Commands.{command_of, place_of_command, template_of_command};
-
-    // All commands, by their names in order.
-    pub(crate) const ALL: [Command; 10] = [
-        Command::Copy,
-        Command::Delete,
-        Command::Dir,
-        Command::Filenote,
-        Command::Join,
-        Command::List,
-        Command::MakeDir,
-        Command::Protect,
-        Command::Rename,
-        Command::Type,
-    ];
-
-    // Where it stands among all commands.
-    pub(crate) fn place(self) -> usize
-        ensures { result ≡ place_of_command self }
-    {
-        match self {
-            Command::Copy => 0,
-            Command::Delete => 1,
-            Command::Dir => 2,
-            Command::Filenote => 3,
-            Command::Join => 4,
-            Command::List => 5,
-            Command::MakeDir => 6,
-            Command::Protect => 7,
-            Command::Rename => 8,
-            Command::Type => 9,
-        }
-    }
+    ghost use Rattle.ados_files.specs.Commands.{command_of, template_of_command};
 
     /// The command of this name; case is ignored.
     pub fn named(word: &Text) -> Option<Command>

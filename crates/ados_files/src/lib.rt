@@ -18,9 +18,7 @@ mod names;
 mod protect;
 mod rename;
 mod rows;
-mod templates;
 mod type_files;
 
 pub use commands::Command;
 pub use rows::run;
-pub use templates::Templates;

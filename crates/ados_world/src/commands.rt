@@ -1,5 +1,5 @@
 // The commands and their templates.
-ghost use Rattle.std.specs.Prelude.{◌≡◌, IfOk};
+ghost use Rattle.std.specs.Prelude.{◌≡◌, map, IfOk};
 ghost use Rattle.ados_find.specs.Shared.{SharedState};
 ghost use Rattle.ados_machine.specs.Commands.{action_of, row_of, template_of, arg_fault, quit_row};
 ghost use Rattle.ados_world.specs.Actions.{acting};
@@ -16,45 +16,36 @@ use std::marker::Model;
 /// The templates of the commands, each parsed once.
 #[derive(Drop)]
 pub struct Commands {
-    env: ados_env::Templates,
-    files: ados_files::Templates,
-    execute: Template,
-    quit: Template,
+    // In the order of `Builtin::ALL`.
+    templates: Vec<Template>,
 }
 
 impl Model for Commands {
-    ghost use Rattle.std.specs.Prelude.{◌≡◌};
+    ghost use Rattle.std.specs.Prelude.{◌≡◌, map};
     ghost use Rattle.ados_machine.specs.Commands.{template_of};
-    ghost use Rattle.ados_machine.specs.declared.builtins.Builtin.TheVariants.{Execute, Quit};
+    ghost use Rattle.ados_machine.specs.declared.builtins.TheConstants.Builtin.{ALL};
 
     ghost Value = { Unit {0} };
 
     ghost view = { λ _. tt };
 
-    ghost invariant = { λ c. (c.execute ≡ template_of Execute) × (c.quit ≡ template_of Quit) };
+    ghost invariant = { λ c. c.templates.items ≡ map template_of ALL };
 }
 
 impl Commands {
     /// Parses the templates.
     pub fn new(alloc: Global) -> Result<Commands, NoMemory> {
         Ok(Commands {
-            env: ados_env::Templates::new(alloc)?,
-            files: ados_files::Templates::new(alloc)?,
-            execute: template(alloc, Builtin::Execute)?,
-            quit: template(alloc, Builtin::Quit)?,
+            templates: templates_of(alloc, &Builtin::ALL)?,
         })
     }
 
     /// The template of a command.
+    #[tactic(auto, using(crate::proofs::CommandLemmas::at_place))]
     pub fn template(&self, builtin: Builtin) -> &Template
         ensures { result.now ≡ template_of builtin }
     {
-        match builtin {
-            Builtin::Env(command) => self.env.of(command),
-            Builtin::Files(command) => self.files.of(command),
-            Builtin::Execute => &self.execute,
-            Builtin::Quit => &self.quit,
-        }
+        &self.templates[builtin.place()]
     }
 
     /// What a command does with the text of its arguments; `simple` says that it stands in no script
@@ -77,6 +68,16 @@ impl Commands {
             Err(fault) => Ok(Action::answering(alloc, view.limit, Codes::failed(number(fault)))),
         }
     }
+}
+
+fn templates_of(alloc: Global, builtins: &[Builtin]) -> Result<Vec<Template>, NoMemory>
+    ensures { IfOk result (λ templates. templates.items ≡ map template_of builtins.now) }
+{
+    let mut templates = Vec::with_capacity(alloc, builtins.len())?;
+    for builtin in builtins {
+        templates.push(template(alloc, *builtin)?)?;
+    }
+    Ok(templates)
 }
 
 fn template(alloc: Global, builtin: Builtin) -> Result<Template, NoMemory>
