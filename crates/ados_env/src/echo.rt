@@ -16,10 +16,13 @@ pub fn echo(alloc: Global, view: &ShellView, args: &Args) -> Result<Outcome, NoM
     Ok(Outcome::putting(view.limit, output))
 }
 
+// Room for what most lines put out, so that it is asked for once.
+const ROOM: usize = 64;
+
 fn echoed(alloc: Global, words: &[Text], noline: bool) -> Result<Vec<u8>, NoMemory>
     ensures { IfOk result (λ output. output.items ≡ echoed words.now noline) }
 {
-    let mut output = Vec::new(alloc);
+    let mut output = Vec::with_capacity(alloc, ROOM)?;
     push_joined(&mut output, words)?;
     if !noline {
         output.push(b'\n')?;

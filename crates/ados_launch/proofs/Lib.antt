@@ -6,3 +6,4 @@ pub mod Inputs
 pub mod Accepts
 pub mod ReaderEnd
 pub mod Alone
+pub mod Places

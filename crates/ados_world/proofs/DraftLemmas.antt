@@ -208,27 +208,25 @@ opened-err shared (Ok opened) fault h = absurd h
 opened-err shared (Err other) fault h = ap Err (sym h)
 
 -- a command answered: its changes were moved in, and its output was put
-pub act-goes : (scene : Scene) (before mid done after : Draft) (word : List ℕ) (target : Option Target) (effect : Effect) (bytes : List ℕ) (codes : Codes)
+pub act-goes : (scene : Scene) (before mid done after : Draft) (word : List ℕ) (target : Option Target) (effect : Effect) (codes : Codes)
     → mid.number ≡ before.number → mid.shell ≡ affected effect before.shell
     → version scene.shared.now mid.shared ≡ effect.shared → mid.renamed ≡ effect.renamed
     → mid.printed.items ≡ before.printed.items → mid.reports.items ≡ before.reports.items
-    → bytes ≡ effect.output
-    → IsPut scene mid done codes (put target bytes effect.codes (course_of scene mid))
+    → IsPut scene mid done codes (put target effect.output effect.codes (course_of scene mid))
     → GoesOn scene done after (answered word codes false done.shell (course_of scene done))
     → GoesOn scene before after (acted word target (Answers effect) before.shell (course_of scene before))
-act-goes scene before mid done after word target effect bytes codes n s h k p r b d g =
+act-goes scene before mid done after word target effect codes n s h k p r d g =
     let held : ShellState = affected effect before.shell in
     let moved : Course = made effect (course_of scene before) in
     let course : course_of scene mid ≡ moved =
     ap {B = Course} (λ x. record (start_of scene) { shared = x; printed = mid.printed.items; renamed = mid.renamed }) h
     ∙ ap {B = Course} (λ x. record (start_of scene) { shared = effect.shared; printed = mid.printed.items; renamed = x }) k
     ∙ ap {B = Course} (λ x. record (start_of scene) { shared = effect.shared; printed = x; renamed = effect.renamed }) p in
-    let result = put target bytes effect.codes (course_of scene mid) in
+    let result = put target effect.output effect.codes (course_of scene mid) in
     let e : answered word codes false done.shell (course_of scene done) ≡ acted word target (Answers effect) before.shell (course_of scene before) =
     ap (λ x. answered word x false done.shell (course_of scene done)) d.codes_are
     ∙ ap (λ x. answered word result.codes false x (course_of scene done)) (d.shell ∙ s)
     ∙ ap (λ x. answered word result.codes false held x) d.course
-    ∙ ap (λ x. after_put word held (put target x effect.codes (course_of scene mid))) b
     ∙ ap (λ x. after_put word held (put target effect.output effect.codes x)) course in
     goes-same scene before done after _ _ (d.number ∙ n) (d.reports ∙ r) e g
 

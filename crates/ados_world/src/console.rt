@@ -1,9 +1,21 @@
-// The lines that an answer prints on the console.
+// What is printed on the console.
 ghost use Rattle.std.specs.Prelude.{◌≡◌, ◌++◌, OnOk};
 ghost use Rattle.std.specs.Fmt.{signed_decimal};
 ghost use Rattle.ados_machine.specs.CodeRule.{is_reached, fault_line, failure, failed_line};
 
-use ados_text::{Code, NoMemory, Result2, fault_text, push_number};
+use ados_text::{Code, NoMemory, Octets, Result2, fault_text, push_number};
+
+/// Prints what a command puts out. Where nothing was printed before it is moved, and not copied.
+pub fn push_output(out: &mut Vec<u8>, output: Octets) -> Result<(), NoMemory>
+    ensures { OnOk result (out.new.items ≡ out.old.items ++ output) }
+{
+    if out.is_empty() {
+        *out = output.into_vec();
+    } else {
+        out.extend_from_slice(output.as_bytes())?;
+    }
+    Ok(())
+}
 
 /// Prints the text of a fault under the command's word, where there is a fault.
 pub fn push_fault(out: &mut Vec<u8>, word: &[u8], fault: Result2) -> Result<(), NoMemory>

@@ -7,7 +7,7 @@ ghost use Rattle.ados_machine.specs.Shell.{answered, put, called, view_of};
 ghost use Rattle.ados_machine.specs.declared.targets.Target.TheVariants.{At};
 ghost use Rattle.ados_world.specs.declared.scenes.Scene.{Scene as Seen};
 
-use crate::console::{is_reached, push_failed, push_fault};
+use crate::console::{is_reached, push_failed, push_fault, push_output};
 use crate::frames::{Frame, Script};
 use crate::renames::directories;
 use crate::scenes::Scene;
@@ -15,7 +15,7 @@ use crate::shells::Shell;
 use ados_find::{Codes, Renamed, Shared, ShellView};
 use ados_machine::{Builtin, Called, EndReport, Target};
 use ados_ram::{Busy, FsFault, Place};
-use ados_text::{Code, NoMemory, Text};
+use ados_text::{Code, NoMemory, Octets, Text};
 use std::alloc::Global;
 
 /// What a turn of a shell changes: the shell, a new version of the shared parts where there is one, the object that it
@@ -96,19 +96,19 @@ impl Draft {
         &mut self,
         scene: &Scene,
         target: Option<&Target>,
-        output: &[u8],
+        output: Octets,
         codes: Codes,
     ) -> Result<Codes, NoMemory>
         ensures { IfOk result (λ answered. IsPut scene.now self.old self.new answered
-            (put (option_copied target.entry) output.now codes (course_of scene.now self.old))) }
+            (put (option_copied target.entry) output codes (course_of scene.now self.old))) }
     {
         match target {
             None => {
-                self.printed.extend_from_slice(output)?;
+                push_output(&mut self.printed, output)?;
                 Ok(codes)
             }
             Some(Target::Nil) => Ok(codes),
-            Some(Target::At(place)) => self.put_at(scene, place, output, codes),
+            Some(Target::At(place)) => self.put_at(scene, place, output.as_bytes(), codes),
         }
     }
 

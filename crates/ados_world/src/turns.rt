@@ -209,7 +209,7 @@ impl Draft {
         self.shell.affect(limit, directory);
         self.renew(shared);
         self.renamed = renamed;
-        let answered = self.put(scene, target, output.as_bytes(), codes)?;
+        let answered = self.put(scene, target, output, codes)?;
         self.answer(word.as_bytes(), answered, false)
     }
 }

@@ -12,9 +12,9 @@ returns c =
     let before = c.args.self.now in
     on_ok_weaker c.answer.result
     (λ g. act-goes scene before (record c.renew.new.self { renamed = c.args.outcome.renamed }) c.put.new.self c.answer.new.self c.args.word.now (option_copied c.args.target)
-    (effect_of (course_of scene before).shared c.args.outcome) c.as_bytes.result.now c.in_ok-answered.answered
+    (effect_of (course_of scene before).shared c.args.outcome) c.in_ok-answered.answered
     c.renew.ensures.number (c.renew.ensures.shell ∙ c.affect.ensures) (c.renew.ensures.shared scene.shared.now) refl c.renew.ensures.printed c.renew.ensures.reports
-    c.as_bytes.ensures c.in_ok-answered.ensures
+    c.in_ok-answered.ensures
     (answered-goes scene c.put.new.self c.answer.new.self _ _ _ _ false c.put.new.self.shell (course_of scene c.put.new.self)
-    c.as_bytes-2.ensures.value refl (g scene)))
+    c.as_bytes.ensures.value refl (g scene)))
     c.answer.ensures
