@@ -1,5 +1,5 @@
 use ados_text::{Code, NoMemory, Result2, Text};
-use ados_world::{Answer, Codes, Event, HostEntry, NewFault, Out, Refusal, World};
+use ados_world::{Answer, Codes, Event, HostEntry, NewFault, Out, Outs, Refusal, Run, World};
 use std::alloc::Global;
 use std::test::Fail;
 
@@ -251,6 +251,31 @@ fn half_copied(world: &mut World, alloc: Global) -> Result<bool, NoMemory> {
 #[test]
 fn half_copied_file(rt: HostRuntime) -> Result<(), NoMemory> {
     assert!(rt; says(rt.alloc(), half_copied)?);
+    Ok(())
+}
+
+// What a run of a fresh world answers.
+fn answers(alloc: Global, events: &[Event]) -> Result<Outs, NoMemory> {
+    match fresh_world(alloc)?.run(events) {
+        Ok(Run { world: _, outs }) => Ok(outs),
+        Err(_) => Err(NoMemory),
+    }
+}
+
+#[test]
+fn a_run_answers_each_event(rt: HostRuntime) -> Result<(), NoMemory> {
+    let events = [
+        typed(rt.alloc(), b"Echo a")?,
+        Event::Turn(1),
+        Event::Turn(9),
+    ];
+    let outs = answers(rt.alloc(), &events)?;
+    match outs.as_slice() {
+        [line, turn, other] => assert!(rt;
+            prints(line, b"") && prints(turn, b"a\n") && is_refused(other, Refusal::NoSuchShell)
+        ),
+        _ => panic!(rt; "a run answers each event once"),
+    }
     Ok(())
 }
 
