@@ -4,8 +4,8 @@ use Rattle.ados_items.specs.declared.items.Item.{Item}
 use Rattle.ados_readargs.specs.declared.options.Qualifiers.{Qualifiers}
 use Rattle.ados_readargs.specs.declared.options.TemplateOption.{TemplateOption}
 use Rattle.ados_readargs.specs.declared.readings.Reading.{Reading}
-use Rattle.ados_readargs.specs.declared.readings.Reading.TheVariants.{Named, Given, Plain}
-use Rattle.ados_readargs.specs.Readings.{is_filled, given_items, named_count, plain_items}
+use Rattle.ados_readargs.specs.declared.readings.Reading.TheVariants.{Named, Given}
+use Rattle.ados_readargs.specs.Readings.{LineReadings, is_filled, given_items, named_count}
 use Rattle.ados_readargs.specs.Shares.{middle_of, share_by}
 use Rattle.ados_readargs.specs.Args.{arg_by, arg_at}
 
@@ -17,18 +17,17 @@ neither-right : (a b : Bool) → (a || b) ≡ false → b ≡ false
 neither-right true b e = absurd cc
 neither-right false b e = e
 
-pub none_given : (place : ℕ) (readings : List Reading) → is_filled place readings ≡ false → given_items place readings ≡ []
+pub none_given : (place : ℕ) (given : List Reading) → is_filled place given ≡ false → given_items place given ≡ []
 none_given place [] e = refl
-none_given place (Named option ∷ readings) e = none_given place readings (neither-right (option == place) (is_filled place readings) e)
-none_given place (Given option item ∷ readings) e =
-    rw (neither-left (option == place) (is_filled place readings) e) (none_given place readings (neither-right (option == place) (is_filled place readings) e))
-none_given place (Plain item ∷ readings) e = none_given place readings e
+none_given place (Named option ∷ given) e = none_given place given (neither-right (option == place) (is_filled place given) e)
+none_given place (Given option item ∷ given) e =
+    rw (neither-left (option == place) (is_filled place given) e) (none_given place given (neither-right (option == place) (is_filled place given) e))
 
 -- its argument comes from its plain words alone
-pub arg-unfilled : (options : List TemplateOption) (line : List ℕ) (readings : List Reading) (plain : List Item) (place : ℕ) (q : Qualifiers) (named : ℕ) (items : List Item)
-    → plain ≡ plain_items readings → is_filled place readings ≡ false → named ≡ named_count place readings
-    → items ≡ share_by (middle_of options) options readings plain place
+pub arg-unfilled : (options : List TemplateOption) (line : List ℕ) (readings : LineReadings) (place : ℕ) (q : Qualifiers) (named : ℕ) (items : List Item)
+    → is_filled place readings.given ≡ false → named ≡ named_count place readings.given
+    → items ≡ share_by (middle_of options) options readings place
     → arg_by q named line items ≡ arg_at options line readings place q
 unfolding arg_at
-arg-unfilled options line readings plain place q named items p f n s =
-    rw (n, s, p) (ap (λ given. arg_by q (named_count place readings) line (given ++ share_by (middle_of options) options readings (plain_items readings) place)) (sym (none_given place readings f)))
+arg-unfilled options line readings place q named items f n s =
+    rw (n, s) (ap (λ given. arg_by q (named_count place readings.given) line (given ++ share_by (middle_of options) options readings place)) (sym (none_given place readings.given f)))

@@ -8,6 +8,7 @@ use Rattle.ados_items.specs.declared.items.Item.{Item}
 use Rattle.ados_readargs.specs.declared.options.Qualifiers.{Qualifiers}
 use Rattle.ados_readargs.specs.declared.options.TemplateOption.{TemplateOption}
 use Rattle.ados_readargs.specs.declared.readings.Reading.{Reading}
+use Rattle.ados_readargs.specs.Readings.{LineReadings}
 use Rattle.ados_readargs.specs.Options.{unqualified, qualifiers_of, qualifiers_at}
 use Rattle.ados_readargs.specs.Shares.{is_vacant, open_count, front_share, middle_share, back_share, share_by, shares_to}
 
@@ -16,36 +17,36 @@ no_option = record { names = []; qualifiers = unqualified }
 
 -- what an option counts
 abbrev counted : Bool → ℕ → Qualifiers → List Reading → ℕ
-counted needed place q readings = if is_vacant place q readings && (not needed || q.required) then 1 else 0
+counted needed place q given = if is_vacant place q given && (not needed || q.required) then 1 else 0
 
-count-append : (needed : Bool) (place : ℕ) (xs ys : List TemplateOption) (readings : List Reading)
-    → open_count needed place (xs ++ ys) readings ≡ open_count needed place xs readings + open_count needed (place + length xs) ys readings
-count-append needed place [] ys readings =
-    let moved : open_count needed (place + 0) ys readings ≡ open_count needed place ys readings = ap (λ p. open_count needed p ys readings) (omega arith) in
+count-append : (needed : Bool) (place : ℕ) (xs ys : List TemplateOption) (given : List Reading)
+    → open_count needed place (xs ++ ys) given ≡ open_count needed place xs given + open_count needed (place + length xs) ys given
+count-append needed place [] ys given =
+    let moved : open_count needed (place + 0) ys given ≡ open_count needed place ys given = ap (λ p. open_count needed p ys given) (omega arith) in
     omega (arith, moved)
-count-append needed place (x ∷ xs) ys readings =
-    let h = count-append needed (place + 1) xs ys readings in
-    let moved : open_count needed (place + 1 + length xs) ys readings ≡ open_count needed (place + length (x ∷ xs)) ys readings = ap (λ p. open_count needed p ys readings) (omega arith) in
+count-append needed place (x ∷ xs) ys given =
+    let h = count-append needed (place + 1) xs ys given in
+    let moved : open_count needed (place + 1 + length xs) ys given ≡ open_count needed (place + length (x ∷ xs)) ys given = ap (λ p. open_count needed p ys given) (omega arith) in
     omega (arith, h, moved)
 
 qualifiers-at : (options : List TemplateOption) (n : ℕ) → n < length options → qualifiers_at options n ≡ (get_or options n no_option).qualifiers
 qualifiers-at options n h = ap qualifiers_of (slice_get-get_or options n no_option h)
 
-front-more : (options : List TemplateOption) (readings : List Reading) (n : ℕ) → n < length options
-    → open_count false 0 (take (n + 1) options) readings ≡ open_count false 0 (take n options) readings + counted false n (qualifiers_at options n) readings
-front-more options readings n h =
-    let e1 : open_count false 0 (take (n + 1) options) readings ≡ open_count false 0 (take n options ++ get_or options n no_option ∷ []) readings = ap (λ os. open_count false 0 os readings) (take_more options n no_option h) in
-    let e2 = count-append false 0 (take n options) (get_or options n no_option ∷ []) readings in
+front-more : (options : List TemplateOption) (given : List Reading) (n : ℕ) → n < length options
+    → open_count false 0 (take (n + 1) options) given ≡ open_count false 0 (take n options) given + counted false n (qualifiers_at options n) given
+front-more options given n h =
+    let e1 : open_count false 0 (take (n + 1) options) given ≡ open_count false 0 (take n options ++ get_or options n no_option ∷ []) given = ap (λ os. open_count false 0 os given) (take_more options n no_option h) in
+    let e2 = count-append false 0 (take n options) (get_or options n no_option ∷ []) given in
     let long : length (take n options) ≡ n = length-take-le n options (omega arith) in
-    let e3 : open_count false (0 + length (take n options)) (get_or options n no_option ∷ []) readings ≡ open_count false n (get_or options n no_option ∷ []) readings = ap (λ p. open_count false p (get_or options n no_option ∷ []) readings) (omega (arith, long)) in
-    let e4 : counted false n (get_or options n no_option).qualifiers readings ≡ counted false n (qualifiers_at options n) readings = ap (λ q. counted false n q readings) (sym (qualifiers-at options n h)) in
+    let e3 : open_count false (0 + length (take n options)) (get_or options n no_option ∷ []) given ≡ open_count false n (get_or options n no_option ∷ []) given = ap (λ p. open_count false p (get_or options n no_option ∷ []) given) (omega (arith, long)) in
+    let e4 : counted false n (get_or options n no_option).qualifiers given ≡ counted false n (qualifiers_at options n) given = ap (λ q. counted false n q given) (sym (qualifiers-at options n h)) in
     omega (arith, e1, e2, e3, e4)
 
-back-less : (options : List TemplateOption) (readings : List Reading) (n : ℕ) → n < length options
-    → open_count true n (drop n options) readings ≡ counted true n (qualifiers_at options n) readings + open_count true (n + 1) (drop (n + 1) options) readings
-back-less options readings n h =
-    let e1 : open_count true n (drop n options) readings ≡ open_count true n (get_or options n no_option ∷ drop (n + 1) options) readings = ap (λ os. open_count true n os readings) (drop_more options n no_option h) in
-    let e4 : counted true n (get_or options n no_option).qualifiers readings ≡ counted true n (qualifiers_at options n) readings = ap (λ q. counted true n q readings) (sym (qualifiers-at options n h)) in
+back-less : (options : List TemplateOption) (given : List Reading) (n : ℕ) → n < length options
+    → open_count true n (drop n options) given ≡ counted true n (qualifiers_at options n) given + open_count true (n + 1) (drop (n + 1) options) given
+back-less options given n h =
+    let e1 : open_count true n (drop n options) given ≡ open_count true n (get_or options n no_option ∷ drop (n + 1) options) given = ap (λ os. open_count true n os given) (drop_more options n no_option h) in
+    let e4 : counted true n (get_or options n no_option).qualifiers given ≡ counted true n (qualifiers_at options n) given = ap (λ q. counted true n q given) (sym (qualifiers-at options n h)) in
     omega (arith, e1, e4)
 
 -- one more word, where there is one
@@ -58,46 +59,46 @@ front-counted : (v r : Bool) (a b : ℕ) → a ≡ b + (if v && (not false || r)
 front-counted true r a b e = e
 front-counted false r a b e = e
 
-front-step : (options : List TemplateOption) (readings : List Reading) (plain : List Item) (n : ℕ) → n < length options
-    → take (open_count false 0 (take n options) readings) plain ++ front_share options readings plain n ≡ take (open_count false 0 (take (n + 1) options) readings) plain
-front-step options readings plain n h =
-    let vacant = is_vacant n (qualifiers_at options n) readings in
-    one-more vacant (open_count false 0 (take n options) readings) _ plain
-    (front-counted vacant (qualifiers_at options n).required _ _ (front-more options readings n h))
+front-step : (options : List TemplateOption) (readings : LineReadings) (n : ℕ) → n < length options
+    → take (open_count false 0 (take n options) readings.given) readings.plain ++ front_share options readings n ≡ take (open_count false 0 (take (n + 1) options) readings.given) readings.plain
+front-step options readings n h =
+    let vacant = is_vacant n (qualifiers_at options n) readings.given in
+    one-more vacant (open_count false 0 (take n options) readings.given) _ readings.plain
+    (front-counted vacant (qualifiers_at options n).required _ _ (front-more options readings.given n h))
 
 -- the first options take the first words
-to-front-none : (options : List TemplateOption) (readings : List Reading) (plain : List Item) (n : ℕ) → n ≤ length options
-    → shares_to None n options readings plain ≡ take (open_count false 0 (take n options) readings) plain
-to-front-none options readings plain zero h = refl
-to-front-none options readings plain (suc n) h =
+to-front-none : (options : List TemplateOption) (readings : LineReadings) (n : ℕ) → n ≤ length options
+    → shares_to None n options readings ≡ take (open_count false 0 (take n options) readings.given) readings.plain
+to-front-none options readings zero h = refl
+to-front-none options readings (suc n) h =
     let e : n + 1 ≡ suc n = omega arith in
-    ap (λ s. s ++ front_share options readings plain n) (to-front-none options readings plain n (omega arith))
-    ∙ front-step options readings plain n (omega arith) ∙ ap (λ i. take (open_count false 0 (take i options) readings) plain) e
+    ap (λ s. s ++ front_share options readings n) (to-front-none options readings n (omega arith))
+    ∙ front-step options readings n (omega arith) ∙ ap (λ i. take (open_count false 0 (take i options) readings.given) readings.plain) e
 
-share-front : (m n : ℕ) (options : List TemplateOption) (readings : List Reading) (plain : List Item) → n < m
-    → share_by (Some m) options readings plain n ≡ front_share options readings plain n
-share-front m n options readings plain h = grind (arith, nat_tests, h)
+share-front : (m n : ℕ) (options : List TemplateOption) (readings : LineReadings) → n < m
+    → share_by (Some m) options readings n ≡ front_share options readings n
+share-front m n options readings h = grind (arith, nat_tests, h)
 
-share-middle : (m : ℕ) (options : List TemplateOption) (readings : List Reading) (plain : List Item)
-    → share_by (Some m) options readings plain m ≡ middle_share options readings plain m
-share-middle m options readings plain = grind (arith, nat_tests)
+share-middle : (m : ℕ) (options : List TemplateOption) (readings : LineReadings)
+    → share_by (Some m) options readings m ≡ middle_share options readings m
+share-middle m options readings = grind (arith, nat_tests)
 
-share-back : (m n : ℕ) (options : List TemplateOption) (readings : List Reading) (plain : List Item) → m < n
-    → share_by (Some m) options readings plain n ≡ back_share options readings plain m n
-share-back m n options readings plain h = grind (arith, nat_tests, h)
+share-back : (m n : ℕ) (options : List TemplateOption) (readings : LineReadings) → m < n
+    → share_by (Some m) options readings n ≡ back_share options readings m n
+share-back m n options readings h = grind (arith, nat_tests, h)
 
-to-front-some : (m : ℕ) (options : List TemplateOption) (readings : List Reading) (plain : List Item) (n : ℕ) → m < length options → n ≤ m
-    → shares_to (Some m) n options readings plain ≡ take (open_count false 0 (take n options) readings) plain
-to-front-some m options readings plain zero w h = refl
-to-front-some m options readings plain (suc n) w h =
+to-front-some : (m : ℕ) (options : List TemplateOption) (readings : LineReadings) (n : ℕ) → m < length options → n ≤ m
+    → shares_to (Some m) n options readings ≡ take (open_count false 0 (take n options) readings.given) readings.plain
+to-front-some m options readings zero w h = refl
+to-front-some m options readings (suc n) w h =
     let e : n + 1 ≡ suc n = omega arith in
-    ap (λ s. s ++ share_by (Some m) options readings plain n) (to-front-some m options readings plain n w (omega arith))
-    ∙ ap (λ s. take (open_count false 0 (take n options) readings) plain ++ s) (share-front m n options readings plain (omega arith))
-    ∙ front-step options readings plain n (omega arith) ∙ ap (λ i. take (open_count false 0 (take i options) readings) plain) e
+    ap (λ s. s ++ share_by (Some m) options readings n) (to-front-some m options readings n w (omega arith))
+    ∙ ap (λ s. take (open_count false 0 (take n options) readings.given) readings.plain ++ s) (share-front m n options readings (omega arith))
+    ∙ front-step options readings n (omega arith) ∙ ap (λ i. take (open_count false 0 (take i options) readings.given) readings.plain) e
 
-shares-more : (mo : Option ℕ) (options : List TemplateOption) (readings : List Reading) (plain : List Item) (n k : ℕ) → n ≡ suc k
-    → shares_to mo n options readings plain ≡ shares_to mo k options readings plain ++ share_by mo options readings plain k
-shares-more mo options readings plain n k e = ap (λ i. shares_to mo i options readings plain) e
+shares-more : (mo : Option ℕ) (options : List TemplateOption) (readings : LineReadings) (n k : ℕ) → n ≡ suc k
+    → shares_to mo n options readings ≡ shares_to mo k options readings ++ share_by mo options readings k
+shares-more mo options readings n k e = ap (λ i. shares_to mo i options readings) e
 
 back-last : (b : Bool) (front behind count : ℕ) (plain : List Item) → nat_lt behind (length plain - front) ≡ b → count ≡ 1 + behind
     → take (front + (length plain - front - count)) plain ++ (if b then take 1 (drop (length plain - 1 - behind) plain) else [])
@@ -126,41 +127,41 @@ back-words true false front behind count plain e =
 back-words true true front behind count plain e = back-last (nat_lt behind (length plain - front)) front behind count plain refl e
 
 -- behind the /M, all words are taken but those of the options still to come
-abbrev kept : ℕ → ℕ → List TemplateOption → List Reading → List Item → List Item
-kept m n options readings plain =
-    let front = open_count false 0 (take m options) readings in
-    take (front + (length plain - front - open_count true n (drop n options) readings)) plain
+abbrev kept : ℕ → ℕ → List TemplateOption → LineReadings → List Item
+kept m n options readings =
+    let front = open_count false 0 (take m options) readings.given in
+    take (front + (length readings.plain - front - open_count true n (drop n options) readings.given)) readings.plain
 
-to-back : (m : ℕ) (options : List TemplateOption) (readings : List Reading) (plain : List Item) (j n : ℕ) → m < length options
-    → n ≡ m + 1 + j → n ≤ length options → shares_to (Some m) n options readings plain ≡ kept m n options readings plain
-to-back m options readings plain zero n w e h =
-    let front = open_count false 0 (take m options) readings in
+to-back : (m : ℕ) (options : List TemplateOption) (readings : LineReadings) (j n : ℕ) → m < length options
+    → n ≡ m + 1 + j → n ≤ length options → shares_to (Some m) n options readings ≡ kept m n options readings
+to-back m options readings zero n w e h =
+    let front = open_count false 0 (take m options) readings.given in
     let e1 : m + 1 ≡ n = omega arith in
-    shares-more (Some m) options readings plain n m (omega arith)
-    ∙ ap (λ s. s ++ share_by (Some m) options readings plain m) (to-front-some m options readings plain m w (omega arith))
-    ∙ ap (λ s. take front plain ++ s) (share-middle m options readings plain)
-    ∙ sym (take-add front (length plain - front - open_count true (m + 1) (drop (m + 1) options) readings) plain)
-    ∙ ap (λ i. kept m i options readings plain) e1
-to-back m options readings plain (suc j) n w e h =
+    shares-more (Some m) options readings n m (omega arith)
+    ∙ ap (λ s. s ++ share_by (Some m) options readings m) (to-front-some m options readings m w (omega arith))
+    ∙ ap (λ s. take front readings.plain ++ s) (share-middle m options readings)
+    ∙ sym (take-add front (length readings.plain - front - open_count true (m + 1) (drop (m + 1) options) readings.given) readings.plain)
+    ∙ ap (λ i. kept m i options readings) e1
+to-back m options readings (suc j) n w e h =
     let k = m + 1 + j in
     let e1 : k + 1 ≡ n = omega arith in
-    shares-more (Some m) options readings plain n k (omega arith)
-    ∙ ap (λ s. s ++ share_by (Some m) options readings plain k) (to-back m options readings plain j k w refl (omega arith))
-    ∙ ap (λ s. kept m k options readings plain ++ s) (share-back m k options readings plain (omega arith))
-    ∙ back-words (is_vacant k (qualifiers_at options k) readings) (qualifiers_at options k).required (open_count false 0 (take m options) readings)
-    (open_count true (k + 1) (drop (k + 1) options) readings) (open_count true k (drop k options) readings) plain (back-less options readings k (omega arith))
-    ∙ ap (λ i. kept m i options readings plain) e1
+    shares-more (Some m) options readings n k (omega arith)
+    ∙ ap (λ s. s ++ share_by (Some m) options readings k) (to-back m options readings j k w refl (omega arith))
+    ∙ ap (λ s. kept m k options readings ++ s) (share-back m k options readings (omega arith))
+    ∙ back-words (is_vacant k (qualifiers_at options k) readings.given) (qualifiers_at options k).required (open_count false 0 (take m options) readings.given)
+    (open_count true (k + 1) (drop (k + 1) options) readings.given) (open_count true k (drop k options) readings.given) readings.plain (back-less options readings.given k (omega arith))
+    ∙ ap (λ i. kept m i options readings) e1
 
-pub takes_all-none : (options : List TemplateOption) (readings : List Reading) (plain : List Item)
-    → nat_lt (open_count false 0 options readings) (length plain) ≡ false → shares_to None (length options) options readings plain ≡ plain
-takes_all-none options readings plain t =
-    let few : length plain ≤ open_count false 0 options readings = grind (arith, nat_tests, t) in
-    to-front-none options readings plain (length options) (omega arith)
-    ∙ ap (λ os. take (open_count false 0 os readings) plain) (take_all (length options) options (omega arith)) ∙ take_all _ plain few
+pub takes_all-none : (options : List TemplateOption) (readings : LineReadings)
+    → nat_lt (open_count false 0 options readings.given) (length readings.plain) ≡ false → shares_to None (length options) options readings ≡ readings.plain
+takes_all-none options readings t =
+    let few : length readings.plain ≤ open_count false 0 options readings.given = grind (arith, nat_tests, t) in
+    to-front-none options readings (length options) (omega arith)
+    ∙ ap (λ os. take (open_count false 0 os readings.given) readings.plain) (take_all (length options) options (omega arith)) ∙ take_all _ readings.plain few
 
-pub takes_all-some : (m : ℕ) (options : List TemplateOption) (readings : List Reading) (plain : List Item) → m < length options
-    → shares_to (Some m) (length options) options readings plain ≡ plain
-takes_all-some m options readings plain w =
-    let none : open_count true (length options) (drop (length options) options) readings ≡ 0 = ap (λ os. open_count true (length options) os readings) (drop_all (length options) options (omega arith)) in
-    to-back m options readings plain (length options - m - 1) (length options) w (omega arith) (omega arith)
-    ∙ take_all _ plain (omega (arith, none))
+pub takes_all-some : (m : ℕ) (options : List TemplateOption) (readings : LineReadings) → m < length options
+    → shares_to (Some m) (length options) options readings ≡ readings.plain
+takes_all-some m options readings w =
+    let none : open_count true (length options) (drop (length options) options) readings.given ≡ 0 = ap (λ os. open_count true (length options) os readings.given) (drop_all (length options) options (omega arith)) in
+    to-back m options readings (length options - m - 1) (length options) w (omega arith) (omega arith)
+    ∙ take_all _ readings.plain (omega (arith, none))

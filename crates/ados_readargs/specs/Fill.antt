@@ -3,10 +3,9 @@ use Rattle.ados_readargs.specs.declared.errors.ArgFault.{ArgFault}
 use Rattle.ados_readargs.specs.declared.errors.ArgFault.TheVariants as fault
 use Rattle.ados_readargs.specs.declared.options.TemplateOption.{TemplateOption}
 use Rattle.ados_readargs.specs.declared.args.Arg.{Arg}
-use Rattle.ados_readargs.specs.declared.readings.Reading.{Reading}
 use Rattle.ados_readargs.specs.Words.{line_words_of}
 use Rattle.ados_readargs.specs.Meanings.{read_of}
-use Rattle.ados_readargs.specs.Readings.{plain_items}
+use Rattle.ados_readargs.specs.Readings.{LineReadings}
 use Rattle.ados_readargs.specs.Shares.{is_left, TakesAll}
 use Rattle.ados_readargs.specs.Args.{args_of}
 use Rattle.ados_readargs.specs.Checks.{lacks, has_bad}
@@ -20,9 +19,9 @@ checked_args options left args =
     (if has_bad options args then Err fault.BadNumber else Ok args))
 
 -- the arguments by what the words of the line say
-abbrev pub args_read : List TemplateOption → List ℕ → Result (List Reading) ArgFault → Result (List Arg) ArgFault
+abbrev pub args_read : List TemplateOption → List ℕ → Result LineReadings ArgFault → Result (List Arg) ArgFault
 args_read options line (Err fault) = Err fault
-args_read options line (Ok readings) = checked_args options (is_left options readings (plain_items readings)) (args_of options line readings)
+args_read options line (Ok readings) = checked_args options (is_left options readings) (args_of options line readings)
 
 -- the arguments that a line gives to options
 abbrev pub args_for : List TemplateOption → List ℕ → Result (List Arg) ArgFault
@@ -39,4 +38,4 @@ fill_of template line = fill_by line (template_of template)
 
 -- each plain word of the line is taken by one option, in the order of the line
 abbrev pub LosesNoWord : List TemplateOption → List ℕ → Type 0
-LosesNoWord options line = IfOk (read_of options line (line_words_of line)) (λ readings. TakesAll options readings (plain_items readings))
+LosesNoWord options line = IfOk (read_of options line (line_words_of line)) (λ readings. TakesAll options readings)

@@ -10,14 +10,14 @@ use Rattle.ados_readargs.specs.declared.options.TemplateOption.{TemplateOption}
 use Rattle.ados_readargs.specs.declared.words.LineWord.{LineWord}
 use Rattle.ados_readargs.specs.declared.words.LineWord.TheVariants as word
 use Rattle.ados_readargs.specs.declared.readings.Reading.{Reading}
-use Rattle.ados_readargs.specs.declared.readings.Reading.TheVariants.{Named, Given, Plain}
+use Rattle.ados_readargs.specs.declared.readings.Reading.TheVariants.{Named, Given}
 use Rattle.ados_readargs.specs.declared.meanings.Pending.{Pending}
 use Rattle.ados_readargs.specs.declared.meanings.Pending.TheVariants.{Free, Value}
 use Rattle.ados_readargs.specs.declared.meanings.Meaning.{Meaning}
-use Rattle.ados_readargs.specs.declared.meanings.Meaning.TheVariants.{Read, Wait, Stop, Refuse}
+use Rattle.ados_readargs.specs.declared.meanings.Meaning.TheVariants.{Read, Plain, Wait, Stop, Refuse}
 use Rattle.ados_readargs.specs.Options.{has_name, is_rest, takes_value, qualifiers_at}
 use Rattle.ados_readargs.specs.Words.{item_of, start_of, is_open_quote, is_equal}
-use Rattle.ados_readargs.specs.Readings.{is_filled, first_open}
+use Rattle.ados_readargs.specs.Readings.{LineReadings, nothing_read, is_filled, first_open}
 
 -- a run whose first Word is the name, and which ends there or not, is a keyword of the option
 abbrev pub is_keyword : List ℕ → Bool → TemplateOption → Bool
@@ -61,14 +61,14 @@ keyword_meaning q filled place word =
 
 -- a plain word: in a template with /F it fills the first open plain option
 abbrev pub plain_meaning : Bool → Option ℕ → LineWord → Meaning
-plain_meaning false vacant word = Read (Plain (item_of word))
-plain_meaning true None word = Read (Plain (item_of word))
+plain_meaning false vacant word = Plain (item_of word)
+plain_meaning true None word = Plain (item_of word)
 plain_meaning true (Some place) word = Read (Given place (item_of word))
 
 -- what a word says for which no keyword waits
 abbrev pub word_meaning : List TemplateOption → List Reading → Option ℕ → LineWord → Option ℕ → Meaning
-word_meaning options readings vacant word None = plain_meaning (list_any is_rest options) vacant word
-word_meaning options readings vacant word (Some place) = keyword_meaning (qualifiers_at options place) (is_filled place readings) place word
+word_meaning options given vacant word None = plain_meaning (list_any is_rest options) vacant word
+word_meaning options given vacant word (Some place) = keyword_meaning (qualifiers_at options place) (is_filled place given) place word
 
 -- what the word says behind a keyword of the option at a place; `equal` says that an `=` alone may stand before its value
 abbrev pub value_meaning : Bool → ℕ → Bool → LineWord → Meaning
@@ -78,8 +78,8 @@ value_meaning full place equal word =
 
 -- what a word says that is not the rest of the line
 abbrev pub next_meaning : List TemplateOption → List ℕ → List Reading → LineWord → Option ℕ → Meaning
-next_meaning options line readings word vacant =
-    if is_open_quote word then Refuse fault.Unmatched else word_meaning options readings vacant word (keyword_of options line word)
+next_meaning options line given word vacant =
+    if is_open_quote word then Refuse fault.Unmatched else word_meaning options given vacant word (keyword_of options line word)
 
 -- the text from a word to the line's end, without the blanks there
 abbrev pub rest_of : List ℕ → LineWord → Item
@@ -87,32 +87,33 @@ rest_of line word = item.Word (start_of word) (trimmed_from 0 0 line)
 
 -- what a word says, by the first open plain option: where that is /F, no other is open
 abbrev pub free_meaning : List TemplateOption → List ℕ → List Reading → LineWord → Option ℕ → Meaning
-free_meaning options line readings word None = next_meaning options line readings word None
-free_meaning options line readings word (Some place) =
-    if (qualifiers_at options place).rest then Stop (Given place (rest_of line word)) else next_meaning options line readings word (Some place)
+free_meaning options line given word None = next_meaning options line given word None
+free_meaning options line given word (Some place) =
+    if (qualifiers_at options place).rest then Stop (Given place (rest_of line word)) else next_meaning options line given word (Some place)
 
--- what a word says behind the readings so far
+-- what a word says behind what is given so far
 abbrev pub meaning_of : List TemplateOption → List ℕ → List Reading → Pending → LineWord → Meaning
-meaning_of options line readings Free word = free_meaning options line readings word (first_open options readings)
-meaning_of options line readings (Value place equal) word = value_meaning (is_full (qualifiers_at options place) (is_filled place readings)) place equal word
+meaning_of options line given Free word = free_meaning options line given word (first_open options given)
+meaning_of options line given (Value place equal) word = value_meaning (is_full (qualifiers_at options place) (is_filled place given)) place equal word
 
 -- the readings where no word is left
-abbrev pub read_end : List Reading → Pending → Result (List Reading) ArgFault
+abbrev pub read_end : LineReadings → Pending → Result LineReadings ArgFault
 read_end readings Free = Ok readings
 read_end readings (Value place equal) = Err fault.ValueMissing
 
 -- the readings by what a word says, where `next` goes on
-abbrev pub read_behind : (List Reading → Pending → Result (List Reading) ArgFault) → List Reading → Meaning → Result (List Reading) ArgFault
-read_behind next readings (Read reading) = next (readings ++ reading ∷ []) Free
+abbrev pub read_behind : (LineReadings → Pending → Result LineReadings ArgFault) → LineReadings → Meaning → Result LineReadings ArgFault
+read_behind next readings (Read reading) = next (record readings { given = readings.given ++ reading ∷ [] }) Free
+read_behind next readings (Plain item) = next (record readings { plain = readings.plain ++ item ∷ [] }) Free
 read_behind next readings (Wait place equal) = next readings (Value place equal)
-read_behind next readings (Stop reading) = Ok (readings ++ reading ∷ [])
+read_behind next readings (Stop reading) = Ok (record readings { given = readings.given ++ reading ∷ [] })
 read_behind next readings (Refuse fault) = Err fault
 
 -- the readings of the words, behind the readings so far
-abbrev pub read_from : List TemplateOption → List ℕ → List Reading → Pending → List LineWord → Result (List Reading) ArgFault
+abbrev pub read_from : List TemplateOption → List ℕ → LineReadings → Pending → List LineWord → Result LineReadings ArgFault
 read_from options line readings pending [] = read_end readings pending
 read_from options line readings pending (word ∷ words) =
-    read_behind (λ more next. read_from options line more next words) readings (meaning_of options line readings pending word)
+    read_behind (λ more next. read_from options line more next words) readings (meaning_of options line readings.given pending word)
 
 -- where a quote is not closed, that comes before a word too many
 abbrev pub quotes_first : Bool → ArgFault → ArgFault
@@ -125,10 +126,10 @@ quotes_first unclosed fault.Unmatched = fault.Unmatched
 quotes_first unclosed fault.NoMemory = fault.NoMemory
 
 -- the readings, or their fault
-abbrev pub with_quotes : Bool → Result (List Reading) ArgFault → Result (List Reading) ArgFault
+abbrev pub with_quotes : Bool → Result LineReadings ArgFault → Result LineReadings ArgFault
 with_quotes unclosed (Ok readings) = Ok readings
 with_quotes unclosed (Err fault) = Err (quotes_first unclosed fault)
 
 -- what the words of a line say
-abbrev pub read_of : List TemplateOption → List ℕ → List LineWord → Result (List Reading) ArgFault
-read_of options line words = with_quotes (list_any is_open_quote words) (read_from options line [] Free words)
+abbrev pub read_of : List TemplateOption → List ℕ → List LineWord → Result LineReadings ArgFault
+read_of options line words = with_quotes (list_any is_open_quote words) (read_from options line nothing_read Free words)

@@ -3,11 +3,10 @@ ghost use Rattle.std.specs.Option.{option_copied, SomeIff};
 ghost use Rattle.ados_text.specs.Number.{IsNumber, value_of as number_value_of};
 ghost use Rattle.ados_items.specs.Items.{value_of};
 ghost use Rattle.ados_readargs.specs.Template.{options_of};
-ghost use Rattle.ados_readargs.specs.Readings.{plain_items};
 ghost use Rattle.ados_readargs.specs.Args.{on_where, many_of, one_of, arg_by, arg_at, args_of, texts_in, arg_named, is_on, text_at, texts_at, number_at};
 
 use crate::options::{Qualifiers, TemplateOption};
-use crate::readings::{Reading, is_filled, named_count};
+use crate::readings::{WordsRead, is_filled, named_count};
 use crate::shares::{held_items, share};
 use crate::template::Template;
 use ados_items::{Item, value};
@@ -202,22 +201,21 @@ fn arg_at(
     alloc: Global,
     options: &[TemplateOption],
     line: &[u8],
-    readings: &[Reading],
-    plain: &[Item],
+    readings: &WordsRead,
     place: usize,
     q: Qualifiers,
 ) -> Result<Arg, NoMemory>
-    requires place { place < length options.now }
-    requires plain { plain.now ≡ plain_items readings.now }
+    requires { place < length options.now }
     ensures { IfOk result (λ arg. arg ≡ arg_at options.now line.now readings.now place q) }
 {
-    let named = named_count(readings, place);
-    if is_filled(readings, place) {
-        let items = held_items(alloc, options, readings, plain, place)?;
+    let given = readings.given.as_slice();
+    let named = named_count(given, place);
+    if is_filled(given, place) {
+        let items = held_items(alloc, options, readings, place)?;
         arg_by(alloc, q, named, line, items.as_slice())
     } else {
         // it holds no more than its plain words, which are copied into no vector
-        let items = share(options, readings, plain, place);
+        let items = share(options, readings, place);
         arg_by(alloc, q, named, line, items)
     }
 }
@@ -227,17 +225,15 @@ pub fn args_of(
     alloc: Global,
     options: &[TemplateOption],
     line: &[u8],
-    readings: &[Reading],
-    plain: &[Item],
+    readings: &WordsRead,
 ) -> Result<Vec<Arg>, NoMemory>
-    requires { plain.now ≡ plain_items readings.now }
     ensures args { IfOk result (λ args. args.items ≡ args_of options.now line.now readings.now) }
     ensures len { IfOk result (λ args. length args.items ≡ length options.now) }
 {
     let mut args = Vec::with_capacity(alloc, options.len())?;
     for place in 0..options.len() {
         let q = options[place].qualifiers;
-        args.push(arg_at(alloc, options, line, readings, plain, place, q)?)?;
+        args.push(arg_at(alloc, options, line, readings, place, q)?)?;
     }
     Ok(args)
 }

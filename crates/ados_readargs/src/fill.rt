@@ -2,7 +2,6 @@ ghost use Rattle.std.specs.Prelude.{◌≡◌, Ok, false, IfOk, IfErr};
 ghost use Rattle.ados_readargs.specs.Checks.{has_bad};
 ghost use Rattle.ados_readargs.specs.Faults.{IsFaultOf};
 ghost use Rattle.ados_readargs.specs.Fill.{args_for, args_read, LosesNoWord};
-ghost use Rattle.ados_readargs.specs.Readings.{plain_items};
 ghost use Rattle.ados_readargs.specs.Shares.{TakesAll};
 
 use crate::args::{Args, args_of};
@@ -10,7 +9,7 @@ use crate::checks::{has_bad, lacks};
 use crate::errors::ArgFault;
 use crate::meanings::read;
 use crate::options::TemplateOption;
-use crate::readings::{Reading, plain_items};
+use crate::readings::WordsRead;
 use crate::shares::is_left;
 use std::alloc::Global;
 
@@ -19,16 +18,15 @@ fn args_read(
     alloc: Global,
     options: &[TemplateOption],
     line: &[u8],
-    readings: &[Reading],
+    readings: &WordsRead,
 ) -> Result<Args, ArgFault>
     ensures ok { IfOk result (λ args. args_read options.now line.now (Ok readings.now) ≡ Ok args) }
     ensures numbers { IfOk result (λ args. has_bad options.now args ≡ false) }
-    ensures taken { IfOk result (λ _. TakesAll options.now readings.now (plain_items readings.now)) }
+    ensures taken { IfOk result (λ _. TakesAll options.now readings.now) }
     ensures fault { IfErr result (λ e. IsFaultOf (args_read options.now line.now (Ok readings.now)) e) }
 {
-    let plain = plain_items(alloc, readings)?;
-    let args = args_of(alloc, options, line, readings, plain.as_slice())?;
-    if is_left(options, readings, plain.as_slice()) {
+    let args = args_of(alloc, options, line, readings)?;
+    if is_left(options, readings) {
         return Err(ArgFault::TooMany);
     }
     if lacks(options, args.as_slice()) {
@@ -52,5 +50,5 @@ pub fn fill_options(
     ensures fault { IfErr result (λ e. IsFaultOf (args_for options.now line.now) e) }
 {
     let readings = read(alloc, options, line)?;
-    args_read(alloc, options, line, readings.as_slice())
+    args_read(alloc, options, line, &readings)
 }

@@ -1,14 +1,15 @@
-ghost use Rattle.std.specs.Prelude.{◌≡◌, Ok, [], IfOk, IfErr, position};
+ghost use Rattle.std.specs.Prelude.{◌≡◌, Ok, IfOk, IfErr, position};
 ghost use Rattle.std.specs.List.{list_any};
 ghost use Rattle.ados_items.specs.Items.{bytes_between};
 ghost use Rattle.ados_readargs.specs.Faults.{IsFaultOf};
 ghost use Rattle.ados_readargs.specs.Words.{line_words_of};
 ghost use Rattle.ados_readargs.specs.Meanings.{is_keyword, keyword_of, trimmed_from, is_full, given_meaning, value_behind, switch_meaning, keyword_meaning, plain_meaning, word_meaning, value_meaning, next_meaning, rest_of, free_meaning, meaning_of, read_end, read_from, read_of, quotes_first};
+ghost use Rattle.ados_readargs.specs.Readings.{nothing_read};
 ghost use Rattle.ados_readargs.specs.declared.meanings.Pending.TheVariants.{Free};
 
 use crate::errors::ArgFault;
 use crate::options::{Qualifiers, TemplateOption, has_rest, qualifiers_at};
-use crate::readings::{Reading, first_open, is_filled};
+use crate::readings::{Reading, WordsRead, first_open, is_filled};
 use crate::words::{LineWord, is_unclosed, word_at};
 use ados_items::Item;
 use std::alloc::Global;
@@ -27,6 +28,8 @@ pub enum Pending {
 pub enum Meaning {
     /// It is read so.
     Read(Reading),
+    /// It is a plain word, the text of an item.
+    Plain(Item),
     /// The option at a place waits for its value; an `=` alone may stand before that.
     Wait { option: usize, equal: bool },
     /// It and what follows are read so, to the end of the line.
@@ -156,28 +159,28 @@ fn plain_meaning(with_rest: bool, vacant: Option<usize>, word: LineWord) -> Mean
     ensures { result ≡ plain_meaning with_rest vacant word }
 {
     if !with_rest {
-        return Meaning::Read(Reading::Plain(word.item()));
+        return Meaning::Plain(word.item());
     }
     match vacant {
-        None => Meaning::Read(Reading::Plain(word.item())),
+        None => Meaning::Plain(word.item()),
         Some(place) => Meaning::Read(Reading::Given(place, word.item())),
     }
 }
 
 fn word_meaning(
     options: &[TemplateOption],
-    readings: &[Reading],
+    given: &[Reading],
     vacant: Option<usize>,
     word: LineWord,
     keyword: Option<usize>,
 ) -> Meaning
-    ensures { result ≡ word_meaning options.now readings.now vacant word keyword }
+    ensures { result ≡ word_meaning options.now given.now vacant word keyword }
 {
     match keyword {
         None => plain_meaning(has_rest(options), vacant, word),
         Some(place) => keyword_meaning(
             qualifiers_at(options, place),
-            is_filled(readings, place),
+            is_filled(given, place),
             place,
             word,
         ),
@@ -202,18 +205,18 @@ fn value_meaning(full: bool, place: usize, equal: bool, word: LineWord) -> Meani
 fn next_meaning(
     options: &[TemplateOption],
     line: &[u8],
-    readings: &[Reading],
+    given: &[Reading],
     word: LineWord,
     vacant: Option<usize>,
 ) -> Meaning
-    ensures { result ≡ next_meaning options.now line.now readings.now word vacant }
+    ensures { result ≡ next_meaning options.now line.now given.now word vacant }
 {
     if word.is_open_quote() {
         return Meaning::Refuse(ArgFault::Unmatched);
     }
     word_meaning(
         options,
-        readings,
+        given,
         vacant,
         word,
         keyword_of(options, line, word),
@@ -233,19 +236,19 @@ fn rest_of(line: &[u8], word: LineWord) -> Item
 fn free_meaning(
     options: &[TemplateOption],
     line: &[u8],
-    readings: &[Reading],
+    given: &[Reading],
     word: LineWord,
     vacant: Option<usize>,
 ) -> Meaning
-    ensures { result ≡ free_meaning options.now line.now readings.now word vacant }
+    ensures { result ≡ free_meaning options.now line.now given.now word vacant }
 {
     match vacant {
-        None => next_meaning(options, line, readings, word, None),
+        None => next_meaning(options, line, given, word, None),
         Some(place) => {
             if qualifiers_at(options, place).rest {
                 Meaning::Stop(Reading::Given(place, rest_of(line, word)))
             } else {
-                next_meaning(options, line, readings, word, Some(place))
+                next_meaning(options, line, given, word, Some(place))
             }
         }
     }
@@ -254,25 +257,25 @@ fn free_meaning(
 fn meaning_of(
     options: &[TemplateOption],
     line: &[u8],
-    readings: &[Reading],
+    given: &[Reading],
     pending: Pending,
     word: LineWord,
 ) -> Meaning
-    ensures { result ≡ meaning_of options.now line.now readings.now pending word }
+    ensures { result ≡ meaning_of options.now line.now given.now pending word }
 {
     match pending {
-        Pending::Free => free_meaning(options, line, readings, word, first_open(options, readings)),
+        Pending::Free => free_meaning(options, line, given, word, first_open(options, given)),
         Pending::Value { option, equal } => {
-            let full = is_full(qualifiers_at(options, option), is_filled(readings, option));
+            let full = is_full(qualifiers_at(options, option), is_filled(given, option));
             value_meaning(full, option, equal, word)
         }
     }
 }
 
 // The readings where no word is left.
-fn read_end(readings: Vec<Reading>, pending: Pending) -> Result<Vec<Reading>, ArgFault>
-    ensures ok { IfOk result (λ left. read_end readings.items pending ≡ Ok left.items) }
-    ensures fault { IfErr result (λ e. IsFaultOf (read_end readings.items pending) e) }
+fn read_end(readings: WordsRead, pending: Pending) -> Result<WordsRead, ArgFault>
+    ensures ok { IfOk result (λ left. read_end readings pending ≡ Ok left) }
+    ensures fault { IfErr result (λ e. IsFaultOf (read_end readings pending) e) }
 {
     match pending {
         Pending::Free => Ok(readings),
@@ -280,36 +283,37 @@ fn read_end(readings: Vec<Reading>, pending: Pending) -> Result<Vec<Reading>, Ar
     }
 }
 
-fn read_words(
-    alloc: Global,
-    options: &[TemplateOption],
-    line: &[u8],
-) -> Result<Vec<Reading>, ArgFault>
-    ensures ok { IfOk result (λ readings. read_from options.now line.now [] Free (line_words_of line.now) ≡ Ok readings.items) }
-    ensures fault { IfErr result (λ e. IsFaultOf (read_from options.now line.now [] Free (line_words_of line.now)) e) }
+fn read_words(alloc: Global, options: &[TemplateOption], line: &[u8]) -> Result<WordsRead, ArgFault>
+    ensures ok { IfOk result (λ readings. read_from options.now line.now nothing_read Free (line_words_of line.now) ≡ Ok readings) }
+    ensures fault { IfErr result (λ e. IsFaultOf (read_from options.now line.now nothing_read Free (line_words_of line.now)) e) }
 {
-    let mut readings = Vec::new(alloc);
+    let mut given = Vec::new(alloc);
+    let mut plain = Vec::new(alloc);
     let mut pending = Pending::Free;
     let mut place = 0;
     for step in 0..line.len() + 1 {
         let Some((word, behind)) = word_at(line, place) else {
-            return read_end(readings, pending);
+            return read_end(WordsRead { given, plain }, pending);
         };
-        match meaning_of(options, line, readings.as_slice(), pending, word) {
+        match meaning_of(options, line, given.as_slice(), pending, word) {
             Meaning::Read(reading) => {
-                readings.push(reading)?;
+                given.push(reading)?;
+                pending = Pending::Free;
+            }
+            Meaning::Plain(item) => {
+                plain.push(item)?;
                 pending = Pending::Free;
             }
             Meaning::Wait { option, equal } => pending = Pending::Value { option, equal },
             Meaning::Stop(reading) => {
-                readings.push(reading)?;
-                return Ok(readings);
+                given.push(reading)?;
+                return Ok(WordsRead { given, plain });
             }
             Meaning::Refuse(fault) => return Err(fault),
         }
         place = behind;
     }
-    read_end(readings, pending)
+    read_end(WordsRead { given, plain }, pending)
 }
 
 fn quotes_first(unclosed: bool, fault: ArgFault) -> ArgFault
@@ -326,12 +330,8 @@ fn quotes_first(unclosed: bool, fault: ArgFault) -> ArgFault
 ///
 /// `Unmatched` comes before `TooMany`, wherever the open quote stands; `ValueMissing` where a
 /// keyword is the last word.
-pub fn read(
-    alloc: Global,
-    options: &[TemplateOption],
-    line: &[u8],
-) -> Result<Vec<Reading>, ArgFault>
-    ensures ok { IfOk result (λ readings. read_of options.now line.now (line_words_of line.now) ≡ Ok readings.items) }
+pub fn read(alloc: Global, options: &[TemplateOption], line: &[u8]) -> Result<WordsRead, ArgFault>
+    ensures ok { IfOk result (λ readings. read_of options.now line.now (line_words_of line.now) ≡ Ok readings) }
     ensures fault { IfErr result (λ e. IsFaultOf (read_of options.now line.now (line_words_of line.now)) e) }
 {
     match read_words(alloc, options, line) {

@@ -1,20 +1,19 @@
 ghost use Rattle.std.specs.Prelude.{◌≡◌, IfOk};
-ghost use Rattle.ados_readargs.specs.Readings.{fills, is_filled, first_open, plain_of, plain_items, given_to, given_items, names, named_count};
+ghost use Rattle.ados_readargs.specs.Readings.{fills, is_filled, first_open, given_to, given_items, names, named_count};
 
 use crate::options::TemplateOption;
 use ados_items::Item;
 use ados_text::NoMemory;
 use std::alloc::Global;
+use std::marker::Model;
 
-/// What words of a line were read as.
+/// What words of a line say of an option.
 #[derive(Clone, Copy)]
 pub enum Reading {
     /// The option at a place, a switch or a toggle, is named.
     Named(usize),
     /// The option at a place is given the text of an item.
     Given(usize, Item),
-    /// A plain word, which is laid on an option once all words are read.
-    Plain(Item),
 }
 
 impl Reading {
@@ -25,7 +24,6 @@ impl Reading {
         match self {
             Reading::Named(option) => option == place,
             Reading::Given(option, _) => option == place,
-            Reading::Plain(_) => false,
         }
     }
 
@@ -36,7 +34,6 @@ impl Reading {
         match self {
             Reading::Named(option) => option == place,
             Reading::Given(..) => false,
-            Reading::Plain(_) => false,
         }
     }
 
@@ -47,36 +44,41 @@ impl Reading {
         match self {
             Reading::Named(_) => None,
             Reading::Given(option, item) => { if option == place { Some(item) } else { None } }
-            Reading::Plain(_) => None,
         }
     }
+}
 
-    // Its plain word.
-    fn plain(self) -> Option<Item>
-        ensures { result ≡ plain_of self }
-    {
-        match self {
-            Reading::Named(_) => None,
-            Reading::Given(..) => None,
-            Reading::Plain(item) => Some(item),
-        }
-    }
+/// What the words of a line were read as.
+#[derive(Drop)]
+pub struct WordsRead {
+    /// What they say of options, in order.
+    pub given: Vec<Reading>,
+    /// The plain words, in order, which are laid on options once all words are read.
+    pub plain: Vec<Item>,
+}
+
+impl Model for WordsRead {
+    ghost use Rattle.ados_readargs.specs.Readings.{LineReadings};
+
+    ghost Value = { LineReadings };
+
+    ghost view = { λ r. record { given = r.given.items; plain = r.plain.items } };
 }
 
 /// Whether one of the readings fills the option at a place.
-pub fn is_filled(readings: &[Reading], place: usize) -> bool
-    ensures { result ≡ is_filled place readings.now }
+pub fn is_filled(given: &[Reading], place: usize) -> bool
+    ensures { result ≡ is_filled place given.now }
 {
-    readings.iter().any(|reading| reading.fills(place))
+    given.iter().any(|reading| reading.fills(place))
 }
 
 /// The first plain option that no reading fills.
-pub fn first_open(options: &[TemplateOption], readings: &[Reading]) -> Option<usize>
-    ensures { result ≡ first_open options.now readings.now }
+pub fn first_open(options: &[TemplateOption], given: &[Reading]) -> Option<usize>
+    ensures { result ≡ first_open options.now given.now }
 {
     for place in 0..options.len() {
         let option = &options[place];
-        if option.qualifiers.is_plain() && !is_filled(readings, place) {
+        if option.qualifiers.is_plain() && !is_filled(given, place) {
             return Some(place);
         }
     }
@@ -84,35 +86,20 @@ pub fn first_open(options: &[TemplateOption], readings: &[Reading]) -> Option<us
 }
 
 /// How often the option at a place is named.
-pub fn named_count(readings: &[Reading], place: usize) -> usize
-    ensures { result ≡ named_count place readings.now }
+pub fn named_count(given: &[Reading], place: usize) -> usize
+    ensures { result ≡ named_count place given.now }
 {
-    readings
-        .iter()
-        .filter(|reading| reading.names(place))
-        .count()
+    given.iter().filter(|reading| reading.names(place)).count()
 }
 
 /// What the option at a place is given, in order.
-pub fn given_items(alloc: Global, readings: &[Reading], place: usize) -> Result<Vec<Item>, NoMemory>
-    ensures { IfOk result (λ items. items.items ≡ given_items place readings.now) }
+pub fn given_items(alloc: Global, given: &[Reading], place: usize) -> Result<Vec<Item>, NoMemory>
+    ensures { IfOk result (λ items. items.items ≡ given_items place given.now) }
 {
     Ok(
-        readings
+        given
             .iter()
             .filter_map(|reading| reading.given_to(place))
-            .collect(alloc)?,
-    )
-}
-
-/// The plain words, in order.
-pub fn plain_items(alloc: Global, readings: &[Reading]) -> Result<Vec<Item>, NoMemory>
-    ensures { IfOk result (λ items. items.items ≡ plain_items readings.now) }
-{
-    Ok(
-        readings
-            .iter()
-            .filter_map(|reading| reading.plain())
             .collect(alloc)?,
     )
 }

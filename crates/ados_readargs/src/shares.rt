@@ -2,27 +2,27 @@ ghost use Rattle.std.specs.Prelude.{◌≡◌, ◌≤◌, ◌<◌, true, false, 
 ghost use Rattle.ados_readargs.specs.Shares.{is_vacant, open_count, is_middle, middle_of, front_share, middle_share, back_share, share_by, is_left, held_items, TakesAll};
 
 use crate::options::{Qualifiers, TemplateOption, qualifiers_at};
-use crate::readings::{Reading, given_items, is_filled};
+use crate::readings::{Reading, WordsRead, given_items, is_filled};
 use ados_items::Item;
 use ados_text::NoMemory;
 use std::alloc::Global;
 
 // Whether the option is plain, and no reading fills it.
-fn is_vacant(place: usize, q: Qualifiers, readings: &[Reading]) -> bool
-    ensures { result ≡ is_vacant place q readings.now }
+fn is_vacant(place: usize, q: Qualifiers, given: &[Reading]) -> bool
+    ensures { result ≡ is_vacant place q given.now }
 {
-    q.is_plain() && !is_filled(readings, place)
+    q.is_plain() && !is_filled(given, place)
 }
 
 // How many options from a place on are vacant, and have /A where that is needed.
-fn open_count(needed: bool, from: usize, options: &[TemplateOption], readings: &[Reading]) -> usize
-    ensures value { result ≡ open_count needed from (drop from options.now) readings.now }
+fn open_count(needed: bool, from: usize, options: &[TemplateOption], given: &[Reading]) -> usize
+    ensures value { result ≡ open_count needed from (drop from options.now) given.now }
     ensures within { result ≤ length options.now }
 {
     let mut count = 0;
     for place in from..options.len() {
         let q = options[place].qualifiers;
-        if is_vacant(place, q, readings) && (!needed || q.required) {
+        if is_vacant(place, q, given) && (!needed || q.required) {
             count += 1;
         }
     }
@@ -57,25 +57,22 @@ fn piece(items: &[Item], from: usize, count: usize) -> &[Item]
 }
 
 // How many vacant options stand before a place.
-fn front_count(options: &[TemplateOption], readings: &[Reading], place: usize) -> usize
+fn front_count(options: &[TemplateOption], given: &[Reading], place: usize) -> usize
     requires { place < length options.now }
-    ensures { result ≡ open_count false 0 (take place options.now) readings.now }
+    ensures { result ≡ open_count false 0 (take place options.now) given.now }
 {
-    open_count(false, 0, &options[..place], readings)
+    open_count(false, 0, &options[..place], given)
 }
 
 // The plain word of an option with no /M before it.
-fn front_share<'a>(
-    options: &[TemplateOption],
-    readings: &[Reading],
-    plain: &'a [Item],
-    place: usize,
-) -> &'a [Item]
+fn front_share<'a>(options: &[TemplateOption], readings: &'a WordsRead, place: usize) -> &'a [Item]
     requires { place < length options.now }
-    ensures { result.now ≡ front_share options.now readings.now plain.now place }
+    ensures { result.now ≡ front_share options.now readings.now place }
 {
-    if is_vacant(place, qualifiers_at(options, place), readings) {
-        piece(plain, front_count(options, readings, place), 1)
+    let given = readings.given.as_slice();
+    if is_vacant(place, qualifiers_at(options, place), given) {
+        let front = front_count(options, given, place);
+        piece(readings.plain.as_slice(), front, 1)
     } else {
         &[]
     }
@@ -84,15 +81,16 @@ fn front_share<'a>(
 // The plain words of the /M.
 fn middle_share<'a>(
     options: &[TemplateOption],
-    readings: &[Reading],
-    plain: &'a [Item],
+    readings: &'a WordsRead,
     middle: usize,
 ) -> &'a [Item]
     requires { middle < length options.now }
-    ensures { result.now ≡ middle_share options.now readings.now plain.now middle }
+    ensures { result.now ≡ middle_share options.now readings.now middle }
 {
-    let front = front_count(options, readings, middle);
-    let behind = open_count(true, middle + 1, options, readings);
+    let given = readings.given.as_slice();
+    let plain = readings.plain.as_slice();
+    let front = front_count(options, given, middle);
+    let behind = open_count(true, middle + 1, options, given);
     piece(
         plain,
         front,
@@ -103,19 +101,20 @@ fn middle_share<'a>(
 // The plain word of an option behind the /M.
 fn back_share<'a>(
     options: &[TemplateOption],
-    readings: &[Reading],
-    plain: &'a [Item],
+    readings: &'a WordsRead,
     middle: usize,
     place: usize,
 ) -> &'a [Item]
     requires middle { middle < length options.now }
     requires place { place < length options.now }
-    ensures { result.now ≡ back_share options.now readings.now plain.now middle place }
+    ensures { result.now ≡ back_share options.now readings.now middle place }
 {
-    let front = front_count(options, readings, middle);
-    let behind = open_count(true, place + 1, options, readings);
+    let given = readings.given.as_slice();
+    let plain = readings.plain.as_slice();
+    let front = front_count(options, given, middle);
+    let behind = open_count(true, place + 1, options, given);
     let q = qualifiers_at(options, place);
-    if is_vacant(place, q, readings) && q.required && behind < plain.len().saturating_sub(front) {
+    if is_vacant(place, q, given) && q.required && behind < plain.len().saturating_sub(front) {
         piece(plain, plain.len() - 1 - behind, 1)
     } else {
         &[]
@@ -123,36 +122,33 @@ fn back_share<'a>(
 }
 
 /// The plain words that the option at a place takes.
-pub fn share<'a>(
-    options: &[TemplateOption],
-    readings: &[Reading],
-    plain: &'a [Item],
-    place: usize,
-) -> &'a [Item]
+pub fn share<'a>(options: &[TemplateOption], readings: &'a WordsRead, place: usize) -> &'a [Item]
     requires { place < length options.now }
-    ensures { result.now ≡ share_by (middle_of options.now) options.now readings.now plain.now place }
+    ensures { result.now ≡ share_by (middle_of options.now) options.now readings.now place }
 {
     match middle_of(options) {
-        None => front_share(options, readings, plain, place),
+        None => front_share(options, readings, place),
         Some(middle) => {
             if place < middle {
-                front_share(options, readings, plain, place)
+                front_share(options, readings, place)
             } else if place == middle {
-                middle_share(options, readings, plain, middle)
+                middle_share(options, readings, middle)
             } else {
-                back_share(options, readings, plain, middle, place)
+                back_share(options, readings, middle, place)
             }
         }
     }
 }
 
 /// Whether a plain word is left over; otherwise each is taken by one option, in order.
-pub fn is_left(options: &[TemplateOption], readings: &[Reading], plain: &[Item]) -> bool
-    ensures value { result ≡ is_left options.now readings.now plain.now }
-    ensures taken { result ≡ false → TakesAll options.now readings.now plain.now }
+pub fn is_left(options: &[TemplateOption], readings: &WordsRead) -> bool
+    ensures value { result ≡ is_left options.now readings.now }
+    ensures taken { result ≡ false → TakesAll options.now readings.now }
 {
+    let given = readings.given.as_slice();
+    let plain = readings.plain.as_slice();
     match middle_of(options) {
-        None => open_count(false, 0, options, readings) < plain.len(),
+        None => open_count(false, 0, options, given) < plain.len(),
         Some(_) => false,
     }
 }
@@ -161,14 +157,13 @@ pub fn is_left(options: &[TemplateOption], readings: &[Reading], plain: &[Item])
 pub fn held_items(
     alloc: Global,
     options: &[TemplateOption],
-    readings: &[Reading],
-    plain: &[Item],
+    readings: &WordsRead,
     place: usize,
 ) -> Result<Vec<Item>, NoMemory>
     requires { place < length options.now }
-    ensures { IfOk result (λ items. items.items ≡ held_items options.now readings.now plain.now place) }
+    ensures { IfOk result (λ items. items.items ≡ held_items options.now readings.now place) }
 {
-    let mut items = given_items(alloc, readings, place)?;
-    items.extend_from_slice(share(options, readings, plain, place))?;
+    let mut items = given_items(alloc, readings.given.as_slice(), place)?;
+    items.extend_from_slice(share(options, readings, place))?;
     Ok(items)
 }

@@ -5,12 +5,15 @@ use Rattle.ados_readargs.proofs.shares.is_left.Goals as goal
 
 pub returns-in-None-clause-taken : goal.returns-in-None-clause-taken
 returns-in-None-clause-taken c =
-    λ h. let few : nat_lt (open_count false 0 c.args.options.now c.args.readings.now) (length c.args.plain.now) ≡ false =
-    ap (λ n. nat_lt n (length c.args.plain.now)) (sym c.open_count.ensures.value) ∙ h in
-    ap (λ m. shares_to m (length c.args.options.now) c.args.options.now c.args.readings.now c.args.plain.now) (sym c.in-None.ensures.value)
-    ∙ takes_all-none c.args.options.now c.args.readings.now c.args.plain.now few
+    λ h. let few : nat_lt (open_count false 0 c.args.options.now c.args.readings.now.given) (length c.args.readings.now.plain) ≡ false =
+    ap (λ r. nat_lt (open_count false 0 c.args.options.now r.given) (length r.plain)) (sym c.readings.view_is)
+    ∙ ap (λ given. nat_lt (open_count false 0 c.args.options.now given) (length c.readings.inside.plain.items)) (sym c.as_slice-given.ensures.value)
+    ∙ ap (λ plain. nat_lt (open_count false 0 c.args.options.now c.as_slice-given.result.now) (length plain)) (sym c.as_slice-plain.ensures.value)
+    ∙ ap (λ n. nat_lt n (length c.as_slice-plain.result.now)) (sym c.open_count.ensures.value) ∙ h in
+    ap (λ m. shares_to m (length c.args.options.now) c.args.options.now c.args.readings.now) (sym c.in-None.ensures.value)
+    ∙ takes_all-none c.args.options.now c.args.readings.now few
 
 pub returns-in-Some-clause-taken : goal.returns-in-Some-clause-taken
 returns-in-Some-clause-taken c =
-    λ _. ap (λ m. shares_to m (length c.args.options.now) c.args.options.now c.args.readings.now c.args.plain.now) (sym c.in-Some.ensures.value)
-    ∙ takes_all-some c.in-Some.field-0 c.args.options.now c.args.readings.now c.args.plain.now c.in-Some.ensures.within
+    λ _. ap (λ m. shares_to m (length c.args.options.now) c.args.options.now c.args.readings.now) (sym c.in-Some.ensures.value)
+    ∙ takes_all-some c.in-Some.field-0 c.args.options.now c.args.readings.now c.in-Some.ensures.within

@@ -4,6 +4,6 @@ use Rattle.ados_readargs.proofs.shares.open_count.Given as goal
 
 abbrev pub invariant-loop-place : goal.invariant-loop-place
 invariant-loop-place l = record {
-  so_far : open_count l.needed l.from (drop l.from l.options) l.readings ≡ l.count + open_count l.needed l.place (drop l.place l.options) l.readings;
+  so_far : open_count l.needed l.from (drop l.from l.options) l.given ≡ l.count + open_count l.needed l.place (drop l.place l.options) l.given;
   few : l.count ≤ l.place;
 }
