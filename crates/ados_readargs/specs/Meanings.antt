@@ -1,4 +1,4 @@
-use Rattle.std.specs.Prelude.{ℕ, ◌+◌, ◌==◌, nat_lt, List, [], ◌∷◌, ◌++◌, Bool, true, false, ◌&&◌, ◌||◌, not, Option, Some, None, Result, Ok, Err, position, if◌then◌else◌}
+use Rattle.std.specs.Prelude.{ℕ, ◌+◌, ◌==◌, nat_lt, List, [], ◌∷◌, ◌++◌, Bool, false, ◌&&◌, ◌||◌, not, Option, Some, None, Result, Ok, Err, position, if◌then◌else◌}
 use Rattle.std.specs.List.{list_any}
 use Rattle.ados_items.specs.Items.{is_blank, bytes_between}
 use Rattle.ados_items.specs.declared.items.Item.{Item}
@@ -60,14 +60,13 @@ keyword_meaning q filled place word =
     (if q.switch then switch_meaning filled place else value_behind (is_full q filled) place word)
 
 -- a plain word: in a template with /F it fills the first open plain option
-abbrev pub plain_meaning : Bool → Option ℕ → LineWord → Meaning
-plain_meaning false vacant word = Plain (item_of word)
-plain_meaning true None word = Plain (item_of word)
-plain_meaning true (Some place) word = Read (Given place (item_of word))
+abbrev pub plain_meaning : Option ℕ → LineWord → Meaning
+plain_meaning None word = Plain (item_of word)
+plain_meaning (Some place) word = Read (Given place (item_of word))
 
 -- what a word says for which no keyword waits
 abbrev pub word_meaning : List TemplateOption → List Reading → Option ℕ → LineWord → Option ℕ → Meaning
-word_meaning options given vacant word None = plain_meaning (list_any is_rest options) vacant word
+word_meaning options given vacant word None = plain_meaning vacant word
 word_meaning options given vacant word (Some place) = keyword_meaning (qualifiers_at options place) (is_filled place given) place word
 
 -- what the word says behind a keyword of the option at a place; `equal` says that an `=` alone may stand before its value
@@ -85,15 +84,15 @@ next_meaning options line given word vacant =
 abbrev pub rest_of : List ℕ → LineWord → Item
 rest_of line word = item.Word (start_of word) (trimmed_from 0 0 line)
 
--- what a word says, by the first open plain option: where that is /F, no other is open
+-- what a word says, by the first open plain option of a template with /F: where that is the /F, no other is open
 abbrev pub free_meaning : List TemplateOption → List ℕ → List Reading → LineWord → Option ℕ → Meaning
 free_meaning options line given word None = next_meaning options line given word None
 free_meaning options line given word (Some place) =
     if (qualifiers_at options place).rest then Stop (Given place (rest_of line word)) else next_meaning options line given word (Some place)
 
--- what a word says behind what is given so far
+-- what a word says behind what is given so far; which option is open matters only to a template with /F
 abbrev pub meaning_of : List TemplateOption → List ℕ → List Reading → Pending → LineWord → Meaning
-meaning_of options line given Free word = free_meaning options line given word (first_open options given)
+meaning_of options line given Free word = free_meaning options line given word (if list_any is_rest options then first_open options given else None)
 meaning_of options line given (Value place equal) word = value_meaning (is_full (qualifiers_at options place) (is_filled place given)) place equal word
 
 -- the readings where no word is left

@@ -4,6 +4,7 @@ ghost use Rattle.ados_items.specs.Items.{bytes_between};
 ghost use Rattle.ados_readargs.specs.Faults.{IsFaultOf};
 ghost use Rattle.ados_readargs.specs.Words.{line_words_of};
 ghost use Rattle.ados_readargs.specs.Meanings.{is_keyword, keyword_of, trimmed_from, is_full, given_meaning, value_behind, switch_meaning, keyword_meaning, plain_meaning, word_meaning, value_meaning, next_meaning, rest_of, free_meaning, meaning_of, read_end, read_from, read_of, quotes_first};
+ghost use Rattle.ados_readargs.specs.Options.{is_rest};
 ghost use Rattle.ados_readargs.specs.Readings.{nothing_read};
 ghost use Rattle.ados_readargs.specs.declared.meanings.Pending.TheVariants.{Free};
 
@@ -155,12 +156,9 @@ fn keyword_meaning(q: Qualifiers, filled: bool, place: usize, word: LineWord) ->
     }
 }
 
-fn plain_meaning(with_rest: bool, vacant: Option<usize>, word: LineWord) -> Meaning
-    ensures { result ≡ plain_meaning with_rest vacant word }
+fn plain_meaning(vacant: Option<usize>, word: LineWord) -> Meaning
+    ensures { result ≡ plain_meaning vacant word }
 {
-    if !with_rest {
-        return Meaning::Plain(word.item());
-    }
     match vacant {
         None => Meaning::Plain(word.item()),
         Some(place) => Meaning::Read(Reading::Given(place, word.item())),
@@ -177,7 +175,7 @@ fn word_meaning(
     ensures { result ≡ word_meaning options.now given.now vacant word keyword }
 {
     match keyword {
-        None => plain_meaning(has_rest(options), vacant, word),
+        None => plain_meaning(vacant, word),
         Some(place) => keyword_meaning(
             qualifiers_at(options, place),
             is_filled(given, place),
@@ -256,15 +254,24 @@ fn free_meaning(
 
 fn meaning_of(
     options: &[TemplateOption],
+    with_rest: bool,
     line: &[u8],
     given: &[Reading],
     pending: Pending,
     word: LineWord,
 ) -> Meaning
+    requires { with_rest ≡ list_any is_rest options.now }
     ensures { result ≡ meaning_of options.now line.now given.now pending word }
 {
     match pending {
-        Pending::Free => free_meaning(options, line, given, word, first_open(options, given)),
+        Pending::Free => {
+            let vacant = if with_rest {
+                first_open(options, given)
+            } else {
+                None
+            };
+            free_meaning(options, line, given, word, vacant)
+        }
         Pending::Value { option, equal } => {
             let full = is_full(qualifiers_at(options, option), is_filled(given, option));
             value_meaning(full, option, equal, word)
@@ -287,6 +294,7 @@ fn read_words(alloc: Global, options: &[TemplateOption], line: &[u8]) -> Result<
     ensures ok { IfOk result (λ readings. read_from options.now line.now nothing_read Free (line_words_of line.now) ≡ Ok readings) }
     ensures fault { IfErr result (λ e. IsFaultOf (read_from options.now line.now nothing_read Free (line_words_of line.now)) e) }
 {
+    let with_rest = has_rest(options);
     let mut given = Vec::new(alloc);
     let mut plain = Vec::new(alloc);
     let mut pending = Pending::Free;
@@ -295,7 +303,7 @@ fn read_words(alloc: Global, options: &[TemplateOption], line: &[u8]) -> Result<
         let Some((word, behind)) = word_at(line, place) else {
             return read_end(WordsRead { given, plain }, pending);
         };
-        match meaning_of(options, line, given.as_slice(), pending, word) {
+        match meaning_of(options, with_rest, line, given.as_slice(), pending, word) {
             Meaning::Read(reading) => {
                 given.push(reading)?;
                 pending = Pending::Free;
