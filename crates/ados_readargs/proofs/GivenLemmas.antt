@@ -5,9 +5,10 @@ use Rattle.ados_readargs.specs.declared.options.Qualifiers.{Qualifiers}
 use Rattle.ados_readargs.specs.declared.options.TemplateOption.{TemplateOption}
 use Rattle.ados_readargs.specs.declared.readings.Reading.{Reading}
 use Rattle.ados_readargs.specs.declared.readings.Reading.TheVariants.{Named, Given}
-use Rattle.ados_readargs.specs.Readings.{LineReadings, is_filled, given_items, named_count}
+use Rattle.ados_readargs.specs.Readings.{LineReadings, is_filled, given_items}
 use Rattle.ados_readargs.specs.Shares.{middle_of, share_by}
-use Rattle.ados_readargs.specs.Args.{arg_by, arg_at}
+use Rattle.ados_readargs.specs.Options.{takes_value}
+use Rattle.ados_readargs.specs.Args.{value_arg, arg_at}
 
 neither-left : (a b : Bool) → (a || b) ≡ false → a ≡ false
 neither-left true b e = e
@@ -24,10 +25,9 @@ none_given place (Given option item ∷ given) e =
     rw (neither-left (option == place) (is_filled place given) e) (none_given place given (neither-right (option == place) (is_filled place given) e))
 
 -- its argument comes from its plain words alone
-pub arg-unfilled : (options : List TemplateOption) (line : List ℕ) (readings : LineReadings) (place : ℕ) (q : Qualifiers) (named : ℕ) (items : List Item)
-    → is_filled place readings.given ≡ false → named ≡ named_count place readings.given
-    → items ≡ share_by (middle_of options) options readings place
-    → arg_by q named line items ≡ arg_at options line readings place q
+pub arg-unfilled : (options : List TemplateOption) (line : List ℕ) (readings : LineReadings) (place : ℕ) (q : Qualifiers) (items : List Item)
+    → takes_value q ≡ true → is_filled place readings.given ≡ false → items ≡ share_by (middle_of options) options readings place
+    → value_arg q line items ≡ arg_at options line readings place q
 unfolding arg_at
-arg-unfilled options line readings place q named items f n s =
-    rw (n, s) (ap (λ given. arg_by q (named_count place readings.given) line (given ++ share_by (middle_of options) options readings place)) (sym (none_given place readings.given f)))
+arg-unfilled options line readings place q items t f s =
+    rw (t, s) (ap (λ given. value_arg q line (given ++ share_by (middle_of options) options readings place)) (sym (none_given place readings.given f)))

@@ -7,7 +7,7 @@ use Rattle.ados_readargs.specs.declared.options.Qualifiers.{Qualifiers}
 use Rattle.ados_readargs.specs.declared.options.TemplateOption.{TemplateOption}
 use Rattle.ados_readargs.specs.declared.args.Arg.{Arg}
 use Rattle.ados_readargs.specs.declared.args.Arg.TheVariants.{Absent, On, One, Many}
-use Rattle.ados_readargs.specs.Options.{place_named}
+use Rattle.ados_readargs.specs.Options.{takes_value, place_named}
 use Rattle.ados_readargs.specs.Readings.{LineReadings, named_count}
 use Rattle.ados_readargs.specs.Shares.{held_items}
 
@@ -26,17 +26,18 @@ abbrev pub one_of : List ℕ → List Item → Arg
 one_of line [] = Absent
 one_of line (item ∷ items) = One (value_of line item)
 
--- the argument of an option that was named so often and holds the items
-abbrev pub arg_by : Qualifiers → ℕ → List ℕ → List Item → Arg
-arg_by q named line items =
-    if q.switch then on_where (nat_lt 0 named) else
-    (if q.toggle then on_where (named % 2 == 1) else
-    (if q.many then many_of line items else one_of line items))
+-- the argument of a switch or toggle that was named so often
+abbrev pub named_arg : Qualifiers → ℕ → Arg
+named_arg q named = on_where (if q.switch then nat_lt 0 named else named % 2 == 1)
+
+-- the argument of an option that takes values and holds the items
+abbrev pub value_arg : Qualifiers → List ℕ → List Item → Arg
+value_arg q line items = if q.many then many_of line items else one_of line items
 
 -- the argument of the option at a place, with its qualifiers
 unfoldable pub arg_at : List TemplateOption → List ℕ → LineReadings → ℕ → Qualifiers → Arg
 arg_at options line readings place q =
-    arg_by q (named_count place readings.given) line (held_items options readings place)
+    if takes_value q then value_arg q line (held_items options readings place) else named_arg q (named_count place readings.given)
 
 -- the arguments of the options from a place on, one for each of a list
 abbrev pub args_from : List TemplateOption → List ℕ → LineReadings → ℕ → List TemplateOption → List Arg

@@ -3,7 +3,7 @@ ghost use Rattle.std.specs.Option.{option_copied, SomeIff};
 ghost use Rattle.ados_text.specs.Number.{IsNumber, value_of as number_value_of};
 ghost use Rattle.ados_items.specs.Items.{value_of};
 ghost use Rattle.ados_readargs.specs.Template.{options_of};
-ghost use Rattle.ados_readargs.specs.Args.{on_where, many_of, one_of, arg_by, arg_at, args_of, texts_in, arg_named, is_on, text_at, texts_at, number_at};
+ghost use Rattle.ados_readargs.specs.Args.{on_where, many_of, one_of, named_arg, value_arg, arg_at, args_of, texts_in, arg_named, is_on, text_at, texts_at, number_at};
 
 use crate::options::{Qualifiers, TemplateOption};
 use crate::readings::{WordsRead, is_filled, named_count};
@@ -173,22 +173,17 @@ fn one_of(alloc: Global, line: &[u8], items: &[Item]) -> Result<Arg, NoMemory>
     }
 }
 
-// The argument of an option that was named so often, and holds the items.
-fn arg_by(
-    alloc: Global,
-    q: Qualifiers,
-    named: usize,
-    line: &[u8],
-    items: &[Item],
-) -> Result<Arg, NoMemory>
-    ensures { IfOk result (λ arg. arg ≡ arg_by q named line.now items.now) }
+// The argument of a switch or toggle that was named so often.
+fn named_arg(q: Qualifiers, named: usize) -> Arg
+    ensures { result ≡ named_arg q named }
 {
-    if q.switch {
-        return Ok(on_where(named > 0));
-    }
-    if q.toggle {
-        return Ok(on_where(named % 2 == 1));
-    }
+    on_where(if q.switch { named > 0 } else { named % 2 == 1 })
+}
+
+// The argument of an option that takes values and holds the items.
+fn value_arg(alloc: Global, q: Qualifiers, line: &[u8], items: &[Item]) -> Result<Arg, NoMemory>
+    ensures { IfOk result (λ arg. arg ≡ value_arg q line.now items.now) }
+{
     if q.many {
         many_of(alloc, line, items)
     } else {
@@ -209,14 +204,16 @@ fn arg_at(
     ensures { IfOk result (λ arg. arg ≡ arg_at options.now line.now readings.now place q) }
 {
     let given = readings.given.as_slice();
-    let named = named_count(given, place);
+    if !q.takes_value() {
+        return Ok(named_arg(q, named_count(given, place)));
+    }
     if is_filled(given, place) {
         let items = held_items(alloc, options, readings, place)?;
-        arg_by(alloc, q, named, line, items.as_slice())
+        value_arg(alloc, q, line, items.as_slice())
     } else {
         // it holds no more than its plain words, which are copied into no vector
         let items = share(options, readings, place);
-        arg_by(alloc, q, named, line, items)
+        value_arg(alloc, q, line, items)
     }
 }
 
