@@ -1,5 +1,5 @@
 -- The commands of this crate, by their names, and the options that each takes.
-use Rattle.std.specs.Prelude.{ℕ, List, [], ◌∷◌, Option, Some, None, codes, if◌then◌else◌}
+use Rattle.std.specs.Prelude.{ℕ, List, Option, Some, None, codes, if◌then◌else◌}
 use Rattle.ados_text.specs.Text.{is_same}
 use Rattle.ados_files.specs.declared.commands.Command.{Command}
 use Rattle.ados_files.specs.declared.commands.Command.TheVariants.{Copy, Delete, Dir, Filenote, Join, List as Listed, MakeDir, Protect, Rename, «Type»}

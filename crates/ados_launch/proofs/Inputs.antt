@@ -1,5 +1,5 @@
 -- What an event makes of the input: shell 1 ends only where it has ended.
-use Rattle.std.proofs.Common.{◌≡◌, ℕ, zero, suc, ◌-◌, ◌∷◌, List, [], Option, Some, None, Bool, true, not, ◌&&◌, ◌||◌, refl, is_some, slice_get, slice_set, ◌⊎◌, inl, inr, ◌==◌, arith}
+use Rattle.std.proofs.Common.{◌≡◌, ℕ, ◌∷◌, List, [], Option, Some, None, true, not, ◌&&◌, ◌||◌, refl, is_some, slice_get, ◌⊎◌, inl, inr, ◌==◌, arith}
 use Rattle.std.proofs.lemmas.Bool.{cases_Bool, and_parts}
 use Rattle.std.proofs.lemmas.Grind.{common_steps}
 use Rattle.ados_machine.specs.World.{WorldState, shell_at, is_ready, wants_line, is_over, has_input, flatten}

@@ -6,7 +6,7 @@ use Rattle.ados_find.specs.declared.codes.Codes.{Codes}
 use Rattle.ados_machine.specs.declared.events.Event.{Event}
 use Rattle.ados_machine.specs.declared.outs.Out.{Out}
 use Rattle.ados_machine.specs.declared.refusals.Refusal.{Refusal}
-use Rattle.ados_machine.specs.Frames.{Item, FrameState, ShellState, Course, Turned}
+use Rattle.ados_machine.specs.Frames.{Item, FrameState, ShellState, Course}
 use Rattle.ados_machine.specs.declared.phases.Asking.{Asking as Question}
 use Rattle.ados_machine.specs.Shell.{turn_of, resumed}
 use Rattle.ados_machine.specs.World.{WorldState, fresh_world, flatten, shell_at}

@@ -1,9 +1,8 @@
 -- A turn's trace moves the stack of last records as the turn moves the frames, and no frame that it leaves
 -- has a last record at its limit.
-use Rattle.std.proofs.Common.{◌≡◌, ℕ, suc, List, [], ◌∷◌, Bool, true, false, ◌&&◌, ◌||◌, Option, Some, None, Result, Ok, Err, length, codes, refl, ap, inl, inr}
+use Rattle.std.proofs.Common.{◌≡◌, ℕ, suc, List, [], ◌∷◌, Bool, true, false, ◌||◌, Option, Some, None, Result, Ok, Err, length, codes, refl, ap, inl, inr}
 use Rattle.std.specs.List.{AllByRecursion}
 use Rattle.std.proofs.lemmas.Bool.{or_parts, cases_Bool}
-use Rattle.ados_text.specs.declared.codes.Code.{Code}
 use Rattle.ados_text.specs.declared.codes.Result2.{Result2}
 use Rattle.ados_text.specs.declared.codes.TheConstants.Result2.{OBJECT_NOT_FOUND}
 use Rattle.ados_line.specs.declared.faults.LineFault.{LineFault}
@@ -19,7 +18,7 @@ use Rattle.ados_machine.specs.declared.phases.Asking.{Asking as Question}
 use Rattle.ados_machine.specs.declared.phases.Phase.TheVariants.{Ready as Free}
 use Rattle.ados_machine.specs.CodeRule.{is_reached, fault_line}
 use Rattle.ados_machine.specs.Commands.{Action, Answers, Quits, Calls, Called, builtin_of}
-use Rattle.ados_machine.specs.Frames.{Record, Item, Began, FrameState, ShellState, Course, Turned, behind, is_over, limit_behind, last_codes, end_of, printing, told, noted, answered_frame, is_ended, answering, ending, finish, passed_by, passed}
+use Rattle.ados_machine.specs.Frames.{Record, Item, Began, FrameState, ShellState, Course, Turned, behind, is_over, last_codes, end_of, printing, told, noted, answered_frame, is_ended, answering, ending, finish, passed_by, passed}
 use Rattle.ados_machine.specs.Shell.{number_of_fault, Opened, Put, put, opening, called, affected, made, acted, action_by, performed, ran, begun, with_args, asks, prompt, asked, prepared, input_of, sought, obeyed, turn_of, resumed}
 use Rattle.ados_machine.specs.Step.{moved, script_turned}
 use Rattle.ados_machine.specs.Limits.{RunsOn, AllRunOn}

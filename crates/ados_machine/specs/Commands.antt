@@ -1,5 +1,5 @@
 -- What each command does with its arguments.
-use Rattle.std.specs.Prelude.{◌≡◌, ℕ, ℤ, List, [], ◌∷◌, ◌++◌, Bool, true, false, ◌==◌, ◌&&◌, ◌||◌, Option, Some, None, Result, Ok, Err, codes, position, is_none, if◌then◌else◌}
+use Rattle.std.specs.Prelude.{ℕ, ℤ, List, [], ◌∷◌, ◌++◌, Bool, false, ◌==◌, ◌&&◌, ◌||◌, Option, Some, None, Result, Ok, Err, codes, position, is_none, if◌then◌else◌}
 use Rattle.std.specs.FinMap as finite
 use Rattle.ados_text.specs.Text.{is_same}
 use Rattle.ados_text.specs.declared.codes.Code.{Code}

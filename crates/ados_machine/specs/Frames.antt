@@ -1,7 +1,6 @@
 -- Frames, and the code rule: when a frame ends, and what its end is to the command that made it.
-use Rattle.std.specs.Prelude.{ℕ, zero, suc, ◌+◌, pos, List, [], ◌∷◌, ◌++◌, length, Bool, true, false, ◌||◌, nat_le, Option, Some, None, slice_get, if◌then◌else◌}
+use Rattle.std.specs.Prelude.{ℕ, suc, pos, List, [], ◌∷◌, ◌++◌, length, Bool, false, ◌||◌, nat_le, Option, Some, None, if◌then◌else◌}
 use Rattle.ados_text.specs.declared.codes.Code.{Code}
-use Rattle.ados_text.specs.declared.codes.TheConstants.Code.{ERROR}
 use Rattle.ados_find.specs.declared.codes.Codes.{Codes}
 use Rattle.ados_find.specs.Codes.{went_well}
 use Rattle.ados_find.specs.declared.outcomes.Renamed.{Renamed}
@@ -10,7 +9,7 @@ use Rattle.ados_machine.specs.declared.outs.EndReport.{EndReport}
 pub use Rattle.ados_machine.specs.declared.records.Record.{Record}
 use Rattle.ados_machine.specs.declared.phases.Phase.{Phase}
 use Rattle.ados_machine.specs.declared.phases.Phase.TheVariants.{Ready}
-use Rattle.ados_machine.specs.CodeRule.{is_reached, fault_line, failed_line}
+use Rattle.ados_machine.specs.CodeRule.{is_reached, failed_line}
 
 -- what the trace of a shell says, at a depth (0 is the console, 1 the outermost frame): a frame began, a
 -- command of it answered or a line of it was at fault, it ended

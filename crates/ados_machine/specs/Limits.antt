@@ -1,6 +1,5 @@
 -- Each script ends early exactly at its first command whose code reaches its limit: a law of a shell's trace.
-use Rattle.std.specs.Prelude.{◌≡◌, ℕ, zero, suc, List, [], ◌∷◌, ◌++◌, Bool, true, false, if◌then◌else◌, ◌==◌, Option, Some, None, length, Result}
-use Rattle.ados_text.specs.declared.codes.Code.{Code}
+use Rattle.std.specs.Prelude.{◌≡◌, ℕ, suc, List, [], ◌∷◌, ◌++◌, Bool, false, if◌then◌else◌, ◌==◌, Option, Some, None, length, Result}
 use Rattle.ados_find.specs.declared.codes.Codes.{Codes}
 use Rattle.ados_machine.specs.declared.events.Event.{Event}
 use Rattle.ados_machine.specs.declared.outs.Out.{Out}

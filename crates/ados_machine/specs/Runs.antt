@@ -1,11 +1,10 @@
 -- Runs: what a list of events gives, and the trace that it leaves.
-use Rattle.std.specs.Prelude.{◌≡◌, ℕ, List, [], ◌∷◌, ◌++◌, Result, Ok, Err}
+use Rattle.std.specs.Prelude.{◌≡◌, List, [], ◌∷◌, Result, Ok, Err}
 use Rattle.ados_machine.specs.declared.events.Event.{Event}
-use Rattle.ados_machine.specs.declared.events.Event.TheVariants.{Typed, EndOfInput, Turn, Answer}
+use Rattle.ados_machine.specs.declared.events.Event.TheVariants.{EndOfInput}
 use Rattle.ados_machine.specs.declared.outs.Out.{Out}
 use Rattle.ados_machine.specs.declared.refusals.Refusal.{Refusal}
 use Rattle.ados_machine.specs.declared.refusals.Refusal.TheVariants.{NoMemory}
-use Rattle.ados_machine.specs.Frames.{Item}
 use Rattle.ados_machine.specs.World.{WorldState}
 use Rattle.ados_machine.specs.Step.{Response, Refused, Accepted, step_of}
 

@@ -7,7 +7,7 @@ use Rattle.ados_machine.specs.declared.outs.EndReport.{EndReport}
 use Rattle.ados_machine.specs.declared.refusals.Refusal.{Refusal}
 use Rattle.ados_machine.specs.Frames.{Item, Ended, FrameState, ShellState}
 use Rattle.ados_machine.specs.World.{WorldState, shell_at}
-use Rattle.ados_machine.specs.Step.{Response, Refused, Accepted, step_of}
+use Rattle.ados_machine.specs.Step.{Response, Accepted, step_of}
 use Rattle.ados_machine.specs.Runs.{world_after}
 
 -- the shell of an event; typed lines and the end of input are no shell's, and leave no item

@@ -1,7 +1,6 @@
 -- how a draft goes on: what is left to do from a middle draft on does what the whole does from the first on
 use Rattle.std.proofs.Common.{◌≡◌, ◌∙◌, ◌++◌, ◌∷◌, [], List, ℕ, Bool, true, false, Option, None, Result, Ok, Err, length, suc, ap, sym, refl, append_assoc}
 use Rattle.std.specs.Prelude.{if◌then◌else◌}
-use Rattle.ados_text.specs.declared.codes.Code.{Code}
 use Rattle.ados_find.specs.declared.codes.Codes.{Codes}
 use Rattle.ados_find.specs.Effects.{Effect}
 use Rattle.ados_find.specs.Shared.{SharedState, version}

@@ -1,9 +1,9 @@
 -- what a turn changes, ready to be moved in
-use Rattle.std.proofs.Common.{◌≡◌, ◌∙◌, ◌-◌, ℕ, List, [], ◌∷◌, Option, Some, None, Result, ap, sym, subst, refl}
+use Rattle.std.proofs.Common.{◌≡◌, ◌∙◌, ◌-◌, ℕ, List, [], ◌∷◌, Option, Some, ap, sym, subst}
 use Rattle.std.specs.Prelude.{slice_set, unwrap_or}
 use Rattle.ados_find.specs.declared.outcomes.Renamed.{Renamed}
 use Rattle.ados_find.specs.Shared.{SharedState, version}
-use Rattle.ados_machine.specs.Frames.{ShellState, Course, FrameState, Turned, reports_of}
+use Rattle.ados_machine.specs.Frames.{ShellState, Course, FrameState, Turned}
 use Rattle.ados_machine.specs.Limits.{AllRunOn, IsSane}
 use Rattle.ados_machine.specs.Step.{settled, carried_shell, carried_shells}
 use Rattle.ados_machine.specs.World.{WorldState}

@@ -1,5 +1,5 @@
 -- Commands that print and set read nothing of what is in use.
-use Rattle.std.proofs.Common.{◌≡◌, ℕ, List, Bool, Ok, Err, refl}
+use Rattle.std.proofs.Common.{◌≡◌, List, Bool, Ok, Err, refl}
 use Rattle.std.specs.Prelude.{Result}
 use Rattle.ados_ram.specs.InUse.{InUse}
 use Rattle.ados_readargs.specs.declared.args.Arg.{Arg}
