@@ -1,15 +1,18 @@
 ghost use Rattle.std.specs.Prelude.{◌≡◌, ◌<◌, ◌≤◌, ◌-◌, ◌++◌, [], ◌∷◌, OnOk, OnErr, take, drop, ◌↔◌, List, length, map, position, IsTrue, IfOk, IfNone, IsOkUnless, MatchOption};
 ghost use Rattle.ados_text.specs.Text.{fold_of, folded, is_past_ascii, is_same, to_ascii, IsText};
 
-use crate::bytes::Bytes;
 use crate::errors::{NoMemory, TextFault};
+use smallvec::SmallVec;
 use std::alloc::{AllocError, Global};
 use std::marker::Model;
 
-/// ASCII text: bytes below 128.
-#[derive(Clone, Debug, Drop)]
+// How many bytes lie in the value itself: most words and names are no longer.
+const SHORT: usize = 24;
+
+/// ASCII text: bytes below 128. A short one needs no memory beside the value.
+#[derive(Debug, Drop)]
 pub struct Text {
-    bytes: Bytes,
+    bytes: SmallVec<u8, SHORT>,
 }
 
 impl Model for Text {
@@ -18,9 +21,9 @@ impl Model for Text {
 
     ghost Value = { List ℕ };
 
-    ghost view = { λ t. t.bytes };
+    ghost view = { λ t. t.bytes.items };
 
-    ghost invariant = { λ t. IsText t.bytes };
+    ghost invariant = { λ t. IsText t.bytes.items };
 }
 
 impl Text {
@@ -37,7 +40,7 @@ impl Text {
         match first_past_ascii(bytes) {
             Some(place) => Err(TextFault::NotAscii(place)),
             None => {
-                let bytes = Bytes::from_slice(alloc, bytes)?;
+                let bytes = SmallVec::from_slice(alloc, bytes)?;
                 Ok(Text { bytes })
             }
         }
@@ -56,7 +59,7 @@ impl Text {
         ensures { result ≡ [] }
     {
         Text {
-            bytes: Bytes::new(alloc),
+            bytes: SmallVec::new(alloc),
         }
     }
 
@@ -104,7 +107,7 @@ impl Text {
         requires within { to ≤ length self.now }
         ensures { IfOk result (λ t. t ≡ take (to - from) (drop from self.now)) }
     {
-        let bytes = Bytes::from_slice(self.bytes.allocator(), &self.bytes.as_slice()[from..to])?;
+        let bytes = SmallVec::from_slice(*self.bytes.allocator(), &self.bytes.as_slice()[from..to])?;
         Ok(Text { bytes })
     }
 
@@ -113,7 +116,7 @@ impl Text {
     pub fn join(&self, behind: &Text) -> Result<Text, NoMemory>
         ensures { IfOk result (λ t. t ≡ self.now ++ behind.now) }
     {
-        let mut bytes = Bytes::from_slice(self.bytes.allocator(), self.bytes.as_slice())?;
+        let mut bytes = SmallVec::from_slice(*self.bytes.allocator(), self.bytes.as_slice())?;
         bytes.extend_from_slice(behind.bytes.as_slice())?;
         Ok(Text { bytes })
     }
@@ -130,6 +133,15 @@ impl Text {
         ensures { IfOk result (λ t. t ≡ self.now) }
     {
         Ok(self.clone()?)
+    }
+}
+
+impl Clone for Text {
+    ghost is_clone = { λ a b. b ≡ a };
+
+    fn clone(&self) -> Result<Text, AllocError> {
+        let bytes = SmallVec::from_slice(*self.bytes.allocator(), self.bytes.as_slice())?;
+        Ok(Text { bytes })
     }
 }
 
@@ -163,15 +175,15 @@ fn ascii(byte: u8) -> u8
 // The bytes with `?` in place of each past ASCII: nearly always there is none, and they are copied as
 // they stand.
 #[tactic(auto, using(crate::proofs::TextLemmas::ascii_kept))]
-fn ascii_bytes(alloc: Global, bytes: &[u8]) -> Result<Bytes, AllocError>
-    ensures value { IfOk result (λ copied. copied ≡ map to_ascii bytes.now) }
-    ensures text { IfOk result (λ copied. IsText copied) }
+fn ascii_bytes(alloc: Global, bytes: &[u8]) -> Result<SmallVec<u8, SHORT>, AllocError>
+    ensures value { IfOk result (λ copied. copied.items ≡ map to_ascii bytes.now) }
+    ensures text { IfOk result (λ copied. IsText copied.items) }
 {
     if bytes.is_ascii() {
-        Bytes::from_slice(alloc, bytes)
+        SmallVec::from_slice(alloc, bytes)
     } else {
         let vec = bytes.iter().map(|b| ascii(*b)).collect(alloc)?;
-        Ok(Bytes::from_vec(vec))
+        Ok(SmallVec::from_vec(vec))
     }
 }
 
