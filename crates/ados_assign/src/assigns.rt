@@ -13,7 +13,7 @@ use std::marker::Model;
 use std::rc::Rc;
 
 /// An assign: its name, as it was first written, and the directory that it stands for.
-#[derive(Clone, Debug, Drop)]
+#[derive(Clone, Drop)]
 pub struct Assign {
     pub name: Name,
     pub directory: Place,
@@ -33,7 +33,7 @@ impl Assign {
 
 /// One version of the assigns, by their names, where case is ignored. A change gives a new version, and the old one
 /// stands. Copies share their rows.
-#[derive(Clone, Debug, Drop)]
+#[derive(Clone, Drop)]
 pub struct Assigns {
     rows: Rc<Vec<Assign>>,
 }

@@ -8,6 +8,9 @@ use ados_readargs::Args;
 use ados_text::{NoMemory, Text};
 use std::alloc::Global;
 
+// Room for what most lines put out, so that it is asked for once.
+const ROOM: usize = 64;
+
 /// Echo puts out its words.
 pub fn echo(alloc: Global, view: &ShellView, args: &Args) -> Result<Outcome, NoMemory>
     ensures { IfOk result (λ outcome. DoesTo outcome (λ shared. echo_row shared view.now args.now)) }
@@ -15,9 +18,6 @@ pub fn echo(alloc: Global, view: &ShellView, args: &Args) -> Result<Outcome, NoM
     let output = echoed(alloc, args.texts(0), args.is_on(1))?;
     Ok(Outcome::putting(view.limit, output))
 }
-
-// Room for what most lines put out, so that it is asked for once.
-const ROOM: usize = 64;
 
 fn echoed(alloc: Global, words: &[Text], noline: bool) -> Result<Vec<u8>, NoMemory>
     ensures { IfOk result (λ output. output.items ≡ echoed words.now noline) }

@@ -7,14 +7,14 @@ use ados_text::{Code, Octets};
 use std::alloc::Global;
 
 /// An object that was renamed: where it was, and where it is.
-#[derive(Debug, Drop)]
+#[derive(Drop)]
 pub struct Renamed {
     pub from: Place,
     pub to: Place,
 }
 
 /// What a command makes.
-#[derive(Debug, Drop)]
+#[derive(Drop)]
 pub struct Outcome {
     /// The shared parts behind it, where they are new ones.
     pub shared: Option<Shared>,

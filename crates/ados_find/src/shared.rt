@@ -10,7 +10,7 @@ use std::alloc::Global;
 use std::marker::Model;
 
 /// What all shells share: the files and the assigns.
-#[derive(Debug, Drop)]
+#[derive(Drop)]
 pub struct Shared {
     pub ram: Ram,
     pub assigns: Assigns,

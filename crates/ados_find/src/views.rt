@@ -4,7 +4,7 @@ use ados_text::Code;
 use std::marker::Model;
 
 /// What commands read of their shell, and of the others.
-#[derive(Debug, Drop)]
+#[derive(Drop)]
 pub struct ShellView {
     /// Its fail limit.
     pub limit: Code,

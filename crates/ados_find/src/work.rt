@@ -9,7 +9,7 @@ use ados_text::{Code, NoMemory, Octets};
 use std::alloc::Global;
 
 /// What a command has done so far.
-#[derive(Debug, Drop)]
+#[derive(Drop)]
 pub struct Work {
     /// A new version of the shared parts, if there is one.
     pub shared: Option<Shared>,

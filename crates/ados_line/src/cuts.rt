@@ -14,7 +14,7 @@ use ados_text::{NoMemory, Text};
 use std::alloc::Global;
 
 /// What was read of a line.
-#[derive(Debug, Drop)]
+#[derive(Drop)]
 pub struct Cut {
     /// The first item's text.
     pub command: Option<Text>,
@@ -27,7 +27,7 @@ pub struct Cut {
 }
 
 /// Where reading goes on behind an item.
-#[derive(Clone, Copy, Debug, PartialEq, Eq)]
+#[derive(Clone, Copy)]
 pub enum Reading {
     /// At this place.
     Onward(usize),

@@ -12,7 +12,7 @@ use std::alloc::Global;
 const LINE_BYTES: usize = 512;
 
 /// Where a command's output goes in place of the console.
-#[derive(Debug, Drop)]
+#[derive(Clone, Drop)]
 pub struct Redirection {
     /// The name of a file, as it stands in the line.
     pub name: Text,
@@ -20,20 +20,8 @@ pub struct Redirection {
     pub append: bool,
 }
 
-impl Redirection {
-    /// An equal redirection.
-    pub fn copy(&self) -> Result<Redirection, NoMemory>
-        ensures { IfOk result (λ output. output ≡ self.now) }
-    {
-        Ok(Redirection {
-            name: self.name.copy()?,
-            append: self.append,
-        })
-    }
-}
-
 /// A line, cut.
-#[derive(Debug, Drop)]
+#[derive(Clone, Drop)]
 pub struct Line {
     /// The first item's text.
     pub command: Text,
@@ -50,25 +38,21 @@ impl Line {
     pub fn copy(&self) -> Result<Line, NoMemory>
         ensures { IfOk result (λ line. line ≡ self.now) }
     {
-        let input = match &self.input {
-            None => None,
-            Some(name) => Some(name.copy()?),
-        };
-        let output = match &self.output {
-            None => None,
-            Some(output) => Some(output.copy()?),
-        };
-        Ok(Line {
-            command: self.command.copy()?,
-            args: self.args.copy()?,
-            input,
-            output,
-        })
+        Ok(self.clone()?)
+    }
+
+    /// The same line with other arguments.
+    pub fn with_args(&self, args: Text) -> Result<Line, NoMemory>
+        ensures { IfOk result (λ line. line ≡ record self.now { args = args }) }
+    {
+        let mut line = self.copy()?;
+        line.args = args;
+        Ok(line)
     }
 }
 
 /// What a raw line came to.
-#[derive(Debug, Drop)]
+#[derive(Drop)]
 pub enum Expanded {
     /// A blank line or a comment: it asks for nothing.
     Nothing,

@@ -4,7 +4,7 @@ use ados_env::Command;
 use ados_text::Text;
 
 /// The commands of the Shell itself.
-#[derive(Clone, Copy, Debug, PartialEq, Eq)]
+#[derive(Clone, Copy)]
 pub enum Builtin {
     /// One that neither flows nor works on files.
     Env(Command),

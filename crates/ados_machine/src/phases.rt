@@ -2,7 +2,7 @@ use crate::builtins::Builtin;
 use ados_line::Line;
 
 /// What a shell waits for.
-#[derive(Debug, Drop)]
+#[derive(Drop)]
 pub enum Phase {
     /// It takes the next line of its newest frame, or of the console.
     Ready,
@@ -11,7 +11,7 @@ pub enum Phase {
 }
 
 /// A command that asked for its arguments.
-#[derive(Debug, Drop)]
+#[derive(Drop)]
 pub struct Asking {
     /// The command.
     pub builtin: Builtin,

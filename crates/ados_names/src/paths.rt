@@ -17,7 +17,7 @@ use std::marker::Model;
 const PATH_LIMIT: usize = 255;
 
 /// A path: a device text, if one is named, and steps. Each path can be written as a text of at most 255 bytes.
-#[derive(Clone, Debug, Drop)]
+#[derive(Clone, Drop)]
 pub struct Path {
     device: Option<Text>,
     steps: SmallVec<Step, 8>,

@@ -1,7 +1,7 @@
 use ados_text::Text;
 
 /// A step of a path.
-#[derive(Clone, Debug, Default, Drop, PartialEq, Eq)]
+#[derive(Clone, Default, Drop)]
 pub enum Step {
     /// To the directory above.
     #[default]

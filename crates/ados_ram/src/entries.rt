@@ -6,14 +6,14 @@ use ados_text::{Name, NoMemory, Text};
 use std::alloc::Global;
 
 /// What stands at a place: a directory, or a file with its bytes.
-#[derive(Clone, Debug, Drop)]
+#[derive(Clone, Drop)]
 pub enum Body {
     Directory,
     File(FileBytes),
 }
 
 /// The protection bits, in their order: h s p a r w e d.
-#[derive(Clone, Copy, Debug, PartialEq, Eq)]
+#[derive(Clone, Copy, PartialEq, Eq)]
 pub struct Bits {
     /// h: kept resident.
     pub hold: bool,
@@ -60,7 +60,7 @@ impl Bits {
 }
 
 /// An object of the files: its name as it is written, what it is, its bits and its comment.
-#[derive(Clone, Debug, Drop)]
+#[derive(Clone, Drop)]
 pub struct Entry {
     pub name: Name,
     pub body: Body,

@@ -6,7 +6,7 @@ use std::marker::Model;
 use std::rc::Rc;
 
 /// What a file holds. The bytes are never copied: all who hold them share them.
-#[derive(Clone, Debug, Drop)]
+#[derive(Clone, Drop)]
 pub struct FileBytes {
     octets: Rc<Octets>,
 }

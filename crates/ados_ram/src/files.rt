@@ -31,7 +31,7 @@ const COMMENT_LIMIT: usize = 79;
 
 /// One version of the files of the RAM disk. A change gives a new version, and the old one stands; what a change
 /// leaves alone is shared by both.
-#[derive(Debug, Drop)]
+#[derive(Drop)]
 pub struct Ram {
     table: Table,
     alloc: Global,

@@ -8,7 +8,7 @@ use std::marker::Model;
 
 /// What is in use while a call is made. A place is in use where it is one of these directories or outputs, and where
 /// an open output is below it.
-#[derive(Debug, Drop)]
+#[derive(Drop)]
 pub struct Busy {
     /// The current directories of shells and the directories of assigns.
     pub dirs: Vec<Place>,

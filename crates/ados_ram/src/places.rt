@@ -12,7 +12,7 @@ use std::marker::Model;
 
 /// A full path: the names from the root down, as they are written. Two places are equal where they are alike with
 /// case ignored.
-#[derive(Clone, Debug, Drop)]
+#[derive(Clone, Drop)]
 pub struct Place {
     names: Vec<Name>,
 }

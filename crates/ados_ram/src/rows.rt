@@ -12,12 +12,12 @@ use std::marker::Model;
 use std::rc::Rc;
 
 /// An entry with its place, shared between versions. How the place is spelled does not matter.
-#[derive(Debug, Drop)]
+#[derive(Drop)]
 pub struct Row {
     object: Rc<Object>,
 }
 
-#[derive(Debug, Drop)]
+#[derive(Drop)]
 pub struct Object {
     place: Place,
     entry: Entry,

@@ -18,7 +18,7 @@ use std::alloc::Global;
 use std::marker::Model;
 
 /// All rows, in the order of their places. The rows are shared between tables.
-#[derive(Debug, Drop)]
+#[derive(Drop)]
 pub struct Table {
     rows: Vec<Row>,
     // how many bytes all files hold

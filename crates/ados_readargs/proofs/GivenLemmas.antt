@@ -5,7 +5,7 @@ use Rattle.ados_readargs.specs.declared.options.Qualifiers.{Qualifiers}
 use Rattle.ados_readargs.specs.declared.options.TemplateOption.{TemplateOption}
 use Rattle.ados_readargs.specs.declared.readings.Reading.{Reading}
 use Rattle.ados_readargs.specs.declared.readings.Reading.TheVariants.{Named, Given}
-use Rattle.ados_readargs.specs.Readings.{LineReadings, is_filled, given_items}
+use Rattle.ados_readargs.specs.Readings.{Readings, is_filled, given_items}
 use Rattle.ados_readargs.specs.Shares.{middle_of, share_by}
 use Rattle.ados_readargs.specs.Options.{takes_value}
 use Rattle.ados_readargs.specs.Args.{value_arg, arg_at}
@@ -25,7 +25,7 @@ none_given place (Given option item ∷ given) e =
     rw (neither-left (option == place) (is_filled place given) e) (none_given place given (neither-right (option == place) (is_filled place given) e))
 
 -- its argument comes from its plain words alone
-pub arg-unfilled : (options : List TemplateOption) (line : List ℕ) (readings : LineReadings) (place : ℕ) (q : Qualifiers) (items : List Item)
+pub arg-unfilled : (options : List TemplateOption) (line : List ℕ) (readings : Readings) (place : ℕ) (q : Qualifiers) (items : List Item)
     → takes_value q ≡ true → is_filled place readings.given ≡ false → items ≡ share_by (middle_of options) options readings place
     → value_arg q line items ≡ arg_at options line readings place q
 unfolding arg_at

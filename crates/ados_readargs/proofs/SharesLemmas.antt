@@ -8,7 +8,7 @@ use Rattle.ados_items.specs.declared.items.Item.{Item}
 use Rattle.ados_readargs.specs.declared.options.Qualifiers.{Qualifiers}
 use Rattle.ados_readargs.specs.declared.options.TemplateOption.{TemplateOption}
 use Rattle.ados_readargs.specs.declared.readings.Reading.{Reading}
-use Rattle.ados_readargs.specs.Readings.{LineReadings}
+use Rattle.ados_readargs.specs.Readings.{Readings}
 use Rattle.ados_readargs.specs.Options.{unqualified, qualifiers_of, qualifiers_at}
 use Rattle.ados_readargs.specs.Shares.{is_vacant, open_count, front_share, middle_share, back_share, share_by, shares_to}
 
@@ -59,7 +59,7 @@ front-counted : (v r : Bool) (a b : ℕ) → a ≡ b + (if v && (not false || r)
 front-counted true r a b e = e
 front-counted false r a b e = e
 
-front-step : (options : List TemplateOption) (readings : LineReadings) (n : ℕ) → n < length options
+front-step : (options : List TemplateOption) (readings : Readings) (n : ℕ) → n < length options
     → take (open_count false 0 (take n options) readings.given) readings.plain ++ front_share options readings n ≡ take (open_count false 0 (take (n + 1) options) readings.given) readings.plain
 front-step options readings n h =
     let vacant = is_vacant n (qualifiers_at options n) readings.given in
@@ -67,7 +67,7 @@ front-step options readings n h =
     (front-counted vacant (qualifiers_at options n).required _ _ (front-more options readings.given n h))
 
 -- the first options take the first words
-to-front-none : (options : List TemplateOption) (readings : LineReadings) (n : ℕ) → n ≤ length options
+to-front-none : (options : List TemplateOption) (readings : Readings) (n : ℕ) → n ≤ length options
     → shares_to None n options readings ≡ take (open_count false 0 (take n options) readings.given) readings.plain
 to-front-none options readings zero h = refl
 to-front-none options readings (suc n) h =
@@ -75,19 +75,19 @@ to-front-none options readings (suc n) h =
     ap (λ s. s ++ front_share options readings n) (to-front-none options readings n (omega arith))
     ∙ front-step options readings n (omega arith) ∙ ap (λ i. take (open_count false 0 (take i options) readings.given) readings.plain) e
 
-share-front : (m n : ℕ) (options : List TemplateOption) (readings : LineReadings) → n < m
+share-front : (m n : ℕ) (options : List TemplateOption) (readings : Readings) → n < m
     → share_by (Some m) options readings n ≡ front_share options readings n
 share-front m n options readings h = grind (arith, nat_tests, h)
 
-share-middle : (m : ℕ) (options : List TemplateOption) (readings : LineReadings)
+share-middle : (m : ℕ) (options : List TemplateOption) (readings : Readings)
     → share_by (Some m) options readings m ≡ middle_share options readings m
 share-middle m options readings = grind (arith, nat_tests)
 
-share-back : (m n : ℕ) (options : List TemplateOption) (readings : LineReadings) → m < n
+share-back : (m n : ℕ) (options : List TemplateOption) (readings : Readings) → m < n
     → share_by (Some m) options readings n ≡ back_share options readings m n
 share-back m n options readings h = grind (arith, nat_tests, h)
 
-to-front-some : (m : ℕ) (options : List TemplateOption) (readings : LineReadings) (n : ℕ) → m < length options → n ≤ m
+to-front-some : (m : ℕ) (options : List TemplateOption) (readings : Readings) (n : ℕ) → m < length options → n ≤ m
     → shares_to (Some m) n options readings ≡ take (open_count false 0 (take n options) readings.given) readings.plain
 to-front-some m options readings zero w h = refl
 to-front-some m options readings (suc n) w h =
@@ -96,7 +96,7 @@ to-front-some m options readings (suc n) w h =
     ∙ ap (λ s. take (open_count false 0 (take n options) readings.given) readings.plain ++ s) (share-front m n options readings (omega arith))
     ∙ front-step options readings n (omega arith) ∙ ap (λ i. take (open_count false 0 (take i options) readings.given) readings.plain) e
 
-shares-more : (mo : Option ℕ) (options : List TemplateOption) (readings : LineReadings) (n k : ℕ) → n ≡ suc k
+shares-more : (mo : Option ℕ) (options : List TemplateOption) (readings : Readings) (n k : ℕ) → n ≡ suc k
     → shares_to mo n options readings ≡ shares_to mo k options readings ++ share_by mo options readings k
 shares-more mo options readings n k e = ap (λ i. shares_to mo i options readings) e
 
@@ -127,12 +127,12 @@ back-words true false front behind count plain e =
 back-words true true front behind count plain e = back-last (nat_lt behind (length plain - front)) front behind count plain refl e
 
 -- behind the /M, all words are taken but those of the options still to come
-abbrev kept : ℕ → ℕ → List TemplateOption → LineReadings → List Item
+abbrev kept : ℕ → ℕ → List TemplateOption → Readings → List Item
 kept m n options readings =
     let front = open_count false 0 (take m options) readings.given in
     take (front + (length readings.plain - front - open_count true n (drop n options) readings.given)) readings.plain
 
-to-back : (m : ℕ) (options : List TemplateOption) (readings : LineReadings) (j n : ℕ) → m < length options
+to-back : (m : ℕ) (options : List TemplateOption) (readings : Readings) (j n : ℕ) → m < length options
     → n ≡ m + 1 + j → n ≤ length options → shares_to (Some m) n options readings ≡ kept m n options readings
 to-back m options readings zero n w e h =
     let front = open_count false 0 (take m options) readings.given in
@@ -152,14 +152,14 @@ to-back m options readings (suc j) n w e h =
     (open_count true (k + 1) (drop (k + 1) options) readings.given) (open_count true k (drop k options) readings.given) readings.plain (back-less options readings.given k (omega arith))
     ∙ ap (λ i. kept m i options readings) e1
 
-pub takes_all-none : (options : List TemplateOption) (readings : LineReadings)
+pub takes_all-none : (options : List TemplateOption) (readings : Readings)
     → nat_lt (open_count false 0 options readings.given) (length readings.plain) ≡ false → shares_to None (length options) options readings ≡ readings.plain
 takes_all-none options readings t =
     let few : length readings.plain ≤ open_count false 0 options readings.given = grind (arith, nat_tests, t) in
     to-front-none options readings (length options) (omega arith)
     ∙ ap (λ os. take (open_count false 0 os readings.given) readings.plain) (take_all (length options) options (omega arith)) ∙ take_all _ readings.plain few
 
-pub takes_all-some : (m : ℕ) (options : List TemplateOption) (readings : LineReadings) → m < length options
+pub takes_all-some : (m : ℕ) (options : List TemplateOption) (readings : Readings) → m < length options
     → shares_to (Some m) (length options) options readings ≡ readings.plain
 takes_all-some m options readings w =
     let none : open_count true (length options) (drop (length options) options) readings.given ≡ 0 = ap (λ os. open_count true (length options) os readings.given) (drop_all (length options) options (omega arith)) in

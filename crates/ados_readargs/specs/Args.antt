@@ -8,7 +8,7 @@ use Rattle.ados_readargs.specs.declared.options.TemplateOption.{TemplateOption}
 use Rattle.ados_readargs.specs.declared.args.Arg.{Arg}
 use Rattle.ados_readargs.specs.declared.args.Arg.TheVariants.{Absent, On, One, Many}
 use Rattle.ados_readargs.specs.Options.{takes_value, place_named}
-use Rattle.ados_readargs.specs.Readings.{LineReadings, named_count}
+use Rattle.ados_readargs.specs.Readings.{Readings, named_count}
 use Rattle.ados_readargs.specs.Shares.{held_items}
 
 -- a switch or toggle that is on or not
@@ -35,17 +35,17 @@ abbrev pub value_arg : Qualifiers → List ℕ → List Item → Arg
 value_arg q line items = if q.many then many_of line items else one_of line items
 
 -- the argument of the option at a place, with its qualifiers
-unfoldable pub arg_at : List TemplateOption → List ℕ → LineReadings → ℕ → Qualifiers → Arg
+unfoldable pub arg_at : List TemplateOption → List ℕ → Readings → ℕ → Qualifiers → Arg
 arg_at options line readings place q =
     if takes_value q then value_arg q line (held_items options readings place) else named_arg q (named_count place readings.given)
 
 -- the arguments of the options from a place on, one for each of a list
-abbrev pub args_from : List TemplateOption → List ℕ → LineReadings → ℕ → List TemplateOption → List Arg
+abbrev pub args_from : List TemplateOption → List ℕ → Readings → ℕ → List TemplateOption → List Arg
 args_from options line readings place [] = []
 args_from options line readings place (option ∷ more) = arg_at options line readings place option.qualifiers ∷ args_from options line readings (place + 1) more
 
 -- the arguments of the options, one for each
-abbrev pub args_of : List TemplateOption → List ℕ → LineReadings → List Arg
+abbrev pub args_of : List TemplateOption → List ℕ → Readings → List Arg
 args_of options line readings = args_from options line readings 0 options
 
 -- the texts of an argument

@@ -5,7 +5,7 @@ use Rattle.ados_readargs.specs.declared.options.TemplateOption.{TemplateOption}
 use Rattle.ados_readargs.specs.declared.args.Arg.{Arg}
 use Rattle.ados_readargs.specs.Words.{line_words_of}
 use Rattle.ados_readargs.specs.Meanings.{read_of}
-use Rattle.ados_readargs.specs.Readings.{LineReadings}
+use Rattle.ados_readargs.specs.Readings.{Readings}
 use Rattle.ados_readargs.specs.Shares.{is_left, TakesAll}
 use Rattle.ados_readargs.specs.Args.{args_of}
 use Rattle.ados_readargs.specs.Checks.{lacks, has_bad}
@@ -19,7 +19,7 @@ checked_args options left args =
     (if has_bad options args then Err fault.BadNumber else Ok args))
 
 -- the arguments by what the words of the line say
-abbrev pub args_read : List TemplateOption → List ℕ → Result LineReadings ArgFault → Result (List Arg) ArgFault
+abbrev pub args_read : List TemplateOption → List ℕ → Result Readings ArgFault → Result (List Arg) ArgFault
 args_read options line (Err fault) = Err fault
 args_read options line (Ok readings) = checked_args options (is_left options readings) (args_of options line readings)
 

@@ -17,7 +17,7 @@ use Rattle.ados_readargs.specs.declared.meanings.Meaning.{Meaning}
 use Rattle.ados_readargs.specs.declared.meanings.Meaning.TheVariants.{Read, Plain, Wait, Stop, Refuse}
 use Rattle.ados_readargs.specs.Options.{has_name, is_rest, takes_value, qualifiers_at}
 use Rattle.ados_readargs.specs.Words.{item_of, start_of, is_open_quote, is_equal}
-use Rattle.ados_readargs.specs.Readings.{LineReadings, nothing_read, is_filled, first_open}
+use Rattle.ados_readargs.specs.Readings.{Readings, nothing_read, is_filled, first_open}
 
 -- a run whose first Word is the name, and which ends there or not, is a keyword of the option
 abbrev pub is_keyword : List ℕ → Bool → TemplateOption → Bool
@@ -96,12 +96,12 @@ meaning_of options line given Free word = free_meaning options line given word (
 meaning_of options line given (Value place equal) word = value_meaning (is_full (qualifiers_at options place) (is_filled place given)) place equal word
 
 -- the readings where no word is left
-abbrev pub read_end : LineReadings → Pending → Result LineReadings ArgFault
+abbrev pub read_end : Readings → Pending → Result Readings ArgFault
 read_end readings Free = Ok readings
 read_end readings (Value place equal) = Err fault.ValueMissing
 
 -- the readings by what a word says, where `next` goes on
-abbrev pub read_behind : (LineReadings → Pending → Result LineReadings ArgFault) → LineReadings → Meaning → Result LineReadings ArgFault
+abbrev pub read_behind : (Readings → Pending → Result Readings ArgFault) → Readings → Meaning → Result Readings ArgFault
 read_behind next readings (Read reading) = next (record readings { given = readings.given ++ reading ∷ [] }) Free
 read_behind next readings (Plain item) = next (record readings { plain = readings.plain ++ item ∷ [] }) Free
 read_behind next readings (Wait place equal) = next readings (Value place equal)
@@ -109,7 +109,7 @@ read_behind next readings (Stop reading) = Ok (record readings { given = reading
 read_behind next readings (Refuse fault) = Err fault
 
 -- the readings of the words, behind the readings so far
-abbrev pub read_from : List TemplateOption → List ℕ → LineReadings → Pending → List LineWord → Result LineReadings ArgFault
+abbrev pub read_from : List TemplateOption → List ℕ → Readings → Pending → List LineWord → Result Readings ArgFault
 read_from options line readings pending [] = read_end readings pending
 read_from options line readings pending (word ∷ words) =
     read_behind (λ more next. read_from options line more next words) readings (meaning_of options line readings.given pending word)
@@ -125,10 +125,10 @@ quotes_first unclosed fault.Unmatched = fault.Unmatched
 quotes_first unclosed fault.NoMemory = fault.NoMemory
 
 -- the readings, or their fault
-abbrev pub with_quotes : Bool → Result LineReadings ArgFault → Result LineReadings ArgFault
+abbrev pub with_quotes : Bool → Result Readings ArgFault → Result Readings ArgFault
 with_quotes unclosed (Ok readings) = Ok readings
 with_quotes unclosed (Err fault) = Err (quotes_first unclosed fault)
 
 -- what the words of a line say
-abbrev pub read_of : List TemplateOption → List ℕ → List LineWord → Result LineReadings ArgFault
+abbrev pub read_of : List TemplateOption → List ℕ → List LineWord → Result Readings ArgFault
 read_of options line words = with_quotes (list_any is_open_quote words) (read_from options line nothing_read Free words)

@@ -7,12 +7,12 @@ use Rattle.ados_readargs.specs.declared.readings.Reading.TheVariants.{Named, Giv
 use Rattle.ados_readargs.specs.Options.{is_plain}
 
 -- what the words of a line were read as: what is said of options, and the plain words, which are laid on options once all words are read
-pub record LineReadings : Type 0 where
+pub record Readings : Type 0 where
   pub given : List Reading
   pub plain : List Item
 
 -- nothing is read yet
-abbrev pub nothing_read : LineReadings
+abbrev pub nothing_read : Readings
 nothing_read = record { given = []; plain = [] }
 
 -- the reading fills the option at a place

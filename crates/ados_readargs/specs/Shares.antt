@@ -4,7 +4,7 @@ use Rattle.ados_readargs.specs.declared.options.Qualifiers.{Qualifiers}
 use Rattle.ados_readargs.specs.declared.options.TemplateOption.{TemplateOption}
 use Rattle.ados_readargs.specs.declared.readings.Reading.{Reading}
 use Rattle.ados_readargs.specs.Options.{is_plain, qualifiers_at}
-use Rattle.ados_readargs.specs.Readings.{LineReadings, is_filled, given_items}
+use Rattle.ados_readargs.specs.Readings.{Readings, is_filled, given_items}
 
 -- the option is plain, and no reading fills it
 abbrev pub is_vacant : ℕ → Qualifiers → List Reading → Bool
@@ -25,19 +25,19 @@ abbrev pub middle_of : List TemplateOption → Option ℕ
 middle_of options = position is_middle options
 
 -- the plain word of an open option in front: the option with so many open ones before it takes the word with so many before it
-abbrev pub front_share : List TemplateOption → LineReadings → ℕ → List Item
+abbrev pub front_share : List TemplateOption → Readings → ℕ → List Item
 front_share options readings place =
     if is_vacant place (qualifiers_at options place) readings.given then take 1 (drop (open_count false 0 (take place options) readings.given) readings.plain) else []
 
 -- the plain words of the /M: all but those of the front, and of the open /A options behind
-abbrev pub middle_share : List TemplateOption → LineReadings → ℕ → List Item
+abbrev pub middle_share : List TemplateOption → Readings → ℕ → List Item
 middle_share options readings middle =
     let front = open_count false 0 (take middle options) readings.given in
     let behind = open_count true (middle + 1) (drop (middle + 1) options) readings.given in
     take (length readings.plain - front - behind) (drop front readings.plain)
 
 -- the plain word of an open /A option behind the /M: the last option takes the last word
-abbrev pub back_share : List TemplateOption → LineReadings → ℕ → ℕ → List Item
+abbrev pub back_share : List TemplateOption → Readings → ℕ → ℕ → List Item
 back_share options readings middle place =
     let front = open_count false 0 (take middle options) readings.given in
     let behind = open_count true (place + 1) (drop (place + 1) options) readings.given in
@@ -45,30 +45,30 @@ back_share options readings middle place =
     then take 1 (drop (length readings.plain - 1 - behind) readings.plain) else []
 
 -- the plain words that the option at a place takes
-abbrev pub share_by : Option ℕ → List TemplateOption → LineReadings → ℕ → List Item
+abbrev pub share_by : Option ℕ → List TemplateOption → Readings → ℕ → List Item
 share_by None options readings place = front_share options readings place
 share_by (Some middle) options readings place =
     if nat_lt place middle then front_share options readings place else
     (if place == middle then middle_share options readings middle else back_share options readings middle place)
 
 -- more plain words than open plain options, and no /M
-abbrev pub is_left_by : Option ℕ → List TemplateOption → LineReadings → Bool
+abbrev pub is_left_by : Option ℕ → List TemplateOption → Readings → Bool
 is_left_by None options readings = nat_lt (open_count false 0 options readings.given) (length readings.plain)
 is_left_by (Some middle) options readings = false
 
 -- a plain word is left over
-abbrev pub is_left : List TemplateOption → LineReadings → Bool
+abbrev pub is_left : List TemplateOption → Readings → Bool
 is_left options readings = is_left_by (middle_of options) options readings
 
 -- what the option at a place holds
-abbrev pub held_items : List TemplateOption → LineReadings → ℕ → List Item
+abbrev pub held_items : List TemplateOption → Readings → ℕ → List Item
 held_items options readings place = given_items place readings.given ++ share_by (middle_of options) options readings place
 
 -- the plain words that the first options take, so many of them, one behind another
-abbrev pub shares_to : Option ℕ → ℕ → List TemplateOption → LineReadings → List Item
+abbrev pub shares_to : Option ℕ → ℕ → List TemplateOption → Readings → List Item
 shares_to middle zero options readings = []
 shares_to middle (suc n) options readings = shares_to middle n options readings ++ share_by middle options readings n
 
 -- each plain word is taken by one option, in the order of the line
-abbrev pub TakesAll : List TemplateOption → LineReadings → Type 0
+abbrev pub TakesAll : List TemplateOption → Readings → Type 0
 TakesAll options readings = shares_to (middle_of options) (length options) options readings ≡ readings.plain

@@ -6,7 +6,7 @@ ghost use Rattle.ados_readargs.specs.Template.{options_of};
 ghost use Rattle.ados_readargs.specs.Args.{on_where, many_of, one_of, named_arg, value_arg, arg_at, args_of, texts_in, arg_named, is_on, text_at, texts_at, number_at};
 
 use crate::options::{Qualifiers, TemplateOption};
-use crate::readings::{WordsRead, is_filled, named_count};
+use crate::readings::{Readings, is_filled, named_count};
 use crate::shares::{held_items, share};
 use crate::template::Template;
 use ados_items::{Item, value};
@@ -15,7 +15,7 @@ use std::alloc::Global;
 use std::marker::Model;
 
 /// What an option was given.
-#[derive(Clone, Debug, Drop)]
+#[derive(Drop)]
 pub enum Arg {
     /// Nothing; an `/M` without a value, too.
     Absent,
@@ -53,7 +53,7 @@ impl Arg {
 }
 
 /// What a line gives to each option of a template, in the order of the options.
-#[derive(Clone, Debug, Drop)]
+#[derive(Drop)]
 pub struct Args {
     items: Vec<Arg>,
 }
@@ -196,7 +196,7 @@ fn arg_at(
     alloc: Global,
     options: &[TemplateOption],
     line: &[u8],
-    readings: &WordsRead,
+    readings: &Readings,
     place: usize,
     q: Qualifiers,
 ) -> Result<Arg, NoMemory>
@@ -222,7 +222,7 @@ pub fn args_of(
     alloc: Global,
     options: &[TemplateOption],
     line: &[u8],
-    readings: &WordsRead,
+    readings: &Readings,
 ) -> Result<Vec<Arg>, NoMemory>
     ensures args { IfOk result (λ args. args.items ≡ args_of options.now line.now readings.now) }
     ensures len { IfOk result (λ args. length args.items ≡ length options.now) }

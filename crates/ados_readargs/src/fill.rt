@@ -9,7 +9,7 @@ use crate::checks::{has_bad, lacks};
 use crate::errors::ArgFault;
 use crate::meanings::read;
 use crate::options::TemplateOption;
-use crate::readings::WordsRead;
+use crate::readings::Readings;
 use crate::shares::is_left;
 use std::alloc::Global;
 
@@ -18,7 +18,7 @@ fn args_read(
     alloc: Global,
     options: &[TemplateOption],
     line: &[u8],
-    readings: &WordsRead,
+    readings: &Readings,
 ) -> Result<Args, ArgFault>
     ensures ok { IfOk result (λ args. args_read options.now line.now (Ok readings.now) ≡ Ok args) }
     ensures numbers { IfOk result (λ args. has_bad options.now args ≡ false) }

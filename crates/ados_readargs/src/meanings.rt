@@ -10,7 +10,7 @@ ghost use Rattle.ados_readargs.specs.declared.meanings.Pending.TheVariants.{Free
 
 use crate::errors::ArgFault;
 use crate::options::{Qualifiers, TemplateOption, has_rest, qualifiers_at};
-use crate::readings::{Reading, WordsRead, first_open, is_filled};
+use crate::readings::{Reading, Readings, first_open, is_filled};
 use crate::words::{LineWord, is_unclosed, word_at};
 use ados_items::Item;
 use std::alloc::Global;
@@ -280,7 +280,7 @@ fn meaning_of(
 }
 
 // The readings where no word is left.
-fn read_end(readings: WordsRead, pending: Pending) -> Result<WordsRead, ArgFault>
+fn read_end(readings: Readings, pending: Pending) -> Result<Readings, ArgFault>
     ensures ok { IfOk result (λ left. read_end readings pending ≡ Ok left) }
     ensures fault { IfErr result (λ e. IsFaultOf (read_end readings pending) e) }
 {
@@ -290,7 +290,7 @@ fn read_end(readings: WordsRead, pending: Pending) -> Result<WordsRead, ArgFault
     }
 }
 
-fn read_words(alloc: Global, options: &[TemplateOption], line: &[u8]) -> Result<WordsRead, ArgFault>
+fn read_words(alloc: Global, options: &[TemplateOption], line: &[u8]) -> Result<Readings, ArgFault>
     ensures ok { IfOk result (λ readings. read_from options.now line.now nothing_read Free (line_words_of line.now) ≡ Ok readings) }
     ensures fault { IfErr result (λ e. IsFaultOf (read_from options.now line.now nothing_read Free (line_words_of line.now)) e) }
 {
@@ -301,7 +301,7 @@ fn read_words(alloc: Global, options: &[TemplateOption], line: &[u8]) -> Result<
     let mut place = 0;
     for step in 0..line.len() + 1 {
         let Some((word, behind)) = word_at(line, place) else {
-            return read_end(WordsRead { given, plain }, pending);
+            return read_end(Readings { given, plain }, pending);
         };
         match meaning_of(options, with_rest, line, given.as_slice(), pending, word) {
             Meaning::Read(reading) => {
@@ -315,13 +315,13 @@ fn read_words(alloc: Global, options: &[TemplateOption], line: &[u8]) -> Result<
             Meaning::Wait { option, equal } => pending = Pending::Value { option, equal },
             Meaning::Stop(reading) => {
                 given.push(reading)?;
-                return Ok(WordsRead { given, plain });
+                return Ok(Readings { given, plain });
             }
             Meaning::Refuse(fault) => return Err(fault),
         }
         place = behind;
     }
-    read_end(WordsRead { given, plain }, pending)
+    read_end(Readings { given, plain }, pending)
 }
 
 fn quotes_first(unclosed: bool, fault: ArgFault) -> ArgFault
@@ -338,7 +338,7 @@ fn quotes_first(unclosed: bool, fault: ArgFault) -> ArgFault
 ///
 /// `Unmatched` comes before `TooMany`, wherever the open quote stands; `ValueMissing` where a
 /// keyword is the last word.
-pub fn read(alloc: Global, options: &[TemplateOption], line: &[u8]) -> Result<WordsRead, ArgFault>
+pub fn read(alloc: Global, options: &[TemplateOption], line: &[u8]) -> Result<Readings, ArgFault>
     ensures ok { IfOk result (λ readings. read_of options.now line.now (line_words_of line.now) ≡ Ok readings) }
     ensures fault { IfErr result (λ e. IsFaultOf (read_of options.now line.now (line_words_of line.now)) e) }
 {

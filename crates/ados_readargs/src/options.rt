@@ -6,7 +6,7 @@ ghost use Rattle.std.specs.List.{list_any};
 use ados_text::Texts;
 
 /// The qualifiers of an option.
-#[derive(Clone, Copy, Debug, PartialEq, Eq)]
+#[derive(Clone, Copy)]
 pub struct Qualifiers {
     /// `/A`: it has to be filled.
     pub required: bool,
@@ -56,7 +56,7 @@ impl Qualifiers {
 }
 
 /// One option of a template.
-#[derive(Clone, Debug, Drop)]
+#[derive(Drop)]
 pub struct TemplateOption {
     /// Its names, in order; a name may be empty.
     pub names: Texts,

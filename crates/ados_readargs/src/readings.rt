@@ -50,17 +50,17 @@ impl Reading {
 
 /// What the words of a line were read as.
 #[derive(Drop)]
-pub struct WordsRead {
+pub struct Readings {
     /// What they say of options, in order.
     pub given: Vec<Reading>,
     /// The plain words, in order, which are laid on options once all words are read.
     pub plain: Vec<Item>,
 }
 
-impl Model for WordsRead {
-    ghost use Rattle.ados_readargs.specs.Readings.{LineReadings};
+impl Model for Readings {
+    ghost use Rattle.ados_readargs.specs.Readings.{Readings};
 
-    ghost Value = { LineReadings };
+    ghost Value = { Readings };
 
     ghost view = { λ r. record { given = r.given.items; plain = r.plain.items } };
 }

@@ -2,7 +2,7 @@ ghost use Rattle.std.specs.Prelude.{◌≡◌, ◌≤◌, ◌<◌, true, false, 
 ghost use Rattle.ados_readargs.specs.Shares.{is_vacant, open_count, is_middle, middle_of, front_share, middle_share, back_share, share_by, is_left, held_items, TakesAll};
 
 use crate::options::{Qualifiers, TemplateOption, qualifiers_at};
-use crate::readings::{Reading, WordsRead, given_items, is_filled};
+use crate::readings::{Reading, Readings, given_items, is_filled};
 use ados_items::Item;
 use ados_text::NoMemory;
 use std::alloc::Global;
@@ -65,7 +65,7 @@ fn front_count(options: &[TemplateOption], given: &[Reading], place: usize) -> u
 }
 
 // The plain word of an option with no /M before it.
-fn front_share<'a>(options: &[TemplateOption], readings: &'a WordsRead, place: usize) -> &'a [Item]
+fn front_share<'a>(options: &[TemplateOption], readings: &'a Readings, place: usize) -> &'a [Item]
     requires { place < length options.now }
     ensures { result.now ≡ front_share options.now readings.now place }
 {
@@ -79,11 +79,7 @@ fn front_share<'a>(options: &[TemplateOption], readings: &'a WordsRead, place: u
 }
 
 // The plain words of the /M.
-fn middle_share<'a>(
-    options: &[TemplateOption],
-    readings: &'a WordsRead,
-    middle: usize,
-) -> &'a [Item]
+fn middle_share<'a>(options: &[TemplateOption], readings: &'a Readings, middle: usize) -> &'a [Item]
     requires { middle < length options.now }
     ensures { result.now ≡ middle_share options.now readings.now middle }
 {
@@ -101,7 +97,7 @@ fn middle_share<'a>(
 // The plain word of an option behind the /M.
 fn back_share<'a>(
     options: &[TemplateOption],
-    readings: &'a WordsRead,
+    readings: &'a Readings,
     middle: usize,
     place: usize,
 ) -> &'a [Item]
@@ -122,7 +118,7 @@ fn back_share<'a>(
 }
 
 /// The plain words that the option at a place takes.
-pub fn share<'a>(options: &[TemplateOption], readings: &'a WordsRead, place: usize) -> &'a [Item]
+pub fn share<'a>(options: &[TemplateOption], readings: &'a Readings, place: usize) -> &'a [Item]
     requires { place < length options.now }
     ensures { result.now ≡ share_by (middle_of options.now) options.now readings.now place }
 {
@@ -141,7 +137,7 @@ pub fn share<'a>(options: &[TemplateOption], readings: &'a WordsRead, place: usi
 }
 
 /// Whether a plain word is left over; otherwise each is taken by one option, in order.
-pub fn is_left(options: &[TemplateOption], readings: &WordsRead) -> bool
+pub fn is_left(options: &[TemplateOption], readings: &Readings) -> bool
     ensures value { result ≡ is_left options.now readings.now }
     ensures taken { result ≡ false → TakesAll options.now readings.now }
 {
@@ -157,7 +153,7 @@ pub fn is_left(options: &[TemplateOption], readings: &WordsRead) -> bool
 pub fn held_items(
     alloc: Global,
     options: &[TemplateOption],
-    readings: &WordsRead,
+    readings: &Readings,
     place: usize,
 ) -> Result<Vec<Item>, NoMemory>
     requires { place < length options.now }

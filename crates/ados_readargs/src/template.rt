@@ -16,7 +16,7 @@ use std::alloc::{AllocError, Global};
 use std::marker::Model;
 
 /// The options that a command takes, by their text.
-#[derive(Clone, Debug, Drop)]
+#[derive(Drop)]
 pub struct Template {
     text: Text,
     options: Vec<TemplateOption>,
@@ -101,13 +101,6 @@ impl Template {
         ensures fault { IfErr result (λ e. IsFaultOf (fill_of self.now line.now) e) }
     {
         fill_options(alloc, self.options.as_slice(), line)
-    }
-
-    /// An equal template.
-    pub fn copy(&self) -> Result<Template, NoMemory>
-        ensures { IfOk result (λ template. template ≡ self.now) }
-    {
-        Ok(self.clone()?)
     }
 }
 

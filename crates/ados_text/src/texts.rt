@@ -107,7 +107,10 @@ impl Text {
         requires within { to ≤ length self.now }
         ensures { IfOk result (λ t. t ≡ take (to - from) (drop from self.now)) }
     {
-        let bytes = SmallVec::from_slice(*self.bytes.allocator(), &self.bytes.as_slice()[from..to])?;
+        let bytes = SmallVec::from_slice(
+            *self.bytes.allocator(),
+            &self.bytes.as_slice()[from..to],
+        )?;
         Ok(Text { bytes })
     }
 

@@ -229,20 +229,6 @@ act-goes scene before mid done after word target effect codes n s h k p r d g =
     ∙ ap (λ x. after_put word held (put target effect.output effect.codes x)) course in
     goes-same scene before done after _ _ (d.number ∙ n) (d.reports ∙ r) e g
 
--- a prompt was printed, and its answer is at hand
-pub ask-goes : (scene : Scene) (before mid after : Draft) (builtin : Builtin) (line : Line) (answer : List ℕ)
-    → mid.number ≡ before.number → mid.shell ≡ before.shell → made_of mid ≡ made_of before → mid.reports.items ≡ before.reports.items
-    → mid.printed.items ≡ before.printed.items ++ prompt builtin
-    → GoesOn scene mid after (begun builtin (with_args line answer) mid.shell (course_of scene mid))
-    → GoesOn scene before after (begun builtin (with_args line answer) before.shell (printing (prompt builtin) (course_of scene before)))
-ask-goes scene before mid after builtin line answer n s h r p g =
-    let given = with_args line answer in
-    goes-same scene before mid after _ _ n r
-    (ap (λ x. begun builtin given x (course_of scene mid)) s
-    ∙ ap (λ x. begun builtin given before.shell (course_by scene x mid.printed.items)) h
-    ∙ ap (λ x. begun builtin given before.shell (course_by scene (made_of before) x)) p)
-    g
-
 -- the same by a word and codes that are told apart
 pub answered-goes : (scene : Scene) (before after : Draft) (word word' : List ℕ) (codes codes' : Codes) (quits : Bool) (shell : ShellState) (course : Course)
     → word ≡ word' → codes ≡ codes'
@@ -251,30 +237,3 @@ pub answered-goes : (scene : Scene) (before after : Draft) (word word' : List �
 answered-goes scene before after word word' codes codes' quits shell course w c g =
     goes-same scene before before after _ _ refl refl
     (ap (λ x. answered x codes quits shell course) w ∙ ap (λ x. answered word' x quits shell course) c) g
-
--- a prompt was answered, and its command goes on in a fresh draft
-pub resumed-drafted : (number : ℕ) (scene : Scene) (fresh mid after : Draft) (shell : ShellState) (question : Asking) (answer : List ℕ) (line : Line)
-    → IsFresh number shell fresh → mid.number ≡ fresh.number → mid.shell ≡ record fresh.shell { phase = Ready } → made_of mid ≡ made_of fresh
-    → mid.printed.items ≡ fresh.printed.items → mid.reports.items ≡ fresh.reports.items → line ≡ with_args question.line answer
-    → GoesOn scene mid after (begun question.builtin line mid.shell (course_of scene mid))
-    → IsDrafted number scene.shared.now after (resumed answer question shell (start_of scene))
-resumed-drafted number scene fresh mid after shell question answer line f n s m p r l g =
-    let given = with_args question.line answer in
-    let held : ShellState = record shell { phase = Ready } in
-    let e : begun question.builtin line mid.shell (course_of scene mid) ≡ resumed answer question shell (start_of scene) =
-    ap (λ x. begun question.builtin x mid.shell (course_of scene mid)) l
-    ∙ ap (λ x. begun question.builtin given x (course_of scene mid)) (s ∙ ap {A = ShellState} (λ x. record x { phase = Ready }) f.shell_is)
-    ∙ ap (λ x. begun question.builtin given held (course_by scene x mid.printed.items)) m
-    ∙ ap (λ x. begun question.builtin given held (course_by scene (record { shared = x; renamed = fresh.renamed }) mid.printed.items)) f.shared_is
-    ∙ ap (λ x. begun question.builtin given held (course_by scene (record { shared = None; renamed = x }) mid.printed.items)) f.renamed_is
-    ∙ ap (λ x. begun question.builtin given held (course_by scene (record { shared = None; renamed = None }) x)) (p ∙ f.printed_is) in
-    record {
-      number_is = g.number ∙ n ∙ f.number_is;
-      shell_is = g.shell ∙ ap (λ t. t.shell) e;
-      shared_is = ap (λ c. c.shared) g.course ∙ ap (λ t. t.course.shared) e;
-      renamed_is = ap (λ c. c.renamed) g.course ∙ ap (λ t. t.course.renamed) e;
-      printed_is = ap (λ c. c.printed) g.course ∙ ap (λ t. t.course.printed) e;
-      reports_are = g.reports ∙ ap (λ x. x ++ reports_of mid.number (begun question.builtin line mid.shell (course_of scene mid)).log) (r ∙ f.reports_are)
-          ∙ ap (λ k. reports_of k (begun question.builtin line mid.shell (course_of scene mid)).log) (n ∙ f.number_is)
-          ∙ ap (λ t. reports_of number t.log) e;
-    }

@@ -7,7 +7,7 @@ use ados_text::Code;
 use std::alloc::Global;
 
 /// What a command does.
-#[derive(Debug, Drop)]
+#[derive(Drop)]
 pub enum Action {
     /// It answers.
     Answers(Outcome),

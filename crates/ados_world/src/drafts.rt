@@ -20,7 +20,7 @@ use std::alloc::Global;
 
 /// What a turn of a shell changes: the shell, a new version of the shared parts where there is one, the object that it
 /// renamed, what it prints, and the scripts that it ends.
-#[derive(Debug, Drop)]
+#[derive(Drop)]
 pub struct Draft {
     pub number: u8,
     pub shell: Shell,

@@ -11,7 +11,7 @@ use std::marker::Model;
 use std::rc::Rc;
 
 /// What stays of a script while it runs.
-#[derive(Debug, Drop)]
+#[derive(Drop)]
 pub struct Script {
     /// The full path of its file.
     pub name: Text,
@@ -22,7 +22,7 @@ pub struct Script {
 }
 
 /// A script that runs.
-#[derive(Debug, Drop)]
+#[derive(Drop)]
 pub struct Frame {
     script: Rc<Script>,
     position: usize,

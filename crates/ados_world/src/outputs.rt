@@ -14,7 +14,7 @@ use ados_text::NoMemory;
 use std::alloc::Global;
 
 /// An output that was opened.
-#[derive(Debug, Drop)]
+#[derive(Drop)]
 pub enum Opened {
     /// The console.
     Console,

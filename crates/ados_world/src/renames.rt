@@ -26,7 +26,7 @@ pub fn directories(alloc: Global, shells: &[Option<Shell>; 20]) -> Result<Vec<Pl
 }
 
 /// All shells, at their numbers: they stand apart, so that a draft without them stays small.
-#[derive(Debug, Drop)]
+#[derive(Drop)]
 pub struct Shells {
     places: Box<[Option<Shell>; 20]>,
 }

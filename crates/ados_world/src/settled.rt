@@ -15,7 +15,7 @@ use ados_machine::{Asking, EndReport};
 use ados_text::{NoMemory, Text};
 
 /// What a turn of a shell changes, ready to be moved in, which takes no memory.
-#[derive(Debug, Drop)]
+#[derive(Drop)]
 pub struct Settled {
     /// All shells, where an object was renamed, by which their current directories are carried.
     pub shells: Option<Shells>,

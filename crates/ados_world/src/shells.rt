@@ -20,7 +20,7 @@ use std::rc::Rc;
 pub const FIRST_LIMIT: Code = Code(10);
 
 /// A shell. The newest frame is the last. The question is there where the shell waits for the answer to a prompt.
-#[derive(Debug, Drop)]
+#[derive(Drop)]
 pub struct Shell {
     frames: Vec<Frame>,
     limit: Code,

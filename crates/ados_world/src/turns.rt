@@ -98,14 +98,18 @@ impl Draft {
                 builtin,
                 line: line.copy()?,
             }),
-            Some(args) => {
-                let line = Line {
-                    args,
-                    ..line.copy()?
-                };
-                self.begin(scene, builtin, &line)
-            }
+            Some(args) => self.begin(scene, builtin, &line.with_args(args)?),
         }
+    }
+
+    /// Takes the answer to a command's prompt: it stands for the arguments as it is.
+    fn resume(&mut self, scene: &Scene, question: &Asking, answer: &Text) -> Result<(), NoMemory>
+        ensures { OnOk result (GoesOn scene.now self.old self.new
+            (resumed answer.now question.now self.old.shell (course_of scene.now self.old))) }
+    {
+        self.shell.be_ready();
+        let line = question.line.with_args(answer.copy()?)?;
+        self.begin(scene, question.builtin, &line)
     }
 
     /// Opens what a redirection names, as the shell and the shared parts stand.
@@ -277,12 +281,7 @@ fn answer_draft(
         (resumed answer.now question.now shell.now (start_of scene.now))) }
 {
     let mut draft = Draft::new(scene.alloc, number, shell)?;
-    draft.shell.be_ready();
-    let line = Line {
-        args: answer.copy()?,
-        ..question.line.copy()?
-    };
-    draft.begin(scene, question.builtin, &line)?;
+    draft.resume(scene, question, answer)?;
     Ok(draft)
 }
 
