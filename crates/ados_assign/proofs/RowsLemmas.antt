@@ -8,7 +8,7 @@ use Rattle.std.specs.FinMap as map
 use Rattle.std.specs.FinMap.{is_sorted, find, put, get-from_sorted, get-from_entries, entries-from_sorted, entries-insert, same_entries_map, same_map, get-remove}
 use Rattle.std.specs.FinMap.Entries.{is_sorted-put, is_sorted-where_key, find-where_key, where_key, below_all, by_order}
 use Rattle.ados_text.specs.Text.{folded}
-use Rattle.ados_ram.specs.Place.{name_cmp, name_cmp_total, name_cmp_exact}
+use Rattle.ados_text.specs.Name.{name_cmp, name_cmp_total, name_cmp_exact}
 use Rattle.ados_ram.specs.InUse.{InUse}
 use Rattle.ados_assign.specs.declared.assigns.Assign.{Assign}
 use Rattle.ados_assign.specs.Assigns.{AssignMap, binding, keyed, first_rows, first_assigns, bound, set_of, carried_row, carry_of}

@@ -3,7 +3,8 @@ use Rattle.std.specs.Prelude.{◌≡◌, ℕ, List, [], ◌∷◌, Option, Some,
 use Rattle.std.specs.Coded.{Coded, code_by, coded×, coded_list, coded_ℕ}
 use Rattle.std.specs.FinMap as map
 use Rattle.ados_text.specs.Text.{folded}
-use Rattle.ados_ram.specs.Place.{key_of, name_cmp, is_same_key, carried}
+use Rattle.ados_text.specs.Name.{name_cmp}
+use Rattle.ados_ram.specs.Place.{key_of, is_same_key, carried}
 use Rattle.ados_assign.specs.declared.assigns.Assign.{Assign}
 use Rattle.ados_assign.specs.declared.faults.AssignFault.{AssignFault}
 use Rattle.ados_assign.specs.declared.faults.AssignFault.TheVariants.{NotFound, NoMemory}

@@ -3,7 +3,8 @@ use Rattle.std.specs.Prelude.{ℕ, List, [], ◌∷◌, if◌then◌else◌}
 use Rattle.std.specs.Ordering.{eq_by_cmp}
 use Rattle.std.specs.FinMap.Entries.{by_order}
 use Rattle.ados_text.specs.Text.{folded}
-use Rattle.ados_ram.specs.Place.{name_cmp, carried}
+use Rattle.ados_text.specs.Name.{name_cmp}
+use Rattle.ados_ram.specs.Place.{carried}
 use Rattle.ados_assign.specs.Assigns.{binding}
 use Rattle.ados_assign.specs.declared.assigns.Assign.{Assign}
 

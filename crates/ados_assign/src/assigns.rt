@@ -2,7 +2,8 @@ ghost use Rattle.std.specs.Prelude.{◌≡◌, ◌++◌, [], List, ℕ, IfOk, Is
 ghost use Rattle.std.specs.Option.{option_copied};
 ghost use Rattle.std.specs.FinMap as map;
 ghost use Rattle.ados_text.specs.Text.{folded};
-ghost use Rattle.ados_ram.specs.Place.{key_of, name_cmp};
+ghost use Rattle.ados_text.specs.Name.{name_cmp};
+ghost use Rattle.ados_ram.specs.Place.{key_of};
 
 use crate::faults::AssignFault;
 use crate::rows::{carried_rows, find, first_rows, holders, push_directories, with_name, without};
@@ -41,7 +42,7 @@ pub struct Assigns {
 impl Model for Assigns {
     ghost use Rattle.std.specs.Prelude.{IsTrue};
     ghost use Rattle.std.specs.FinMap as map;
-    ghost use Rattle.ados_ram.specs.Place.{name_cmp};
+    ghost use Rattle.ados_text.specs.Name.{name_cmp};
     ghost use Rattle.ados_assign.specs.Assigns.{AssignMap, coded_assigns, keyed};
 
     ghost Value = { AssignMap };

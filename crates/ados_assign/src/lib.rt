@@ -3,7 +3,6 @@
 
 mod assigns;
 mod faults;
-mod order;
 mod resolve;
 mod rows;
 

@@ -1,24 +1,26 @@
 ghost use Rattle.std.specs.Prelude.{◌≡◌, ◌++◌, ◌∷◌, [], IfOk, OnOk, map as each};
 ghost use Rattle.std.specs.Option.{option_copied};
+ghost use Rattle.std.specs.Ordering.{eq_by_cmp};
 ghost use Rattle.std.specs.FinMap as map;
 ghost use Rattle.ados_text.specs.Text.{folded, to_ascii};
-ghost use Rattle.ados_ram.specs.Place.{key_of, name_cmp};
+ghost use Rattle.ados_text.specs.Name.{name_cmp};
+ghost use Rattle.ados_ram.specs.Place.{key_of};
 ghost use Rattle.ados_assign.specs.Assigns.{keyed, binding, first_rows, holders_in};
 ghost use Rattle.ados_assign.specs.Rows.{rows_with, rows_without, carried_assign};
 
 use crate::assigns::Assign;
-use crate::order::order;
 use ados_ram::Place;
 use ados_text::{Name, NoMemory, Text};
 use std::alloc::Global;
 use std::cmp::Ordering;
 
 impl Assign {
-    // How a name stands to that of the assign.
-    fn order_of(&self, name: &Name) -> Ordering
-        ensures { result ≡ name_cmp (folded name.now) (folded self.now.name) }
+    // The name is that of the assign.
+    #[tactic(auto, using(ados_text::proofs::NameLemmas::alike))]
+    fn is_named(&self, name: &Name) -> bool
+        ensures { result ≡ eq_by_cmp name_cmp (folded name.now) (folded self.now.name) }
     {
-        order(name, &self.name)
+        *name == self.name
     }
 }
 
@@ -27,7 +29,7 @@ pub fn find<'a>(rows: &'a [Assign], name: &Name) -> Option<&'a Assign>
     ensures { option_copied result ≡ map.find name_cmp (folded name.now) (keyed rows.now) }
 {
     for row in rows {
-        if row.order_of(name) == Ordering::Equal {
+        if row.is_named(name) {
             return Some(row);
         }
     }
@@ -80,7 +82,7 @@ fn bind_into(
         out.push(Assign { name, directory })?;
         return Ok(());
     };
-    match first.order_of(&name) {
+    match name.cmp(&first.name) {
         Ordering::Less => {
             out.push(Assign { name, directory })?;
             copy_into(out, rows)
@@ -119,9 +121,8 @@ pub fn without(alloc: Global, rows: &[Assign], name: &Name) -> Result<Vec<Assign
 {
     let mut left = Vec::new(alloc);
     for row in rows {
-        match row.order_of(name) {
-            Ordering::Equal => {}
-            _ => left.push(row.copy()?)?,
+        if !row.is_named(name) {
+            left.push(row.copy()?)?;
         }
     }
     Ok(left)

@@ -7,8 +7,9 @@ use Rattle.std.specs.Option.{option_map}
 use Rattle.std.specs.FinMap as map
 use Rattle.std.specs.FinMap.{find, get-entries, get-from_entries, len-entries}
 use Rattle.ados_text.specs.declared.codes.TheConstants.Result2.{OBJECT_IN_USE, OBJECT_EXISTS}
+use Rattle.ados_text.specs.Name.{name_cmp, name_cmp_exact, name_cmp_total}
 use Rattle.ados_ram.specs.declared.entries.Entry.{Entry}
-use Rattle.ados_ram.specs.Place.{name_cmp, name_cmp_exact, name_cmp_total, place_cmp, place_cmp_total, is_same_key, is_root, behind, has_names, is_below, is_at_or_below}
+use Rattle.ados_ram.specs.Place.{place_cmp, place_cmp_total, is_same_key, is_root, behind, has_names, is_below, is_at_or_below}
 use Rattle.ados_ram.specs.Entry.{size_of, renamed}
 use Rattle.ados_ram.specs.InUse.{InUse, holds_output}
 use Rattle.ados_ram.specs.Files.{Files, Rows, AreFiles, is_some_directory, bytes_at, total_of, file_limit, bytes_limit, objects_limit}

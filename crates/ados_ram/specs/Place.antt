@@ -1,32 +1,23 @@
 -- Places: lists of names. The folded names tell which place it is, and their order is the order of places.
 use Rattle.std.specs.Prelude.{ℕ, ◌-◌, Bool, true, false, not, ◌||◌, List, [], ◌∷◌, ◌++◌, length, take, drop, map, cond, nat_eq, Option, Some, None, is_some, slice_index_or}
 use Rattle.std.specs.declared.cmp.Ordering.{Ordering}
-use Rattle.std.specs.Ordering.{nat_cmp, is_eq, eq_by_cmp}
-use Rattle.std.specs.Cmp.{IsTotalOrder, nat_cmp_total}
+use Rattle.std.specs.Ordering.{is_eq, eq_by_cmp}
+use Rattle.std.specs.Cmp.{IsTotalOrder}
 use Rattle.std.specs.Cmp.Lexicographic.{slice_cmp, lists_total}
-use Rattle.std.specs.FinMap.{IsAntisymmetric, nat_cmp-IsAntisymmetric, slice_cmp-IsAntisymmetric}
+use Rattle.std.specs.FinMap.{IsAntisymmetric, slice_cmp-IsAntisymmetric}
 use Rattle.ados_text.specs.Text.{folded}
+use Rattle.ados_text.specs.Name.{name_cmp, name_cmp_total, name_cmp_exact}
 
 -- which place it is: its names in lower case
 abbrev pub key_of : List (List ℕ) → List (List ℕ)
 key_of = map folded
 
--- the order of folded names, byte by byte
-abbrev pub name_cmp : List ℕ → List ℕ → Ordering
-name_cmp = slice_cmp nat_cmp
-
 -- the order of keys, name by name: a directory comes before what is in it
 abbrev pub place_cmp : List (List ℕ) → List (List ℕ) → Ordering
 place_cmp = slice_cmp name_cmp
 
-pub name_cmp_total : IsTotalOrder name_cmp
-name_cmp_total = lists_total nat_cmp_total
-
 pub place_cmp_total : IsTotalOrder place_cmp
 place_cmp_total = lists_total name_cmp_total
-
-pub name_cmp_exact : IsAntisymmetric name_cmp
-name_cmp_exact = slice_cmp-IsAntisymmetric nat_cmp-IsAntisymmetric
 
 pub place_cmp_exact : IsAntisymmetric place_cmp
 place_cmp_exact = slice_cmp-IsAntisymmetric name_cmp_exact

@@ -3,11 +3,10 @@ ghost use Rattle.std.specs.Option.{option_copied, option_map};
 ghost use Rattle.std.specs.Cmp.{partial_equiv_from_equiv};
 ghost use Rattle.std.proofs.lemmas.Cmp.{on_equiv, eq_by_cmp_equiv};
 ghost use Rattle.ados_text.specs.Text.{folded};
-ghost use Rattle.ados_ram.specs.Place.{key_of, name_cmp, place_cmp, place_cmp_total, is_same_place, last_name, parent_of, behind, is_below, carried, any_same, any_at_or_below};
+ghost use Rattle.ados_ram.specs.Place.{key_of, place_cmp_total, is_same_key, is_same_place, last_name, parent_of, behind, is_below, carried, any_same, any_at_or_below};
 
 use ados_text::{Name, NoMemory, Text, fold};
 use std::alloc::Global;
-use std::cmp::Ordering;
 use std::marker::Model;
 
 /// A full path: the names from the root down, as they are written. Two places are equal where they are alike with
@@ -135,7 +134,7 @@ impl PartialEq for Place {
     ghost laws = { partial_equiv_from_equiv (on_equiv key_of (eq_by_cmp_equiv place_cmp_total)) };
 
     fn eq(&self, other: &Place) -> bool {
-        order(&self.names, &other.names) == Ordering::Equal
+        is_same(&self.names, &other.names)
     }
 }
 
@@ -143,47 +142,16 @@ impl Eq for Place {
     ghost laws = { on_equiv key_of (eq_by_cmp_equiv place_cmp_total) };
 }
 
-/// The order of two places by their folded names.
-pub fn order(a: &[Name], b: &[Name]) -> Ordering
-    ensures { result ≡ place_cmp (key_of a.now) (key_of b.now) }
+/// The two places are one.
+#[tactic(auto, using(crate::proofs::PlaceLemmas::same_by_key))]
+pub fn is_same(a: &[Name], b: &[Name]) -> bool
+    ensures { result ≡ is_same_key (key_of a.now) (key_of b.now) }
 {
-    let Some((x, xs)) = a.split_first() else {
-        return if b.is_empty() {
-            Ordering::Equal
-        } else {
-            Ordering::Less
-        };
-    };
-    let Some((y, ys)) = b.split_first() else {
-        return Ordering::Greater;
-    };
-    match name_order(x.text().as_bytes(), y.text().as_bytes()) {
-        Ordering::Equal => order(xs, ys),
-        decided => decided,
-    }
-}
-
-// The order of two names, where case is ignored.
-fn name_order(a: &[u8], b: &[u8]) -> Ordering
-    ensures { result ≡ name_cmp (folded a.now) (folded b.now) }
-{
-    let Some((x, xs)) = a.split_first() else {
-        return if b.is_empty() {
-            Ordering::Equal
-        } else {
-            Ordering::Less
-        };
-    };
-    let Some((y, ys)) = b.split_first() else {
-        return Ordering::Greater;
-    };
-    match fold(*x).cmp(&fold(*y)) {
-        Ordering::Equal => name_order(xs, ys),
-        decided => decided,
-    }
+    a == b
 }
 
 /// The names that lead from a directory down to a place, where the place is at it or below it.
+#[tactic(auto, using(ados_text::proofs::NameLemmas::alike))]
 pub fn behind<'a>(directory: &[Name], place: &'a [Name]) -> Option<&'a [Name]>
     ensures { option_map key_of (option_copied result) ≡ behind (key_of directory.now) (key_of place.now) }
 {
@@ -193,10 +161,7 @@ pub fn behind<'a>(directory: &[Name], place: &'a [Name]) -> Option<&'a [Name]>
     let Some((y, ys)) = place.split_first() else {
         return None;
     };
-    match name_order(x.text().as_bytes(), y.text().as_bytes()) {
-        Ordering::Equal => behind(xs, ys),
-        _ => None,
-    }
+    if x == y { behind(xs, ys) } else { None }
 }
 
 /// The second place is below the first.
@@ -214,7 +179,7 @@ pub fn any_same(places: &[Place], names: &[Name]) -> bool
     ensures { result ≡ any_same places.now (key_of names.now) }
 {
     for place in places {
-        if order(place.names(), names) == Ordering::Equal {
+        if is_same(place.names(), names) {
             return true;
         }
     }

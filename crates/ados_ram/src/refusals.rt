@@ -11,10 +11,9 @@ ghost use Rattle.ados_ram.specs.FileOperations.{read_fault, list_fault, way_faul
 use crate::contents::any_below;
 use crate::entries::Entry;
 use crate::in_use::Busy;
-use crate::places::{is_below, order};
+use crate::places::{is_below, is_same};
 use crate::table::{Table, bytes_at};
 use ados_text::{Name, Result2};
-use std::cmp::Ordering;
 
 // How many bytes a file may hold.
 const FILE_LIMIT: usize = 65_536;
@@ -158,7 +157,7 @@ fn rename_target(busy: &Busy, table: &Table, from: &[Name], to: &[Name]) -> Opti
     if busy.holds_output(from) || from.is_empty() || is_below(from, to) {
         return Some(Result2::OBJECT_IN_USE);
     }
-    if table.find(to).is_some() && order(from, to) != Ordering::Equal {
+    if table.find(to).is_some() && !is_same(from, to) {
         return Some(Result2::OBJECT_EXISTS);
     }
     None

@@ -4,7 +4,7 @@ ghost use Rattle.ados_ram.specs.Place.{key_of, place_cmp, is_child, is_below, be
 ghost use Rattle.ados_ram.specs.FileOperations.{moved_row};
 
 use crate::entries::Entry;
-use crate::places::{Place, behind, is_below, order};
+use crate::places::{Place, behind, is_below};
 use ados_text::{Name, NoMemory};
 use std::alloc::Global;
 use std::cmp::Ordering;
@@ -69,10 +69,11 @@ impl Row {
     }
 
     /// How this row's place stands to another.
+    #[tactic(auto, using(crate::proofs::PlaceLemmas::order_by_key))]
     pub fn order(&self, names: &[Name]) -> Ordering
         ensures { result ≡ place_cmp self.now.0 (key_of names.now) }
     {
-        order(self.place().names(), names)
+        self.place().names().cmp(&names)
     }
 
     /// It is directly in a directory.
