@@ -29,7 +29,7 @@ pub struct Shape {
 }
 
 ghost use Rattle.ados_files.specs.Listing.{passes, is_kept, shown_line, kept_line, line_there, entries_of, all_entries, listed};
-ghost use Rattle.ados_files.specs.Listing.{list_places, list_text, list_at, list_texts, pattern_given, list_row};
+ghost use Rattle.ados_files.specs.Listing.{list_text, list_at, list_texts, pattern_given, list_row};
 
 /// List puts out lines of objects, and of what is in directories.
 pub fn list(

@@ -1,5 +1,5 @@
 // A world driven by a reader's lines.
-ghost use Rattle.std.specs.Prelude.{◌≡◌, ◌⊎◌, ◌<◌, ◌≤◌, ◌^◌, ◌-◌, ◌+◌, ℕ, true, [], Some, IfOk, OnOk, IsErrOf, IsSome};
+ghost use Rattle.std.specs.Prelude.{◌≡◌, ◌⊎◌, ◌<◌, ◌≤◌, ◌^◌, ◌-◌, ◌+◌, ℕ, true, [], Some, IfOk, OnOk, IsErrOf};
 ghost use Rattle.ados_machine.specs.World.{codes_at, is_over};
 ghost use Rattle.ados_launch.specs.Lines.{Known, kind_of};
 ghost use Rattle.ados_launch.specs.Schedule.{IsAlone, IsIdle, IsReading, IsRunning, Stands, StandsCut, after, begun, due, takes_input};

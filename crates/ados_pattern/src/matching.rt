@@ -1,6 +1,6 @@
 //! Whether a text is what a pattern says.
 
-ghost use Rattle.std.specs.Prelude.{◌≡◌, ◌<◌, ◌^◌, ◌↔◌, length, IfOk, IsTrue};
+ghost use Rattle.std.specs.Prelude.{◌<◌, ◌^◌, ◌↔◌, length, IfOk, IsTrue};
 ghost use Rattle.ados_pattern.specs.Form.{form_of};
 ghost use Rattle.ados_pattern.specs.Matches.{Matches};
 ghost use Rattle.ados_pattern.specs.Table.{IsTable, cells_of};

@@ -3,7 +3,7 @@
 //! A place is told by the bytes left, and a set of places is one word. Rows and alternatives are
 //! walked with no table; `#`, `~` and `[~ ..]` ask for the table of their part.
 
-ghost use Rattle.std.specs.Prelude.{◌≡◌, ◌&&◌, ◌+◌, ◌<◌, ◌≤◌, ℕ, true, length, nat_lt, IfOk};
+ghost use Rattle.std.specs.Prelude.{◌≡◌, ◌&&◌, ◌+◌, ◌<◌, ◌≤◌, ℕ, length, nat_lt, IfOk};
 ghost use Rattle.ados_pattern.specs.CharTest.{has_test, test_of};
 ghost use Rattle.ados_pattern.specs.Form.{form_of};
 ghost use Rattle.ados_pattern.specs.Matches.{Matches};

@@ -4,18 +4,15 @@ use Rattle.std.specs.Prelude.{if◌then◌else◌}
 use Rattle.ados_find.specs.declared.codes.Codes.{Codes}
 use Rattle.ados_find.specs.Effects.{Effect}
 use Rattle.ados_find.specs.Shared.{SharedState, version}
-use Rattle.ados_line.specs.declared.lines.Line.{Line}
-use Rattle.ados_machine.specs.declared.builtins.Builtin.{Builtin}
 use Rattle.ados_machine.specs.declared.targets.Target.{Target}
-use Rattle.ados_machine.specs.declared.phases.Asking.{Asking}
 use Rattle.ados_machine.specs.declared.phases.Phase.TheVariants.{Ready}
 use Rattle.ados_machine.specs.declared.outs.EndReport.{EndReport}
 use Rattle.ados_machine.specs.CodeRule.{fault_line, failed_line}
-use Rattle.ados_machine.specs.Frames.{ShellState, FrameState, Course, Turned, Item, behind, told, noted, end_of, limit_behind, answered_frame, is_ended, is_over, last_codes, answering, ending, finish, passed_by, passed, printing, reports_of}
+use Rattle.ados_machine.specs.Frames.{ShellState, FrameState, Course, Turned, Item, behind, told, noted, end_of, limit_behind, answered_frame, is_ended, is_over, last_codes, answering, ending, finish, passed_by, passed, reports_of}
 use Rattle.ados_machine.specs.Commands.{Answers}
 use Rattle.ados_machine.specs.Targets.{read_by}
 use Rattle.ados_machine.specs.declared.called.Called.{Called}
-use Rattle.ados_machine.specs.Shell.{answered, begun, called, first_of, Opened, opened_at, prompt, put, affected, made, acted, after_put, resumed, with_args}
+use Rattle.ados_machine.specs.Shell.{answered, called, first_of, Opened, opened_at, put, affected, made, acted, after_put}
 use Rattle.ados_ram.specs.declared.faults.FsFault.TheVariants.{Refused}
 use Rattle.ados_text.specs.declared.codes.Result2.{Result2}
 use Rattle.ados_ram.specs.declared.faults.FsFault.{FsFault}
@@ -23,7 +20,7 @@ use Rattle.ados_world.specs.declared.drafts.Draft.{Draft}
 use Rattle.ados_world.specs.declared.outputs.Opened as Made
 use Rattle.ados_world.specs.Answers.{Gives}
 use Rattle.ados_world.specs.declared.scenes.Scene.{Scene}
-use Rattle.ados_world.specs.Drafts.{GoesOn, IsDrafted, IsFresh, IsReported, IsOpened, IsPut, start_of, made_of, course_by, course_of}
+use Rattle.ados_world.specs.Drafts.{GoesOn, IsReported, IsOpened, IsPut, start_of, made_of, course_by, course_of}
 use Rattle.ados_world.specs.Frames.{report_of}
 
 pub goes-on : (scene : Scene) (before mid after : Draft) (t t' : Turned) (rs : List EndReport)

@@ -1,6 +1,5 @@
 // The current directories of all shells.
 ghost use Rattle.std.specs.Prelude.{◌≡◌, IfOk};
-ghost use Rattle.std.specs.Option.{option_copied};
 ghost use Rattle.ados_machine.specs.World.{directories_in};
 ghost use Rattle.ados_machine.specs.Step.{carried_place, carried_shells};
 

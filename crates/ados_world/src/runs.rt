@@ -1,6 +1,5 @@
 // Runs: a list of events, one after another.
-ghost use Rattle.std.specs.Prelude.{◌≡◌, length, slice_get, IfOk, IfErr};
-ghost use Rattle.std.specs.Option.{option_copied};
+ghost use Rattle.std.specs.Prelude.{◌≡◌, IfOk, IfErr};
 ghost use Rattle.ados_machine.specs.Runs.{Runs};
 ghost use Rattle.ados_machine.specs.Limits.{LimitsHold, ReportsHold};
 

@@ -1,5 +1,5 @@
 // The lines of a script.
-ghost use Rattle.std.specs.Prelude.{◌≡◌, ◌++◌, IfOk, OnOk, []};
+ghost use Rattle.std.specs.Prelude.{◌≡◌, ◌++◌, IfOk, OnOk};
 ghost use Rattle.ados_machine.specs.ScriptLines.{lines_of, last_line};
 
 use ados_text::{NoMemory, Text, Texts};

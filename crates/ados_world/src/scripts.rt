@@ -3,7 +3,7 @@ ghost use Rattle.std.specs.Prelude.{◌≡◌, ◌<◌, ◌++◌, IfOk, IfSome, 
 ghost use Rattle.std.specs.Option.{option_copied};
 ghost use Rattle.ados_find.specs.Paths.{place_of, Gives};
 ghost use Rattle.ados_machine.specs.Targets.{read_at};
-ghost use Rattle.ados_machine.specs.Commands.{is_separator, is_plain, script_place, is_dotted, script_by, script_at, script_read, execute_file, execute_row};
+ghost use Rattle.ados_machine.specs.Commands.{is_separator, is_plain, script_place, is_dotted, script_by, script_at, script_read, execute_row};
 ghost use Rattle.ados_world.specs.Actions.{acting};
 
 use crate::actions::Action;

@@ -1,5 +1,5 @@
 // What a turn changes, ready to be moved in.
-ghost use Rattle.std.specs.Prelude.{◌≡◌, IfOk};
+ghost use Rattle.std.specs.Prelude.{IfOk};
 ghost use Rattle.ados_machine.specs.Limits.{AllRunOn};
 ghost use Rattle.ados_machine.specs.Shell.{resumed, turn_of};
 ghost use Rattle.ados_world.specs.Drafts.{start_of};

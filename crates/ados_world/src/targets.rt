@@ -1,5 +1,5 @@
 // Where redirections lead.
-ghost use Rattle.std.specs.Prelude.{◌≡◌, Ok};
+ghost use Rattle.std.specs.Prelude.{Ok};
 ghost use Rattle.ados_machine.specs.Targets.{target_of, target_by};
 ghost use Rattle.ados_world.specs.Answers.{Gives};
 

@@ -1,5 +1,5 @@
 -- The exit status.
-use Rattle.std.specs.Prelude.{ℤ, pos, neg_ℤ, ℕ, if◌then◌else◌, nat_lt}
+use Rattle.std.specs.Prelude.{ℤ, pos, if◌then◌else◌, nat_lt}
 
 -- the code itself where it is 0 to 255, else 20
 abbrev pub status_of : ℤ → ℤ
