@@ -1,14 +1,14 @@
 //! The answers to the lines of standard input.
 
-use ados_pattern::{Pattern, PatternFault};
+use crate::rounds::matches_of;
+use ados_pattern::PatternFault;
 use ados_text::Text;
 use std::alloc::Global;
+use std::slice;
 
 /// Whether the pattern in front of a line's first blank matches the name behind it.
 pub fn is_matched(alloc: Global, line: &str) -> Result<bool, PatternFault> {
     let (pattern, name) = line.split_once(' ').unwrap_or((line, ""));
-    let pattern = Text::from_bytes(alloc, pattern.as_bytes())?;
     let name = Text::from_bytes(alloc, name.as_bytes())?;
-    let matched = Pattern::parse(alloc, &pattern)?.matches(&name)?;
-    Ok(matched)
+    Ok(matches_of(alloc, pattern, slice::from_ref(&name), 1)? == 1)
 }

@@ -11,41 +11,63 @@
 mod answers;
 mod rounds;
 mod tally;
+mod texts;
 
-use ados_pattern::PatternFault;
 use anyhow::bail;
-use std::env;
+use std::{env, io};
 
-fn main(rt: HostRuntime) -> Result<(), anyhow::Error> {
-    let mut words = env::args(&rt)?;
-    let _program = words.next();
-    let Some(pattern) = words.next() else {
-        return print_answers(&rt);
-    };
-    let (Some(name), Some(count)) = (words.next(), words.next()) else {
-        bail!("the arguments are a pattern, a name and a number of rounds");
-    };
-    let Ok(count) = count.as_str().parse::<u32>() else {
+fn main(rt: HostRuntime) -> anyhow::Result<()> {
+    let words = env::args(&rt)?.collect::<Vec<String>>(rt.alloc())?;
+    run(&rt, &words)
+}
+
+fn run<R: AllocGlobal + Input + Print>(rt: &R, words: &[String]) -> anyhow::Result<()> {
+    match words {
+        [] | [_] => {
+            print_tallies(rt)?;
+            print_answers(rt)?;
+        }
+        [_, pattern, name, rounds, ..] => print_rounds(rt, pattern, name, rounds)?,
+        _ => bail!("the arguments are a pattern, a name and a number of rounds"),
+    }
+    Ok(())
+}
+
+fn print_rounds<R: AllocGlobal + Print>(
+    rt: &R,
+    pattern: &str,
+    name: &str,
+    rounds: &str,
+) -> anyhow::Result<()> {
+    let Ok(rounds) = rounds.parse::<u32>() else {
         bail!("the number of rounds is no number");
     };
-    let matched = rounds::matched(rt.alloc(), pattern.as_str(), name.as_str(), count)?;
+    let matched = rounds::matched(rt.alloc(), pattern, name, rounds)?;
     println!(rt; "{matched}")?;
     Ok(())
 }
 
-fn print_answers<R: AllocGlobal + Input + Print>(rt: &R) -> Result<(), anyhow::Error> {
+fn print_tallies<R: AllocGlobal + Print>(rt: &R) -> io::Result<()> {
     for length in 0..5 {
-        let tally = tally::of_length(rt.alloc(), length)?;
-        println!(rt; "{length}: {tally}")?;
-    }
-    for line in rt.lines(rt.alloc()) {
-        let line = line?;
-        match answers::is_matched(rt.alloc(), line.as_str()) {
-            Ok(true) => println!(rt; "{line}: yes")?,
-            Ok(false) => println!(rt; "{line}: no")?,
-            Err(PatternFault::NoMemory) => bail!("no free store"),
-            Err(fault) => println!(rt; "{line}: {fault}")?,
+        match tally::of_length(rt.alloc(), length) {
+            Ok(tally) => println!(rt; "{length}: {tally}")?,
+            Err(fault) => println!(rt; "{length}: {fault}")?,
         }
     }
     Ok(())
+}
+
+fn print_answers<R: AllocGlobal + Input + Print>(rt: &R) -> io::Result<()> {
+    for line in rt.lines(rt.alloc()) {
+        print_answer(rt, line?.as_str())?;
+    }
+    Ok(())
+}
+
+fn print_answer<R: AllocGlobal + Print>(rt: &R, line: &str) -> io::Result<()> {
+    match answers::is_matched(rt.alloc(), line) {
+        Ok(true) => println!(rt; "{line}: yes"),
+        Ok(false) => println!(rt; "{line}: no"),
+        Err(fault) => println!(rt; "{line}: {fault}"),
+    }
 }

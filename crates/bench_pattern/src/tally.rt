@@ -1,5 +1,6 @@
 //! All short patterns over all short texts.
 
+use crate::texts::texts_of;
 use ados_pattern::{Pattern, PatternFault};
 use ados_text::{NoMemory, Text};
 use std::alloc::Global;
@@ -9,8 +10,13 @@ const SIGNS: [u8; 13] = [
     b'a', b'b', b'#', b'~', b'?', b'%', b'(', b')', b'|', b'[', b']', b'\'', b'-',
 ];
 
+// All texts of up to three letters `a` and `b`, the shorter ones first.
+const TEXTS: [&str; 15] = [
+    "", "a", "b", "aa", "ab", "ba", "bb", "aaa", "aab", "aba", "abb", "baa", "bab", "bba", "bbb",
+];
+
 /// What the patterns of one length are, and what they match.
-#[derive(Clone, Copy, Debug, Default)]
+#[derive(Clone, Copy, Default)]
 pub struct Tally {
     patterns: u32,
     bad: u32,
@@ -63,32 +69,36 @@ impl Tally {
         }
         Ok(())
     }
+
+    fn add_parsed(
+        &mut self,
+        parsed: Result<Pattern, PatternFault>,
+        texts: &[Text],
+    ) -> Result<(), PatternFault> {
+        match parsed {
+            Ok(pattern) => self.add(&pattern, texts),
+            Err(PatternFault::BadPattern(place)) => {
+                self.add_bad(place);
+                Ok(())
+            }
+            Err(other) => Err(other),
+        }
+    }
 }
 
 /// The tally of all patterns of so many signs.
 pub fn of_length(alloc: Global, length: u32) -> Result<Tally, PatternFault> {
-    let texts = short_texts(alloc)?;
+    let texts = texts_of(alloc, &TEXTS)?;
+    tally_over(alloc, length, &texts)
+}
+
+fn tally_over(alloc: Global, length: u32, texts: &[Text]) -> Result<Tally, PatternFault> {
     let mut tally = Tally::default();
     for index in 0..13_u32.saturating_pow(length) {
         let text = written(alloc, &SIGNS, length, index)?;
-        match Pattern::parse(alloc, &text) {
-            Ok(pattern) => tally.add(&pattern, &texts)?,
-            Err(PatternFault::BadPattern(place)) => tally.add_bad(place),
-            Err(other) => return Err(other),
-        }
+        tally.add_parsed(Pattern::parse(alloc, &text), texts)?;
     }
     Ok(tally)
-}
-
-// All texts of up to three letters `a` and `b`, the shorter ones first.
-fn short_texts(alloc: Global) -> Result<Vec<Text>, NoMemory> {
-    let mut texts = Vec::new(alloc);
-    for length in 0..4 {
-        for index in 0..2_u32.saturating_pow(length) {
-            texts.push(written(alloc, b"ab", length, index)?)?;
-        }
-    }
-    Ok(texts)
 }
 
 // The text of so many signs whose places in the list of signs are the digits of the index.

@@ -1,0 +1,13 @@
+//! Lists of texts.
+
+use ados_text::{NoMemory, Text};
+use std::alloc::Global;
+
+/// The texts that are written so.
+pub fn texts_of(alloc: Global, written: &[&str]) -> Result<Vec<Text>, NoMemory> {
+    let mut texts = Vec::new(alloc);
+    for text in written {
+        texts.push(Text::from_bytes(alloc, text.as_bytes())?)?;
+    }
+    Ok(texts)
+}
