@@ -1,166 +1,201 @@
+use crate::places::{are_names, at, name};
+use crate::wrong::{Wrong, expect};
 use ados_assign::{AssignFault, Assigns, ResolveFault, is_on_nil};
 use ados_names::{NameFault, Path};
-use ados_ram::{Busy, Place, Ram};
-use ados_text::{Name, NoMemory, Result2, Text};
+use ados_ram::{Busy, FsFault, Place, Ram};
+use ados_text::{Name, NoMemory, Text};
 use std::alloc::Global;
-use std::process::Abort;
 
-// Each function here makes few calls, since the proof of a long one is slow.
-
-fn name(alloc: Global, bytes: &[u8]) -> Result<Name, NoMemory> {
-    Ok(Name::new(Text::from_bytes(alloc, bytes)?))
-}
-
-// The place of a name in the root.
-fn at(alloc: Global, bytes: &[u8]) -> Result<Place, NoMemory> {
-    Place::root(alloc).with(name(alloc, bytes)?)
-}
-
-// The place of a name in a directory of the root.
-fn within(alloc: Global, directory: &[u8], bytes: &[u8]) -> Result<Place, NoMemory> {
-    at(alloc, directory)?.with(name(alloc, bytes)?)
-}
-
-fn path(alloc: Global, bytes: &[u8]) -> Result<Path, NameFault> {
-    Path::parse(alloc, &Text::from_bytes(alloc, bytes)?)
+fn path(alloc: Global, written: &str) -> Result<Path, NameFault> {
+    Path::parse(alloc, &Text::from_bytes(alloc, written.as_bytes())?)
 }
 
 // The files at first and an empty file `S/q`.
-fn files(alloc: Global) -> Result<Ram, NameFault> {
-    let file = within(alloc, b"S", b"q")?;
-    match Ram::new(alloc)?.write(&Busy::none(alloc), &file, b"") {
-        Ok(ram) => Ok(ram),
-        Err(_) => Err(NameFault::NoMemory),
+fn files(alloc: Global) -> Result<Ram, FsFault> {
+    Ram::new(alloc)?.write(&Busy::none(alloc), &at(alloc, "S/q")?, b"")
+}
+
+// Where a path leads from the directory S.
+fn resolve(alloc: Global, ram: &Ram, path: &Path) -> Result<Place, ResolveFault> {
+    Assigns::first(alloc)?.resolve(path, &at(alloc, "S")?, ram)
+}
+
+// It is this place, or a fault with this number. Want of memory is handed on.
+fn is(
+    alloc: Global,
+    found: Result<Place, ResolveFault>,
+    want: Result<&str, u16>,
+) -> Result<bool, NoMemory> {
+    match (found, want) {
+        (Ok(place), Ok(want)) => Ok(place == at(alloc, want)?),
+        (Err(ResolveFault::Refused(number)), Err(want)) => Ok(number.0 == want),
+        (Err(ResolveFault::NoMemory), _) => Err(NoMemory),
+        _ => Ok(false),
     }
 }
 
-// Where a path leads from the directory S, or the number of its fault. Want of memory is handed on.
-fn resolved(alloc: Global, path: &Path) -> Result<Result<Place, Result2>, NameFault> {
+// From the directory S each path leads to this place, or has a fault with this number.
+fn lead(alloc: Global, rows: &[(&'static str, Result<&str, u16>)]) -> Result<(), Wrong> {
     let ram = files(alloc)?;
-    let current = at(alloc, b"S")?;
-    match Assigns::first(alloc)?.resolve(path, &current, &ram) {
-        Ok(place) => Ok(Ok(place)),
-        Err(ResolveFault::Refused(number)) => Ok(Err(number)),
-        Err(ResolveFault::NoMemory) => Err(NameFault::NoMemory),
+    for (written, want) in rows {
+        let found = resolve(alloc, &ram, &path(alloc, written)?);
+        expect(is(alloc, found, *want)?, written)?;
     }
-}
-
-fn leads_to(alloc: Global, written: &[u8], place: Place) -> Result<bool, NameFault> {
-    match resolved(alloc, &path(alloc, written)?)? {
-        Ok(found) => Ok(found == place),
-        Err(_) => Ok(false),
-    }
-}
-
-fn refused(alloc: Global, written: &[u8]) -> Result<u16, NameFault> {
-    match resolved(alloc, &path(alloc, written)?)? {
-        Ok(_) => Ok(0),
-        Err(number) => Ok(number.0),
-    }
-}
-
-#[test]
-fn steps_go_from_the_current_directory(rt: HostRuntime) -> Result<(), NameFault> {
-    let alloc = rt.alloc();
-    assert!(rt; leads_to(alloc, b"", at(alloc, b"s")?)?);
-    assert!(rt; leads_to(alloc, b"/", Place::root(alloc))?);
-    assert!(rt; leads_to(alloc, b"no", within(alloc, b"S", b"no")?)?);
     Ok(())
 }
 
+const FROM_THE_CURRENT: &[(&str, Result<&str, u16>)] = &[
+    ("", Ok("s")),
+    ("/", Ok("")),
+    ("no", Ok("S/no")),
+];
+
 #[test]
-fn a_volume_is_the_root(rt: HostRuntime) -> Result<(), NameFault> {
-    let alloc = rt.alloc();
-    assert!(rt; leads_to(alloc, b":", Place::root(alloc))?);
-    assert!(rt; leads_to(alloc, b"ram disk:t", at(alloc, b"T")?)?);
-    assert!(rt; leads_to(alloc, b"RAM:s/Q/", within(alloc, b"S", b"q")?)?);
-    Ok(())
+fn steps_go_from_the_current_directory(rt: HostRuntime) -> Result<(), Wrong> {
+    lead(rt.alloc(), FROM_THE_CURRENT)
+}
+
+const FROM_THE_ROOT: &[(&str, Result<&str, u16>)] = &[
+    (":", Ok("")),
+    ("ram disk:t", Ok("T")),
+    ("RAM:s/Q/", Ok("S/q")),
+];
+
+#[test]
+fn a_volume_is_the_root(rt: HostRuntime) -> Result<(), Wrong> {
+    lead(rt.alloc(), FROM_THE_ROOT)
+}
+
+const FROM_AN_ASSIGN: &[(&str, Result<&str, u16>)] = &[
+    ("env:v", Ok("Env/v")),
+    ("SYS:C//T", Ok("T")),
+];
+
+#[test]
+fn an_assign_is_its_directory(rt: HostRuntime) -> Result<(), Wrong> {
+    lead(rt.alloc(), FROM_AN_ASSIGN)
+}
+
+const NO_STEPS: &[(&str, Result<&str, u16>)] = &[
+    ("//", Err(205)),
+    ("no/b", Err(204)),
+    ("no//", Err(204)),
+    ("q/b", Err(212)),
+];
+
+#[test]
+fn steps_that_lead_nowhere(rt: HostRuntime) -> Result<(), Wrong> {
+    lead(rt.alloc(), NO_STEPS)
+}
+
+const NO_DEVICES: &[(&str, Result<&str, u16>)] = &[("X:y", Err(218)), ("nil:a", Err(212))];
+
+#[test]
+fn devices_that_lead_nowhere(rt: HostRuntime) -> Result<(), Wrong> {
+    lead(rt.alloc(), NO_DEVICES)
+}
+
+fn leads_to_nil(alloc: Global, written: &str) -> Result<bool, NameFault> {
+    Ok(is_on_nil(&path(alloc, written)?))
 }
 
 #[test]
-fn an_assign_is_its_directory(rt: HostRuntime) -> Result<(), NameFault> {
-    let alloc = rt.alloc();
-    assert!(rt; leads_to(alloc, b"env:v", within(alloc, b"Env", b"v")?)?);
-    assert!(rt; leads_to(alloc, b"SYS:C//T", at(alloc, b"T")?)?);
-    Ok(())
+fn nil_is_a_device(rt: HostRuntime) -> Result<(), Wrong> {
+    expect(leads_to_nil(rt.alloc(), "NIL:")?, "NIL:")
 }
 
-#[test]
-fn steps_that_lead_nowhere(rt: HostRuntime) -> Result<(), NameFault> {
-    let alloc = rt.alloc();
-    assert!(rt; refused(alloc, b"//")? == 205);
-    assert!(rt; refused(alloc, b"no/b")? == 204);
-    assert!(rt; refused(alloc, b"no//")? == 204);
-    assert!(rt; refused(alloc, b"q/b")? == 212);
-    Ok(())
-}
-
-#[test]
-fn devices_that_lead_nowhere(rt: HostRuntime) -> Result<(), NameFault> {
-    let alloc = rt.alloc();
-    assert!(rt; refused(alloc, b"X:y")? == 218);
-    assert!(rt; refused(alloc, b"nil:a")? == 212);
-    assert!(rt; is_on_nil(&path(alloc, b"NIL:")?));
-    Ok(())
+fn bound(alloc: Global, old: &Assigns, name: Name, place: &str) -> Result<Assigns, NoMemory> {
+    old.set(name, at(alloc, place)?)
 }
 
 // The first assigns, `Libs` bound to T, and then to S in another spelling.
 fn with_libs(alloc: Global) -> Result<Assigns, NoMemory> {
-    let assigns = Assigns::first(alloc)?.set(name(alloc, b"Libs")?, at(alloc, b"T")?)?;
-    assigns.set(name(alloc, b"LIBS")?, at(alloc, b"S")?)
+    let assigns = bound(alloc, &Assigns::first(alloc)?, name(alloc, "Libs")?, "T")?;
+    bound(alloc, &assigns, name(alloc, "LIBS")?, "S")
 }
 
-// How many names are bound to a place in the root.
-fn count(alloc: Global, assigns: &Assigns, written: &[u8]) -> Result<usize, NoMemory> {
-    let place = at(alloc, written)?;
-    Ok(assigns.holders(&place)?.len())
+// The name of the assign `Libs` is written so.
+fn is_spelled(alloc: Global, assigns: &Assigns, written: &str) -> Result<bool, NoMemory> {
+    match assigns.get(&name(alloc, "libs")?) {
+        None => Ok(false),
+        Some(assign) => Ok(assign.name.text().as_bytes() == written.as_bytes()),
+    }
 }
 
-// The name of an assign is written so.
-fn is_spelled(assigns: &Assigns, name: &Name, written: &[u8]) -> bool {
-    match assigns.get(name) {
-        None => false,
-        Some(assign) => assign.name.text().as_bytes() == written,
+// These names are bound to a place.
+fn hold(alloc: Global, assigns: &Assigns, place: &str, want: &[&str]) -> Result<bool, NoMemory> {
+    Ok(are_names(&assigns.holders(&at(alloc, place)?)?, want))
+}
+
+// `Libs` is bound to S, beside `S`, and no longer to T.
+fn are_libs(alloc: Global, assigns: &Assigns) -> Result<bool, NoMemory> {
+    Ok(
+        is_spelled(alloc, assigns, "Libs")?
+            && hold(alloc, assigns, "s", &["Libs", "S"])?
+            && hold(alloc, assigns, "t", &["T"])?,
+    )
+}
+
+#[test]
+fn a_name_keeps_its_first_spelling(rt: HostRuntime) -> Result<(), Wrong> {
+    let copy = with_libs(rt.alloc())?.copy()?;
+    expect(are_libs(rt.alloc(), &copy)?, "Libs")
+}
+
+fn removed(alloc: Global, assigns: &Assigns) -> Result<Assigns, AssignFault> {
+    assigns.remove(&name(alloc, "s")?)
+}
+
+// The assign S is not there. Want of memory is handed on.
+fn is_not_found(alloc: Global, assigns: &Assigns) -> Result<bool, NoMemory> {
+    match removed(alloc, assigns).err() {
+        Some(AssignFault::NoMemory) => Err(NoMemory),
+        fault => Ok(fault == Some(AssignFault::NotFound)),
+    }
+}
+
+// S is removed, which leaves four, and then is not there. Want of memory is handed on.
+fn is_removed_once(alloc: Global) -> Result<bool, NoMemory> {
+    match removed(alloc, &Assigns::first(alloc)?) {
+        Ok(fewer) => Ok(fewer.list().len() == 4 && is_not_found(alloc, &fewer)?),
+        Err(AssignFault::NoMemory) => Err(NoMemory),
+        Err(AssignFault::NotFound) => Ok(false),
     }
 }
 
 #[test]
-fn a_name_keeps_its_first_spelling(rt: HostRuntime) -> Result<(), NoMemory> {
-    let alloc = rt.alloc();
-    let assigns = with_libs(alloc)?.copy()?;
-    assert!(rt; is_spelled(&assigns, &name(alloc, b"libs")?, b"Libs"));
-    assert!(rt; count(alloc, &assigns, b"s")? == 2);
-    assert!(rt; count(alloc, &assigns, b"t")? == 1);
-    Ok(())
+fn a_name_is_removed_once(rt: HostRuntime) -> Result<(), Wrong> {
+    expect(is_removed_once(rt.alloc())?, "S:")
 }
 
-#[test]
-fn a_name_is_removed_once(rt: HostRuntime) -> Result<(), AssignFault> {
-    let alloc = rt.alloc();
-    let scripts = name(alloc, b"s")?;
-    let fewer = Assigns::first(alloc)?.remove(&scripts)?;
-    assert!(rt; fewer.list().len() == 4);
-    assert!(rt; fewer.remove(&scripts).err() == Some(AssignFault::NotFound));
-    Ok(())
+fn is_held(alloc: Global, busy: &Busy, place: &str) -> Result<bool, NoMemory> {
+    Ok(busy.holds(at(alloc, place)?.names()))
 }
 
-#[test]
-fn directories_of_assigns_are_in_use(rt: HostRuntime) -> Result<(), NoMemory> {
-    let alloc = rt.alloc();
-    let assigns = Assigns::first(alloc)?;
-    assert!(rt; assigns.held()?.len() == 5);
+// The directories are five, of which C is one and D is none.
+fn are_held(alloc: Global, assigns: &Assigns) -> Result<bool, NoMemory> {
     let busy = assigns.busy(Vec::new(alloc))?;
-    assert!(rt; busy.holds(at(alloc, b"c")?.names()));
-    assert!(rt; !busy.holds(at(alloc, b"D")?.names()));
-    Ok(())
+    Ok(assigns.held()?.len() == 5 && is_held(alloc, &busy, "c")? && !is_held(alloc, &busy, "D")?)
 }
 
 #[test]
-fn a_rename_carries_assigns_along(rt: HostRuntime) -> Result<(), NoMemory> {
-    let alloc = rt.alloc();
-    let from = at(alloc, b"s")?;
-    let assigns = Assigns::first(alloc)?.carry(&from, &at(alloc, b"new")?)?;
-    assert!(rt; count(alloc, &assigns, b"NEW")? == 1);
-    assert!(rt; count(alloc, &assigns, b"S")? == 0);
-    Ok(())
+fn directories_of_assigns_are_in_use(rt: HostRuntime) -> Result<(), Wrong> {
+    let assigns = Assigns::first(rt.alloc())?;
+    expect(are_held(rt.alloc(), &assigns)?, "the directories")
+}
+
+// The first assigns after a rename of the directory S.
+fn carried(alloc: Global) -> Result<Assigns, NoMemory> {
+    Assigns::first(alloc)?.carry(&at(alloc, "s")?, &at(alloc, "new")?)
+}
+
+// `S` is bound to `new`, and no longer to S.
+fn is_carried(alloc: Global, assigns: &Assigns) -> Result<bool, NoMemory> {
+    Ok(hold(alloc, assigns, "NEW", &["S"])? && hold(alloc, assigns, "S", &[])?)
+}
+
+#[test]
+fn a_rename_carries_assigns_along(rt: HostRuntime) -> Result<(), Wrong> {
+    let assigns = carried(rt.alloc())?;
+    expect(is_carried(rt.alloc(), &assigns)?, "S")
 }

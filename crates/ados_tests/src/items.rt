@@ -1,66 +1,101 @@
+use crate::wrong::{Wrong, expect, expect_row};
 use ados_items::{Item, ItemFault, next_item, value, words};
 use ados_text::{NoMemory, Texts};
+use std::alloc::Global;
 
-fn are_texts(texts: &Texts, want: &[&[u8]]) -> bool {
+// From each place of a line this item is found.
+fn finds(line: &[u8], rows: &[(usize, Item)]) -> Result<(), Wrong> {
+    for (place, want) in rows {
+        expect_row(next_item(line, *place) == *want, *place)?;
+    }
+    Ok(())
+}
+
+const OF_A_LINE: &[(usize, Item)] = &[
+    (0, Item::Word { from: 1, to: 2 }),
+    (2, Item::Equal(2)),
+    (3, Item::Word { from: 3, to: 4 }),
+    (4, Item::Quoted { from: 7, to: 10 }),
+    (11, Item::Word { from: 11, to: 12 }),
+    (12, Item::End(12)),
+    (99, Item::End(99)),
+];
+
+#[test]
+fn items_by_their_first_byte(_rt: HostRuntime) -> Result<(), Wrong> {
+    finds(b" a=b \t\"c d\"x;y", OF_A_LINE)
+}
+
+#[test]
+fn quotes_begin_where_items_begin(_rt: HostRuntime) -> Result<(), Wrong> {
+    finds(b"a\"b c", &[(0, Item::Word { from: 0, to: 3 })])?;
+    finds(b" \"a*\"", &[(0, Item::Unmatched(2))])?;
+    finds(b"\"a**\"", &[(0, Item::Quoted { from: 1, to: 4 })])
+}
+
+// The first item of each line has this value.
+fn values(alloc: Global, rows: &[(&'static str, &str)]) -> Result<(), Wrong> {
+    for (line, want) in rows {
+        let text = value(alloc, line.as_bytes(), &next_item(line.as_bytes(), 0))?;
+        expect(text.as_bytes() == want.as_bytes(), line)?;
+    }
+    Ok(())
+}
+
+#[test]
+fn values_read_stars_in_quotes_alone(rt: HostRuntime) -> Result<(), Wrong> {
+    values(
+        rt.alloc(),
+        &[
+            ("\"a*N*e*\"**b\"", "a\n\x1b\"*b"),
+            ("\"*n*E*x\"", "\n\x1bx"),
+            ("a*N\"", "a*N\""),
+            ("\"\"", ""),
+            ("=", "="),
+        ],
+    )
+}
+
+fn are_texts(texts: &Texts, want: &[&str]) -> bool {
     if texts.len() != want.len() {
         return false;
     }
     for (text, want) in texts.as_slice().iter().zip(want) {
-        if text.as_bytes() != *want {
+        if text.as_bytes() != want.as_bytes() {
             return false;
         }
     }
     true
 }
 
-// The item at a place of a line with one of each kind.
-fn item_of_line(place: usize) -> Item {
-    next_item(b" a=b \t\"c d\"x;y", place)
-}
-
-#[test]
-fn items_by_their_first_byte(rt: HostRuntime) {
-    assert!(rt; item_of_line(0) == Item::Word { from: 1, to: 2 });
-    assert!(rt; item_of_line(2) == Item::Equal(2));
-    assert!(rt; item_of_line(3) == Item::Word { from: 3, to: 4 });
-    assert!(rt; item_of_line(4) == Item::Quoted { from: 7, to: 10 });
-    assert!(rt; item_of_line(11) == Item::Word { from: 11, to: 12 });
-    assert!(rt; item_of_line(12) == Item::End(12));
-    assert!(rt; item_of_line(99) == Item::End(99));
-}
-
-#[test]
-fn quotes_begin_where_items_begin(rt: HostRuntime) {
-    assert!(rt; next_item(b"a\"b c", 0) == Item::Word { from: 0, to: 3 });
-    assert!(rt; next_item(b" \"a*\"", 0) == Item::Unmatched(2));
-    assert!(rt; next_item(b"\"a**\"", 0) == Item::Quoted { from: 1, to: 4 });
-}
-
-#[test]
-fn values_read_stars_in_quotes_alone(rt: HostRuntime) -> Result<(), NoMemory> {
-    let alloc = rt.alloc();
-    let cases: [(&[u8], &[u8]); 5] = [
-        (b"\"a*N*e*\"**b\"", b"a\n\x1b\"*b"),
-        (b"\"*n*E*x\"", b"\n\x1bx"),
-        (b"a*N\"", b"a*N\""),
-        (b"\"\"", b""),
-        (b"=", b"="),
-    ];
-    for (line, want) in cases {
-        let text = value(alloc, line, &next_item(line, 0))?;
-        assert_eq!(rt; text.as_bytes(), want);
+// The words of a line, none where a quote is open. Want of memory is handed on.
+fn words_of(alloc: Global, line: &[u8]) -> Result<Option<Texts>, NoMemory> {
+    match words(alloc, line) {
+        Ok(texts) => Ok(Some(texts)),
+        Err(ItemFault::Unmatched) => Ok(None),
+        Err(ItemFault::NoMemory) => Err(NoMemory),
     }
-    Ok(())
+}
+
+fn has_words(alloc: Global, line: &[u8], want: &[&str]) -> Result<bool, NoMemory> {
+    match words_of(alloc, line)? {
+        Some(texts) => Ok(are_texts(&texts, want)),
+        None => Ok(false),
+    }
 }
 
 #[test]
-fn words_take_equal_signs_and_stop_at_a_comment(rt: HostRuntime) -> Result<(), ItemFault> {
-    let alloc = rt.alloc();
-    let found = words(alloc, b"a=b = \"c d\"e \"\" ;x \"")?;
-    assert!(rt; are_texts(&found, &[b"a=b", b"=", b"c d", b"e", b""]));
-    match words(alloc, b"a \"b") {
-        Err(fault) => assert_eq!(rt; fault, ItemFault::Unmatched),
-        Ok(_) => panic!(rt; "an open quote has words"),
-    }
-    Ok(())
+fn words_take_equal_signs_and_stop_at_a_comment(rt: HostRuntime) -> Result<(), Wrong> {
+    let line = b"a=b = \"c d\"e \"\" ;x \"";
+    let want = &["a=b", "=", "c d", "e", ""];
+    expect(has_words(rt.alloc(), line, want)?, "words")
+}
+
+fn has_open_quote(alloc: Global, line: &[u8]) -> Result<bool, NoMemory> {
+    Ok(words_of(alloc, line)?.is_none())
+}
+
+#[test]
+fn an_open_quote_has_no_words(rt: HostRuntime) -> Result<(), Wrong> {
+    expect(has_open_quote(rt.alloc(), b"a \"b")?, "an open quote")
 }

@@ -16,6 +16,8 @@ mod memory;
 #[cfg(test)]
 mod names;
 #[cfg(test)]
+mod places;
+#[cfg(test)]
 mod ram;
 #[cfg(test)]
 mod readargs;
@@ -23,3 +25,5 @@ mod readargs;
 mod text;
 #[cfg(test)]
 mod world;
+#[cfg(test)]
+mod wrong;

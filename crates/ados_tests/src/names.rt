@@ -1,26 +1,121 @@
+use crate::wrong::{Wrong, expect, expect_row};
 use ados_names::{NameFault, Path, Step, is_name, last_piece};
 use ados_text::{NoMemory, Text};
 use std::alloc::Global;
-use std::process::Abort;
 
-// Each function here makes few calls, since the proof of a long one is slow.
-
-fn text(alloc: Global, bytes: &[u8]) -> Result<Text, NoMemory> {
-    Text::from_bytes(alloc, bytes)
+fn text(alloc: Global, written: &str) -> Result<Text, NoMemory> {
+    Text::from_bytes(alloc, written.as_bytes())
 }
 
-// The path of a text.
-fn path(alloc: Global, bytes: &[u8]) -> Result<Path, NameFault> {
-    Path::parse(alloc, &text(alloc, bytes)?)
+fn path(alloc: Global, written: &str) -> Result<Path, NameFault> {
+    Path::parse(alloc, &text(alloc, written)?)
 }
 
-// The text names a path. Want of memory is handed on.
-fn names_a_path(alloc: Global, text: &Text) -> Result<bool, NameFault> {
-    match Path::parse(alloc, text) {
-        Ok(_) => Ok(true),
-        Err(NameFault::Invalid) => Ok(false),
-        Err(NameFault::NoMemory) => Err(NameFault::NoMemory),
+fn joined(alloc: Global, path: &Path, name: &str) -> Result<Path, NameFault> {
+    path.join(&text(alloc, name)?)
+}
+
+// Writes a step in brackets, `/` for the one upwards.
+fn show_step(out: &mut Vec<u8>, step: &Step) -> Result<(), NoMemory> {
+    out.push(b'[')?;
+    match step {
+        Step::Up => out.push(b'/')?,
+        Step::Name(name) => out.extend_from_slice(name.as_bytes())?,
     }
+    out.push(b']')?;
+    Ok(())
+}
+
+// Writes the device with its colon, and the steps.
+fn show(out: &mut Vec<u8>, path: &Path) -> Result<(), NoMemory> {
+    if let Some(device) = path.device() {
+        out.extend_from_slice(device.as_bytes())?;
+        out.push(b':')?;
+    }
+    for step in path.steps() {
+        show_step(out, step)?;
+    }
+    Ok(())
+}
+
+fn shown(alloc: Global, path: &Path) -> Result<Vec<u8>, NoMemory> {
+    let mut out = Vec::new(alloc);
+    show(&mut out, path)?;
+    Ok(out)
+}
+
+// A path shows this, or `210` stands for one that is refused. Want of memory is handed on.
+fn shows(alloc: Global, found: Result<Path, NameFault>, want: &str) -> Result<bool, NoMemory> {
+    match found {
+        Ok(path) => Ok(shown(alloc, &path)?.as_slice() == want.as_bytes()),
+        Err(NameFault::Invalid) => Ok(want == "210"),
+        Err(NameFault::NoMemory) => Err(NoMemory),
+    }
+}
+
+// Each text is read as this path, or refused.
+fn read(alloc: Global, rows: &[(&'static str, &str)]) -> Result<(), Wrong> {
+    for (written, want) in rows {
+        expect(shows(alloc, path(alloc, written), want)?, written)?;
+    }
+    Ok(())
+}
+
+#[test]
+fn a_slash_goes_up(rt: HostRuntime) -> Result<(), Wrong> {
+    read(rt.alloc(), &[("a//b c/", "[a][/][b c]")])
+}
+
+#[test]
+fn a_device_stands_before_the_one_colon(rt: HostRuntime) -> Result<(), Wrong> {
+    read(
+        rt.alloc(),
+        &[
+            ("Ram Disk:/x", "Ram Disk:[/][x]"),
+            (":", ":"),
+            ("a:b:c", "210"),
+            ("a/b:c", "210"),
+            ("abcdefghijklmnopqrstuvwxyz12345:", "210"),
+        ],
+    )
+}
+
+#[test]
+fn a_path_has_no_control_bytes(rt: HostRuntime) -> Result<(), Wrong> {
+    read(
+        rt.alloc(),
+        &[("a~", "[a~]"), ("a/\t", "210"), ("a\x7f", "210")],
+    )
+}
+
+fn copied(alloc: Global, written: &str) -> Result<Path, NameFault> {
+    Ok(path(alloc, written)?.copy()?)
+}
+
+#[test]
+fn a_copy_of_a_path_is_equal(rt: HostRuntime) -> Result<(), Wrong> {
+    let copy = copied(rt.alloc(), "Ram Disk:/x");
+    expect(shows(rt.alloc(), copy, "Ram Disk:[/][x]")?, "a copy")
+}
+
+fn joined_text(alloc: Global, written: &str, name: &str) -> Result<Path, NameFault> {
+    joined(alloc, &path(alloc, written)?, name)
+}
+
+// Each path with this name joined to it shows this, or it is refused.
+fn join(alloc: Global, rows: &[(&str, &'static str, &str)]) -> Result<(), Wrong> {
+    for (written, name, want) in rows {
+        expect(shows(alloc, joined_text(alloc, written, name), want)?, name)?;
+    }
+    Ok(())
+}
+
+#[test]
+fn joins_one_name(rt: HostRuntime) -> Result<(), Wrong> {
+    join(
+        rt.alloc(),
+        &[("RAM:a", "b", "RAM:[a][b]"), ("RAM:a/b", "b/c", "210")],
+    )
 }
 
 // A text of names with nine letters each, the last one aside.
@@ -32,95 +127,73 @@ fn long(alloc: Global, length: usize) -> Result<Text, NoMemory> {
     Ok(text)
 }
 
-// The step goes into a name.
-fn is_into(step: &Step, name: &[u8]) -> bool {
-    match step {
-        Step::Up => false,
-        Step::Name(text) => text.as_bytes() == name,
+// The path of a text of so many bytes, with a name joined to it where one is given.
+fn long_path(alloc: Global, length: usize, name: Option<&str>) -> Result<Path, NameFault> {
+    let path = Path::parse(alloc, &long(alloc, length)?)?;
+    match name {
+        None => Ok(path),
+        Some(name) => joined(alloc, &path, name),
     }
 }
 
-// The device text of a path.
-fn is_on(path: &Path, device: &[u8]) -> bool {
-    match path.device() {
-        None => false,
-        Some(text) => text.as_bytes() == device,
+// How many steps a path has, none where it is refused. Want of memory is handed on.
+fn steps(found: Result<Path, NameFault>) -> Result<usize, NoMemory> {
+    match found {
+        Ok(path) => Ok(path.steps().len()),
+        Err(NameFault::Invalid) => Ok(0),
+        Err(NameFault::NoMemory) => Err(NoMemory),
     }
 }
 
+// The paths of so many bytes, with these names joined to them, have so many steps.
+fn long_paths(alloc: Global, rows: &[(usize, Option<&str>, usize)]) -> Result<(), Wrong> {
+    for (place, (length, name, want)) in rows.iter().enumerate() {
+        expect_row(steps(long_path(alloc, *length, *name))? == *want, place)?;
+    }
+    Ok(())
+}
+
+const LONG_PATHS: &[(usize, Option<&str>, usize)] = &[(255, None, 26), (256, None, 0)];
+
 #[test]
-fn a_slash_goes_up(rt: HostRuntime) -> Result<(), NameFault> {
-    let path = path(rt.alloc(), b"a//b c/")?;
-    assert!(rt; path.device().is_none() && path.steps().len() == 3);
-    assert!(rt; is_into(&path.steps()[0], b"a"));
-    assert!(rt; path.steps()[1] == Step::Up);
-    assert!(rt; is_into(&path.steps()[2], b"b c"));
+fn a_path_has_255_bytes(rt: HostRuntime) -> Result<(), Wrong> {
+    long_paths(rt.alloc(), LONG_PATHS)
+}
+
+const LONG_JOINED: &[(usize, Option<&str>, usize)] = &[(253, Some("b"), 27), (253, Some("bc"), 0)];
+
+#[test]
+fn a_path_with_one_name_more_has_255_bytes(rt: HostRuntime) -> Result<(), Wrong> {
+    long_paths(rt.alloc(), LONG_JOINED)
+}
+
+// Each text is a name, or is none.
+fn are_names(alloc: Global, rows: &[(&'static str, bool)]) -> Result<(), Wrong> {
+    for (written, want) in rows {
+        expect(is_name(&text(alloc, written)?) == *want, written)?;
+    }
     Ok(())
 }
 
 #[test]
-fn a_device_stands_before_the_colon(rt: HostRuntime) -> Result<(), NameFault> {
-    let path = path(rt.alloc(), b"Ram Disk:/x")?.copy()?;
-    assert!(rt; is_on(&path, b"Ram Disk") && path.steps().len() == 2);
-    assert!(rt; path.steps()[0] == Step::Up && is_into(&path.steps()[1], b"x"));
-    Ok(())
+fn a_name_has_30_bytes(rt: HostRuntime) -> Result<(), Wrong> {
+    are_names(
+        rt.alloc(),
+        &[
+            ("abcdefghijklmnopqrstuvwxyz1234", true),
+            ("abcdefghijklmnopqrstuvwxyz12345", false),
+        ],
+    )
 }
 
-// The bytes name a path.
-fn is_path(alloc: Global, bytes: &[u8]) -> Result<bool, NameFault> {
-    names_a_path(alloc, &text(alloc, bytes)?)
-}
-
-#[test]
-fn a_path_has_one_colon(rt: HostRuntime) -> Result<(), NameFault> {
-    let alloc = rt.alloc();
-    assert!(rt; is_path(alloc, b":")? && !is_path(alloc, b"a:b:c")?);
-    assert!(rt; !is_path(alloc, b"a/b:c")? && !is_path(alloc, b"a/\t")?);
-    assert!(rt; is_path(alloc, b"a~")? && !is_path(alloc, b"a\x7f")?);
+fn last_pieces(alloc: Global, rows: &[(&'static str, usize)]) -> Result<(), Wrong> {
+    for (written, want) in rows {
+        expect(last_piece(&text(alloc, written)?) == *want, written)?;
+    }
     Ok(())
 }
 
 #[test]
-fn a_name_has_30_bytes(rt: HostRuntime) -> Result<(), NameFault> {
-    let alloc = rt.alloc();
-    assert!(rt; is_name(&text(alloc, b"abcdefghijklmnopqrstuvwxyz1234")?));
-    assert!(rt; !is_name(&text(alloc, b"abcdefghijklmnopqrstuvwxyz12345")?));
-    assert!(rt; !is_path(alloc, b"abcdefghijklmnopqrstuvwxyz12345:")?);
-    Ok(())
-}
-
-#[test]
-fn a_path_has_255_bytes(rt: HostRuntime) -> Result<(), NameFault> {
-    let alloc = rt.alloc();
-    assert!(rt; names_a_path(alloc, &long(alloc, 255)?)?);
-    assert!(rt; !names_a_path(alloc, &long(alloc, 256)?)?);
-    Ok(())
-}
-
-#[test]
-fn a_path_with_one_name_more_has_255_bytes(rt: HostRuntime) -> Result<(), NameFault> {
-    let alloc = rt.alloc();
-    let path = Path::parse(alloc, &long(alloc, 253)?)?;
-    assert!(rt; path.join(&text(alloc, b"b")?)?.steps().len() == 27);
-    assert!(rt; path.join(&text(alloc, b"bc")?).err() == Some(NameFault::Invalid));
-    Ok(())
-}
-
-#[test]
-fn joins_one_name(rt: HostRuntime) -> Result<(), NameFault> {
-    let alloc = rt.alloc();
-    let path = path(alloc, b"RAM:a")?.join(&text(alloc, b"b")?)?;
-    assert!(rt; is_on(&path, b"RAM") && path.steps().len() == 2);
-    assert!(rt; is_into(&path.steps()[1], b"b"));
-    assert!(rt; path.join(&text(alloc, b"b/c")?).err() == Some(NameFault::Invalid));
-    Ok(())
-}
-
-#[test]
-fn the_last_piece_is_behind_the_last_slash_or_colon(rt: HostRuntime) -> Result<(), NameFault> {
-    let alloc = rt.alloc();
-    assert!(rt; last_piece(&text(alloc, b"#?")?) == 0);
-    assert!(rt; last_piece(&text(alloc, b"d:#?")?) == 2);
-    assert!(rt; last_piece(&text(alloc, b"d:a/b")?) == 4);
-    Ok(())
+fn the_last_piece_is_behind_the_last_slash_or_colon(rt: HostRuntime) -> Result<(), Wrong> {
+    last_pieces(rt.alloc(), &[("#?", 0), ("d:#?", 2), ("d:a/b", 4)])
 }

@@ -1,3 +1,4 @@
+use crate::wrong::{Wrong, expect};
 use ados_readargs::{Arg, ArgFault, Args, Template};
 use ados_text::{NoMemory, Text, push_number};
 use std::alloc::Global;
@@ -159,42 +160,49 @@ FROM/A/M!!116
 FILE/A!FILE!117
 !x!118";
 
-// The first row that is answered otherwise.
-fn first_other<'a>(alloc: Global, rows: &'a str) -> Result<Option<&'a str>, NoMemory> {
+// Each row is answered so.
+fn follow(alloc: Global, rows: &'static str) -> Result<(), Wrong> {
     for row in rows.lines() {
         let mut parts = row.split('!');
         let template = parts.next().unwrap_or_default();
         let line = parts.next().unwrap_or_default();
         let want = parts.next().unwrap_or_default();
-        if answer(alloc, template, line)?.as_slice() != want.as_bytes() {
-            return Ok(Some(row));
-        }
+        let found = answer(alloc, template, line)?;
+        expect(found.as_slice() == want.as_bytes(), row)?;
     }
-    Ok(None)
-}
-
-#[test]
-fn fills_templates_or_says_why_not(rt: HostRuntime) -> Result<(), NoMemory> {
-    assert_eq!(rt; first_other(rt.alloc(), ROWS)?, None);
     Ok(())
 }
 
 #[test]
-fn commands_take_their_words(rt: HostRuntime) -> Result<(), NoMemory> {
-    assert_eq!(rt; first_other(rt.alloc(), TAKEN)?, None);
-    Ok(())
+fn fills_templates_or_says_why_not(rt: HostRuntime) -> Result<(), Wrong> {
+    follow(rt.alloc(), ROWS)
 }
 
 #[test]
-fn commands_refuse_other_words(rt: HostRuntime) -> Result<(), NoMemory> {
-    assert_eq!(rt; first_other(rt.alloc(), REFUSED)?, None);
-    Ok(())
+fn commands_take_their_words(rt: HostRuntime) -> Result<(), Wrong> {
+    follow(rt.alloc(), TAKEN)
 }
 
 #[test]
-fn fills_a_copy(rt: HostRuntime) -> Result<(), ArgFault> {
-    let copy = template(rt.alloc(), "PROCESS/N,COM=COMMAND/K")?.copy()?;
-    let args = copy.fill(rt.alloc(), b"-12")?;
-    assert_eq!(rt; args.number(0), Some(-12));
-    Ok(())
+fn commands_refuse_other_words(rt: HostRuntime) -> Result<(), Wrong> {
+    follow(rt.alloc(), REFUSED)
+}
+
+fn filled_copy(alloc: Global) -> Result<Args, ArgFault> {
+    let copy = template(alloc, "PROCESS/N,COM=COMMAND/K")?.copy()?;
+    copy.fill(alloc, b"-12")
+}
+
+// The number that fills the first option. Want of memory is handed on.
+fn number_of_copy(alloc: Global) -> Result<Option<i32>, NoMemory> {
+    match filled_copy(alloc) {
+        Ok(args) => Ok(args.number(0)),
+        Err(ArgFault::NoMemory) => Err(NoMemory),
+        Err(_) => Ok(None),
+    }
+}
+
+#[test]
+fn fills_a_copy(rt: HostRuntime) -> Result<(), Wrong> {
+    expect(number_of_copy(rt.alloc())? == Some(-12), "a copy")
 }

@@ -1,9 +1,9 @@
+use crate::wrong::{Wrong, expect, expect_row};
 use ados_text::{Code, NoMemory, Result2, Text};
-use ados_world::{Answer, Codes, Event, HostEntry, NewFault, Out, Outs, Refusal, Run, World};
+use ados_world::{Answer, Codes, Event, HostEntry, NewFault, Out, Outs, Refusal, World};
 use std::alloc::Global;
-use std::test::Fail;
 
-// The helpers have no contract, and one alone owns a world: what the prover need not know costs nothing.
+// The helpers have no contract, and few own a world: what the prover need not know costs nothing.
 
 pub fn fresh_world(alloc: Global) -> Result<World, NoMemory> {
     match World::new(alloc, &[]) {
@@ -12,52 +12,48 @@ pub fn fresh_world(alloc: Global) -> Result<World, NoMemory> {
     }
 }
 
-fn typed(alloc: Global, line: &[u8]) -> Result<Event, NoMemory> {
-    Ok(Event::Typed(Text::from_bytes(alloc, line)?))
+// What happens to a world.
+#[derive(Clone, Copy)]
+enum Act<'a> {
+    // A line is typed.
+    Type(&'a str),
+    // A comment of so many bytes is typed.
+    Comment(usize),
+    // A shell has a turn.
+    Turn(u8),
+    // A shell's program exited.
+    Exit(u8),
+    // The input ends.
+    End,
 }
 
-// A comment of so many bytes.
-fn typed_comment(alloc: Global, length: usize) -> Result<Event, NoMemory> {
-    typed(alloc, vec![in alloc; b';'; length]?.as_slice())
-}
+// An act, and what it prints or why it is refused.
+type Row<'a> = (Act<'a>, Result<&'a str, Refusal>);
 
-fn exited(number: u8) -> Event {
-    Event::Answer(number, Answer::Exit(0))
-}
-
-fn prints(answer: &Result<Out, Refusal>, want: &[u8]) -> bool {
-    match answer {
-        Ok(out) => {
-            out.request.is_none()
-                && out.reports.as_slice().is_empty()
-                && out.bytes.as_bytes() == want
+fn event(alloc: Global, act: Act) -> Result<Event, NoMemory> {
+    match act {
+        Act::Type(line) => Ok(Event::Typed(Text::from_bytes(alloc, line.as_bytes())?)),
+        Act::Comment(length) => {
+            let line = vec![in alloc; b';'; length]?;
+            Ok(Event::Typed(Text::from_bytes(alloc, line.as_slice())?))
         }
-        Err(_) => false,
+        Act::Turn(number) => Ok(Event::Turn(number)),
+        Act::Exit(number) => Ok(Event::Answer(number, Answer::Exit(0))),
+        Act::End => Ok(Event::EndOfInput),
     }
 }
 
-fn is_refused(answer: &Result<Out, Refusal>, want: Refusal) -> bool {
-    match answer {
-        Ok(_) => false,
-        Err(refusal) => *refusal == want,
-    }
+fn prints(out: &Out, want: &str) -> bool {
+    out.request.is_none()
+        && out.reports.as_slice().is_empty()
+        && out.bytes.as_bytes() == want.as_bytes()
 }
 
-// The event is taken, and prints this and gives nothing else.
-fn takes(world: &mut World, event: &Event, want: &[u8]) -> bool {
-    prints(&world.step(event), want)
-}
-
-fn refuses(world: &mut World, event: &Event, want: Refusal) -> bool {
-    is_refused(&world.step(event), want)
-}
-
-// The event is taken; where memory was wanting it was refused before, and the world was as it was.
-fn takes_later(world: &mut World, event: &Event, want: &[u8]) -> bool {
-    let before = views(world);
-    match world.step(event) {
-        Err(Refusal::NoMemory) => views(world) == before && takes(world, event, want),
-        answer => prints(&answer, want),
+fn is_answer(answer: &Result<Out, Refusal>, want: Result<&str, Refusal>) -> bool {
+    match (answer, want) {
+        (Ok(out), Ok(want)) => prints(out, want),
+        (Err(refusal), Err(want)) => *refusal == want,
+        _ => false,
     }
 }
 
@@ -73,9 +69,36 @@ fn views(world: &World) -> Views {
     )
 }
 
-// No shell is left, and shell 1 had these codes.
-fn is_over(world: &World, codes: Codes) -> bool {
-    views(world) == ([false; 20], codes, false, false)
+// The event is answered so; where memory was wanting it was refused before, and the world was as it was.
+fn answers(world: &mut World, event: &Event, want: Result<&str, Refusal>) -> bool {
+    let before = views(world);
+    match world.step(event) {
+        Err(Refusal::NoMemory) => views(world) == before && is_answer(&world.step(event), want),
+        answer => is_answer(&answer, want),
+    }
+}
+
+// Each row happens to the world in turn, which is then handed on.
+fn follow(alloc: Global, mut world: World, rows: &[Row]) -> Result<World, Wrong> {
+    for (place, (act, want)) in rows.iter().enumerate() {
+        expect_row(answers(&mut world, &event(alloc, *act)?, *want), place)?;
+    }
+    Ok(world)
+}
+
+// A fresh world after these rows.
+fn dialogue(alloc: Global, rows: &[Row]) -> Result<World, Wrong> {
+    follow(alloc, fresh_world(alloc)?, rows)
+}
+
+// No shell is left behind these rows, and shell 1 had these codes.
+fn ends(alloc: Global, rows: &[Row], codes: Codes) -> Result<(), Wrong> {
+    let world = dialogue(alloc, rows)?;
+    let is_over = views(&world) == ([false; 20], codes, false, false);
+    let has_no_other = world.codes(0) == Codes::NONE
+        && world.codes(2) == Codes::NONE
+        && world.codes(255) == Codes::NONE;
+    expect(is_over && has_no_other, "the end")
 }
 
 const UNKNOWN: Codes = Codes {
@@ -83,211 +106,169 @@ const UNKNOWN: Codes = Codes {
     result2: Result2::OBJECT_NOT_FOUND,
 };
 
-const UNKNOWN_TEXT: &[u8] = b"foo: object not found\nfoo failed returncode 10\n";
+const UNKNOWN_TEXT: &str = "foo: object not found\nfoo failed returncode 10\n";
 
-// What a dialogue says of a fresh world.
-fn says<F: Fn(&mut World, Global) -> Result<bool, NoMemory>>(
-    alloc: Global,
-    dialogue: F,
-) -> Result<bool, NoMemory>
-    requires { F.IsAlwaysCallable dialogue }
-{
+// The world is as it was at first: it waits for a line.
+fn is_fresh(alloc: Global, world: &World) -> Result<bool, NoMemory> {
+    let is_same = views(world) == views(&fresh_world(alloc)?);
+    Ok(is_same && world.wants_line() && world.pending(1).is_none())
+}
+
+const UNWANTED: &[Row] = &[
+    (Act::Turn(9), Err(Refusal::NoSuchShell)),
+    (Act::Turn(0), Err(Refusal::NoSuchShell)),
+    (Act::Turn(21), Err(Refusal::NoSuchShell)),
+    (Act::Turn(1), Err(Refusal::NotReady)),
+    (Act::Exit(1), Err(Refusal::WrongAnswer)),
+    (Act::Exit(2), Err(Refusal::NoSuchShell)),
+];
+
+#[test]
+fn turns_and_answers_that_no_shell_waits_for_are_refused(rt: HostRuntime) -> Result<(), Wrong> {
+    let world = dialogue(rt.alloc(), UNWANTED)?;
+    expect(is_fresh(rt.alloc(), &world)?, "the world behind refusals")
+}
+
+const LONG_LINES: &[Row] = &[
+    (Act::Comment(513), Err(Refusal::LineTooLong)),
+    (Act::Turn(1), Err(Refusal::NotReady)),
+    (Act::Comment(512), Ok("")),
+    (Act::Turn(1), Ok("")),
+];
+
+#[test]
+fn a_line_of_512_bytes_is_taken_and_one_of_513_is_too_long(rt: HostRuntime) -> Result<(), Wrong> {
+    dialogue(rt.alloc(), LONG_LINES)?;
+    Ok(())
+}
+
+// A world in which 256 lines wait.
+fn full_world(alloc: Global) -> Result<World, Wrong> {
     let mut world = fresh_world(alloc)?;
-    dialogue(&mut world, alloc)
-}
-
-fn idle_turns(world: &mut World, _alloc: Global) -> Result<bool, NoMemory> {
-    let before = views(world);
-    Ok(
-        refuses(world, &Event::Turn(9), Refusal::NoSuchShell)
-            && refuses(world, &Event::Turn(0), Refusal::NoSuchShell)
-            && refuses(world, &Event::Turn(21), Refusal::NoSuchShell)
-            && refuses(world, &Event::Turn(1), Refusal::NotReady)
-            && refuses(world, &exited(1), Refusal::WrongAnswer)
-            && refuses(world, &exited(2), Refusal::NoSuchShell)
-            && views(world) == before
-            && world.wants_line()
-            && world.pending(1).is_none(),
-    )
-}
-
-#[test]
-fn turns_and_answers_that_no_shell_waits_for_are_refused(rt: HostRuntime) -> Result<(), NoMemory> {
-    assert!(rt; says(rt.alloc(), idle_turns)?);
-    Ok(())
-}
-
-fn long_lines(world: &mut World, alloc: Global) -> Result<bool, NoMemory> {
-    let line = typed_comment(alloc, 512)?;
-    let too_long = typed_comment(alloc, 513)?;
-    Ok(
-        refuses(world, &too_long, Refusal::LineTooLong)
-            && refuses(world, &Event::Turn(1), Refusal::NotReady)
-            && takes(world, &line, b"")
-            && takes(world, &Event::Turn(1), b""),
-    )
-}
-
-#[test]
-fn a_line_of_512_bytes_is_taken_and_one_of_513_is_too_long(
-    rt: HostRuntime,
-) -> Result<(), NoMemory> {
-    assert!(rt; says(rt.alloc(), long_lines)?);
-    Ok(())
-}
-
-fn full_queue(world: &mut World, alloc: Global) -> Result<bool, NoMemory> {
-    let line = typed(alloc, b"Echo a")?;
-    let too_long = typed_comment(alloc, 513)?;
-    for _ in 0..256 {
-        if !takes(world, &line, b"") {
-            return Ok(false);
-        }
+    let line = event(alloc, Act::Type("Echo a"))?;
+    for place in 0..256 {
+        expect_row(answers(&mut world, &line, Ok("")), place)?;
     }
-    Ok(
-        refuses(world, &line, Refusal::QueueFull)
-            && refuses(world, &too_long, Refusal::QueueFull)
-            && takes(world, &Event::Turn(1), b"a\n")
-            && takes(world, &line, b"")
-            && takes(world, &Event::EndOfInput, b"")
-            && refuses(world, &line, Refusal::NotReady),
-    )
+    Ok(world)
 }
 
+const FULL_QUEUE: &[Row] = &[
+    (Act::Type("Echo a"), Err(Refusal::QueueFull)),
+    (Act::Comment(513), Err(Refusal::QueueFull)),
+    (Act::Turn(1), Ok("a\n")),
+    (Act::Type("Echo a"), Ok("")),
+    (Act::End, Ok("")),
+    (Act::Type("Echo a"), Err(Refusal::NotReady)),
+];
+
 #[test]
-fn the_257th_waiting_line_is_refused(rt: HostRuntime) -> Result<(), NoMemory> {
-    assert!(rt; says(rt.alloc(), full_queue)?);
+fn the_257th_waiting_line_is_refused(rt: HostRuntime) -> Result<(), Wrong> {
+    follow(rt.alloc(), full_world(rt.alloc())?, FULL_QUEUE)?;
     Ok(())
 }
 
-fn ended_input(world: &mut World, alloc: Global) -> Result<bool, NoMemory> {
-    let line = typed(alloc, b"Echo a")?;
-    let too_long = typed_comment(alloc, 513)?;
-    Ok(
-        takes(world, &typed(alloc, b"foo")?, b"")
-            && takes(world, &Event::Turn(1), UNKNOWN_TEXT)
-            && takes(world, &Event::EndOfInput, b"")
-            && refuses(world, &line, Refusal::NotReady)
-            && refuses(world, &too_long, Refusal::NotReady)
-            && refuses(world, &Event::EndOfInput, Refusal::NotReady)
-            && takes(world, &Event::Turn(1), b"")
-            && is_over(world, UNKNOWN),
-    )
-}
+const BEHIND_THE_INPUT: &[Row] = &[
+    (Act::Type("foo"), Ok("")),
+    (Act::Turn(1), Ok(UNKNOWN_TEXT)),
+    (Act::End, Ok("")),
+    (Act::Type("Echo a"), Err(Refusal::NotReady)),
+    (Act::Comment(513), Err(Refusal::NotReady)),
+    (Act::End, Err(Refusal::NotReady)),
+    (Act::Turn(1), Ok("")),
+];
 
 #[test]
-fn no_line_is_taken_behind_the_end_of_input(rt: HostRuntime) -> Result<(), NoMemory> {
-    assert!(rt; says(rt.alloc(), ended_input)?);
-    Ok(())
+fn no_line_is_taken_behind_the_end_of_input(rt: HostRuntime) -> Result<(), Wrong> {
+    ends(rt.alloc(), BEHIND_THE_INPUT, UNKNOWN)
 }
 
-fn last_shell(world: &mut World, alloc: Global) -> Result<bool, NoMemory> {
-    let line = typed(alloc, b"Echo a")?;
-    let too_long = typed_comment(alloc, 513)?;
-    Ok(
-        takes(world, &Event::EndOfInput, b"")
-            && takes(world, &Event::Turn(1), b"")
-            && refuses(world, &Event::Turn(1), Refusal::Over)
-            && refuses(world, &Event::Turn(9), Refusal::Over)
-            && refuses(world, &line, Refusal::Over)
-            && refuses(world, &too_long, Refusal::Over)
-            && refuses(world, &Event::EndOfInput, Refusal::Over)
-            && refuses(world, &exited(1), Refusal::Over)
-            && is_over(world, Codes::NONE)
-            && world.codes(0) == Codes::NONE
-            && world.codes(2) == Codes::NONE
-            && world.codes(255) == Codes::NONE,
-    )
-}
+const BEHIND_THE_LAST_SHELL: &[Row] = &[
+    (Act::End, Ok("")),
+    (Act::Turn(1), Ok("")),
+    (Act::Turn(1), Err(Refusal::Over)),
+    (Act::Turn(9), Err(Refusal::Over)),
+    (Act::Type("Echo a"), Err(Refusal::Over)),
+    (Act::Comment(513), Err(Refusal::Over)),
+    (Act::End, Err(Refusal::Over)),
+    (Act::Exit(1), Err(Refusal::Over)),
+];
 
 #[test]
-fn nothing_is_taken_behind_the_last_shell(rt: HostRuntime) -> Result<(), NoMemory> {
-    assert!(rt; says(rt.alloc(), last_shell)?);
-    Ok(())
+fn nothing_is_taken_behind_the_last_shell(rt: HostRuntime) -> Result<(), Wrong> {
+    ends(rt.alloc(), BEHIND_THE_LAST_SHELL, Codes::NONE)
 }
 
-// Where memory was wanting the world is as it was, and the same event is taken once there is some.
-fn want_of_memory(world: &mut World, alloc: Global) -> Result<bool, NoMemory> {
-    Ok(
-        takes_later(world, &typed(alloc, b"Echo a \"b\"")?, b"")
-            && takes_later(world, &Event::Turn(1), b"a b\n")
-            && takes_later(world, &typed(alloc, b"foo")?, b"")
-            && takes_later(world, &Event::Turn(1), UNKNOWN_TEXT)
-            && takes_later(world, &Event::EndOfInput, b"")
-            && takes_later(world, &Event::Turn(1), b"")
-            && is_over(world, UNKNOWN),
-    )
-}
+const ANY_LINES: &[Row] = &[
+    (Act::Type("Echo a \"b\""), Ok("")),
+    (Act::Turn(1), Ok("a b\n")),
+    (Act::Type("foo"), Ok("")),
+    (Act::Turn(1), Ok(UNKNOWN_TEXT)),
+    (Act::End, Ok("")),
+    (Act::Turn(1), Ok("")),
+];
 
 #[test]
 fn want_of_memory_changes_nothing_and_the_event_is_taken_later(
     rt: HostRuntime,
-) -> Result<(), NoMemory> {
-    assert!(rt; says(rt.alloc(), want_of_memory)?);
-    Ok(())
+) -> Result<(), Wrong> {
+    ends(rt.alloc(), ANY_LINES, UNKNOWN)
 }
 
-// A line is typed and obeyed, with this printed, each where there is memory.
-fn obeys(world: &mut World, alloc: Global, line: &[u8], want: &[u8]) -> Result<bool, NoMemory> {
-    Ok(takes_later(world, &typed(alloc, line)?, b"") && takes_later(world, &Event::Turn(1), want))
-}
+const HALF_COPIED: &[Row] = &[
+    (Act::Type("Echo >a A"), Ok("")),
+    (Act::Turn(1), Ok("")),
+    (Act::Type("Echo >b B"), Ok("")),
+    (Act::Turn(1), Ok("")),
+    (Act::Type("Protect a w SUB"), Ok("")),
+    (Act::Turn(1), Ok("")),
+    (Act::Type("MakeDir d"), Ok("")),
+    (Act::Turn(1), Ok("")),
+    (Act::Type("Copy a b d"), Ok("")),
+    (Act::Turn(1), Ok("RAM:a..copied\nRAM:b..copied\n")),
+];
 
 // The copy of `a` can't be written over: had a refused Copy left it, the next would be refused for that.
-fn half_copied(world: &mut World, alloc: Global) -> Result<bool, NoMemory> {
-    Ok(
-        obeys(world, alloc, b"Echo >a A", b"")?
-            && obeys(world, alloc, b"Echo >b B", b"")?
-            && obeys(world, alloc, b"Protect a w SUB", b"")?
-            && obeys(world, alloc, b"MakeDir d", b"")?
-            && obeys(
-                world,
-                alloc,
-                b"Copy a b d",
-                b"RAM:a..copied\nRAM:b..copied\n",
-            )?,
-    )
-}
-
 #[test]
-fn half_copied_file(rt: HostRuntime) -> Result<(), NoMemory> {
-    assert!(rt; says(rt.alloc(), half_copied)?);
+fn half_copied_file(rt: HostRuntime) -> Result<(), Wrong> {
+    dialogue(rt.alloc(), HALF_COPIED)?;
     Ok(())
 }
 
 // What a run of a fresh world answers.
-fn answers(alloc: Global, events: &[Event]) -> Result<Outs, NoMemory> {
+fn outs(alloc: Global, events: &[Event]) -> Result<Outs, NoMemory> {
     match fresh_world(alloc)?.run(events) {
-        Ok(Run { world: _, outs }) => Ok(outs),
+        Ok(run) => Ok(run.outs),
         Err(_) => Err(NoMemory),
     }
 }
 
-#[test]
-fn a_run_answers_each_event(rt: HostRuntime) -> Result<(), NoMemory> {
-    let events = [
-        typed(rt.alloc(), b"Echo a")?,
-        Event::Turn(1),
-        Event::Turn(9),
-    ];
-    let outs = answers(rt.alloc(), &events)?;
+fn are_answers(outs: &Outs) -> bool {
     match outs.as_slice() {
-        [line, turn, other] => assert!(rt;
-            prints(line, b"") && prints(turn, b"a\n") && is_refused(other, Refusal::NoSuchShell)
-        ),
-        _ => panic!(rt; "a run answers each event once"),
+        [line, turn, other] => {
+            is_answer(line, Ok(""))
+                && is_answer(turn, Ok("a\n"))
+                && is_answer(other, Err(Refusal::NoSuchShell))
+        }
+        _ => false,
     }
-    Ok(())
 }
 
 #[test]
-fn no_host_is_taken_yet(rt: HostRuntime) -> Result<(), Fail> {
-    let host = HostEntry {
-        name: Text::from_bytes(rt.alloc(), b"h")?,
-        program: Text::from_bytes(rt.alloc(), b"/bin/true")?,
-    };
-    match World::new(rt.alloc(), &[host]) {
-        Err(fault) => assert_eq!(rt; fault, NewFault::TooMany),
-        Ok(_) => panic!(rt; "a host was taken"),
-    }
-    Ok(())
+fn a_run_answers_each_event(rt: HostRuntime) -> Result<(), Wrong> {
+    let line = event(rt.alloc(), Act::Type("Echo a"))?;
+    let outs = outs(rt.alloc(), &[line, Event::Turn(1), Event::Turn(9)])?;
+    expect(are_answers(&outs), "a run")
+}
+
+fn host(alloc: Global) -> Result<HostEntry, NoMemory> {
+    Ok(HostEntry {
+        name: Text::from_bytes(alloc, b"h")?,
+        program: Text::from_bytes(alloc, b"/bin/true")?,
+    })
+}
+
+#[test]
+fn no_host_is_taken_yet(rt: HostRuntime) -> Result<(), Wrong> {
+    let answer = World::new(rt.alloc(), &[host(rt.alloc())?]);
+    expect(answer.err() == Some(NewFault::TooMany), "a host")
 }
