@@ -187,22 +187,3 @@ fn commands_take_their_words(rt: HostRuntime) -> Result<(), Wrong> {
 fn commands_refuse_other_words(rt: HostRuntime) -> Result<(), Wrong> {
     follow(rt.alloc(), REFUSED)
 }
-
-fn filled_copy(alloc: Global) -> Result<Args, ArgFault> {
-    let copy = template(alloc, "PROCESS/N,COM=COMMAND/K")?.copy()?;
-    copy.fill(alloc, b"-12")
-}
-
-// The number that fills the first option. Want of memory is handed on.
-fn number_of_copy(alloc: Global) -> Result<Option<i32>, NoMemory> {
-    match filled_copy(alloc) {
-        Ok(args) => Ok(args.number(0)),
-        Err(ArgFault::NoMemory) => Err(NoMemory),
-        Err(_) => Ok(None),
-    }
-}
-
-#[test]
-fn fills_a_copy(rt: HostRuntime) -> Result<(), Wrong> {
-    expect(number_of_copy(rt.alloc())? == Some(-12), "a copy")
-}
