@@ -12,6 +12,10 @@ turns_rule = record (new_rule (codes "turns")) { long = Some (codes "turns"); va
 abbrev pub run_app : App
 run_app = with_rule (new_app (codes "run")) turns_rule
 
+-- `amishell` alone
+abbrev pub bare_app : App
+bare_app = on_top (λ s. record s { no_binary_name = true }) (new_app (codes "amishell"))
+
 -- what stands behind the program's name
 abbrev pub amishell : App
-amishell = with_subcommand (on_top (λ s. record s { no_binary_name = true }) (new_app (codes "amishell"))) run_app.top
+amishell = with_subcommand bare_app run_app.top

@@ -4,7 +4,7 @@ ghost use Rattle.clap.specs.Simple.{app_of, subcommand_of, subcommand_rows_of};
 ghost use Rattle.clap.specs.Kinds.{FailsBy};
 ghost use Rattle.clap.specs.Faults.{fault_of};
 ghost use Rattle.clap.specs.declared.builder.command.Command.TheViews.{out-Command as fields_of};
-ghost use Rattle.amishell.specs.Command.{run_app, amishell};
+ghost use Rattle.amishell.specs.Command.{run_app, bare_app, amishell};
 
 use clap::{Arg, ArgAction, ArgMatches, Command, Error};
 use std::alloc::{AllocError, Global};
@@ -28,11 +28,18 @@ fn amishell_command<'a>(alloc: Global) -> Result<Command<'a>, AllocError>
     ensures local { IfOk result (λ c. (fields_of c).has_globals ≡ false) }
 {
     let run = run_command(alloc)?;
+    bare_command(alloc)?.subcommand(run)
+}
+
+// `amishell` alone.
+fn bare_command<'a>(alloc: Global) -> Result<Command<'a>, AllocError>
+    ensures app { IfOk result (λ c. app_of c ≡ bare_app) }
+    ensures local { IfOk result (λ c. (fields_of c).has_globals ≡ false) }
+{
     Command::new(alloc, "amishell")
         .about("The Shell of AmigaDOS Release 2, in an ASCII profile")
-        .bin_name("amishell")?
         .no_binary_name(true)
-        .subcommand(run)
+        .bin_name("amishell")
 }
 
 // `run [--turns N]`.

@@ -10,7 +10,7 @@ mod reading;
 mod request;
 
 use ados_launch::{Counted, drive_lines};
-use ados_text::Code;
+use ados_text::{Code, Text};
 use ados_world::World;
 use faults::Fault;
 use request::{Asked, Refused};
@@ -35,14 +35,20 @@ fn main(rt: HostRuntime) -> ExitCode {
 
 // Does what the words ask for, and gives the exit status.
 fn run<R: Env + AllocGlobal + Input + Print>(rt: &R) -> Result<u8, Fault> {
-    match reading::asked(rt.alloc(), words(rt)?.as_slice()) {
+    let words = words(rt)?;
+    match reading::asked(rt.alloc(), &words) {
         Ok(Asked::Run { turns }) => drive(rt, turns),
-        Err(Refused::Help(text)) => match io::writer(rt).write_all(text.as_bytes()) {
-            Ok(()) => Ok(0),
-            Err(_) => Err(Fault::Write),
-        },
+        Err(Refused::Help(text)) => show(rt, &text),
         Err(Refused::BadLine) => Err(Fault::BadLine),
         Err(Refused::NoMemory) => Err(Fault::Memory),
+    }
+}
+
+// Writes the help.
+fn show<R: Print>(rt: &R, help: &Text) -> Result<u8, Fault> {
+    match io::writer(rt).write_all(help.as_bytes()) {
+        Ok(()) => Ok(0),
+        Err(_) => Err(Fault::Write),
     }
 }
 
@@ -62,12 +68,21 @@ fn words<R: Env + AllocGlobal>(rt: &R) -> Result<Vec<String>, Fault> {
 // Runs the lines of standard input, and gives the exit status that they leave.
 fn drive<R: AllocGlobal + Input + Print>(rt: &R, turns: u64) -> Result<u8, Fault> {
     // without hosts a world fails only for want of memory
-    let Ok(mut world) = World::new(rt.alloc(), &[]) else {
-        return Err(Fault::Memory);
-    };
+    match World::new(rt.alloc(), &[]) {
+        Ok(mut world) => drive_world(rt, &mut world, turns),
+        Err(_) => Err(Fault::Memory),
+    }
+}
+
+// Runs the lines of standard input in this world.
+fn drive_world<R: AllocGlobal + Input + Print>(
+    rt: &R,
+    world: &mut World,
+    turns: u64,
+) -> Result<u8, Fault> {
     let mut reader = Counted::new(rt.reader());
     let mut writer = Counted::new(io::writer(rt));
-    let end = drive_lines(rt.alloc(), &mut world, &mut reader, &mut writer, turns)?;
+    let end = drive_lines(rt.alloc(), world, &mut reader, &mut writer, turns)?;
     Ok(status(end.code))
 }
 
