@@ -1,4 +1,3 @@
-
 use crate::codes::Codes;
 use crate::shared::Shared;
 use ados_ram::Place;
