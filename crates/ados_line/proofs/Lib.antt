@@ -1,3 +1,4 @@
 pub mod CommentLemmas
 pub mod CutLemmas
 pub mod PieceLemmas
+pub mod PlainLemmas

@@ -139,7 +139,7 @@ name-parts Append bytes name read e = (
 )
 
 -- a line goes on from one place up to another, and then from there
-between : (line : List ℕ) (from to : ℕ) → from ≤ to → drop from line ≡ bytes_between line from to ++ drop to line
+pub between : (line : List ℕ) (from to : ℕ) → from ≤ to → drop from line ≡ bytes_between line from to ++ drop to line
 between line from to h =
     let e : from + (to - from) ≡ to = omega arith in
     sym (ap (λ l. bytes_between line from to ++ l) (sym (drop-drop (to - from) from line ∙ ap (λ k. drop k line) e)) ∙ take-append-drop (to - from) (drop from line))

@@ -1,5 +1,5 @@
 -- The sign of a redirection: `<`, `>` or `>>` at a word's start.
-use Rattle.std.specs.Prelude.{ℕ, ◌+◌, ◌-◌, List, Bool, not, ◌==◌, ◌&&◌, nat_lt, Option, Some, None, slice_index, if◌then◌else◌}
+use Rattle.std.specs.Prelude.{ℕ, ◌+◌, ◌-◌, List, Bool, not, ◌==◌, ◌&&◌, ◌||◌, nat_lt, Option, Some, None, slice_index, if◌then◌else◌}
 use Rattle.ados_line.specs.declared.signs.Sign.{Sign}
 use Rattle.ados_line.specs.declared.signs.Sign.TheVariants.{Input, Output, Append}
 
@@ -22,3 +22,7 @@ abbrev pub width_of : Sign → ℕ
 width_of Input = 1
 width_of Output = 1
 width_of Append = 2
+
+-- a quote, or a byte of a sign
+abbrev pub is_mark : ℕ → Bool
+is_mark c = c == 34 || (c == 60 || c == 62)

@@ -1,5 +1,5 @@
 -- What one step of the cut of a line says of the whole.
-use Rattle.std.specs.Prelude.{◌≡◌, ◌⊎◌, ℕ, Result, Ok, Err}
+use Rattle.std.specs.Prelude.{◌≡◌, ◌⊎◌, ℕ, List, Some, None, Result, Ok, Err}
 use Rattle.ados_line.specs.declared.faults.LineFault.{LineFault}
 use Rattle.ados_line.specs.declared.faults.LineFault.TheVariants.{NoMemory}
 use Rattle.ados_line.specs.declared.cuts.Cut.{Cut}
@@ -16,3 +16,7 @@ Goes next (Err fault) read whole = (fault ≡ NoMemory) ⊎ (whole ≡ Err fault
 -- the answer is this cut or this fault, or memory was wanting
 abbrev pub IsCut : Result Cut LineFault → Result Cut LineFault → Type 0
 IsCut result whole = (result ≡ Err NoMemory) ⊎ (result ≡ whole)
+
+-- a line of a command and its arguments alone
+abbrev pub with_arguments : List ℕ → List ℕ → Cut
+with_arguments command args = record { command = Some command; args = args; input = None; output = None }

@@ -1,10 +1,12 @@
-ghost use Rattle.std.specs.Prelude.{◌≡◌, ℕ, ◌≤◌, true, length, Result, OnOk};
+ghost use Rattle.std.specs.Prelude.{◌≡◌, ℕ, ◌≤◌, true, false, length, drop, Result, Ok, IfOk, OnOk};
+ghost use Rattle.std.specs.List.{list_any};
 ghost use Rattle.ados_text.specs.Text.{IsText};
 ghost use Rattle.ados_items.specs.Items.{item_at, value_of, bytes_between, IsWithin};
 ghost use Rattle.ados_line.specs.declared.faults.LineFault.{LineFault};
 ghost use Rattle.ados_line.specs.declared.cuts.Cut.{Cut};
-ghost use Rattle.ados_line.specs.Cut.{with_piece, with_blanks, with_name, named, is_taken, redirected, cut_word, cut_item, cut_of};
-ghost use Rattle.ados_line.specs.Steps.{Goes, IsCut};
+ghost use Rattle.ados_line.specs.Cut.{with_piece, with_blanks, with_name, named, is_taken, redirected, cut_word, cut_item, cut_of, nothing_read};
+ghost use Rattle.ados_line.specs.Signs.{is_mark};
+ghost use Rattle.ados_line.specs.Steps.{Goes, IsCut, with_arguments};
 
 use crate::faults::LineFault;
 use crate::lines::Redirection;
@@ -36,6 +38,34 @@ pub enum Reading {
 }
 
 impl Cut {
+    // Nothing was read.
+    fn of_nothing(alloc: Global) -> Cut
+        ensures { result ≡ nothing_read }
+    {
+        Cut {
+            command: None,
+            args: Text::new(alloc),
+            input: None,
+            output: None,
+        }
+    }
+
+    // The item is the command, and all of the line from a place on its arguments.
+    fn of_command(alloc: Global, line: &[u8], item: &Item, to: usize) -> Result<Cut, NoMemory>
+        requires { IsText line.now }
+        ensures { IfOk result (λ read. read ≡ with_arguments (value_of line.now item.now) (drop to line.now)) }
+    {
+        let command = value(alloc, line, item)?;
+        let mut args = Text::new(alloc);
+        args.push_bytes(piece(line, to, line.len()))?;
+        Ok(Cut {
+            command: Some(command),
+            args,
+            input: None,
+            output: None,
+        })
+    }
+
     // The first item is the command, and each further piece of the line joins the arguments; the
     // piece goes from `place` up to `to`.
     fn take_piece(
@@ -200,12 +230,35 @@ pub fn cut_line(alloc: Global, line: &[u8]) -> Result<Cut, LineFault>
     requires { IsText line.now }
     ensures { IsCut result (cut_of line.now) }
 {
-    let mut read = Cut {
-        command: None,
-        args: Text::new(alloc),
-        input: None,
-        output: None,
-    };
+    if has_mark(line) {
+        cut_items(alloc, line)
+    } else {
+        Ok(cut_plain(alloc, line)?)
+    }
+}
+
+// The cut of a line without quotes and signs, as nearly all are: what stands behind the command is
+// taken as it is.
+#[tactic(auto, using(crate::proofs::PlainLemmas::plain_cut))]
+fn cut_plain(alloc: Global, line: &[u8]) -> Result<Cut, NoMemory>
+    requires ascii { IsText line.now }
+    requires plain { list_any is_mark line.now ≡ false }
+    ensures { IfOk result (λ read. cut_of line.now ≡ Ok read) }
+{
+    let item = next_item(line, 0);
+    match item {
+        Item::Word { to, .. } => Cut::of_command(alloc, line, &item, to),
+        Item::Equal(at) => Cut::of_command(alloc, line, &item, at + 1),
+        _ => Ok(Cut::of_nothing(alloc)),
+    }
+}
+
+// The cut of a line, item by item.
+fn cut_items(alloc: Global, line: &[u8]) -> Result<Cut, LineFault>
+    requires { IsText line.now }
+    ensures { IsCut result (cut_of line.now) }
+{
+    let mut read = Cut::of_nothing(alloc);
     let mut place = 0;
     for step in 0..line.len() + 1 {
         match read.take_item(alloc, line, place)? {
@@ -224,4 +277,18 @@ fn piece(line: &[u8], from: usize, to: usize) -> &[u8]
 {
     let to = to.min(line.len());
     if from >= to { &[] } else { &line[from..to] }
+}
+
+// A quote or the sign of a redirection stands in a line.
+fn has_mark(line: &[u8]) -> bool
+    ensures { result ≡ list_any is_mark line.now }
+{
+    line.iter().any(is_mark)
+}
+
+// A quote, or a byte of the sign of a redirection.
+fn is_mark(byte: &u8) -> bool
+    ensures { result ≡ is_mark byte.now }
+{
+    matches!(*byte, b'"' | b'<' | b'>')
 }

@@ -36,8 +36,7 @@ pub fn is_piece(piece: &[u8]) -> bool
 pub fn are_pieces(text: &[u8]) -> bool
     ensures { result ≡ list_all is_piece (slice_split is_slash text.now) }
 {
-    text.split(|byte| *byte == b'/')
-        .all(|piece| is_piece(piece))
+    text.split(|byte| *byte == b'/').all(is_piece)
 }
 
 // The step of the piece between two places.

@@ -45,7 +45,7 @@ fn is_bad_text(text: &Text) -> bool
 fn has_bad_text(texts: &[Text]) -> bool
     ensures { result ≡ list_any is_bad_text texts.now }
 {
-    texts.iter().any(|text| is_bad_text(text))
+    texts.iter().any(is_bad_text)
 }
 
 fn has_bad_number(arg: &Arg) -> bool

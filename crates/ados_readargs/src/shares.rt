@@ -41,7 +41,7 @@ fn middle_of(options: &[TemplateOption]) -> Option<usize>
     ensures value { result ≡ middle_of options.now }
     ensures within { IfSome result (λ middle. middle < length options.now) }
 {
-    options.iter().position(|option| is_middle(option))
+    options.iter().position(is_middle)
 }
 
 // So many of the items from a place on, or as many as there are.

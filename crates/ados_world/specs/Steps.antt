@@ -42,32 +42,32 @@ KeepFrames shells (Some new) = (k : ℕ) → frames_in (flatten (numbered new k)
 
 -- the output of a turn is given
 abbrev pub IsGiven : Settled → Out → Type 0
-IsGiven done out = out ≡ giving done.printed.items done.reports.items
+IsGiven done out = out ≡ giving done.draft.printed.items done.draft.reports.items
 
 -- the shells behind a turn of one of them
 abbrev pub shells_behind : List (Option ShellState) → ℕ → Settled → List (Option ShellState)
-shells_behind shells number done = slice_set (unwrap_or done.shells shells) (number - 1) (Some done.shell)
+shells_behind shells number done = slice_set (unwrap_or done.shells shells) (number - 1) (Some done.draft.shell)
 
 -- what a turn changes was moved in
 abbrev pub IsTaken : WorldState → ℕ → Settled → WorldState → Type 0
 IsTaken old number done new =
-    new ≡ record old { shells = shells_behind old.shells number done; shared = version old.shared done.shared }
+    new ≡ record old { shells = shells_behind old.shells number done; shared = version old.shared done.draft.shared }
 
 -- a draft is ready to be moved in
 pub record IsConcluded (shells : List (Option ShellState)) (draft : Draft) (done : Settled) : Type 0 where
   pub shells_are : (number : ℕ) → shells_behind shells number done ≡ settled shells number draft.shell draft.renamed
-  pub frames_are : done.shell.frames ≡ draft.shell.frames
+  pub frames_are : done.draft.shell.frames ≡ draft.shell.frames
   pub frames_stay : KeepFrames shells done.shells
-  pub shared_is : done.shared ≡ draft.shared
-  pub printed_is : done.printed.items ≡ draft.printed.items
-  pub reports_are : done.reports.items ≡ draft.reports.items
+  pub shared_is : done.draft.shared ≡ draft.shared
+  pub printed_is : done.draft.printed.items ≡ draft.printed.items
+  pub reports_are : done.draft.reports.items ≡ draft.reports.items
 
 -- what a turn changes is ready to be moved in
 pub record IsSettled (number : ℕ) (shells : List (Option ShellState)) (old : SharedState) (done : Settled) (turned : Turned) : Type 0 where
   pub shells_are : shells_behind shells number done ≡ settled shells number turned.shell turned.course.renamed
-  pub shared_is : version old done.shared ≡ turned.course.shared
-  pub printed_is : done.printed.items ≡ turned.course.printed
-  pub reports_are : done.reports.items ≡ reports_of number turned.log
+  pub shared_is : version old done.draft.shared ≡ turned.course.shared
+  pub printed_is : done.draft.printed.items ≡ turned.course.printed
+  pub reports_are : done.draft.reports.items ≡ reports_of number turned.log
 
 -- what the next line of the newest script changes is ready to be moved in
 abbrev pub IsScriptSettled : ℕ → List (Option ShellState) → Course → Settled → ShellState → List FrameState → Type 0
@@ -77,5 +77,5 @@ IsScriptSettled number shells course done shell (frame ∷ frames) =
 
 -- the shell's frames run on, and those of the others stay
 pub record RunsOn (shells : List (Option ShellState)) (done : Settled) : Type 0 where
-  pub shell : AllRunOn done.shell.frames
+  pub shell : AllRunOn done.draft.shell.frames
   pub others : KeepFrames shells done.shells

@@ -4,6 +4,7 @@ ghost use Rattle.std.specs.Option.{option_copied};
 ghost use Rattle.ados_find.specs.Shared.{version};
 ghost use Rattle.ados_machine.specs.Frames.{is_ended, finish, passed};
 ghost use Rattle.ados_machine.specs.Shell.{answered, put, called, view_of};
+ghost use Rattle.ados_machine.specs.Step.{giving};
 ghost use Rattle.ados_machine.specs.declared.targets.Target.TheVariants.{At};
 ghost use Rattle.ados_world.specs.declared.scenes.Scene.{Scene as Seen};
 
@@ -13,14 +14,13 @@ use crate::renames::directories;
 use crate::scenes::Scene;
 use crate::shells::Shell;
 use ados_find::{Codes, Renamed, Shared, ShellView};
-use ados_machine::{Builtin, Called, EndReport, Target};
+use ados_machine::{Builtin, Called, EndReport, Out, Target};
 use ados_ram::{Busy, FsFault, Place};
 use ados_text::{Code, NoMemory, Octets, Text};
 use std::alloc::Global;
 
 /// What a turn of a shell changes: the shell, a new version of the shared parts where there is one, the object that it
 /// renamed, what it prints, and the scripts that it ends.
-#[derive(Drop)]
 pub struct Draft {
     pub number: u8,
     pub shell: Shell,
@@ -28,6 +28,20 @@ pub struct Draft {
     pub renamed: Option<Renamed>,
     pub printed: Vec<u8>,
     pub reports: Vec<EndReport>,
+}
+
+// Written out, so that for whoever drops a draft it is one step, and not one for each of its parts.
+impl Drop for Draft {
+    fn drop(self) {
+        let Draft {
+            number: _number,
+            shell: _shell,
+            shared: _shared,
+            renamed: _renamed,
+            printed: _printed,
+            reports: _reports,
+        } = self;
+    }
 }
 
 impl Draft {
@@ -66,6 +80,27 @@ impl Draft {
             None => {}
             Some(shared) => self.shared = Some(shared),
         }
+    }
+
+    /// Moves in the shell and the shared parts, and gives what is printed and which scripts ended.
+    pub fn move_in(self, shell: &mut Option<Shell>, shared: &mut Shared) -> Out
+        ensures shell { shell.new ≡ Some self.shell }
+        ensures shared { shared.new ≡ version shared.old self.shared }
+        ensures out { result ≡ giving self.printed.items self.reports.items }
+    {
+        let Draft {
+            number: _,
+            shell: new_shell,
+            shared: new_shared,
+            renamed: _,
+            printed,
+            reports,
+        } = self;
+        *shell = Some(new_shell);
+        if let Some(new) = new_shared {
+            *shared = new;
+        }
+        Out::giving(printed, reports)
     }
 
     /// What commands read of the shell, and of the others.

@@ -88,6 +88,10 @@ fn carried_place(shell: &Option<Shell>, renamed: &Renamed) -> Result<Option<Shel
 {
     match shell {
         None => Ok(None),
-        Some(shell) => Ok(Some(shell.share()?.carry(renamed)?)),
+        Some(shell) => {
+            let mut shell = shell.share()?;
+            shell.carry(renamed)?;
+            Ok(Some(shell))
+        }
     }
 }

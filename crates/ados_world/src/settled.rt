@@ -9,9 +9,7 @@ use crate::drafts::Draft;
 use crate::renames::{Shells, carried_shells};
 use crate::scenes::Scene;
 use crate::shells::Shell;
-use crate::turns::{console_draft, prompt_draft, script_draft};
-use ados_find::Shared;
-use ados_machine::{Asking, EndReport};
+use ados_machine::Asking;
 use ados_text::{NoMemory, Text};
 
 /// What a turn of a shell changes, ready to be moved in, which takes no memory.
@@ -19,14 +17,8 @@ use ados_text::{NoMemory, Text};
 pub struct Settled {
     /// All shells, where an object was renamed, by which their current directories are carried.
     pub shells: Option<Shells>,
-    /// The shell.
-    pub shell: Shell,
-    /// A new version of the shared parts, where there is one.
-    pub shared: Option<Shared>,
-    /// What is printed.
-    pub printed: Vec<u8>,
-    /// The scripts that ended.
-    pub reports: Vec<EndReport>,
+    /// What the turn made of its shell and of what all share, what it prints, and the scripts that it ends.
+    pub draft: Draft,
 }
 
 impl Draft {
@@ -34,29 +26,22 @@ impl Draft {
     fn conclude(self, shells: &[Option<Shell>; 20]) -> Result<Settled, NoMemory>
         ensures { IfOk result (λ done. IsConcluded shells.now self done) }
     {
-        let Draft {
-            number: _,
-            shell,
-            shared,
-            renamed,
-            printed,
-            reports,
-        } = self;
-        match renamed {
-            None => Ok(Settled {
-                shells: None,
-                shell,
-                shared,
-                printed,
-                reports,
-            }),
-            Some(renamed) => Ok(Settled {
-                shells: Some(carried_shells(*printed.allocator(), shells, &renamed)?),
-                shell: shell.carry(&renamed)?,
-                shared,
-                printed,
-                reports,
-            }),
+        let mut draft = self;
+        let shells = draft.carry(shells)?;
+        Ok(Settled { shells, draft })
+    }
+
+    // Carries the current directories of all shells by a rename, if there was one; those of the others are given.
+    fn carry(&mut self, shells: &[Option<Shell>; 20]) -> Result<Option<Shells>, NoMemory>
+        ensures { IfOk result (λ carried. IsConcluded shells.now self.old (record { shells = carried; draft = self.new })) }
+    {
+        match &self.renamed {
+            None => Ok(None),
+            Some(renamed) => {
+                let carried = carried_shells(*self.printed.allocator(), shells, renamed)?;
+                self.shell.carry(renamed)?;
+                Ok(Some(carried))
+            }
         }
     }
 }
@@ -67,7 +52,9 @@ pub fn console_settled(scene: &Scene, shell: &Shell, line: &Text) -> Result<Sett
         (turn_of line.now shell.now (start_of scene.now))) }
     ensures runs_on { AllRunOn shell.now.frames → IfOk result (λ done. RunsOn scene.now.shells.now done) }
 {
-    console_draft(scene, shell, line)?.conclude(scene.shells)
+    let mut draft = Draft::new(scene.alloc, 1, shell)?;
+    draft.obey(scene, line)?;
+    draft.conclude(scene.shells)
 }
 
 /// What a turn that takes the next line of its newest script changes.
@@ -76,10 +63,12 @@ pub fn script_settled(scene: &Scene, number: u8, shell: &Shell) -> Result<Settle
         (start_of scene.now) done shell.now shell.now.frames) }
     ensures runs_on { AllRunOn shell.now.frames → IfOk result (λ done. RunsOn scene.now.shells.now done) }
 {
-    script_draft(scene, number, shell)?.conclude(scene.shells)
+    let mut draft = Draft::new(scene.alloc, number, shell)?;
+    draft.follow(scene, shell)?;
+    draft.conclude(scene.shells)
 }
 
-/// What a turn that takes the answer to a prompt changes.
+/// What a turn that takes the answer to a prompt changes: the line stands as it is.
 pub fn prompt_settled(
     scene: &Scene,
     number: u8,
@@ -91,5 +80,7 @@ pub fn prompt_settled(
         (resumed answer.now question.now shell.now (start_of scene.now))) }
     ensures runs_on { AllRunOn shell.now.frames → IfOk result (λ done. RunsOn scene.now.shells.now done) }
 {
-    prompt_draft(scene, number, shell, question, answer)?.conclude(scene.shells)
+    let mut draft = Draft::new(scene.alloc, number, shell)?;
+    draft.resume(scene, question, answer)?;
+    draft.conclude(scene.shells)
 }

@@ -20,13 +20,25 @@ use std::rc::Rc;
 pub const FIRST_LIMIT: Code = Code(10);
 
 /// A shell. The newest frame is the last. The question is there where the shell waits for the answer to a prompt.
-#[derive(Drop)]
 pub struct Shell {
     frames: Vec<Frame>,
     limit: Code,
     codes: Codes,
     directory: Place,
     question: Option<Rc<Asking>>,
+}
+
+// Written out, so that for whoever drops a shell it is one step, and not one for each of its parts.
+impl Drop for Shell {
+    fn drop(self) {
+        let Shell {
+            frames: _frames,
+            limit: _limit,
+            codes: _codes,
+            directory: _directory,
+            question: _question,
+        } = self;
+    }
 }
 
 impl Model for Shell {
@@ -129,13 +141,12 @@ impl Shell {
         })
     }
 
-    /// The shell once an object was renamed, by which its current directory is carried.
-    pub fn carry(self, renamed: &Renamed) -> Result<Shell, NoMemory>
-        ensures { IfOk result (λ shell. shell ≡ carried_shell renamed.now self) }
+    /// An object was renamed, by which the current directory is carried.
+    pub fn carry(&mut self, renamed: &Renamed) -> Result<(), NoMemory>
+        ensures { OnOk result (self.new ≡ carried_shell renamed.now self.old) }
     {
-        let mut shell = self;
-        shell.directory = shell.directory.carried(&renamed.from, &renamed.to)?;
-        Ok(shell)
+        self.directory = self.directory.carried(&renamed.from, &renamed.to)?;
+        Ok(())
     }
 
     /// A command answered this, and the shell is ready.

@@ -3,7 +3,6 @@ ghost use Rattle.std.specs.Prelude.{◌≡◌, [], Some, None, OnSome, drop, sli
 ghost use Rattle.std.specs.Option.{option_copied};
 ghost use Rattle.ados_machine.specs.declared.answers.Answer.{Answer as Reply};
 ghost use Rattle.ados_machine.specs.World.{shell_at};
-ghost use Rattle.ados_find.specs.Shared.{version};
 ghost use Rattle.ados_world.specs.Steps.{AsksAt, IsFirst, IsFreeAt, IsShellNumber, IsGiven, IsTaken, KeepFrames, RunsOn};
 ghost use Rattle.ados_machine.specs.Step.{step_of, typed, end_of_input, turned, waiting, replied, giving, with_shell};
 ghost use Rattle.ados_machine.specs.Runs.{IsAnswer, world_after};
@@ -12,7 +11,7 @@ use crate::renames::Shells;
 use crate::settled::{Settled, console_settled, prompt_settled, script_settled};
 use crate::shells::Shell;
 use crate::worlds::World;
-use ados_find::{Codes, Shared};
+use ados_find::Codes;
 use ados_machine::{Event, Out, Refusal};
 use ados_text::Text;
 
@@ -179,17 +178,9 @@ impl World {
         ensures out { IsGiven done result }
         ensures world { IsTaken self.old number done self.new }
     {
-        let Settled {
-            shells,
-            shell,
-            shared,
-            printed,
-            reports,
-        } = done;
+        let Settled { shells, draft } = done;
         self.replace(shells);
-        self.shells[number as usize - 1] = Some(shell);
-        self.renew(shared);
-        Out::giving(printed, reports)
+        draft.move_in(&mut self.shells[number as usize - 1], &mut self.shared)
     }
 
     /// Moves in all shells, where there are new ones.
@@ -200,16 +191,6 @@ impl World {
         match new {
             None => {}
             Some(shells) => self.shells = shells.into_array(),
-        }
-    }
-
-    /// Moves in a new version of the shared parts, where there is one.
-    fn renew(&mut self, new: Option<Shared>)
-        ensures { self.new ≡ record self.old { shared = version self.old.shared new } }
-    {
-        match new {
-            None => {}
-            Some(shared) => self.shared = shared,
         }
     }
 

@@ -5,11 +5,10 @@ ghost use Rattle.ados_find.specs.Codes.{failed};
 ghost use Rattle.ados_find.specs.Effects.{effect_of};
 ghost use Rattle.ados_line.specs.Cut.{expanded_of};
 ghost use Rattle.ados_machine.specs.Commands.{builtin_of, action_of, Answers};
-ghost use Rattle.ados_machine.specs.Limits.{AllRunOn};
-ghost use Rattle.ados_machine.specs.Shell.{acted, answered, asked, begun, input_of, is_console, is_free, number_of_fault, obeyed, opening, performed, prepared, prompt, resumed, sought, turn_of, view_of};
+ghost use Rattle.ados_machine.specs.Shell.{acted, answered, asked, begun, input_of, is_console, is_free, number_of_fault, obeyed, opening, performed, prepared, prompt, resumed, sought, view_of};
 ghost use Rattle.ados_world.specs.Actions.{acting};
 ghost use Rattle.ados_world.specs.Answers.{Gives};
-ghost use Rattle.ados_world.specs.Drafts.{GoesOn, IsDrafted, IsOpened, IsScriptDrafted, course_of, start_of};
+ghost use Rattle.ados_world.specs.Drafts.{GoesOn, IsFresh, IsOpened, IsScriptDrafted, course_of, start_of};
 ghost use Rattle.ados_world.specs.declared.scenes.Scene.{Scene as Seen};
 
 use crate::actions::Action;
@@ -35,6 +34,23 @@ impl Draft {
             Err(fault) => self.answer(b"Shell", Codes::failed(number(fault)), false),
             Ok(Expanded::Nothing) => self.pass(),
             Ok(Expanded::Ready(line)) => self.seek(scene, &line),
+        }
+    }
+
+    /// Takes the next line of the newest script of the shell, in which nothing is changed yet.
+    pub fn follow(&mut self, scene: &Scene, shell: &Shell) -> Result<(), NoMemory>
+        requires { IsFresh self.old.number shell.now self.old }
+        ensures { OnOk result (IsScriptDrafted self.old.number (start_of scene.now) self.new shell.now shell.now.frames) }
+    {
+        let Some(frame) = shell.newest() else {
+            return Ok(());
+        };
+        match frame.next_line() {
+            None => self.pass(),
+            Some(line) => {
+                self.shell.move_on()?;
+                self.obey(scene, line)
+            }
         }
     }
 
@@ -103,7 +119,12 @@ impl Draft {
     }
 
     /// Takes the answer to a command's prompt: it stands for the arguments as it is.
-    fn resume(&mut self, scene: &Scene, question: &Asking, answer: &Text) -> Result<(), NoMemory>
+    pub fn resume(
+        &mut self,
+        scene: &Scene,
+        question: &Asking,
+        answer: &Text,
+    ) -> Result<(), NoMemory>
         ensures { OnOk result (GoesOn scene.now self.old self.new
             (resumed answer.now question.now self.old.shell (course_of scene.now self.old))) }
     {
@@ -216,73 +237,6 @@ impl Draft {
         let answered = self.put(scene, target, output, codes)?;
         self.answer(word.as_bytes(), answered, false)
     }
-}
-
-/// What a turn of shell 1 that takes a typed line changes.
-#[tactic(auto, using(crate::proofs::RunsOnLemmas::console_runs))]
-pub fn console_draft(scene: &Scene, shell: &Shell, line: &Text) -> Result<Draft, NoMemory>
-    ensures drafted { IfOk result (λ draft. IsDrafted 1 scene.now.shared.now draft
-        (turn_of line.now shell.now (start_of scene.now))) }
-    ensures runs_on { AllRunOn shell.now.frames → IfOk result (λ draft. AllRunOn draft.shell.frames) }
-{
-    let mut draft = Draft::new(scene.alloc, 1, shell)?;
-    draft.obey(scene, line)?;
-    Ok(draft)
-}
-
-/// What a turn that takes the next line of its newest script changes.
-pub fn script_draft(scene: &Scene, number: u8, shell: &Shell) -> Result<Draft, NoMemory>
-    ensures drafted { IfOk result (λ draft. IsScriptDrafted number (start_of scene.now) draft shell.now shell.now.frames) }
-    ensures runs_on { AllRunOn shell.now.frames → IfOk result (λ draft. AllRunOn draft.shell.frames) }
-{
-    next_line_draft(scene, number, shell)
-}
-
-fn next_line_draft(scene: &Scene, number: u8, shell: &Shell) -> Result<Draft, NoMemory>
-    ensures { IfOk result (λ draft. IsScriptDrafted number (start_of scene.now) draft shell.now shell.now.frames) }
-{
-    let mut draft = Draft::new(scene.alloc, number, shell)?;
-    let Some(frame) = shell.newest() else {
-        return Ok(draft);
-    };
-    match frame.next_line() {
-        None => draft.pass()?,
-        Some(line) => {
-            draft.shell.move_on()?;
-            draft.obey(scene, line)?;
-        }
-    }
-    Ok(draft)
-}
-
-/// What a turn that takes the answer to a prompt changes: the line stands as it is.
-pub fn prompt_draft(
-    scene: &Scene,
-    number: u8,
-    shell: &Shell,
-    question: &Asking,
-    answer: &Text,
-) -> Result<Draft, NoMemory>
-    ensures drafted { IfOk result (λ draft. IsDrafted number scene.now.shared.now draft
-        (resumed answer.now question.now shell.now (start_of scene.now))) }
-    ensures runs_on { AllRunOn shell.now.frames → IfOk result (λ draft. AllRunOn draft.shell.frames) }
-{
-    answer_draft(scene, number, shell, question, answer)
-}
-
-fn answer_draft(
-    scene: &Scene,
-    number: u8,
-    shell: &Shell,
-    question: &Asking,
-    answer: &Text,
-) -> Result<Draft, NoMemory>
-    ensures { IfOk result (λ draft. IsDrafted number scene.now.shared.now draft
-        (resumed answer.now question.now shell.now (start_of scene.now))) }
-{
-    let mut draft = Draft::new(scene.alloc, number, shell)?;
-    draft.resume(scene, question, answer)?;
-    Ok(draft)
 }
 
 /// An output that leads nowhere else is the console.

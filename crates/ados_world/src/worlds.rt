@@ -194,7 +194,7 @@ impl World {
 fn any_runs(shells: &[Option<Shell>]) -> bool
     ensures { result ≡ list_any is_some shells.now }
 {
-    shells.iter().any(|shell| shell.is_some())
+    shells.iter().any(Option::is_some)
 }
 
 fn taken(shells: &[Option<Shell>; 20]) -> [bool; 20]
