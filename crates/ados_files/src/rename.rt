@@ -120,7 +120,7 @@ fn renamed_to(
             codes: Codes::NONE,
             output: Octets::from_vec(Vec::new(alloc)),
             directory: None,
-            renamed: Some(renamed),
+            renamed: Some(Box::new(alloc, renamed)?),
         }),
     }
 }

@@ -1,5 +1,5 @@
 -- What a command makes.
-use Rattle.std.specs.Prelude.{◌≡◌, ℕ, List, [], Option, None}
+use Rattle.std.specs.Prelude.{◌≡◌, ℕ, List, [], Option, None, option_map}
 use Rattle.ados_text.specs.declared.codes.Code.{Code}
 use Rattle.ados_find.specs.declared.codes.Codes.{Codes}
 use Rattle.ados_find.specs.declared.outcomes.Outcome.{Outcome}
@@ -35,7 +35,7 @@ effect_of shared outcome =
       codes = outcome.codes;
       output = outcome.output;
       directory = outcome.directory;
-      renamed = outcome.renamed;
+      renamed = option_map (λ r. r.value) outcome.renamed;
     }
 
 -- an outcome is this to any shared parts

@@ -24,8 +24,9 @@ pub struct Outcome {
     pub output: Octets,
     /// The new current directory of its shell, where it set one.
     pub directory: Option<Place>,
-    /// The object that it renamed, by which the current directories of all shells are carried.
-    pub renamed: Option<Renamed>,
+    /// The object that it renamed, by which the current directories of all shells are carried. It stands apart, so
+    /// that an outcome is small to move.
+    pub renamed: Option<Box<Renamed>>,
 }
 
 impl Outcome {

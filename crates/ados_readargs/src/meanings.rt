@@ -241,14 +241,10 @@ fn free_meaning(
     ensures { result ≡ free_meaning options.now line.now given.now word vacant }
 {
     match vacant {
-        None => next_meaning(options, line, given, word, None),
-        Some(place) => {
-            if qualifiers_at(options, place).rest {
-                Meaning::Stop(Reading::Given(place, rest_of(line, word)))
-            } else {
-                next_meaning(options, line, given, word, Some(place))
-            }
+        Some(place) if qualifiers_at(options, place).rest => {
+            Meaning::Stop(Reading::Given(place, rest_of(line, word)))
         }
+        _ => next_meaning(options, line, given, word, vacant),
     }
 }
 

@@ -40,7 +40,7 @@ impl Text {
         match first_past_ascii(bytes) {
             Some(place) => Err(TextFault::NotAscii(place)),
             None => {
-                let bytes = SmallVec::from_slice(alloc, bytes)?;
+                let bytes = copied(alloc, bytes)?;
                 Ok(Text { bytes })
             }
         }
@@ -107,10 +107,7 @@ impl Text {
         requires within { to ≤ length self.now }
         ensures { IfOk result (λ t. t ≡ take (to - from) (drop from self.now)) }
     {
-        let bytes = SmallVec::from_slice(
-            *self.bytes.allocator(),
-            &self.bytes.as_slice()[from..to],
-        )?;
+        let bytes = copied(*self.bytes.allocator(), &self.bytes.as_slice()[from..to])?;
         Ok(Text { bytes })
     }
 
@@ -119,7 +116,7 @@ impl Text {
     pub fn join(&self, behind: &Text) -> Result<Text, NoMemory>
         ensures { IfOk result (λ t. t ≡ self.now ++ behind.now) }
     {
-        let mut bytes = SmallVec::from_slice(*self.bytes.allocator(), self.bytes.as_slice())?;
+        let mut bytes = copied(*self.bytes.allocator(), self.bytes.as_slice())?;
         bytes.extend_from_slice(behind.bytes.as_slice())?;
         Ok(Text { bytes })
     }
@@ -150,7 +147,7 @@ impl Clone for Text {
     ghost is_clone = { λ a b. b ≡ a };
 
     fn clone(&self) -> Result<Text, AllocError> {
-        let bytes = SmallVec::from_slice(*self.bytes.allocator(), self.bytes.as_slice())?;
+        let bytes = copied(*self.bytes.allocator(), self.bytes.as_slice())?;
         Ok(Text { bytes })
     }
 }
@@ -182,6 +179,15 @@ fn ascii(byte: u8) -> u8
     if byte < 128 { byte } else { b'?' }
 }
 
+// A copy of the bytes, laid where it stays: `from_slice` builds it elsewhere and moves it, which took twice the time.
+fn copied(alloc: Global, bytes: &[u8]) -> Result<SmallVec<u8, SHORT>, AllocError>
+    ensures { IfOk result (λ copy. copy.items ≡ bytes.now) }
+{
+    let mut copy = SmallVec::new(alloc);
+    copy.extend_from_slice(bytes)?;
+    Ok(copy)
+}
+
 // The bytes with `?` in place of each past ASCII: nearly always there is none, and they are copied as
 // they stand.
 #[tactic(auto, using(crate::proofs::TextLemmas::ascii_kept))]
@@ -190,7 +196,7 @@ fn ascii_bytes(alloc: Global, bytes: &[u8]) -> Result<SmallVec<u8, SHORT>, Alloc
     ensures text { IfOk result (λ copied. IsText copied.items) }
 {
     if bytes.is_ascii() {
-        SmallVec::from_slice(alloc, bytes)
+        copied(alloc, bytes)
     } else {
         let vec = bytes.iter().map(|b| ascii(*b)).collect(alloc)?;
         Ok(SmallVec::from_vec(vec))

@@ -20,7 +20,7 @@ use Rattle.ados_world.specs.declared.drafts.Draft.{Draft}
 use Rattle.ados_world.specs.declared.outputs.Opened as Made
 use Rattle.ados_world.specs.Answers.{Gives}
 use Rattle.ados_world.specs.declared.scenes.Scene.{Scene}
-use Rattle.ados_world.specs.Drafts.{GoesOn, IsReported, IsOpened, IsPut, start_of, made_of, course_by, course_of}
+use Rattle.ados_world.specs.Drafts.{GoesOn, IsReported, IsOpened, IsPut, start_of, made_of, course_by, course_of, renamed_of}
 use Rattle.ados_world.specs.Frames.{report_of}
 
 pub goes-on : (scene : Scene) (before mid after : Draft) (t t' : Turned) (rs : List EndReport)
@@ -206,7 +206,7 @@ opened-err shared (Err other) fault h = ap Err (sym h)
 -- a command answered: its changes were moved in, and its output was put
 pub act-goes : (scene : Scene) (before mid done after : Draft) (word : List ℕ) (target : Option Target) (effect : Effect) (codes : Codes)
     → mid.number ≡ before.number → mid.shell ≡ affected effect before.shell
-    → version scene.shared.now mid.shared ≡ effect.shared → mid.renamed ≡ effect.renamed
+    → version scene.shared.now mid.shared ≡ effect.shared → renamed_of mid ≡ effect.renamed
     → mid.printed.items ≡ before.printed.items → mid.reports.items ≡ before.reports.items
     → IsPut scene mid done codes (put target effect.output effect.codes (course_of scene mid))
     → GoesOn scene done after (answered word codes false done.shell (course_of scene done))
@@ -215,7 +215,7 @@ act-goes scene before mid done after word target effect codes n s h k p r d g =
     let held : ShellState = affected effect before.shell in
     let moved : Course = made effect (course_of scene before) in
     let course : course_of scene mid ≡ moved =
-    ap {B = Course} (λ x. record (start_of scene) { shared = x; printed = mid.printed.items; renamed = mid.renamed }) h
+    ap {B = Course} (λ x. record (start_of scene) { shared = x; printed = mid.printed.items; renamed = renamed_of mid }) h
     ∙ ap {B = Course} (λ x. record (start_of scene) { shared = effect.shared; printed = mid.printed.items; renamed = x }) k
     ∙ ap {B = Course} (λ x. record (start_of scene) { shared = effect.shared; printed = x; renamed = effect.renamed }) p in
     let result = put target effect.output effect.codes (course_of scene mid) in

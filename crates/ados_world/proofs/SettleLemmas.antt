@@ -14,14 +14,14 @@ use Rattle.ados_machine.specs.World.{WorldState, shell_at}
 use Rattle.ados_machine.proofs.Moves.{carried-frames}
 use Rattle.ados_world.specs.declared.drafts.Draft.{Draft}
 use Rattle.ados_world.specs.declared.settled.Settled.{Settled}
-use Rattle.ados_world.specs.Drafts.{IsDrafted, IsScriptDrafted}
+use Rattle.ados_world.specs.Drafts.{IsDrafted, IsScriptDrafted, renamed_of}
 use Rattle.ados_world.specs.Steps.{KeepFrames, IsConcluded, IsSettled, IsScriptSettled, shells_behind}
 
 pub is_settled : (number : ℕ) (shells : List (Option ShellState)) (shared : SharedState) (draft : Draft) (done : Settled) (t : Turned)
     → IsDrafted number shared draft t → IsConcluded shells draft done → IsSettled number shells shared done t
 is_settled number shells shared draft done t d c = record {
   shells_are =
-      c.shells_are number ∙ ap (λ s. settled shells number s draft.renamed) d.shell_is
+      c.shells_are number ∙ ap (λ s. settled shells number s (renamed_of draft)) d.shell_is
       ∙ ap (λ r. settled shells number t.shell r) d.renamed_is;
   shared_is = ap (version shared) c.shared_is ∙ d.shared_is;
   printed_is = c.printed_is ∙ d.printed_is;
@@ -40,7 +40,7 @@ frames_stay shells new renamed e = rw e (carried-frames renamed shells)
 
 -- a draft that renamed an object
 pub concluded : (shells : List (Option ShellState)) (draft : Draft) (done : Settled) (renamed : Renamed) (new : List (Option ShellState))
-    → done.shells ≡ Some new → draft.renamed ≡ Some renamed → new ≡ carried_shells renamed shells
+    → done.shells ≡ Some new → renamed_of draft ≡ Some renamed → new ≡ carried_shells renamed shells
     → done.draft.shell ≡ carried_shell renamed draft.shell → done.draft.shared ≡ draft.shared
     → done.draft.printed.items ≡ draft.printed.items → done.draft.reports.items ≡ draft.reports.items → IsConcluded shells draft done
 concluded shells draft done renamed new d r n s h p o = record {

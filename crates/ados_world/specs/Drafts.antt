@@ -1,5 +1,5 @@
 -- What is drafted, by the machine's definitions.
-use Rattle.std.specs.Prelude.{◌≡◌, ℕ, [], ◌∷◌, ◌++◌, List, Option, Some, None, Result, Ok, Err, slice_get}
+use Rattle.std.specs.Prelude.{◌≡◌, ℕ, [], ◌∷◌, ◌++◌, List, Option, Some, None, Result, Ok, Err, option_map, slice_get}
 use Rattle.ados_text.specs.declared.codes.Result2.{Result2}
 use Rattle.ados_ram.specs.declared.faults.FsFault.{FsFault}
 use Rattle.ados_ram.specs.declared.faults.FsFault.TheVariants.{Refused, NoMemory}
@@ -26,8 +26,12 @@ pub record Made : Type 0 where
   pub shared : Option SharedState
   pub renamed : Option Renamed
 
+-- the object that a draft renamed
+abbrev pub renamed_of : Draft → Option Renamed
+renamed_of draft = option_map (λ r. r.value) draft.renamed
+
 abbrev pub made_of : Draft → Made
-made_of draft = record { shared = draft.shared; renamed = draft.renamed }
+made_of draft = record { shared = draft.shared; renamed = renamed_of draft }
 
 abbrev pub course_by : Scene → Made → List ℕ → Course
 course_by scene made printed =
@@ -42,7 +46,7 @@ pub record IsFresh (number : ℕ) (shell : ShellState) (draft : Draft) : Type 0 
   pub number_is : draft.number ≡ number
   pub shell_is : draft.shell ≡ shell
   pub shared_is : draft.shared ≡ None
-  pub renamed_is : draft.renamed ≡ None
+  pub renamed_is : renamed_of draft ≡ None
   pub printed_is : draft.printed.items ≡ []
   pub reports_are : draft.reports.items ≡ []
 
@@ -51,7 +55,7 @@ pub record IsDrafted (number : ℕ) (old : SharedState) (draft : Draft) (turned 
   pub number_is : draft.number ≡ number
   pub shell_is : draft.shell ≡ turned.shell
   pub shared_is : version old draft.shared ≡ turned.course.shared
-  pub renamed_is : draft.renamed ≡ turned.course.renamed
+  pub renamed_is : renamed_of draft ≡ turned.course.renamed
   pub printed_is : draft.printed.items ≡ turned.course.printed
   pub reports_are : draft.reports.items ≡ reports_of number turned.log
 
@@ -90,7 +94,7 @@ pub record IsRenewed (before after : Draft) (new : Option SharedState) : Type 0 
   pub number : after.number ≡ before.number
   pub shell : after.shell ≡ before.shell
   pub shared : (old : SharedState) → version old after.shared ≡ version (version old before.shared) new
-  pub renamed : after.renamed ≡ before.renamed
+  pub renamed : renamed_of after ≡ renamed_of before
   pub printed : after.printed.items ≡ before.printed.items
   pub reports : after.reports.items ≡ before.reports.items
 

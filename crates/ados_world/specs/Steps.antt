@@ -10,6 +10,7 @@ use Rattle.ados_machine.specs.Trace.{frames_in}
 use Rattle.ados_machine.specs.World.{WorldState, flatten, numbered}
 use Rattle.ados_find.specs.Shared.{SharedState, version}
 use Rattle.ados_world.specs.declared.drafts.Draft.{Draft}
+use Rattle.ados_world.specs.Drafts.{renamed_of}
 use Rattle.ados_world.specs.declared.settled.Settled.{Settled}
 
 -- the shell, if it is there, is ready, and runs no script
@@ -55,7 +56,7 @@ IsTaken old number done new =
 
 -- a draft is ready to be moved in
 pub record IsConcluded (shells : List (Option ShellState)) (draft : Draft) (done : Settled) : Type 0 where
-  pub shells_are : (number : ℕ) → shells_behind shells number done ≡ settled shells number draft.shell draft.renamed
+  pub shells_are : (number : ℕ) → shells_behind shells number done ≡ settled shells number draft.shell (renamed_of draft)
   pub frames_are : done.draft.shell.frames ≡ draft.shell.frames
   pub frames_stay : KeepFrames shells done.shells
   pub shared_is : done.draft.shared ≡ draft.shared

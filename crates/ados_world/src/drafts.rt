@@ -25,7 +25,7 @@ pub struct Draft {
     pub number: u8,
     pub shell: Shell,
     pub shared: Option<Shared>,
-    pub renamed: Option<Renamed>,
+    pub renamed: Option<Box<Renamed>>,
     pub printed: Vec<u8>,
     pub reports: Vec<EndReport>,
 }
