@@ -179,11 +179,13 @@ fn ascii(byte: u8) -> u8
     if byte < 128 { byte } else { b'?' }
 }
 
-// A copy of the bytes, laid where it stays: `from_slice` builds it elsewhere and moves it, which took twice the time.
+// A copy of the bytes with no room beyond them, laid where it stays: `from_slice` builds it elsewhere and moves it,
+// which took nearly twice the time.
 fn copied(alloc: Global, bytes: &[u8]) -> Result<SmallVec<u8, SHORT>, AllocError>
     ensures { IfOk result (λ copy. copy.items ≡ bytes.now) }
 {
     let mut copy = SmallVec::new(alloc);
+    copy.reserve_exact(bytes.len())?;
     copy.extend_from_slice(bytes)?;
     Ok(copy)
 }
