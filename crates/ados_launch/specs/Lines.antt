@@ -1,11 +1,9 @@
 -- The lines of an input.
-use Rattle.std.specs.Prelude.{◌≡◌, ℕ, Bool, Option, Some, List, [], ◌∷◌, length, nat_le, ◌==◌, if◌then◌else◌}
+use Rattle.std.specs.Prelude.{◌≡◌, ℕ, Option, Some, List, [], ◌∷◌, length, nat_le, if◌then◌else◌}
 use Rattle.std.specs.Io.KnownBytes.{prepend_known}
+use Rattle.ados_machine.specs.ScriptLines.{is_newline}
 use Rattle.ados_launch.specs.declared.lines.LineKind.{LineKind}
 use Rattle.ados_launch.specs.declared.lines.LineKind.TheVariants.{End, Short, Long, Overlong}
-
-abbrev pub is_newline : ℕ → Bool
-is_newline byte = byte == 10
 
 -- the bytes up to the first byte 10, or all of them
 abbrev pub line_of : List ℕ → List ℕ

@@ -1,5 +1,6 @@
 ghost use Rattle.std.specs.Prelude.{◌≡◌, ◌<◌, ◌≤◌, ℕ, List, Option, true, false, vec_len, length, position, ◌^◌, ◌-◌, ◌+◌, [], ◌∷◌, ◌++◌, take, IfOk, IfSome, OnOk, IsErrOf};
-ghost use Rattle.ados_launch.specs.Lines.{ahead, is_newline, kind_of_length, Known, TakesLine};
+ghost use Rattle.ados_machine.specs.ScriptLines.{is_newline};
+ghost use Rattle.ados_launch.specs.Lines.{ahead, kind_of_length, Known, TakesLine};
 ghost use Rattle.ados_launch.specs.declared.lines.LineFault.TheVariants.{NoMemory as OutOfMemory};
 
 use crate::Source;

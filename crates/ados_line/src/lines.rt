@@ -1,4 +1,4 @@
-ghost use Rattle.std.specs.Prelude.{◌≡◌, IfOk};
+ghost use Rattle.std.specs.Prelude.{◌≡◌, ◌<◌, Err, IfOk, length};
 ghost use Rattle.ados_line.specs.Cut.{IsExpanded};
 ghost use Rattle.ados_line.specs.Pieces.{IsInPieces};
 
@@ -14,7 +14,7 @@ const LINE_BYTES: usize = 512;
 /// Where a command's output goes in place of the console.
 #[derive(Clone, Drop)]
 pub struct Redirection {
-    /// The name of a file, as it stands in the line.
+    /// The name of a file: its quotes are gone, and its star escapes are read.
     pub name: Text,
     /// `>>`: the file is kept, and the output goes behind what it holds.
     pub append: bool,
@@ -27,7 +27,7 @@ pub struct Line {
     pub command: Text,
     /// The text behind the command, without the redirections.
     pub args: Text,
-    /// The name of the file that the input comes from, as it stands in the line.
+    /// The name of the file that the input comes from: its quotes are gone, and its star escapes are read.
     pub input: Option<Text>,
     /// Where the output goes.
     pub output: Option<Redirection>,
@@ -68,6 +68,7 @@ pub enum Expanded {
 /// line is these, the command and the redirections, in order.
 pub fn expand(alloc: Global, raw: &Text) -> Result<Expanded, LineFault>
     ensures value { IsExpanded result raw.now }
+    ensures long { 512 < length raw.now → result ≡ Err LineFault.LineTooLong }
     ensures pieces { IfOk result (IsInPieces raw.now) }
 {
     if raw.as_bytes().len() > LINE_BYTES {

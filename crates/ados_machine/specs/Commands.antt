@@ -4,13 +4,14 @@ use Rattle.std.specs.FinMap as finite
 use Rattle.ados_text.specs.Text.{is_same}
 use Rattle.ados_text.specs.declared.codes.Code.{Code}
 use Rattle.ados_text.specs.declared.codes.Result2.{Result2}
+use Rattle.ados_text.specs.declared.errors.NoMemory.{NoMemory}
 use Rattle.ados_text.specs.declared.codes.TheConstants.Code.{OK}
-use Rattle.ados_text.specs.declared.codes.TheConstants.Result2.{BAD_TEMPLATE, BAD_NUMBER, ARGUMENT_MISSING, VALUE_MISSING, TOO_MANY_ARGUMENTS, UNMATCHED_QUOTES, NOT_IMPLEMENTED, NO_FREE_STORE}
+use Rattle.ados_text.specs.declared.codes.TheConstants.Result2.{ARGUMENT_MISSING, NOT_IMPLEMENTED, NO_FREE_STORE}
 use Rattle.ados_ram.specs.Place.{key_of}
 use Rattle.ados_ram.specs.Written.{full_path}
 use Rattle.ados_readargs.specs.declared.args.Arg.{Arg}
 use Rattle.ados_readargs.specs.declared.errors.ArgFault.{ArgFault}
-use Rattle.ados_readargs.specs.declared.errors.ArgFault.TheVariants as fault
+use Rattle.ados_readargs.specs.Faults.{result2_of}
 use Rattle.ados_readargs.specs.Args.{text_at, number_at}
 use Rattle.ados_readargs.specs.Fill.{fill_of}
 use Rattle.ados_find.specs.declared.codes.Codes.{Codes}
@@ -118,19 +119,14 @@ row_of (Files command) simple shared view args = Answers (file_row_of command sh
 row_of Execute simple shared view args = execute_row simple shared view (text_at args 0)
 row_of Quit simple shared view args = quit_row (number_at args 0)
 
--- the number of a fault of arguments
-abbrev pub arg_fault : ArgFault → Result2
-arg_fault fault.BadTemplate = BAD_TEMPLATE
-arg_fault fault.BadNumber = BAD_NUMBER
-arg_fault fault.ArgumentMissing = ARGUMENT_MISSING
-arg_fault fault.ValueMissing = VALUE_MISSING
-arg_fault fault.TooMany = TOO_MANY_ARGUMENTS
-arg_fault fault.Unmatched = UNMATCHED_QUOTES
-arg_fault fault.NoMemory = NO_FREE_STORE
+-- the answer to a fault of arguments; want of memory has no number, and what a line fills never comes to it
+abbrev pub fault_answer : SharedState → Code → Result Result2 NoMemory → Action
+fault_answer shared limit (Ok number) = Answers (answering shared limit (failed number))
+fault_answer shared limit (Err none) = Answers (answering shared limit (failed NO_FREE_STORE))
 
 -- the arguments are filled first, and their fault is the command's
 abbrev pub action_by : Builtin → Bool → SharedState → View → Result (List Arg) ArgFault → Action
-action_by builtin simple shared view (Err fault) = Answers (answering shared view.limit (failed (arg_fault fault)))
+action_by builtin simple shared view (Err fault) = fault_answer shared view.limit (result2_of fault)
 action_by builtin simple shared view (Ok args) = row_of builtin simple shared view args
 
 -- what a command does with the text of its arguments

@@ -200,8 +200,7 @@ fn ascii_bytes(alloc: Global, bytes: &[u8]) -> Result<SmallVec<u8, SHORT>, Alloc
     if bytes.is_ascii() {
         copied(alloc, bytes)
     } else {
-        let vec = bytes.iter().map(|b| ascii(*b)).collect(alloc)?;
-        Ok(SmallVec::from_vec(vec))
+        bytes.iter().map(|b| ascii(*b)).collect(alloc)
     }
 }
 

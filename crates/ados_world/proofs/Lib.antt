@@ -4,3 +4,4 @@ mod SettleLemmas
 mod DraftLemmas
 pub mod RunsOnLemmas
 mod CommandLemmas
+mod ScriptLineLemmas

@@ -1,15 +1,15 @@
 // The commands and their templates.
 ghost use Rattle.std.specs.Prelude.{◌≡◌, map, IfOk};
 ghost use Rattle.ados_find.specs.Shared.{SharedState};
-ghost use Rattle.ados_machine.specs.Commands.{action_of, row_of, template_of, arg_fault, quit_row};
+ghost use Rattle.ados_machine.specs.Commands.{action_of, row_of, template_of, quit_row};
 ghost use Rattle.ados_world.specs.Actions.{acting};
 
 use crate::actions::Action;
 use crate::scripts::execute;
 use ados_find::{Codes, Shared, ShellView};
 use ados_machine::Builtin;
-use ados_readargs::{ArgFault, Args, Template};
-use ados_text::{Code, NoMemory, Result2, Text};
+use ados_readargs::{Args, Template};
+use ados_text::{Code, NoMemory, Text};
 use std::alloc::Global;
 use std::marker::Model;
 
@@ -64,8 +64,7 @@ impl Commands {
     {
         match self.template(builtin).fill(alloc, args.as_bytes()) {
             Ok(args) => row(alloc, builtin, simple, shared, view, &args),
-            Err(ArgFault::NoMemory) => Err(NoMemory),
-            Err(fault) => Ok(Action::answering(alloc, view.limit, Codes::failed(number(fault)))),
+            Err(fault) => Ok(Action::answering(alloc, view.limit, Codes::failed(fault.result2()?))),
         }
     }
 }
@@ -114,20 +113,5 @@ fn quit(code: Option<i32>) -> Action
     match code {
         None => Action::Quits(Code::OK),
         Some(code) => Action::Quits(Code(code)),
-    }
-}
-
-/// The number of a fault of arguments.
-fn number(fault: ArgFault) -> Result2
-    ensures { result ≡ arg_fault fault }
-{
-    match fault {
-        ArgFault::BadTemplate => Result2::BAD_TEMPLATE,
-        ArgFault::BadNumber => Result2::BAD_NUMBER,
-        ArgFault::ArgumentMissing => Result2::ARGUMENT_MISSING,
-        ArgFault::ValueMissing => Result2::VALUE_MISSING,
-        ArgFault::TooMany => Result2::TOO_MANY_ARGUMENTS,
-        ArgFault::Unmatched => Result2::UNMATCHED_QUOTES,
-        ArgFault::NoMemory => Result2::NO_FREE_STORE,
     }
 }

@@ -112,17 +112,17 @@ impl Draft {
         self.shell.view(busy)
     }
 
-    /// What a command reads of the shell, and of the others. What is in use is gathered only for commands that
-    /// read it: not for those that print and set.
-    #[tactic(auto, using(crate::proofs::ViewLemmas::env_serves))]
+    /// What a command reads of the shell, and of the others. What is in use is gathered only for the commands on
+    /// files: no other reads it.
+    #[tactic(auto, using(crate::proofs::ViewLemmas::any_serves))]
     pub fn view_for(&self, scene: &Scene, builtin: Builtin) -> Result<ShellView, NoMemory>
         ensures { IfOk result (λ view. Serves builtin view (view_of self.now.shell (course_of scene.now self.now))) }
     {
         match builtin {
-            Builtin::Env(_) => self.shell.view(Busy::none(scene.alloc)),
             Builtin::Files(_) => self.view(scene),
-            Builtin::Execute => self.view(scene),
-            Builtin::Quit => self.view(scene),
+            Builtin::Env(_) | Builtin::Execute | Builtin::Quit => {
+                self.shell.view(Busy::none(scene.alloc))
+            }
         }
     }
 

@@ -4,6 +4,7 @@ ghost use Rattle.ados_machine.specs.World.{directories_in};
 ghost use Rattle.ados_machine.specs.Step.{carried_place, carried_shells};
 
 use crate::shells::Shell;
+use crate::worlds::no_shells;
 use ados_find::Renamed;
 use ados_ram::Place;
 use ados_text::NoMemory;
@@ -73,10 +74,7 @@ fn carried_places(
 ) -> Result<[Option<Shell>; 20], NoMemory>
     ensures { IfOk result (λ new. new ≡ carried_shells renamed.now shells.now) }
 {
-    let mut new = [
-        None, None, None, None, None, None, None, None, None, None, None, None, None, None, None,
-        None, None, None, None, None,
-    ];
+    let mut new = no_shells();
     for place in 0..20 {
         new[place] = carried_place(&shells[place], renamed)?;
     }

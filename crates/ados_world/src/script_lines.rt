@@ -1,6 +1,6 @@
 // The lines of a script.
-ghost use Rattle.std.specs.Prelude.{◌≡◌, ◌++◌, IfOk, OnOk};
-ghost use Rattle.ados_machine.specs.ScriptLines.{lines_of, last_line};
+ghost use Rattle.std.specs.Prelude.{◌≡◌, IfOk};
+ghost use Rattle.ados_machine.specs.ScriptLines.{lines_of};
 
 use ados_text::{NoMemory, Text, Texts};
 use std::alloc::Global;
@@ -19,16 +19,8 @@ pub fn lines(alloc: Global, bytes: &[u8]) -> Result<Texts, NoMemory>
             line.push(*byte)?;
         }
     }
-    push_last(&mut lines, line)?;
-    Ok(lines)
-}
-
-/// Adds a last line, unless it is empty.
-fn push_last(lines: &mut Texts, line: Text) -> Result<(), NoMemory>
-    ensures { OnOk result (lines.new ≡ lines.old ++ last_line line) }
-{
-    if line.as_bytes().is_empty() {
-        return Ok(());
+    if !line.as_bytes().is_empty() {
+        lines.push(line)?;
     }
-    lines.push(line)
+    Ok(lines)
 }

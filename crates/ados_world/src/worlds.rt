@@ -1,5 +1,5 @@
 // A world, and what it shows.
-ghost use Rattle.std.specs.Prelude.{◌≡◌, [], map, is_some, IfOk, IfErr, IfSome, MatchBool, OnSome};
+ghost use Rattle.std.specs.Prelude.{◌≡◌, [], None, map, replicate, is_some, IfOk, IfErr, IfSome, MatchBool, OnSome};
 ghost use Rattle.std.specs.List.{list_any};
 ghost use Rattle.std.specs.Option.{option_copied};
 ghost use Rattle.ados_machine.specs.Limits.{AllRunOn};
@@ -11,8 +11,10 @@ use crate::commands::Commands;
 use crate::hosts::{HostEntry, NewFault};
 use crate::scenes::Scene;
 use crate::shells::Shell;
+use ados_assign::Assigns;
 use ados_find::{Codes, Shared};
 use ados_machine::Request;
+use ados_ram::Ram;
 use ados_text::Text;
 use std::alloc::Global;
 use std::collections::VecDeque;
@@ -50,7 +52,8 @@ impl Model for World {
 impl World {
     /// A world with shell 1 alone, in which nothing was typed, and the files of the beginning.
     ///
-    /// `TooMany` for any host, since no host's program can be started yet; else `NoMemory`.
+    /// `TooMany` for any host, since no host's program can be started yet; without one, `NoMemory` where there is
+    /// none for the templates of the commands or for the first files.
     pub fn new(alloc: Global, hosts: &[HostEntry]) -> Result<World, NewFault>
         ensures world { IfOk result (λ world. (world ≡ fresh_world) × (hosts.now ≡ [])) }
         ensures too_many { IfErr result (λ fault. MatchBool (is_nil hosts.now) (fault ≡ NewFault.NoMemory) (fault ≡ NewFault.TooMany)) }
@@ -64,31 +67,12 @@ impl World {
         let Ok(shared) = Shared::first(alloc) else {
             return Err(NewFault::NoMemory);
         };
+        let mut shells = no_shells();
+        shells[0] = Some(Shell::new(alloc));
         Ok(World {
             alloc,
             commands,
-            shells: [
-                Some(Shell::new(alloc)),
-                None,
-                None,
-                None,
-                None,
-                None,
-                None,
-                None,
-                None,
-                None,
-                None,
-                None,
-                None,
-                None,
-                None,
-                None,
-                None,
-                None,
-                None,
-                None,
-            ],
+            shells,
             ended: [Codes::NONE; 20],
             queue: VecDeque::new(alloc),
             input_ended: false,
@@ -115,7 +99,8 @@ impl World {
     }
 
     /// The shell of this number can take a turn: it runs a script, or is shell 1 and a line waits or
-    /// the input has ended; one that waits for the answer to a prompt takes that line alone.
+    /// the input has ended. One that waits for the answer to a prompt takes that line alone: shell 1 is
+    /// ready where a line waits or the input has ended, another shell always, since its input is at its end.
     pub fn ready(&self, number: u8) -> bool
         ensures { result ≡ is_ready self.now number }
     {
@@ -143,6 +128,20 @@ impl World {
         ensures { result ≡ wants_line self.now }
     {
         self.shell_at(1).is_some() && !self.ready(1)
+    }
+
+    /// The files as they stand.
+    pub fn files(&self) -> &Ram
+        ensures { result.now ≡ self.now.shared.files }
+    {
+        &self.shared.ram
+    }
+
+    /// The assigns as they stand.
+    pub fn assigns(&self) -> &Assigns
+        ensures { result.now ≡ self.now.shared.assigns }
+    {
+        &self.shared.assigns
     }
 
     /// What a turn of a shell sees.
@@ -189,6 +188,16 @@ impl World {
             },
         }
     }
+}
+
+/// A place for each number, and no shell.
+pub fn no_shells() -> [Option<Shell>; 20]
+    ensures { result ≡ replicate 20 None }
+{
+    [
+        None, None, None, None, None, None, None, None, None, None, None, None, None, None, None,
+        None, None, None, None, None,
+    ]
 }
 
 fn any_runs(shells: &[Option<Shell>]) -> bool
