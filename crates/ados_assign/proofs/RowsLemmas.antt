@@ -1,5 +1,5 @@
 -- Assigns in order, and the map that they make.
-use Rattle.std.proofs.Common.{◌≡◌, ℕ, List, [], ◌∷◌, sym, ap, ◌∙◌, subst, refl, IsTrue, Bool, true, false, T, cond, not, ◌&&◌, ◌||◌, Option, Some, None, map as each}
+use Rattle.std.proofs.Common.{◌≡◌, ℕ, List, [], ◌∷◌, sym, ap, ◌∙◌, subst, refl, IsTrue, Bool, true, false, T, cond, not, ◌&&◌, Option, Some, None, map as each}
 use Rattle.std.specs.declared.cmp.Ordering.{Ordering}
 use Rattle.std.specs.declared.cmp.Ordering.TheVariants.{Less, Equal, Greater}
 use Rattle.std.specs.Ordering.{eq_by_cmp, is_eq, is_lt}
@@ -147,10 +147,6 @@ carry_rows {m} {rows} {new} from to r e =
       is = ap map.from_sorted same ∙ in_order _ sorted ∙ ap (λ (es : List (List ℕ × Assign)). map.from_entries (each (carried_row from to) es)) (sym (entries_rows rows r));
       sorted = subst (λ (es : List (List ℕ × Assign)). IsTrue (is_sorted name_cmp es)) (sym same) sorted;
     }
-
-pub or_false : (b : Bool) → (b || false) ≡ b
-or_false true = refl
-or_false false = refl
 
 -- lists that are the same make the same in use
 pub both_in_use :

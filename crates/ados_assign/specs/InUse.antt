@@ -1,16 +1,12 @@
 -- In use: a place is in use where it is a shell's current directory or the directory of an assign.
-use Rattle.std.specs.Prelude.{ℕ, List, [], ◌++◌, Bool, map as each}
+use Rattle.std.specs.Prelude.{ℕ, List, [], ◌++◌, map as each}
 use Rattle.std.specs.FinMap as map
-use Rattle.ados_ram.specs.Place.{any_same}
 use Rattle.ados_ram.specs.InUse.{InUse}
 use Rattle.ados_assign.specs.Assigns.{AssignMap}
 
 -- the directories of all assigns, in the order of their names
 abbrev pub held_by : AssignMap → List (List (List ℕ))
 held_by m = each (λ a. a.directory) (map.values m)
-
-abbrev pub is_in_use : List (List (List ℕ)) → AssignMap → List (List ℕ) → Bool
-is_in_use current m key = any_same (current ++ held_by m) key
 
 -- what is in use, for shells with these current directories
 abbrev pub busy_of : List (List (List ℕ)) → AssignMap → InUse

@@ -1,4 +1,4 @@
-ghost use Rattle.std.specs.Prelude.{◌≡◌, [], List, ℕ, IfOk, IsTrue};
+ghost use Rattle.std.specs.Prelude.{◌≡◌, [], IfOk, IsTrue};
 ghost use Rattle.std.specs.Option.{option_copied};
 ghost use Rattle.std.specs.FinMap as map;
 ghost use Rattle.ados_text.specs.Text.{folded};
@@ -56,8 +56,7 @@ impl Model for Assigns {
 
 impl Assigns {
     ghost use Rattle.ados_assign.specs.Assigns.{keyed, first_assigns, set_of, Removes, carry_of, holders_in};
-    ghost use Rattle.ados_assign.specs.InUse.{held_by, is_in_use, busy_of};
-    ghost use Rattle.ados_ram.specs.InUse.{is_in_use as is_busy};
+    ghost use Rattle.ados_assign.specs.InUse.{held_by, busy_of};
 
     // The assigns in the order of their folded names.
     fn rows(&self) -> &[Assign]
@@ -157,8 +156,7 @@ impl Assigns {
 
     /// What is in use, for shells with these current directories.
     pub fn busy(&self, current: Vec<Place>) -> Result<Busy, NoMemory>
-        ensures in_use { IfOk result (λ busy. (key : List (List ℕ)) → is_busy busy key ≡ is_in_use current.items self.now key) }
-        ensures value { IfOk result (λ busy. busy ≡ busy_of current.items self.now) }
+        ensures { IfOk result (λ busy. busy ≡ busy_of current.items self.now) }
     {
         let mut dirs = current;
         push_directories(&mut dirs, self.rows())?;

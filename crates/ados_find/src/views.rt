@@ -12,7 +12,8 @@ pub struct ShellView {
     pub codes: Codes,
     /// Its current directory.
     pub directory: Place,
-    /// What is in use: the current directories of all shells, the directories of assigns, and open outputs.
+    /// What is in use: the current directories of all shells, the directories of assigns, and open outputs. It is
+    /// empty for commands that only print and set: they read nothing of it.
     pub busy: Busy,
 }
 

@@ -1,4 +1,3 @@
 pub mod Names
 pub mod Path
-pub mod Fault
 pub mod Lengths

@@ -1,7 +1,7 @@
 ghost use Rattle.std.specs.Prelude.{◌≡◌};
 ghost use Rattle.ados_names.specs.declared.faults.NameFault.TheVariants.{NoMemory as OutOfMemory};
 
-use ados_text::{NoMemory, Result2};
+use ados_text::NoMemory;
 use thiserror::Error;
 
 /// Why a text gives no path.
@@ -13,20 +13,6 @@ pub enum NameFault {
     /// No memory for the path.
     #[error("no free store")]
     NoMemory,
-}
-
-impl NameFault {
-    ghost use Rattle.ados_names.specs.Fault.{number_of};
-
-    /// The number of the fault.
-    pub fn result2(self) -> Result2
-        ensures { result ≡ number_of self }
-    {
-        match self {
-            NameFault::Invalid => Result2::INVALID_NAME,
-            NameFault::NoMemory => Result2::NO_FREE_STORE,
-        }
-    }
 }
 
 impl From<NoMemory> for NameFault {

@@ -46,10 +46,7 @@ impl Path {
         if !names_a_path(text.as_bytes()) {
             return Err(NameFault::Invalid);
         }
-        match read(alloc, text) {
-            Ok(path) => Ok(path),
-            Err(_) => Err(NameFault::NoMemory),
-        }
+        Ok(read(alloc, text)?)
     }
 
     /// The path with one step more, into a name.
@@ -62,10 +59,7 @@ impl Path {
         if !is_name(name) || self.joined_len(name) > PATH_LIMIT {
             return Err(NameFault::Invalid);
         }
-        match self.longer(name) {
-            Ok(path) => Ok(path),
-            Err(_) => Err(NameFault::NoMemory),
-        }
+        Ok(self.longer(name)?)
     }
 
     /// The text before the first colon; `None` where the path has no colon.

@@ -90,7 +90,8 @@ fn last_len(text: &[u8]) -> usize
 }
 
 /// The place in a path's text at which its last piece begins: behind the last colon or slash, or at the text's
-/// beginning. What stands before it is a path of its own.
+/// beginning. What stands before it names a path where the whole text does; before the last piece of `a:b:c`, which
+/// names none, stands `a:b:`, which names none either.
 pub fn last_piece(text: &Text) -> usize
     ensures place { result ≡ last_piece_of text.now }
     ensures within { result ≤ length text.now }

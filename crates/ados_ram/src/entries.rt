@@ -49,7 +49,7 @@ impl Bits {
     };
 
     /// The same bits without a.
-    pub fn unarchived(self) -> Bits
+    pub(crate) fn unarchived(self) -> Bits
         ensures { result ≡ unarchived self }
     {
         Bits {
@@ -92,7 +92,7 @@ impl Entry {
     }
 
     /// A new directory of a name.
-    pub fn directory(alloc: Global, name: Name) -> Result<Entry, NoMemory>
+    pub(crate) fn directory(alloc: Global, name: Name) -> Result<Entry, NoMemory>
         ensures { IfOk result (λ entry. entry ≡ new_directory name) }
     {
         Ok(Entry {
@@ -105,7 +105,7 @@ impl Entry {
 
     /// A new file of a name with these bits, or an old one after it was written: of it name, comment and bits stay,
     /// but for bit a.
-    pub fn written(
+    pub(crate) fn written(
         alloc: Global,
         old: Option<&Entry>,
         name: Name,
@@ -138,7 +138,7 @@ impl Entry {
     }
 
     /// The entry under another name.
-    pub fn renamed(&self, name: &Name) -> Result<Entry, NoMemory>
+    pub(crate) fn renamed(&self, name: &Name) -> Result<Entry, NoMemory>
         ensures { IfOk result (λ entry. entry ≡ renamed name.now [] self.now) }
     {
         Ok(Entry {
@@ -150,7 +150,7 @@ impl Entry {
     }
 
     /// The entry with other bits.
-    pub fn with_bits(&self, bits: Bits) -> Result<Entry, NoMemory>
+    pub(crate) fn with_bits(&self, bits: Bits) -> Result<Entry, NoMemory>
         ensures { IfOk result (λ entry. entry ≡ with_bits bits self.now) }
     {
         Ok(Entry {
@@ -162,7 +162,7 @@ impl Entry {
     }
 
     /// The entry with another comment.
-    pub fn with_comment(&self, comment: &Text) -> Result<Entry, NoMemory>
+    pub(crate) fn with_comment(&self, comment: &Text) -> Result<Entry, NoMemory>
         ensures { IfOk result (λ entry. entry ≡ with_comment comment.now self.now) }
     {
         Ok(Entry {

@@ -70,7 +70,8 @@ impl Ram {
 
     /// The bytes of a file. Takes no memory.
     ///
-    /// 205 where nothing is there, 212 for a directory, 202 for an open output, 224 without bit r.
+    /// 205 (object not found) where nothing is there, 212 (wrong type of object) for a directory, 202 (object in use)
+    /// for an open output, 224 (read protected) without bit r.
     pub fn read(&self, busy: &Busy, place: &Place) -> Result<&[u8], Result2>
         ensures ok { IfOk result (λ bytes. bytes.now ≡ bytes_at (map.get self.now (key_of place.now))) }
         ensures fault { result_err result ≡ read_fault (is_output busy.now (key_of place.now)) (map.get self.now (key_of place.now)) }
@@ -84,7 +85,7 @@ impl Ram {
 
     /// The names directly in a directory, as they are written, in the order of the folded names.
     ///
-    /// 205 where nothing is there, 212 for a file.
+    /// 205 (object not found) where nothing is there, 212 (wrong type of object) for a file.
     pub fn list(&self, place: &Place) -> Result<Vec<Name>, FsFault>
         ensures ok { IfOk result (λ names. names.items ≡ names_in (key_of place.now) (map.entries self.now)) }
         ensures fault { Answers result (list_fault (map.get self.now (key_of place.now))) }
@@ -98,9 +99,10 @@ impl Ram {
     /// The files with bytes as a file. One that is there keeps its name, its comment and its bits, but for bit a;
     /// a new one takes the name as it is written here and the bits `----rwed`.
     ///
-    /// 204 where a directory above is not there and 212 where a file is in its place; 212 for a directory, 202 for an
-    /// open output, 223 without bit w; 221 for a file of more than 65,536 bytes, for more than 1,048,576 bytes in all,
-    /// or for more than 1,024 objects.
+    /// 204 (directory not found) where a directory above is not there, 212 (wrong type of object) where a file is in
+    /// its place; 212 (wrong type of object) for a directory, 202 (object in use) for an open output, 223 (write
+    /// protected) without bit w; 221 (disk full) for a file of more than 65,536 bytes, for more than 1,048,576 bytes in
+    /// all, or for more than 1,024 objects.
     pub fn write(&self, busy: &Busy, place: &Place, bytes: &[u8]) -> Result<Ram, FsFault>
         ensures ok { IfOk result (λ new. new ≡ write_of self.now (key_of place.now) (last_name place.now) bytes.now) }
         ensures fault { Answers result (write_fault (is_output busy.now (key_of place.now)) self.now (key_of place.now) (last_name place.now) bytes.now) }
@@ -110,7 +112,8 @@ impl Ram {
 
     /// The files with bytes as a file, as by `write`, but a new one takes these bits.
     ///
-    /// The refusals are those of `write`.
+    /// 204 (directory not found), 212 (wrong type of object), 202 (object in use), 223 (write protected) and 221 (disk
+    /// full), each where `write` gives it.
     pub fn write_as(
         &self,
         busy: &Busy,
@@ -126,7 +129,8 @@ impl Ram {
 
     /// The files with bytes behind those of a file; a file that is not there is made.
     ///
-    /// The refusals are those of `write`, for the bytes that the file would then hold.
+    /// 204 (directory not found), 212 (wrong type of object), 202 (object in use) and 223 (write protected), each where
+    /// `write` gives it; 221 (disk full) where `write` gives it for the bytes that the file would then hold.
     pub fn append(&self, busy: &Busy, place: &Place, bytes: &[u8]) -> Result<Ram, FsFault>
         ensures ok { IfOk result (λ new. new ≡ append_of self.now (key_of place.now) (last_name place.now) bytes.now) }
         ensures fault { Answers result (append_fault (is_output busy.now (key_of place.now)) self.now (key_of place.now) (last_name place.now) bytes.now) }
@@ -143,7 +147,8 @@ impl Ram {
     /// The files with bytes behind those of an output that is open, whatever its bits have become. Its bit a is
     /// cleared by one byte or more; no bytes change nothing, and where no file stands they go nowhere.
     ///
-    /// 221 as in `write`, for the bytes that the file would then hold.
+    /// 221 (disk full) where `write` gives it for the bytes that the file would then hold, and only where a file stands
+    /// and there is a byte to put.
     pub fn put_open(&self, place: &Place, bytes: &[u8]) -> Result<Ram, FsFault>
         ensures ok { IfOk result (λ new. new ≡ put_open_of self.now (key_of place.now) (last_name place.now) bytes.now) }
         ensures fault { Answers result (put_open_fault self.now (key_of place.now) (last_name place.now) bytes.now) }
@@ -156,8 +161,8 @@ impl Ram {
 
     /// The files with a new directory, which takes the name as it is written here and the bits `----rwed`.
     ///
-    /// 204 where a directory above is not there and 212 where a file is in its place; 203 where the place is taken;
-    /// 221 for more than 1,024 objects.
+    /// 204 (directory not found) where a directory above is not there, 212 (wrong type of object) where a file is in
+    /// its place; 203 (object exists) where the place is taken; 221 (disk full) for more than 1,024 objects.
     pub fn make_dir(&self, place: &Place) -> Result<Ram, FsFault>
         ensures ok { IfOk result (λ new. new ≡ make_dir_of self.now (key_of place.now) (last_name place.now)) }
         ensures fault { Answers result (make_dir_fault self.now (key_of place.now) (last_name place.now)) }
@@ -173,8 +178,8 @@ impl Ram {
 
     /// The files without an object.
     ///
-    /// 205 where nothing is there, 202 for what is in use and for the root, 222 without bit d, 216 for a directory
-    /// with something in it.
+    /// 205 (object not found) where nothing is there, 202 (object in use) for what is in use and for the root, 222
+    /// (delete protected) without bit d, 216 (directory not empty) for a directory with something in it.
     pub fn delete(&self, busy: &Busy, place: &Place) -> Result<Ram, FsFault>
         ensures ok { IfOk result (λ new. new ≡ map.remove self.now (key_of place.now)) }
         ensures fault { Answers result (delete_fault busy.now self.now (key_of place.now)) }
@@ -191,9 +196,10 @@ impl Ram {
     /// The files with an object moved, and with it all that is below it. The object takes the last name of the new
     /// place; bits, comments and bytes stay. Another spelling of the same place is a rename too.
     ///
-    /// 204 where a directory above the new place is not there and 212 where a file is in its place; 205 where nothing
-    /// is there to be moved; 202 for an open output, a directory above one, the root, and a new place below the old
-    /// one; 203 where the new place is taken by another object.
+    /// 204 (directory not found) where a directory above the new place is not there, 212 (wrong type of object) where a
+    /// file is in its place; 205 (object not found) where nothing is there to be moved; 202 (object in use) for an open
+    /// output, a directory above one, the root, and a new place below the old one; 203 (object exists) where the new
+    /// place is taken by another object.
     pub fn rename(&self, busy: &Busy, from: &Place, to: &Place) -> Result<Ram, FsFault>
         ensures ok { IfOk result (λ new. new ≡ rename_of self.now (key_of from.now) (key_of to.now) (last_name to.now)) }
         ensures fault { Answers result (rename_fault busy.now self.now (key_of from.now) (key_of to.now)) }
@@ -212,7 +218,7 @@ impl Ram {
 
     /// The files with other bits for an object.
     ///
-    /// 205 where nothing is there, 212 for the root.
+    /// 205 (object not found) where nothing is there, 212 (wrong type of object) for the root.
     pub fn protect(&self, place: &Place, bits: Bits) -> Result<Ram, FsFault>
         ensures ok { IfOk result (λ new. new ≡ protect_of self.now (key_of place.now) bits) }
         ensures fault { Answers result (protect_fault self.now (key_of place.now)) }
@@ -225,7 +231,8 @@ impl Ram {
 
     /// The files with another comment for an object.
     ///
-    /// 205 where nothing is there, 212 for the root, 220 for a comment of more than 79 bytes.
+    /// 205 (object not found) where nothing is there, 212 (wrong type of object) for the root, 220 (comment too long)
+    /// for a comment of more than 79 bytes.
     pub fn comment(&self, place: &Place, comment: &Text) -> Result<Ram, FsFault>
         ensures ok { IfOk result (λ new. new ≡ comment_of self.now (key_of place.now) comment.now) }
         ensures fault { Answers result (comment_fault self.now (key_of place.now) comment.now) }

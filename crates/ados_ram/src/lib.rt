@@ -19,3 +19,4 @@ pub use file_bytes::FileBytes;
 pub use files::Ram;
 pub use in_use::Busy;
 pub use places::Place;
+pub use refusals::list_refusal;

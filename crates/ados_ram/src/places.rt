@@ -82,13 +82,6 @@ impl Place {
         Ok(Place { names: joined })
     }
 
-    /// This place is below another, directly or further down.
-    pub fn is_below(&self, directory: &Place) -> bool
-        ensures { result ≡ is_below (key_of directory.now) (key_of self.now) }
-    {
-        is_below(&directory.names, &self.names)
-    }
-
     /// The names behind those that another place has; none where this one has no more.
     pub fn names_behind(&self, directory: &Place) -> &[Name]
         ensures { result.now ≡ drop (length directory.now) self.now }

@@ -42,7 +42,7 @@ pub fn read_refusal(is_open: bool, entry: Option<&Entry>) -> Option<Result2>
     }
 }
 
-/// Why a directory is not listed.
+/// Why a directory is not listed: 205 (object not found) where nothing is there, 212 (wrong type of object) for a file.
 pub fn list_refusal(entry: Option<&Entry>) -> Option<Result2>
     ensures { result ≡ list_fault (option_copied entry.entry) }
 {
