@@ -65,10 +65,7 @@ impl Args {
     pub fn is_on(&self, place: usize) -> bool
         ensures { result ≡ is_on self.now place }
     {
-        match self.get(place) {
-            Some(Arg::On) => true,
-            _ => false,
-        }
+        matches!(self.get(place), Some(Arg::On))
     }
 
     /// The text of the option without `/M` at a place; `None` where it was given none.

@@ -247,7 +247,7 @@ fn has_many(options: &[TemplateOption]) -> bool
 fn is_template(options: &[TemplateOption]) -> bool
     ensures { result ≡ is_template options.now }
 {
-    !(many_count(options) > 1)
+    many_count(options) <= 1
         && !(has_many(options) && has_rest(options))
         && !has_rest(&options[..options.len().saturating_sub(1)])
         && !has_twice(options)
