@@ -1,6 +1,5 @@
 -- Which texts are no patterns, and the least place at which a fault stands.
-use Rattle.std.specs.Prelude.{ℕ, ◌+◌, ◌-◌, List, [], ◌∷◌, length, Option, Some, None, option_map, Bool, true, false, ◌==◌, nat_lt, if◌then◌else◌}
-use Rattle.std.proofs.Math.Bool.{not}
+use Rattle.std.specs.Prelude.{ℕ, ◌+◌, ◌-◌, List, [], ◌∷◌, length, Option, Some, None, option_map, Bool, true, false, not, ◌==◌, nat_lt, if◌then◌else◌}
 use Rattle.ados_pattern.specs.declared.tokens.Token.{Token}
 use Rattle.ados_pattern.specs.declared.tokens.Token.TheVariants.{Many, Other, Bar, Open, Close, ClassOpen, Member, ClassClose, Hanging}
 use Rattle.ados_pattern.specs.declared.errors.PatternFault.{PatternFault}

@@ -1,10 +1,10 @@
 -- What each byte of a pattern's text is.
-use Rattle.std.specs.Prelude.{ℕ, List, [], ◌∷◌, Bool, false, ◌&&◌, ◌==◌, if◌then◌else◌}
-use Rattle.std.proofs.Math.Bool.{not}
+use Rattle.std.specs.Prelude.{ℕ, List, [], ◌∷◌, Bool, false, not, ◌&&◌, ◌==◌, if◌then◌else◌}
 use Rattle.ados_pattern.specs.declared.tokens.Token.{Token}
 use Rattle.ados_pattern.specs.declared.tokens.Token.TheVariants.{Silent, Char, Any, Nothing, Many, Other, Bar, Open, Close, ClassOpen, Negated, Member, ClassClose, Hanging}
 use Rattle.ados_pattern.specs.declared.tokens.Mode.{Mode}
 use Rattle.ados_pattern.specs.declared.tokens.Mode.TheVariants.{Plain, Quoted, Begun, Class, ClassQuoted, Low, Ranged, RangedQuoted}
+use Rattle.ados_pattern.specs.Signs.{hash, percent, quote, open_group, close_group, dash, question, open_class, close_class, bar, tilde}
 
 -- a quote hangs where nothing stands behind it
 abbrev pub quote_token : List ℕ → Token
@@ -14,21 +14,21 @@ quote_token (c ∷ rest) = Silent
 -- outside of a class
 abbrev pub plain_token : ℕ → List ℕ → Token
 plain_token c rest =
-    if c == 39 then quote_token rest else
-    (if c == 91 then ClassOpen else
-    (if c == 63 then Any else
-    (if c == 37 then Nothing else
-    (if c == 35 then Many else
-    (if c == 126 then Other else
-    (if c == 124 then Bar else
-    (if c == 40 then Open else
-    (if c == 41 then Close else Char c))))))))
+    if c == quote then quote_token rest else
+    (if c == open_class then ClassOpen else
+    (if c == question then Any else
+    (if c == percent then Nothing else
+    (if c == hash then Many else
+    (if c == tilde then Other else
+    (if c == bar then Bar else
+    (if c == open_group then Open else
+    (if c == close_group then Close else Char c))))))))
 
 -- a `-` and a high end that is not the class's `]`
 abbrev pub begins_range : List ℕ → Bool
 begins_range [] = false
-begins_range (dash ∷ []) = false
-begins_range (dash ∷ high ∷ rest) = (dash == 45) && not (high == 93)
+begins_range (c ∷ []) = false
+begins_range (c ∷ high ∷ rest) = (c == dash) && not (high == close_class)
 
 -- a character of a class
 abbrev pub member_token : ℕ → List ℕ → Token
@@ -39,31 +39,31 @@ member_mode c rest = if begins_range rest then Low c else Class
 
 -- in a class
 abbrev pub class_token : ℕ → List ℕ → Token
-class_token c rest = if c == 93 then ClassClose else (if c == 39 then Silent else member_token c rest)
+class_token c rest = if c == close_class then ClassClose else (if c == quote then Silent else member_token c rest)
 
 abbrev pub class_mode : ℕ → List ℕ → Mode
-class_mode c rest = if c == 93 then Plain else (if c == 39 then ClassQuoted else member_mode c rest)
+class_mode c rest = if c == close_class then Plain else (if c == quote then ClassQuoted else member_mode c rest)
 
 -- what a byte is
 abbrev pub token_of : Mode → ℕ → List ℕ → Token
 token_of Plain c rest = plain_token c rest
 token_of Quoted c rest = Char c
-token_of Begun c rest = if c == 126 then Negated else class_token c rest
+token_of Begun c rest = if c == tilde then Negated else class_token c rest
 token_of Class c rest = class_token c rest
 token_of ClassQuoted c rest = member_token c rest
 token_of (Low low) c rest = Silent
-token_of (Ranged low) c rest = if c == 39 then Silent else Member low c
+token_of (Ranged low) c rest = if c == quote then Silent else Member low c
 token_of (RangedQuoted low) c rest = Member low c
 
 -- what stands in front of the rest
 abbrev pub next_mode : Mode → ℕ → List ℕ → Mode
-next_mode Plain c rest = if c == 39 then Quoted else (if c == 91 then Begun else Plain)
+next_mode Plain c rest = if c == quote then Quoted else (if c == open_class then Begun else Plain)
 next_mode Quoted c rest = Plain
-next_mode Begun c rest = if c == 126 then Class else class_mode c rest
+next_mode Begun c rest = if c == tilde then Class else class_mode c rest
 next_mode Class c rest = class_mode c rest
 next_mode ClassQuoted c rest = member_mode c rest
 next_mode (Low low) c rest = Ranged low
-next_mode (Ranged low) c rest = if c == 39 then RangedQuoted low else Class
+next_mode (Ranged low) c rest = if c == quote then RangedQuoted low else Class
 next_mode (RangedQuoted low) c rest = Class
 
 -- one token for each byte

@@ -66,11 +66,7 @@ fn nothing_in(mode: Mode, bytes: &[u8]) -> bool
 fn row_ends(token: Token) -> bool
     ensures { result ≡ ends_row token }
 {
-    match token {
-        Token::Bar => true,
-        Token::Close => true,
-        _ => false,
-    }
+    matches!(token, Token::Bar | Token::Close)
 }
 
 fn closed_in(depth: usize, mode: Mode, bytes: &[u8]) -> bool

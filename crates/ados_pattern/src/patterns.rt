@@ -10,6 +10,9 @@ use ados_text::{NoMemory, Text};
 use std::alloc::Global;
 use std::marker::Model;
 
+/// How many bytes the text of a pattern may have.
+const TEXT_LIMIT: usize = 255;
+
 /// A pattern of names.
 #[derive(Drop)]
 pub struct Pattern {
@@ -62,7 +65,7 @@ impl Pattern {
         ensures pattern { IfOk result (λ pattern. pattern ≡ meaning_of text.now) }
     {
         let bytes = text.as_bytes();
-        if bytes.len() > 255 {
+        if bytes.len() > TEXT_LIMIT {
             return Err(PatternFault::TooLong);
         }
         match first_fault(0, 0, Mode::Plain, bytes) {

@@ -1,7 +1,6 @@
 //! Words of bits, each an end of a start: in a group of 64 ends the bit `b` is the end `64 * group + b`.
 
-ghost use Rattle.std.specs.Prelude.{◌≡◌, ◌==◌, ◌+◌, ◌*◌, ◌<◌, ◌^◌, ◌&&◌, ℕ, true, nat_le, nat_lt};
-ghost use Rattle.std.proofs.Math.Bool.{not};
+ghost use Rattle.std.specs.Prelude.{◌≡◌, ◌==◌, ◌+◌, ◌*◌, ◌<◌, ◌^◌, ◌&&◌, ℕ, true, nat_le, nat_lt, not};
 ghost use Rattle.ados_pattern.specs.Table.{is_set, leads, word_of};
 
 /// The ends in the words of the rest to which the middles of one group lead.

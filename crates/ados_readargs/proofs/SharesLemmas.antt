@@ -8,9 +8,9 @@ use Rattle.ados_items.specs.declared.items.Item.{Item}
 use Rattle.ados_readargs.specs.declared.options.Qualifiers.{Qualifiers}
 use Rattle.ados_readargs.specs.declared.options.TemplateOption.{TemplateOption}
 use Rattle.ados_readargs.specs.declared.readings.Reading.{Reading}
-use Rattle.ados_readargs.specs.Readings.{Readings}
+use Rattle.ados_readargs.specs.Readings.{Readings, is_vacant}
 use Rattle.ados_readargs.specs.Options.{unqualified, qualifiers_of, qualifiers_at}
-use Rattle.ados_readargs.specs.Shares.{is_vacant, open_count, front_share, middle_share, back_share, share_by, shares_to}
+use Rattle.ados_readargs.specs.Shares.{vacant_count, front_share, middle_share, back_share, share_by, shares_to}
 
 abbrev no_option : TemplateOption
 no_option = record { names = []; qualifiers = unqualified }
@@ -20,32 +20,32 @@ abbrev counted : Bool → ℕ → Qualifiers → List Reading → ℕ
 counted needed place q given = if is_vacant place q given && (not needed || q.required) then 1 else 0
 
 count-append : (needed : Bool) (place : ℕ) (xs ys : List TemplateOption) (given : List Reading)
-    → open_count needed place (xs ++ ys) given ≡ open_count needed place xs given + open_count needed (place + length xs) ys given
+    → vacant_count needed place (xs ++ ys) given ≡ vacant_count needed place xs given + vacant_count needed (place + length xs) ys given
 count-append needed place [] ys given =
-    let moved : open_count needed (place + 0) ys given ≡ open_count needed place ys given = ap (λ p. open_count needed p ys given) (omega arith) in
+    let moved : vacant_count needed (place + 0) ys given ≡ vacant_count needed place ys given = ap (λ p. vacant_count needed p ys given) (omega arith) in
     omega (arith, moved)
 count-append needed place (x ∷ xs) ys given =
     let h = count-append needed (place + 1) xs ys given in
-    let moved : open_count needed (place + 1 + length xs) ys given ≡ open_count needed (place + length (x ∷ xs)) ys given = ap (λ p. open_count needed p ys given) (omega arith) in
+    let moved : vacant_count needed (place + 1 + length xs) ys given ≡ vacant_count needed (place + length (x ∷ xs)) ys given = ap (λ p. vacant_count needed p ys given) (omega arith) in
     omega (arith, h, moved)
 
 qualifiers-at : (options : List TemplateOption) (n : ℕ) → n < length options → qualifiers_at options n ≡ (get_or options n no_option).qualifiers
 qualifiers-at options n h = ap qualifiers_of (slice_get-get_or options n no_option h)
 
 front-more : (options : List TemplateOption) (given : List Reading) (n : ℕ) → n < length options
-    → open_count false 0 (take (n + 1) options) given ≡ open_count false 0 (take n options) given + counted false n (qualifiers_at options n) given
+    → vacant_count false 0 (take (n + 1) options) given ≡ vacant_count false 0 (take n options) given + counted false n (qualifiers_at options n) given
 front-more options given n h =
-    let e1 : open_count false 0 (take (n + 1) options) given ≡ open_count false 0 (take n options ++ get_or options n no_option ∷ []) given = ap (λ os. open_count false 0 os given) (take_more options n no_option h) in
+    let e1 : vacant_count false 0 (take (n + 1) options) given ≡ vacant_count false 0 (take n options ++ get_or options n no_option ∷ []) given = ap (λ os. vacant_count false 0 os given) (take_more options n no_option h) in
     let e2 = count-append false 0 (take n options) (get_or options n no_option ∷ []) given in
     let long : length (take n options) ≡ n = length-take-le n options (omega arith) in
-    let e3 : open_count false (0 + length (take n options)) (get_or options n no_option ∷ []) given ≡ open_count false n (get_or options n no_option ∷ []) given = ap (λ p. open_count false p (get_or options n no_option ∷ []) given) (omega (arith, long)) in
+    let e3 : vacant_count false (0 + length (take n options)) (get_or options n no_option ∷ []) given ≡ vacant_count false n (get_or options n no_option ∷ []) given = ap (λ p. vacant_count false p (get_or options n no_option ∷ []) given) (omega (arith, long)) in
     let e4 : counted false n (get_or options n no_option).qualifiers given ≡ counted false n (qualifiers_at options n) given = ap (λ q. counted false n q given) (sym (qualifiers-at options n h)) in
     omega (arith, e1, e2, e3, e4)
 
 back-less : (options : List TemplateOption) (given : List Reading) (n : ℕ) → n < length options
-    → open_count true n (drop n options) given ≡ counted true n (qualifiers_at options n) given + open_count true (n + 1) (drop (n + 1) options) given
+    → vacant_count true n (drop n options) given ≡ counted true n (qualifiers_at options n) given + vacant_count true (n + 1) (drop (n + 1) options) given
 back-less options given n h =
-    let e1 : open_count true n (drop n options) given ≡ open_count true n (get_or options n no_option ∷ drop (n + 1) options) given = ap (λ os. open_count true n os given) (drop_more options n no_option h) in
+    let e1 : vacant_count true n (drop n options) given ≡ vacant_count true n (get_or options n no_option ∷ drop (n + 1) options) given = ap (λ os. vacant_count true n os given) (drop_more options n no_option h) in
     let e4 : counted true n (get_or options n no_option).qualifiers given ≡ counted true n (qualifiers_at options n) given = ap (λ q. counted true n q given) (sym (qualifiers-at options n h)) in
     omega (arith, e1, e4)
 
@@ -60,20 +60,20 @@ front-counted true r a b e = e
 front-counted false r a b e = e
 
 front-step : (options : List TemplateOption) (readings : Readings) (n : ℕ) → n < length options
-    → take (open_count false 0 (take n options) readings.given) readings.plain ++ front_share options readings n ≡ take (open_count false 0 (take (n + 1) options) readings.given) readings.plain
+    → take (vacant_count false 0 (take n options) readings.given) readings.plain ++ front_share options readings n ≡ take (vacant_count false 0 (take (n + 1) options) readings.given) readings.plain
 front-step options readings n h =
     let vacant = is_vacant n (qualifiers_at options n) readings.given in
-    one-more vacant (open_count false 0 (take n options) readings.given) _ readings.plain
+    one-more vacant (vacant_count false 0 (take n options) readings.given) _ readings.plain
     (front-counted vacant (qualifiers_at options n).required _ _ (front-more options readings.given n h))
 
 -- the first options take the first words
 to-front-none : (options : List TemplateOption) (readings : Readings) (n : ℕ) → n ≤ length options
-    → shares_to None n options readings ≡ take (open_count false 0 (take n options) readings.given) readings.plain
+    → shares_to None n options readings ≡ take (vacant_count false 0 (take n options) readings.given) readings.plain
 to-front-none options readings zero h = refl
 to-front-none options readings (suc n) h =
     let e : n + 1 ≡ suc n = omega arith in
     ap (λ s. s ++ front_share options readings n) (to-front-none options readings n (omega arith))
-    ∙ front-step options readings n (omega arith) ∙ ap (λ i. take (open_count false 0 (take i options) readings.given) readings.plain) e
+    ∙ front-step options readings n (omega arith) ∙ ap (λ i. take (vacant_count false 0 (take i options) readings.given) readings.plain) e
 
 share-front : (m n : ℕ) (options : List TemplateOption) (readings : Readings) → n < m
     → share_by (Some m) options readings n ≡ front_share options readings n
@@ -88,13 +88,13 @@ share-back : (m n : ℕ) (options : List TemplateOption) (readings : Readings) �
 share-back m n options readings h = grind (arith, nat_tests, h)
 
 to-front-some : (m : ℕ) (options : List TemplateOption) (readings : Readings) (n : ℕ) → m < length options → n ≤ m
-    → shares_to (Some m) n options readings ≡ take (open_count false 0 (take n options) readings.given) readings.plain
+    → shares_to (Some m) n options readings ≡ take (vacant_count false 0 (take n options) readings.given) readings.plain
 to-front-some m options readings zero w h = refl
 to-front-some m options readings (suc n) w h =
     let e : n + 1 ≡ suc n = omega arith in
     ap (λ s. s ++ share_by (Some m) options readings n) (to-front-some m options readings n w (omega arith))
-    ∙ ap (λ s. take (open_count false 0 (take n options) readings.given) readings.plain ++ s) (share-front m n options readings (omega arith))
-    ∙ front-step options readings n (omega arith) ∙ ap (λ i. take (open_count false 0 (take i options) readings.given) readings.plain) e
+    ∙ ap (λ s. take (vacant_count false 0 (take n options) readings.given) readings.plain ++ s) (share-front m n options readings (omega arith))
+    ∙ front-step options readings n (omega arith) ∙ ap (λ i. take (vacant_count false 0 (take i options) readings.given) readings.plain) e
 
 shares-more : (mo : Option ℕ) (options : List TemplateOption) (readings : Readings) (n k : ℕ) → n ≡ suc k
     → shares_to mo n options readings ≡ shares_to mo k options readings ++ share_by mo options readings k
@@ -129,18 +129,18 @@ back-words true true front behind count plain e = back-last (nat_lt behind (leng
 -- behind the /M, all words are taken but those of the options still to come
 abbrev kept : ℕ → ℕ → List TemplateOption → Readings → List Item
 kept m n options readings =
-    let front = open_count false 0 (take m options) readings.given in
-    take (front + (length readings.plain - front - open_count true n (drop n options) readings.given)) readings.plain
+    let front = vacant_count false 0 (take m options) readings.given in
+    take (front + (length readings.plain - front - vacant_count true n (drop n options) readings.given)) readings.plain
 
 to-back : (m : ℕ) (options : List TemplateOption) (readings : Readings) (j n : ℕ) → m < length options
     → n ≡ m + 1 + j → n ≤ length options → shares_to (Some m) n options readings ≡ kept m n options readings
 to-back m options readings zero n w e h =
-    let front = open_count false 0 (take m options) readings.given in
+    let front = vacant_count false 0 (take m options) readings.given in
     let e1 : m + 1 ≡ n = omega arith in
     shares-more (Some m) options readings n m (omega arith)
     ∙ ap (λ s. s ++ share_by (Some m) options readings m) (to-front-some m options readings m w (omega arith))
     ∙ ap (λ s. take front readings.plain ++ s) (share-middle m options readings)
-    ∙ sym (take-add front (length readings.plain - front - open_count true (m + 1) (drop (m + 1) options) readings.given) readings.plain)
+    ∙ sym (take-add front (length readings.plain - front - vacant_count true (m + 1) (drop (m + 1) options) readings.given) readings.plain)
     ∙ ap (λ i. kept m i options readings) e1
 to-back m options readings (suc j) n w e h =
     let k = m + 1 + j in
@@ -148,20 +148,20 @@ to-back m options readings (suc j) n w e h =
     shares-more (Some m) options readings n k (omega arith)
     ∙ ap (λ s. s ++ share_by (Some m) options readings k) (to-back m options readings j k w refl (omega arith))
     ∙ ap (λ s. kept m k options readings ++ s) (share-back m k options readings (omega arith))
-    ∙ back-words (is_vacant k (qualifiers_at options k) readings.given) (qualifiers_at options k).required (open_count false 0 (take m options) readings.given)
-    (open_count true (k + 1) (drop (k + 1) options) readings.given) (open_count true k (drop k options) readings.given) readings.plain (back-less options readings.given k (omega arith))
+    ∙ back-words (is_vacant k (qualifiers_at options k) readings.given) (qualifiers_at options k).required (vacant_count false 0 (take m options) readings.given)
+    (vacant_count true (k + 1) (drop (k + 1) options) readings.given) (vacant_count true k (drop k options) readings.given) readings.plain (back-less options readings.given k (omega arith))
     ∙ ap (λ i. kept m i options readings) e1
 
 pub takes_all-none : (options : List TemplateOption) (readings : Readings)
-    → nat_lt (open_count false 0 options readings.given) (length readings.plain) ≡ false → shares_to None (length options) options readings ≡ readings.plain
+    → nat_lt (vacant_count false 0 options readings.given) (length readings.plain) ≡ false → shares_to None (length options) options readings ≡ readings.plain
 takes_all-none options readings t =
-    let few : length readings.plain ≤ open_count false 0 options readings.given = grind (arith, nat_tests, t) in
+    let few : length readings.plain ≤ vacant_count false 0 options readings.given = grind (arith, nat_tests, t) in
     to-front-none options readings (length options) (omega arith)
-    ∙ ap (λ os. take (open_count false 0 os readings.given) readings.plain) (take_all (length options) options (omega arith)) ∙ take_all _ readings.plain few
+    ∙ ap (λ os. take (vacant_count false 0 os readings.given) readings.plain) (take_all (length options) options (omega arith)) ∙ take_all _ readings.plain few
 
 pub takes_all-some : (m : ℕ) (options : List TemplateOption) (readings : Readings) → m < length options
     → shares_to (Some m) (length options) options readings ≡ readings.plain
 takes_all-some m options readings w =
-    let none : open_count true (length options) (drop (length options) options) readings.given ≡ 0 = ap (λ os. open_count true (length options) os readings.given) (drop_all (length options) options (omega arith)) in
+    let none : vacant_count true (length options) (drop (length options) options) readings.given ≡ 0 = ap (λ os. vacant_count true (length options) os readings.given) (drop_all (length options) options (omega arith)) in
     to-back m options readings (length options - m - 1) (length options) w (omega arith) (omega arith)
     ∙ take_all _ readings.plain (omega (arith, none))

@@ -7,7 +7,7 @@ use Rattle.ados_readargs.specs.declared.options.Qualifiers.{Qualifiers}
 use Rattle.ados_readargs.specs.declared.options.TemplateOption.{TemplateOption}
 use Rattle.ados_readargs.specs.declared.args.Arg.{Arg}
 use Rattle.ados_readargs.specs.declared.args.Arg.TheVariants.{Absent, On, One, Many}
-use Rattle.ados_readargs.specs.Options.{takes_value, place_named}
+use Rattle.ados_readargs.specs.Options.{takes_value}
 use Rattle.ados_readargs.specs.Readings.{Readings, named_count}
 use Rattle.ados_readargs.specs.Shares.{held_items}
 
@@ -54,10 +54,6 @@ texts_in Absent = []
 texts_in On = []
 texts_in (One text) = text ∷ []
 texts_in (Many texts) = texts
-
--- the argument of the option that has the name
-abbrev pub arg_named : List ℕ → List TemplateOption → List Arg → Option Arg
-arg_named name options args = option_and_then (slice_get args) (place_named name options)
 
 -- the argument is on
 abbrev pub is_set : Arg → Bool

@@ -17,7 +17,7 @@ use Rattle.ados_readargs.specs.declared.meanings.Meaning.{Meaning}
 use Rattle.ados_readargs.specs.declared.meanings.Meaning.TheVariants.{Read, Plain, Wait, Stop, Refuse}
 use Rattle.ados_readargs.specs.Options.{has_name, is_rest, takes_value, qualifiers_at}
 use Rattle.ados_readargs.specs.Words.{item_of, start_of, is_open_quote, is_equal}
-use Rattle.ados_readargs.specs.Readings.{Readings, nothing_read, is_filled, first_open}
+use Rattle.ados_readargs.specs.Readings.{Readings, nothing_read, is_filled, first_vacant}
 
 -- a run whose first Word is the name, and which ends there or not, is a keyword of the option
 abbrev pub is_keyword : List ℕ → Bool → TemplateOption → Bool
@@ -59,7 +59,7 @@ keyword_meaning q filled place word =
     if q.toggle then Read (Named place) else
     (if q.switch then switch_meaning filled place else value_behind (is_full q filled) place word)
 
--- a plain word: in a template with /F it fills the first open plain option
+-- a plain word: in a template with /F it fills the first vacant option
 abbrev pub plain_meaning : Option ℕ → LineWord → Meaning
 plain_meaning None word = Plain (item_of word)
 plain_meaning (Some place) word = Read (Given place (item_of word))
@@ -84,15 +84,15 @@ next_meaning options line given word vacant =
 abbrev pub rest_of : List ℕ → LineWord → Item
 rest_of line word = item.Word (start_of word) (trimmed_from 0 0 line)
 
--- what a word says, by the first open plain option of a template with /F: where that is the /F, no other is open
+-- what a word says, by the first vacant option of a template with /F: where that is the /F, no other is vacant
 abbrev pub free_meaning : List TemplateOption → List ℕ → List Reading → LineWord → Option ℕ → Meaning
 free_meaning options line given word None = next_meaning options line given word None
 free_meaning options line given word (Some place) =
     if (qualifiers_at options place).rest then Stop (Given place (rest_of line word)) else next_meaning options line given word (Some place)
 
--- what a word says behind what is given so far; which option is open matters only to a template with /F
+-- what a word says behind what is given so far; which option is vacant matters only to a template with /F
 abbrev pub meaning_of : List TemplateOption → List ℕ → List Reading → Pending → LineWord → Meaning
-meaning_of options line given Free word = free_meaning options line given word (if list_any is_rest options then first_open options given else None)
+meaning_of options line given Free word = free_meaning options line given word (if list_any is_rest options then first_vacant options given else None)
 meaning_of options line given (Value place equal) word = value_meaning (is_full (qualifiers_at options place) (is_filled place given)) place equal word
 
 -- the readings where no word is left

@@ -1,4 +1,4 @@
-use Rattle.std.specs.Prelude.{ℕ, List, Bool, false, ◌||◌, not, Option, Some, None, slice_get, position}
+use Rattle.std.specs.Prelude.{ℕ, List, Bool, false, ◌||◌, not, Option, Some, None, slice_get}
 use Rattle.std.specs.List.{list_any}
 use Rattle.ados_text.specs.Text.{is_same}
 use Rattle.ados_readargs.specs.declared.options.Qualifiers.{Qualifiers}
@@ -7,10 +7,6 @@ use Rattle.ados_readargs.specs.declared.options.TemplateOption.{TemplateOption}
 -- the option has the name
 abbrev pub has_name : List ℕ → TemplateOption → Bool
 has_name name option = list_any (λ own. is_same own name) option.names
-
--- the place of the option that has the name
-abbrev pub place_named : List ℕ → List TemplateOption → Option ℕ
-place_named name options = position (has_name name) options
 
 -- the option has /F
 abbrev pub is_rest : TemplateOption → Bool

@@ -1,6 +1,7 @@
 use Rattle.std.specs.Prelude.{ℕ, ◌+◌, ◌==◌, List, [], ◌∷◌, Bool, false, ◌&&◌, not, Option, Some, None, if◌then◌else◌}
 use Rattle.std.specs.List.{list_any, filter_map, count_by}
 use Rattle.ados_items.specs.declared.items.Item.{Item}
+use Rattle.ados_readargs.specs.declared.options.Qualifiers.{Qualifiers}
 use Rattle.ados_readargs.specs.declared.options.TemplateOption.{TemplateOption}
 use Rattle.ados_readargs.specs.declared.readings.Reading.{Reading}
 use Rattle.ados_readargs.specs.declared.readings.Reading.TheVariants.{Named, Given}
@@ -24,15 +25,19 @@ fills place (Given option item) = option == place
 abbrev pub is_filled : ℕ → List Reading → Bool
 is_filled place given = list_any (fills place) given
 
--- the first plain option that no reading fills, where the options stand from a place on
-abbrev pub first_open_from : ℕ → List TemplateOption → List Reading → Option ℕ
-first_open_from place [] given = None
-first_open_from place (option ∷ options) given =
-    if is_plain option.qualifiers && not (is_filled place given) then Some place else first_open_from (place + 1) options given
+-- the option is plain, and no reading fills it
+abbrev pub is_vacant : ℕ → Qualifiers → List Reading → Bool
+is_vacant place q given = is_plain q && not (is_filled place given)
 
--- the first plain option that no reading fills
-abbrev pub first_open : List TemplateOption → List Reading → Option ℕ
-first_open options given = first_open_from 0 options given
+-- the first option that is vacant, where the options stand from a place on
+abbrev pub first_vacant_from : ℕ → List TemplateOption → List Reading → Option ℕ
+first_vacant_from place [] given = None
+first_vacant_from place (option ∷ options) given =
+    if is_vacant place option.qualifiers given then Some place else first_vacant_from (place + 1) options given
+
+-- the first option that is vacant
+abbrev pub first_vacant : List TemplateOption → List Reading → Option ℕ
+first_vacant options given = first_vacant_from 0 options given
 
 -- what a reading gives to the option at a place
 abbrev pub given_to : ℕ → Reading → Option Item

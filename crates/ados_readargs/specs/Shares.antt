@@ -1,20 +1,15 @@
 use Rattle.std.specs.Prelude.{◌≡◌, ℕ, zero, suc, ◌+◌, ◌-◌, ◌==◌, nat_lt, List, [], ◌∷◌, ◌++◌, Bool, true, false, ◌&&◌, ◌||◌, not, Option, Some, None, length, take, drop, position, if◌then◌else◌}
 use Rattle.ados_items.specs.declared.items.Item.{Item}
-use Rattle.ados_readargs.specs.declared.options.Qualifiers.{Qualifiers}
 use Rattle.ados_readargs.specs.declared.options.TemplateOption.{TemplateOption}
 use Rattle.ados_readargs.specs.declared.readings.Reading.{Reading}
 use Rattle.ados_readargs.specs.Options.{is_plain, qualifiers_at}
-use Rattle.ados_readargs.specs.Readings.{Readings, is_filled, given_items}
+use Rattle.ados_readargs.specs.Readings.{Readings, is_vacant, given_items}
 
--- the option is plain, and no reading fills it
-abbrev pub is_vacant : ℕ → Qualifiers → List Reading → Bool
-is_vacant place q given = is_plain q && not (is_filled place given)
-
--- how many of the options, which stand from a place on, are plain and unfilled, and have /A where that is `needed`
-abbrev pub open_count : Bool → ℕ → List TemplateOption → List Reading → ℕ
-open_count needed place [] given = 0
-open_count needed place (option ∷ options) given =
-    (if is_vacant place option.qualifiers given && (not needed || option.qualifiers.required) then 1 else 0) + open_count needed (place + 1) options given
+-- how many of the options, which stand from a place on, are vacant, and have /A where that is `needed`
+abbrev pub vacant_count : Bool → ℕ → List TemplateOption → List Reading → ℕ
+vacant_count needed place [] given = 0
+vacant_count needed place (option ∷ options) given =
+    (if is_vacant place option.qualifiers given && (not needed || option.qualifiers.required) then 1 else 0) + vacant_count needed (place + 1) options given
 
 -- the option is plain and has /M
 abbrev pub is_middle : TemplateOption → Bool
@@ -24,23 +19,23 @@ is_middle option = is_plain option.qualifiers && option.qualifiers.many
 abbrev pub middle_of : List TemplateOption → Option ℕ
 middle_of options = position is_middle options
 
--- the plain word of an open option in front: the option with so many open ones before it takes the word with so many before it
+-- the plain word of a vacant option in front: the option with so many vacant ones before it takes the word with so many before it
 abbrev pub front_share : List TemplateOption → Readings → ℕ → List Item
 front_share options readings place =
-    if is_vacant place (qualifiers_at options place) readings.given then take 1 (drop (open_count false 0 (take place options) readings.given) readings.plain) else []
+    if is_vacant place (qualifiers_at options place) readings.given then take 1 (drop (vacant_count false 0 (take place options) readings.given) readings.plain) else []
 
--- the plain words of the /M: all but those of the front, and of the open /A options behind
+-- the plain words of the /M: all but those of the front, and of the vacant /A options behind
 abbrev pub middle_share : List TemplateOption → Readings → ℕ → List Item
 middle_share options readings middle =
-    let front = open_count false 0 (take middle options) readings.given in
-    let behind = open_count true (middle + 1) (drop (middle + 1) options) readings.given in
+    let front = vacant_count false 0 (take middle options) readings.given in
+    let behind = vacant_count true (middle + 1) (drop (middle + 1) options) readings.given in
     take (length readings.plain - front - behind) (drop front readings.plain)
 
--- the plain word of an open /A option behind the /M: the last option takes the last word
+-- the plain word of a vacant /A option behind the /M: the last option takes the last word
 abbrev pub back_share : List TemplateOption → Readings → ℕ → ℕ → List Item
 back_share options readings middle place =
-    let front = open_count false 0 (take middle options) readings.given in
-    let behind = open_count true (place + 1) (drop (place + 1) options) readings.given in
+    let front = vacant_count false 0 (take middle options) readings.given in
+    let behind = vacant_count true (place + 1) (drop (place + 1) options) readings.given in
     if is_vacant place (qualifiers_at options place) readings.given && ((qualifiers_at options place).required && nat_lt behind (length readings.plain - front))
     then take 1 (drop (length readings.plain - 1 - behind) readings.plain) else []
 
@@ -51,9 +46,9 @@ share_by (Some middle) options readings place =
     if nat_lt place middle then front_share options readings place else
     (if place == middle then middle_share options readings middle else back_share options readings middle place)
 
--- more plain words than open plain options, and no /M
+-- more plain words than vacant options, and no /M
 abbrev pub is_left_by : Option ℕ → List TemplateOption → Readings → Bool
-is_left_by None options readings = nat_lt (open_count false 0 options readings.given) (length readings.plain)
+is_left_by None options readings = nat_lt (vacant_count false 0 options readings.given) (length readings.plain)
 is_left_by (Some middle) options readings = false
 
 -- a plain word is left over

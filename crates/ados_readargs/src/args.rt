@@ -1,16 +1,13 @@
-ghost use Rattle.std.specs.Prelude.{◌≡◌, ◌<◌, None, length, map, slice_get, IfOk, MatchOption};
-ghost use Rattle.std.specs.Option.{option_copied, SomeIff};
-ghost use Rattle.ados_text.specs.Number.{IsNumber, value_of as number_value_of};
+ghost use Rattle.std.specs.Prelude.{◌≡◌, ◌<◌, length, map, slice_get, IfOk};
+ghost use Rattle.std.specs.Option.{option_copied};
 ghost use Rattle.ados_items.specs.Items.{value_of};
-ghost use Rattle.ados_readargs.specs.Template.{options_of};
-ghost use Rattle.ados_readargs.specs.Args.{on_where, many_of, one_of, named_arg, value_arg, arg_at, args_of, texts_in, arg_named, is_on, text_at, texts_at, number_at};
+ghost use Rattle.ados_readargs.specs.Args.{on_where, many_of, one_of, named_arg, value_arg, arg_at, args_of, is_on, text_at, texts_at, number_at};
 
 use crate::options::{Qualifiers, TemplateOption};
 use crate::readings::{Readings, is_filled, named_count};
 use crate::shares::{held_items, share};
-use crate::template::Template;
 use ados_items::{Item, value};
-use ados_text::{NoMemory, Text, Texts, number, number_in};
+use ados_text::{NoMemory, Text, Texts, number_in};
 use std::alloc::Global;
 use std::marker::Model;
 
@@ -25,31 +22,6 @@ pub enum Arg {
     One(Text),
     /// The values of an `/M`, one at least: those by keyword first, then the plain words.
     Many(Texts),
-}
-
-impl Arg {
-    /// The number of the value at a place, counted from 0: `None` where there is no such value,
-    /// or where it is no number.
-    ///
-    /// Each value of an option with `/N` is a number once `Template::fill` has given it, so there
-    /// `None` says only that it is absent.
-    pub fn number(&self, place: usize) -> Option<i32>
-        ensures { MatchOption (slice_get (texts_in self.now) place) (result ≡ None)
-            (λ text. SomeIff result (IsNumber text) (number_value_of text)) }
-    {
-        let text = match self {
-            Arg::Absent => return None,
-            Arg::On => return None,
-            Arg::One(text) => {
-                if place > 0 {
-                    return None;
-                }
-                text
-            }
-            Arg::Many(texts) => texts.get(place)?,
-        };
-        number(text.as_bytes()).ok()
-    }
 }
 
 /// What a line gives to each option of a template, in the order of the options.
@@ -89,22 +61,11 @@ impl Args {
         self.items.get(place)
     }
 
-    /// The argument of the option that has the name in the template, with case ignored; `None`
-    /// where none has.
-    pub fn named(&self, template: &Template, name: &[u8]) -> Option<&Arg>
-        ensures { option_copied result ≡ arg_named name.now (options_of template.now) self.now }
-    {
-        self.get(template.place_named(name)?)
-    }
-
     /// The switch or toggle at a place is on.
     pub fn is_on(&self, place: usize) -> bool
         ensures { result ≡ is_on self.now place }
     {
-        match self.get(place) {
-            Some(Arg::On) => true,
-            _ => false,
-        }
+        matches!(self.get(place), Some(Arg::On))
     }
 
     /// The text of the option without `/M` at a place; `None` where it was given none.

@@ -9,12 +9,7 @@ use ados_text::{Text, number_in};
 fn is_absent(arg: &Arg) -> bool
     ensures { result ≡ is_absent arg.now }
 {
-    match arg {
-        Arg::Absent => true,
-        Arg::On => false,
-        Arg::One(_) => false,
-        Arg::Many(_) => false,
-    }
+    matches!(arg, Arg::Absent)
 }
 
 fn is_lacking(option: &TemplateOption, arg: &Arg) -> bool

@@ -24,7 +24,8 @@ pub enum ArgFault {
     /// A word is left over, or an option is filled twice: fault 118.
     #[error("too many arguments")]
     TooMany,
-    /// A quote at a word's start is never closed: fault 119.
+    /// A quote at a word's start is never closed, outside the rest that an `/F` option takes:
+    /// fault 119.
     #[error("unmatched quotes")]
     Unmatched,
     /// No memory for the answer.

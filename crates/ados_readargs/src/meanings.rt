@@ -10,7 +10,7 @@ ghost use Rattle.ados_readargs.specs.declared.meanings.Pending.TheVariants.{Free
 
 use crate::errors::ArgFault;
 use crate::options::{Qualifiers, TemplateOption, has_rest, qualifiers_at};
-use crate::readings::{Reading, Readings, first_open, is_filled};
+use crate::readings::{Reading, Readings, first_vacant, is_filled};
 use crate::words::{LineWord, is_unclosed, word_at};
 use ados_items::Item;
 use std::alloc::Global;
@@ -262,7 +262,7 @@ fn meaning_of(
     match pending {
         Pending::Free => {
             let vacant = if with_rest {
-                first_open(options, given)
+                first_vacant(options, given)
             } else {
                 None
             };

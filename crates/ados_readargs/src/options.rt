@@ -1,6 +1,6 @@
 ghost use Rattle.std.specs.Prelude.{◌≡◌};
 ghost use Rattle.ados_text.specs.Text.{is_same};
-ghost use Rattle.ados_readargs.specs.Options.{has_name, place_named, is_plain, takes_value, unqualified, qualifiers_at, is_rest};
+ghost use Rattle.ados_readargs.specs.Options.{has_name, is_plain, takes_value, unqualified, qualifiers_at, is_rest};
 ghost use Rattle.std.specs.List.{list_any};
 
 use ados_text::Texts;
@@ -64,7 +64,7 @@ pub struct TemplateOption {
     pub qualifiers: Qualifiers,
 }
 
-// The two are one name: alike where case is ignored.
+/// The two are one name: alike where case is ignored.
 pub fn same_name(a: &[u8], b: &[u8]) -> bool
     ensures { result ≡ is_same a.now b.now }
 {
@@ -81,13 +81,6 @@ impl TemplateOption {
             .iter()
             .any(|own| same_name(own.as_bytes(), name))
     }
-}
-
-/// The place of the option that has the name.
-pub fn place_named(options: &[TemplateOption], name: &[u8]) -> Option<usize>
-    ensures { result ≡ place_named name.now options.now }
-{
-    options.iter().position(|option| option.has_name(name))
 }
 
 /// The qualifiers of the option at a place; none past the last option.

@@ -1,7 +1,7 @@
 ghost use Rattle.std.specs.Prelude.{◌≡◌, IfOk};
-ghost use Rattle.ados_readargs.specs.Readings.{fills, is_filled, first_open, given_to, given_items, names, named_count};
+ghost use Rattle.ados_readargs.specs.Readings.{fills, is_filled, is_vacant, first_vacant, given_to, given_items, names, named_count};
 
-use crate::options::TemplateOption;
+use crate::options::{Qualifiers, TemplateOption};
 use ados_items::Item;
 use ados_text::NoMemory;
 use std::alloc::Global;
@@ -72,13 +72,19 @@ pub fn is_filled(given: &[Reading], place: usize) -> bool
     given.iter().any(|reading| reading.fills(place))
 }
 
-/// The first plain option that no reading fills.
-pub fn first_open(options: &[TemplateOption], given: &[Reading]) -> Option<usize>
-    ensures { result ≡ first_open options.now given.now }
+/// Whether the option is plain, and no reading fills it.
+pub fn is_vacant(place: usize, q: Qualifiers, given: &[Reading]) -> bool
+    ensures { result ≡ is_vacant place q given.now }
+{
+    q.is_plain() && !is_filled(given, place)
+}
+
+/// The first option that is vacant.
+pub fn first_vacant(options: &[TemplateOption], given: &[Reading]) -> Option<usize>
+    ensures { result ≡ first_vacant options.now given.now }
 {
     for place in 0..options.len() {
-        let option = &options[place];
-        if option.qualifiers.is_plain() && !is_filled(given, place) {
+        if is_vacant(place, options[place].qualifiers, given) {
             return Some(place);
         }
     }

@@ -1,22 +1,15 @@
 ghost use Rattle.std.specs.Prelude.{◌≡◌, ◌≤◌, ◌<◌, true, false, take, drop, length, IfOk, IfSome};
-ghost use Rattle.ados_readargs.specs.Shares.{is_vacant, open_count, is_middle, middle_of, front_share, middle_share, back_share, share_by, is_left, held_items, TakesAll};
+ghost use Rattle.ados_readargs.specs.Shares.{vacant_count, is_middle, middle_of, front_share, middle_share, back_share, share_by, is_left, held_items, TakesAll};
 
-use crate::options::{Qualifiers, TemplateOption, qualifiers_at};
-use crate::readings::{Reading, Readings, given_items, is_filled};
+use crate::options::{TemplateOption, qualifiers_at};
+use crate::readings::{Reading, Readings, given_items, is_vacant};
 use ados_items::Item;
 use ados_text::NoMemory;
 use std::alloc::Global;
 
-// Whether the option is plain, and no reading fills it.
-fn is_vacant(place: usize, q: Qualifiers, given: &[Reading]) -> bool
-    ensures { result ≡ is_vacant place q given.now }
-{
-    q.is_plain() && !is_filled(given, place)
-}
-
 // How many options from a place on are vacant, and have /A where that is needed.
-fn open_count(needed: bool, from: usize, options: &[TemplateOption], given: &[Reading]) -> usize
-    ensures value { result ≡ open_count needed from (drop from options.now) given.now }
+fn vacant_count(needed: bool, from: usize, options: &[TemplateOption], given: &[Reading]) -> usize
+    ensures value { result ≡ vacant_count needed from (drop from options.now) given.now }
     ensures within { result ≤ length options.now }
 {
     let mut count = 0;
@@ -59,9 +52,9 @@ fn piece(items: &[Item], from: usize, count: usize) -> &[Item]
 // How many vacant options stand before a place.
 fn front_count(options: &[TemplateOption], given: &[Reading], place: usize) -> usize
     requires { place < length options.now }
-    ensures { result ≡ open_count false 0 (take place options.now) given.now }
+    ensures { result ≡ vacant_count false 0 (take place options.now) given.now }
 {
-    open_count(false, 0, &options[..place], given)
+    vacant_count(false, 0, &options[..place], given)
 }
 
 // The plain word of an option with no /M before it.
@@ -86,7 +79,7 @@ fn middle_share<'a>(options: &[TemplateOption], readings: &'a Readings, middle: 
     let given = readings.given.as_slice();
     let plain = readings.plain.as_slice();
     let front = front_count(options, given, middle);
-    let behind = open_count(true, middle + 1, options, given);
+    let behind = vacant_count(true, middle + 1, options, given);
     piece(
         plain,
         front,
@@ -108,7 +101,7 @@ fn back_share<'a>(
     let given = readings.given.as_slice();
     let plain = readings.plain.as_slice();
     let front = front_count(options, given, middle);
-    let behind = open_count(true, place + 1, options, given);
+    let behind = vacant_count(true, place + 1, options, given);
     let q = qualifiers_at(options, place);
     if is_vacant(place, q, given) && q.required && behind < plain.len().saturating_sub(front) {
         piece(plain, plain.len() - 1 - behind, 1)
@@ -144,7 +137,7 @@ pub fn is_left(options: &[TemplateOption], readings: &Readings) -> bool
     let given = readings.given.as_slice();
     let plain = readings.plain.as_slice();
     match middle_of(options) {
-        None => open_count(false, 0, options, given) < plain.len(),
+        None => vacant_count(false, 0, options, given) < plain.len(),
         Some(_) => false,
     }
 }

@@ -1,7 +1,7 @@
 ghost use Rattle.std.specs.Prelude.{◌≡◌, [], Ok, Some, None, false, map, IfOk, IfErr};
 ghost use Rattle.std.specs.List.{slice_split, list_any, count_by};
 ghost use Rattle.ados_text.specs.Text.{to_ascii, is_same};
-ghost use Rattle.ados_readargs.specs.Options.{has_name, unqualified, place_named};
+ghost use Rattle.ados_readargs.specs.Options.{has_name, unqualified};
 ghost use Rattle.ados_readargs.specs.Checks.{has_bad};
 ghost use Rattle.ados_readargs.specs.Fill.{fill_of, LosesNoWord};
 ghost use Rattle.ados_readargs.specs.Faults.{IsFaultOf, IsBadTemplate};
@@ -10,7 +10,7 @@ ghost use Rattle.ados_readargs.specs.Template.{IsTemplate, with_letter, with_pie
 use crate::args::Args;
 use crate::errors::ArgFault;
 use crate::fill::fill_options;
-use crate::options::{Qualifiers, TemplateOption, has_rest, place_named, same_name};
+use crate::options::{Qualifiers, TemplateOption, has_rest, same_name};
 use ados_text::{NoMemory, Text, Texts, fold};
 use std::alloc::{AllocError, Global};
 use std::marker::Model;
@@ -67,33 +67,13 @@ impl Template {
         }
     }
 
-    /// The text that it was parsed from, as a prompt prints it.
-    pub fn text(&self) -> &Text
-        ensures { result.now ≡ self.now }
-    {
-        &self.text
-    }
-
-    /// The options, in order.
-    pub fn options(&self) -> &[TemplateOption]
-        ensures { result.now ≡ options_of self.now }
-    {
-        self.options.as_slice()
-    }
-
-    /// The place of the option that has the name, counted from 0; case is ignored.
-    pub fn place_named(&self, name: &[u8]) -> Option<usize>
-        ensures { result ≡ place_named name.now (options_of self.now) }
-    {
-        place_named(self.options(), name)
-    }
-
     /// What a line gives to each option.
     ///
-    /// Of the faults the first that holds: `Unmatched` where a word's quote is never closed;
-    /// `ValueMissing` or `TooMany` at the first word that asks for it; `TooMany` for a plain word
-    /// left over; `ArgumentMissing` for an `/A` without a value; `BadNumber` for a value of an
-    /// `/N`. `NoMemory` only where a growth was refused.
+    /// Of the faults the first that holds: `Unmatched` where a word's quote is never closed,
+    /// outside the rest that an `/F` option takes; `ValueMissing` or `TooMany` at the first word
+    /// that asks for it; `TooMany` for a plain word left over; `ArgumentMissing` for an `/A`
+    /// without a value; `BadNumber` for a value of an `/N` that is no number. `NoMemory` only
+    /// where a growth was refused.
     pub fn fill(&self, alloc: Global, line: &[u8]) -> Result<Args, ArgFault>
         ensures ok { IfOk result (λ args. fill_of self.now line.now ≡ Ok args) }
         ensures numbers { IfOk result (λ args. has_bad (options_of self.now) args ≡ false) }
@@ -267,7 +247,7 @@ fn has_many(options: &[TemplateOption]) -> bool
 fn is_template(options: &[TemplateOption]) -> bool
     ensures { result ≡ is_template options.now }
 {
-    !(many_count(options) > 1)
+    many_count(options) <= 1
         && !(has_many(options) && has_rest(options))
         && !has_rest(&options[..options.len().saturating_sub(1)])
         && !has_twice(options)

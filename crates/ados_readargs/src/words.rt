@@ -44,11 +44,7 @@ impl LineWord {
     pub fn is_open_quote(self) -> bool
         ensures { result ≡ is_open_quote self }
     {
-        match self {
-            LineWord::Run { .. } => false,
-            LineWord::Quoted { .. } => false,
-            LineWord::Open(_) => true,
-        }
+        matches!(self, LineWord::Open(_))
     }
 
     /// Whether it is `=` alone.
