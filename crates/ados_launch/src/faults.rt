@@ -21,7 +21,7 @@ pub enum DriveFault {
     /// As many events as were allowed were taken, and a further one is due.
     #[error("turn limit reached")]
     Turns,
-    /// There was no memory for an event.
+    /// There was no memory for the next line or event.
     #[error("out of memory")]
     Memory,
 }

@@ -1,4 +1,4 @@
--- Runs: what a list of events gives, and the trace that it leaves.
+-- Runs: what a list of events gives.
 use Rattle.std.specs.Prelude.{◌≡◌, List, [], ◌∷◌, Result, Ok, Err}
 use Rattle.ados_machine.specs.declared.events.Event.{Event}
 use Rattle.ados_machine.specs.declared.events.Event.TheVariants.{EndOfInput}

@@ -8,8 +8,9 @@ ghost use Rattle.ados_machine.specs.Laws.{
 ghost use Rattle.ados_machine.specs.Limits.{IsSane};
 ghost use Rattle.ados_machine.specs.World.{fresh_world};
 
-/// In every run and every shell, each script ends early exactly at its first command whose code
-/// reaches the limit behind it, and reports the line and the code of its last command.
+/// In every run of a world in which no script runs on behind a failure, as a fresh one is and events keep it: in
+/// every shell each script ends early exactly at its first command whose code reaches the limit behind it, and
+/// reports the line and the code of its last command.
 pub fn scripts_end_where_the_rule_says()
     ensures { ScriptsEndWhereTheRuleSays }
 {}

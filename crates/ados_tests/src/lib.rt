@@ -1,5 +1,5 @@
 #![tactic(auto)]
-//! The tests of the crates, one file a crate, of what no contract says: that calls succeed where there is
+//! The tests of the crates, one file for each that has them, of what no contract says: that calls succeed where there is
 //! memory, outside vectors. They stand here together, so that no crate is proved a second time for its tests.
 //! What commands print is tried on the built program, in `examples/`.
 

@@ -1,6 +1,9 @@
+use crate::places::{at, name};
 use crate::wrong::{Wrong, expect, expect_row};
 use ados_text::{Code, NoMemory, Result2, Text};
-use ados_world::{Answer, Codes, Event, HostEntry, NewFault, Out, Outs, Refusal, World};
+use ados_world::{
+    Answer, Codes, EndReport, Event, HostEntry, NewFault, Out, Outs, Refusal, World,
+};
 use std::alloc::Global;
 
 // The helpers have no contract, and few own a world: what the prover need not know costs nothing.
@@ -214,6 +217,27 @@ fn want_of_memory_changes_nothing_and_the_event_is_taken_later(
     ends(rt.alloc(), ANY_LINES, UNKNOWN)
 }
 
+const PROMPTS_AND_RENAMES: &[Row] = &[
+    (Act::Type("Echo ?"), Ok("")),
+    (Act::Turn(1), Ok("/M,NOLINE/S: ")),
+    (Act::Type("hello"), Ok("")),
+    (Act::Turn(1), Ok("hello\n")),
+    (Act::Type("MakeDir d"), Ok("")),
+    (Act::Turn(1), Ok("")),
+    (Act::Type("CD d"), Ok("")),
+    (Act::Turn(1), Ok("")),
+    (Act::Type("Rename RAM:d RAM:e"), Ok("")),
+    (Act::Turn(1), Ok("")),
+    (Act::Type("CD"), Ok("")),
+    (Act::Turn(1), Ok("RAM:e\n")),
+];
+
+#[test]
+fn want_of_memory_forgets_no_prompt_and_no_directory(rt: HostRuntime) -> Result<(), Wrong> {
+    dialogue(rt.alloc(), PROMPTS_AND_RENAMES)?;
+    Ok(())
+}
+
 const HALF_COPIED: &[Row] = &[
     (Act::Type("Echo >a A"), Ok("")),
     (Act::Turn(1), Ok("")),
@@ -232,6 +256,105 @@ const HALF_COPIED: &[Row] = &[
 fn half_copied_file(rt: HostRuntime) -> Result<(), Wrong> {
     dialogue(rt.alloc(), HALF_COPIED)?;
     Ok(())
+}
+
+// How a script of shell 1 ended.
+struct End<'a> {
+    name: &'a str,
+    last_line: usize,
+    code: Code,
+    early: bool,
+}
+
+fn is_end(report: &EndReport, want: &End) -> bool {
+    report.shell == 1
+        && report.name.as_bytes() == want.name.as_bytes()
+        && report.last_line == want.last_line
+        && report.code == want.code
+        && report.early == want.early
+}
+
+// The event printed this, and at it one script ended so.
+fn is_told(answer: &Result<Out, Refusal>, text: &str, want: &End) -> bool {
+    match answer {
+        Err(_) => false,
+        Ok(out) => match out.reports.as_slice() {
+            [report] => is_end(report, want) && out.bytes.as_bytes() == text.as_bytes(),
+            _ => false,
+        },
+    }
+}
+
+// A turn of shell 1 prints this and ends a script so; where memory was wanting it is given once more.
+fn tells(world: &mut World, text: &str, want: &End) -> bool {
+    let before = views(world);
+    match world.step(&Event::Turn(1)) {
+        Err(Refusal::NoMemory) => {
+            views(world) == before && is_told(&world.step(&Event::Turn(1)), text, want)
+        }
+        answer => is_told(&answer, text, want),
+    }
+}
+
+const BEFORE_A_QUIT: &[Row] = &[
+    (
+        Act::Type("Echo >>S:g \"Echo a*NQuit 5*NEcho b\""),
+        Ok(""),
+    ),
+    (Act::Turn(1), Ok("")),
+    (Act::Type("Execute g"), Ok("")),
+    (Act::Turn(1), Ok("")),
+    (Act::Turn(1), Ok("a\n")),
+];
+
+#[test]
+fn quit_ends_a_script_below_the_limit(rt: HostRuntime) -> Result<(), Wrong> {
+    let mut world = dialogue(rt.alloc(), BEFORE_A_QUIT)?;
+    let end = End {
+        name: "RAM:S/g",
+        last_line: 2,
+        code: Code(5),
+        early: false,
+    };
+    expect(tells(&mut world, "", &end), "the report of a Quit")?;
+    expect(world.codes(1).code == Code(5), "the code of a Quit")
+}
+
+const BEFORE_A_FAILURE: &[Row] = &[
+    (Act::Type("Echo >S:a \"foo*NEcho b\""), Ok("")),
+    (Act::Turn(1), Ok("")),
+    (Act::Type("Execute a"), Ok("")),
+    (Act::Turn(1), Ok("")),
+];
+
+#[test]
+fn a_script_ends_early_at_its_limit(rt: HostRuntime) -> Result<(), Wrong> {
+    let mut world = dialogue(rt.alloc(), BEFORE_A_FAILURE)?;
+    let end = End {
+        name: "RAM:S/a",
+        last_line: 1,
+        code: Code::ERROR,
+        early: true,
+    };
+    let text = "foo: object not found\nfoo failed returncode 10\nExecute failed returncode 10\n";
+    expect(tells(&mut world, text, &end), "the report of an early end")
+}
+
+// What is in files and assigns is seen, as a world shows them.
+const KEPT: &[Row] = &[
+    (Act::Type("MakeDir d"), Ok("")),
+    (Act::Turn(1), Ok("")),
+    (Act::Type("Assign X: d"), Ok("")),
+    (Act::Turn(1), Ok("")),
+];
+
+#[test]
+fn a_world_shows_its_files_and_assigns(rt: HostRuntime) -> Result<(), Wrong> {
+    let world = dialogue(rt.alloc(), KEPT)?;
+    let place = at(rt.alloc(), "d")?;
+    expect(world.files().look(&place).is_some(), "a directory that was made")?;
+    let assign = world.assigns().get(&name(rt.alloc(), "x")?);
+    expect(assign.is_some(), "an assign that was set")
 }
 
 // What a run of a fresh world answers.

@@ -22,11 +22,17 @@ use std::alloc::Global;
 /// What a turn of a shell changes: the shell, a new version of the shared parts where there is one, the object that it
 /// renamed, what it prints, and the scripts that it ends.
 pub struct Draft {
+    /// The number of the shell.
     pub number: u8,
+    /// The shell as the turn leaves it.
     pub shell: Shell,
+    /// The shared parts as the turn leaves them, where it changes them.
     pub shared: Option<Shared>,
+    /// The places between which a rename moved an object.
     pub renamed: Option<Box<Renamed>>,
+    /// What is printed on the console.
     pub printed: Vec<u8>,
+    /// The scripts that ended, innermost first.
     pub reports: Vec<EndReport>,
 }
 

@@ -16,7 +16,7 @@ pub enum NewFault {
     /// More hosts than a world takes; it takes none yet.
     #[error("too many hosts")]
     TooMany,
-    /// There was no memory for the files of the beginning.
+    /// There was no memory for the templates of the commands or for the files of the beginning.
     #[error("no free store")]
     NoMemory,
 }

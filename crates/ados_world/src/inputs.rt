@@ -18,7 +18,8 @@ use std::alloc::Global;
 
 /// The line that an input, where there is one, answers a prompt with: its first, from a current directory.
 ///
-/// The faults are those of the name and of reading.
+/// 210 for a name that is no path, what resolving refuses (204, 205, 212, 218), and what reading refuses (205, 212,
+/// 224).
 pub fn input_line(
     alloc: Global,
     shared: &Shared,

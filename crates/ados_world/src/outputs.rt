@@ -32,7 +32,8 @@ impl Opened {
     /// Opens what a redirection names, from a current directory: `>` empties the file or makes it, `>>` keeps it or
     /// makes it.
     ///
-    /// The faults are those of the name and of writing.
+    /// 210 for a name that is no path, what resolving refuses (204, 205, 212, 218), and what writing refuses (202,
+    /// 212, 221, 223).
     pub fn by(
         alloc: Global,
         shared: &Shared,
