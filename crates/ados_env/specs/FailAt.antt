@@ -14,7 +14,7 @@ use Rattle.ados_readargs.specs.Args.{number_at}
 abbrev pub limit_line : Code → List ℕ
 limit_line limit = codes "Fail limit: " ++ signed_decimal limit.0 ++ 10 ∷ []
 
--- a limit that is given is told by none, and is not negative
+-- without a number the limit is told; a number sets it, unless it is negative
 abbrev pub limited : SharedState → Code → Option ℤ → Effect
 limited shared limit None = putting shared limit (limit_line limit)
 limited shared limit (Some number) =

@@ -8,8 +8,9 @@ ghost use Rattle.ados_env.specs.Directories.{directory_of};
 
 use crate::assign_names::name_of;
 use crate::directories::directory_of;
+use crate::refusals::answer_of;
 use ados_assign::{Assign, AssignFault, Assigns};
-use ados_find::{Codes, Outcome, Refusal, Shared, ShellView};
+use ados_find::{Codes, Outcome, Shared, ShellView};
 use ados_ram::Ram;
 use ados_readargs::Args;
 use ados_text::{Code, Name, NoMemory, Octets, Result2, Text};
@@ -52,8 +53,7 @@ fn assigned_to(
         return Ok(Outcome::answering(alloc, view.limit, codes));
     };
     match name_of(text) {
-        Err(Refusal::NoMemory) => Err(NoMemory),
-        Err(Refusal::Stopped(codes)) => Ok(Outcome::answering(alloc, view.limit, codes)),
+        Err(refusal) => Ok(Outcome::answering(alloc, view.limit, answer_of(refusal)?)),
         Ok(name) => bound_to(alloc, shared, view, name, target),
     }
 }
@@ -68,8 +68,7 @@ fn bound_to(
     ensures { IfOk result (λ outcome. effect_of shared.now outcome ≡ bound_to shared.now view.now (Ok name) (directory_of shared.now view.now target.now)) }
 {
     match directory_of(alloc, shared, view, target) {
-        Err(Refusal::NoMemory) => Err(NoMemory),
-        Err(Refusal::Stopped(codes)) => Ok(Outcome::answering(alloc, view.limit, codes)),
+        Err(refusal) => Ok(Outcome::answering(alloc, view.limit, answer_of(refusal)?)),
         Ok(place) => reassigned(alloc, shared, view, shared.assigns.set(name, place)?),
     }
 }
@@ -109,8 +108,7 @@ fn unassigned(
         return all_told(alloc, shared, view);
     };
     match name_of(text) {
-        Err(Refusal::NoMemory) => Err(NoMemory),
-        Err(Refusal::Stopped(codes)) => Ok(Outcome::answering(alloc, view.limit, codes)),
+        Err(refusal) => Ok(Outcome::answering(alloc, view.limit, answer_of(refusal)?)),
         Ok(name) => removed_named(alloc, shared, view, &name),
     }
 }
@@ -146,8 +144,7 @@ fn listed(
         return all_told(alloc, shared, view);
     };
     match name_of(text) {
-        Err(Refusal::NoMemory) => Err(NoMemory),
-        Err(Refusal::Stopped(codes)) => Ok(Outcome::answering(alloc, view.limit, codes)),
+        Err(refusal) => Ok(Outcome::answering(alloc, view.limit, answer_of(refusal)?)),
         Ok(name) => told(alloc, shared, view, shared.assigns.get(&name)),
     }
 }

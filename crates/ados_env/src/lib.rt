@@ -11,6 +11,7 @@ mod eval;
 mod fail_at;
 mod fault;
 mod operators;
+mod refusals;
 mod rows;
 mod why;
 

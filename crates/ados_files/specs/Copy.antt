@@ -1,5 +1,5 @@
 -- Copy: files to a file or into a directory.
-use Rattle.std.specs.Prelude.{ℕ, Bool, not, cond, ◌&&◌, List, [], ◌∷◌, ◌++◌, codes, Option, Some, None, Result, Ok, Err, if◌then◌else◌}
+use Rattle.std.specs.Prelude.{ℕ, Bool, true, false, not, cond, ◌&&◌, List, [], ◌∷◌, ◌++◌, codes, Option, Some, None, Result, Ok, Err, if◌then◌else◌}
 use Rattle.std.specs.Option.{option_or}
 use Rattle.std.specs.FinMap as map
 use Rattle.ados_text.specs.declared.codes.Result2.{Result2}
@@ -86,8 +86,9 @@ one_entry files found = if found.literal then first_entry files found.places els
 
 -- TO is a directory: an absent one is made for just one directory, and else refused, as is a file
 abbrev pub directory_for : Bool → List (List ℕ) → Done → Option Entry → Done
-directory_for one to done None = if one then made done to else refused_or (Some DIRECTORY_NOT_FOUND) done done
-directory_for one to done (Some e) = cond (is_directory e) done (refused_or (Some WRONG_TYPE) done done)
+directory_for true to done there = made_at done to there
+directory_for false to done None = refused_or (Some DIRECTORY_NOT_FOUND) done done
+directory_for false to done (Some e) = made_at done to (Some e)
 
 -- files go into a directory; the list of them is taken before the first write
 abbrev pub copy_into : View → Bool → Bool → FoundPlaces → Done → List (List ℕ) → Done

@@ -1,15 +1,17 @@
 // What is done with the objects that arguments name.
-ghost use Rattle.std.specs.Prelude.{◌≡◌, Option, IfOk, OnOk};
+ghost use Rattle.std.specs.Prelude.{◌≡◌, Option, Err, IfOk, OnOk};
 ghost use Rattle.ados_text.specs.declared.codes.Result2.{Result2};
 ghost use Rattle.ados_ram.specs.Files.{Files};
 ghost use Rattle.ados_ram.specs.FileOperations.{Answers};
-ghost use Rattle.ados_find.specs.Done.{done_of, fresh, each, ended};
+ghost use Rattle.ados_find.specs.Done.{Done, done_of, fresh, refused_or, each, ended};
+ghost use Rattle.ados_find.specs.Shared.{SharedState};
 ghost use Rattle.ados_find.specs.Effects.{effect_of};
 ghost use Rattle.ados_files.specs.Acts.{at_path, at_names, in_files, in_files_saying};
 
 use crate::lines::say_path;
 use crate::names::named;
-use ados_find::{Act, Codes, Outcome, Refusal, Shared, ShellView, Work, current, each, place_of};
+use crate::refusals::answer_of;
+use ados_find::{Act, Codes, Outcome, Shared, ShellView, Work, current, each, place_of};
 use ados_ram::{FsFault, Place, Ram};
 use ados_text::{NoMemory, Text};
 use std::alloc::Global;
@@ -43,16 +45,17 @@ pub fn done_with_named<A: Act<Place>>(
 }
 
 /// The files go on as changed, or it stops at the refusal of the change.
-pub fn go_on(
-    shared: &Shared,
-    work: &mut Work,
-    change: Result<Ram, FsFault>,
-    place: &Place,
-) -> Result<(), NoMemory>
+pub fn go_on(shared: &Shared, work: &mut Work, change: Result<Ram, FsFault>) -> Result<(), NoMemory>
     ensures { (fault : Option Result2) → (files : Files) → Answers change fault → IfOk change (λ new. new ≡ files) →
         OnOk result (done_of shared.now work.new ≡ in_files fault files (done_of shared.now work.old)) }
 {
-    go_on_saying(shared, work, change, true, place, b"")
+    match change {
+        Err(refusal) => stop(work, refusal),
+        Ok(ram) => {
+            work.shared = Some(current(shared, &work.shared).with_files(ram)?);
+            Ok(())
+        }
+    }
 }
 
 /// As `go_on`, and says so with the path as it was, unless QUIET.
@@ -68,15 +71,25 @@ pub fn go_on_saying(
         OnOk result (done_of shared.now work.new ≡ in_files_saying fault files quiet place.now words.now (done_of shared.now work.old)) }
 {
     match change {
-        Err(FsFault::NoMemory) => Err(NoMemory),
-        Err(FsFault::Refused(fault)) => {
-            work.stopped = Some(Codes::erred(fault));
-            Ok(())
-        }
+        Err(refusal) => stop(work, refusal),
         Ok(ram) => {
             let old = current(shared, &work.shared);
             say_path(quiet, &mut work.output, &old.ram, place, words)?;
             work.shared = Some(old.with_files(ram)?);
+            Ok(())
+        }
+    }
+}
+
+// Stops at the refusal of a change.
+fn stop(work: &mut Work, refusal: FsFault) -> Result<(), NoMemory>
+    ensures { (shared : SharedState) → (fault : Option Result2) → (done : Done) → Answers {X = Files} (Err refusal) fault →
+        OnOk result (done_of shared work.new ≡ refused_or fault (done_of shared work.old) done) }
+{
+    match refusal {
+        FsFault::NoMemory => Err(NoMemory),
+        FsFault::Refused(fault) => {
+            work.stopped = Some(Codes::erred(fault));
             Ok(())
         }
     }
@@ -124,9 +137,8 @@ pub fn at_path<A: Act<Place>>(
 {
     let alloc = *work.output.allocator();
     match place_of(alloc, current(shared, &work.shared), &view.directory, text) {
-        Err(Refusal::NoMemory) => Err(NoMemory),
-        Err(Refusal::Stopped(codes)) => {
-            work.stopped = Some(codes);
+        Err(refusal) => {
+            work.stopped = Some(answer_of(refusal)?);
             Ok(())
         }
         Ok(place) => act.act(shared, work, &place),
@@ -145,9 +157,8 @@ pub fn at_names<A: Act<Place>>(
 {
     let alloc = *work.output.allocator();
     match named(alloc, current(shared, &work.shared), &view.directory, text) {
-        Err(Refusal::NoMemory) => Err(NoMemory),
-        Err(Refusal::Stopped(codes)) => {
-            work.stopped = Some(codes);
+        Err(refusal) => {
+            work.stopped = Some(answer_of(refusal)?);
             Ok(())
         }
         Ok(found) => each(act, shared, work, found.places()),

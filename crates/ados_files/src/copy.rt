@@ -10,12 +10,12 @@ ghost use Rattle.ados_find.specs.Paths.{place_of};
 ghost use Rattle.ados_files.specs.Copy.{directory_for, copy_into, is_onto, one_entry, copy_found, copied_to, copy_row};
 
 use crate::acts::done_with;
-use crate::copy_one::Copying;
+use crate::copy_one::{Copying, make_missing};
 use crate::jobs::{all_jobs, jobs_onto, sources_of};
-use crate::make_dir::made;
 use crate::names::Found;
+use crate::refusals::answer_of;
 use crate::rename::is_directory;
-use ados_find::{Act, Codes, Outcome, Refusal, Shared, ShellView, Work, current, each, place_of};
+use ados_find::{Act, Codes, Outcome, Shared, ShellView, Work, current, each, place_of};
 use ados_ram::{Entry, Place, Ram};
 use ados_readargs::Args;
 use ados_text::{NoMemory, Result2, Text};
@@ -40,8 +40,7 @@ pub fn copy_files(
         return Ok(Outcome::answering(alloc, view.limit, missing));
     }
     match sources_of(alloc, shared, &view.directory, texts) {
-        Err(Refusal::NoMemory) => Err(NoMemory),
-        Err(Refusal::Stopped(codes)) => Ok(Outcome::answering(alloc, view.limit, codes)),
+        Err(refusal) => Ok(Outcome::answering(alloc, view.limit, answer_of(refusal)?)),
         Ok(found) => {
             let copy = Copy {
                 view,
@@ -77,8 +76,7 @@ fn copied_to(alloc: Global, shared: &Shared, copy: &Copy, to: &Text) -> Result<O
 {
     let view = copy.view;
     match place_of(alloc, shared, &view.directory, to) {
-        Err(Refusal::NoMemory) => Err(NoMemory),
-        Err(Refusal::Stopped(codes)) => Ok(Outcome::answering(alloc, view.limit, codes)),
+        Err(refusal) => Ok(Outcome::answering(alloc, view.limit, answer_of(refusal)?)),
         Ok(to) => done_with(alloc, shared, view, copy, slice::from_ref(&to)),
     }
 }
@@ -112,10 +110,7 @@ fn is_onto(ram: &Ram, found: &Found, to: &Place) -> bool
 fn is_file(there: Option<&Entry>) -> bool
     ensures { result ≡ is_some_file (option_copied there.entry) }
 {
-    match there {
-        None => false,
-        Some(entry) => !entry.is_directory(),
-    }
+    there.is_some_and(|entry| !entry.is_directory())
 }
 
 // What stands at the one source.
@@ -154,19 +149,9 @@ fn directory_for(one: bool, to: &Place, shared: &Shared, work: &mut Work) -> Res
     ensures { OnOk result (done_of shared.now work.new ≡
         directory_for one to.now (done_of shared.now work.old) (map.get (version shared.now work.old.shared).files (key_of to.now))) }
 {
-    match current(shared, &work.shared).ram.look(to) {
-        None => {
-            if one {
-                return made(shared, work, to);
-            }
-            work.stopped = Some(Codes::erred(Result2::DIRECTORY_NOT_FOUND));
-            Ok(())
-        }
-        Some(entry) => {
-            if !entry.is_directory() {
-                work.stopped = Some(Codes::erred(Result2::WRONG_TYPE));
-            }
-            Ok(())
-        }
+    if !one && current(shared, &work.shared).ram.look(to).is_none() {
+        work.stopped = Some(Codes::erred(Result2::DIRECTORY_NOT_FOUND));
+        return Ok(());
     }
+    make_missing(shared, work, to)
 }

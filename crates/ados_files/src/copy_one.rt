@@ -135,8 +135,8 @@ impl Act<Place> for MakingMissing {
     }
 }
 
-// Makes a directory where it is missing.
-fn make_missing(shared: &Shared, work: &mut Work, place: &Place) -> Result<(), NoMemory>
+/// Makes a directory where it is missing.
+pub fn make_missing(shared: &Shared, work: &mut Work, place: &Place) -> Result<(), NoMemory>
     ensures { OnOk result (done_of shared.now work.new ≡ make_missing (done_of shared.now work.old) place.now) }
 {
     match current(shared, &work.shared).ram.look(place) {

@@ -9,6 +9,7 @@ ghost use Rattle.ados_files.specs.Dir.{directory_line, file_line, directories_te
 
 use crate::lines::{Line, keeps, push_lines, put_between};
 use crate::listing::list_fault;
+use crate::refusals::answer_of;
 use ados_find::{Codes, Outcome, Refusal, Shared, ShellView, place_of};
 use ados_ram::{Entry, Place, Ram};
 use ados_readargs::Args;
@@ -25,8 +26,7 @@ pub fn show_directory(
     ensures { IfOk result (λ outcome. effect_of shared.now outcome ≡ dir_row shared.now view.now args.now) }
 {
     match directory_given(alloc, shared, view, args.text(0)) {
-        Err(Refusal::NoMemory) => Err(NoMemory),
-        Err(Refusal::Stopped(codes)) => Ok(Outcome::answering(alloc, view.limit, codes)),
+        Err(refusal) => Ok(Outcome::answering(alloc, view.limit, answer_of(refusal)?)),
         Ok(place) => dir_at(alloc, shared, view, args.is_on(1), args.is_on(2), &place),
     }
 }

@@ -56,5 +56,5 @@ fn note_one(comment: &Text, shared: &Shared, work: &mut Work, place: &Place) -> 
     ensures { OnOk result (done_of shared.now work.new ≡ note_one comment.now (done_of shared.now work.old) place.now) }
 {
     let change = current(shared, &work.shared).ram.comment(place, comment);
-    go_on(shared, work, change, place)
+    go_on(shared, work, change)
 }

@@ -105,5 +105,5 @@ fn write_one(
     let change = current(shared, &work.shared)
         .ram
         .write(&view.busy, place, bytes);
-    go_on(shared, work, change, place)
+    go_on(shared, work, change)
 }

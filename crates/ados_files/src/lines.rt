@@ -103,7 +103,7 @@ fn push_right(output: &mut Vec<u8>, width: usize, text: &[u8]) -> Result<(), NoM
 fn push_blanks(output: &mut Vec<u8>, width: usize, taken: usize) -> Result<(), NoMemory>
     ensures { OnOk result (output.new.items ≡ output.old.items ++ replicate (width - taken) 32) }
 {
-    for i in 0..width.saturating_sub(taken) {
+    for _ in 0..width.saturating_sub(taken) {
         output.push(b' ')?;
     }
     Ok(())

@@ -11,6 +11,7 @@ use crate::acts::done_with;
 use crate::lines::{Line, keeps, push_line, push_lines};
 use crate::matching::is_match;
 use crate::names::{Found, named, only, pattern_of, push_places};
+use crate::refusals::answer_of;
 use ados_find::{Act, Codes, Outcome, Refusal, Shared, ShellView, Work, current};
 use ados_pattern::Pattern;
 use ados_ram::{Entry, Place, Ram};
@@ -41,8 +42,7 @@ pub fn list(
     ensures { IfOk result (λ outcome. effect_of shared.now outcome ≡ list_row shared.now view.now args.now) }
 {
     match pattern_given(alloc, args.text(1)) {
-        Err(Refusal::NoMemory) => Err(NoMemory),
-        Err(Refusal::Stopped(codes)) => Ok(Outcome::answering(alloc, view.limit, codes)),
+        Err(refusal) => Ok(Outcome::answering(alloc, view.limit, answer_of(refusal)?)),
         Ok(pattern) => {
             let shape = Shape {
                 pattern,
@@ -111,9 +111,8 @@ fn list_text(
     let alloc = *work.output.allocator();
     let now = current(shared, &work.shared);
     match named(alloc, now, &view.directory, text) {
-        Err(Refusal::NoMemory) => Err(NoMemory),
-        Err(Refusal::Stopped(codes)) => {
-            work.stopped = Some(codes);
+        Err(refusal) => {
+            work.stopped = Some(answer_of(refusal)?);
             Ok(())
         }
         Ok(found) => {

@@ -44,5 +44,5 @@ pub fn made(shared: &Shared, work: &mut Work, place: &Place) -> Result<(), NoMem
     ensures { OnOk result (done_of shared.now work.new ≡ made (done_of shared.now work.old) place.now) }
 {
     let change = current(shared, &work.shared).ram.make_dir(place);
-    go_on(shared, work, change, place)
+    go_on(shared, work, change)
 }

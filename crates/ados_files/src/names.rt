@@ -60,9 +60,9 @@ impl Found {
 
 /// The objects that an argument names, from a current directory.
 ///
-/// 210 and 120 for a last piece that is no pattern. A literal path has the refusals of resolving, and 205 where nothing
-/// is there; a pattern those of resolving its directory, then 204 and 212 where none is there, and 205 as a warning
-/// where nothing matches.
+/// 210 and 120 for a last piece that is no pattern, and 210 for a text that is no path. A literal path has the refusals
+/// of resolving, and 205 where nothing is there; a pattern those of resolving its directory, then 204 and 212 where none
+/// is there, and 205 as a warning where nothing matches.
 pub fn named(
     alloc: Global,
     shared: &Shared,

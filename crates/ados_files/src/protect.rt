@@ -216,5 +216,5 @@ fn protect_one(
     let now = current(shared, &work.shared);
     let bits = changed_bits(change, bits_at(now.ram.look(place)));
     let protected = now.ram.protect(place, bits);
-    go_on(shared, work, protected, place)
+    go_on(shared, work, protected)
 }

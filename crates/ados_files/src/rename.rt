@@ -10,7 +10,8 @@ ghost use Rattle.ados_find.specs.Effects.{DoesTo, answering, effect_of};
 ghost use Rattle.ados_find.specs.Paths.{place_of};
 ghost use Rattle.ados_files.specs.Rename.{target_of, moved, renamed_to, renamed_from, renamed_at, rename_row};
 
-use ados_find::{Codes, Outcome, Refusal, Renamed, Shared, ShellView, place_of};
+use crate::refusals::answer_of;
+use ados_find::{Codes, Outcome, Renamed, Shared, ShellView, place_of};
 use ados_ram::{Busy, Entry, FsFault, Place, Ram};
 use ados_readargs::Args;
 use ados_text::{NoMemory, Octets, Result2, Text};
@@ -33,8 +34,7 @@ pub fn rename_object(
         return Ok(missing(alloc, view));
     };
     match place_of(alloc, shared, &view.directory, from) {
-        Err(Refusal::NoMemory) => Err(NoMemory),
-        Err(Refusal::Stopped(codes)) => Ok(Outcome::answering(alloc, view.limit, codes)),
+        Err(refusal) => Ok(Outcome::answering(alloc, view.limit, answer_of(refusal)?)),
         Ok(from) => renamed_at(alloc, shared, view, &from, to),
     }
 }
@@ -56,8 +56,7 @@ fn renamed_at(
     ensures { IfOk result (λ outcome. effect_of shared.now outcome ≡ renamed_at shared.now view.now (Ok from.now) (place_of shared.now view.now.directory to.now)) }
 {
     match place_of(alloc, shared, &view.directory, to) {
-        Err(Refusal::NoMemory) => Err(NoMemory),
-        Err(Refusal::Stopped(codes)) => Ok(Outcome::answering(alloc, view.limit, codes)),
+        Err(refusal) => Ok(Outcome::answering(alloc, view.limit, answer_of(refusal)?)),
         Ok(to) => renamed_from(alloc, shared, view, from, &to),
     }
 }
@@ -95,10 +94,7 @@ fn target_of(ram: &Ram, from: &Place, entry: &Entry, to: &Place) -> Result<Place
 pub fn is_directory(there: Option<&Entry>) -> bool
     ensures { result ≡ is_some_directory (option_copied there.entry) }
 {
-    match there {
-        None => false,
-        Some(entry) => entry.is_directory(),
-    }
+    there.is_some_and(|entry| entry.is_directory())
 }
 
 fn renamed_to(
