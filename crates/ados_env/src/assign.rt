@@ -8,7 +8,6 @@ ghost use Rattle.ados_env.specs.Directories.{directory_of};
 
 use crate::assign_names::name_of;
 use crate::directories::directory_of;
-use crate::refusals::answer_of;
 use ados_assign::{Assign, AssignFault, Assigns};
 use ados_find::{Codes, Outcome, Shared, ShellView};
 use ados_ram::Ram;
@@ -53,7 +52,7 @@ fn assigned_to(
         return Ok(Outcome::answering(alloc, view.limit, codes));
     };
     match name_of(text) {
-        Err(refusal) => Ok(Outcome::answering(alloc, view.limit, answer_of(refusal)?)),
+        Err(refusal) => Ok(Outcome::answering(alloc, view.limit, refusal.codes()?)),
         Ok(name) => bound_to(alloc, shared, view, name, target),
     }
 }
@@ -68,7 +67,7 @@ fn bound_to(
     ensures { IfOk result (λ outcome. effect_of shared.now outcome ≡ bound_to shared.now view.now (Ok name) (directory_of shared.now view.now target.now)) }
 {
     match directory_of(alloc, shared, view, target) {
-        Err(refusal) => Ok(Outcome::answering(alloc, view.limit, answer_of(refusal)?)),
+        Err(refusal) => Ok(Outcome::answering(alloc, view.limit, refusal.codes()?)),
         Ok(place) => reassigned(alloc, shared, view, shared.assigns.set(name, place)?),
     }
 }
@@ -108,7 +107,7 @@ fn unassigned(
         return all_told(alloc, shared, view);
     };
     match name_of(text) {
-        Err(refusal) => Ok(Outcome::answering(alloc, view.limit, answer_of(refusal)?)),
+        Err(refusal) => Ok(Outcome::answering(alloc, view.limit, refusal.codes()?)),
         Ok(name) => removed_named(alloc, shared, view, &name),
     }
 }
@@ -144,7 +143,7 @@ fn listed(
         return all_told(alloc, shared, view);
     };
     match name_of(text) {
-        Err(refusal) => Ok(Outcome::answering(alloc, view.limit, answer_of(refusal)?)),
+        Err(refusal) => Ok(Outcome::answering(alloc, view.limit, refusal.codes()?)),
         Ok(name) => told(alloc, shared, view, shared.assigns.get(&name)),
     }
 }

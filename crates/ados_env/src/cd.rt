@@ -4,7 +4,6 @@ ghost use Rattle.ados_find.specs.Effects.{DoesTo, effect_of};
 ghost use Rattle.ados_env.specs.Cd.{moved_to, cd_row};
 
 use crate::directories::directory_of;
-use crate::refusals::answer_of;
 use ados_find::{Codes, Outcome, Shared, ShellView};
 use ados_ram::{Place, Ram};
 use ados_readargs::Args;
@@ -25,7 +24,7 @@ pub fn cd(
         return Ok(Outcome::putting(view.limit, line));
     };
     match directory_of(alloc, shared, view, text) {
-        Err(refusal) => Ok(Outcome::answering(alloc, view.limit, answer_of(refusal)?)),
+        Err(refusal) => Ok(Outcome::answering(alloc, view.limit, refusal.codes()?)),
         Ok(place) => Ok(moved_to(alloc, view, place)),
     }
 }

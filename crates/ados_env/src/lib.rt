@@ -11,7 +11,6 @@ mod eval;
 mod fail_at;
 mod fault;
 mod operators;
-mod refusals;
 mod rows;
 mod why;
 

@@ -10,7 +10,6 @@ ghost use Rattle.ados_files.specs.Acts.{at_path, at_names, in_files, in_files_sa
 
 use crate::lines::say_path;
 use crate::names::named;
-use crate::refusals::answer_of;
 use ados_find::{Act, Codes, Outcome, Shared, ShellView, Work, current, each, place_of};
 use ados_ram::{FsFault, Place, Ram};
 use ados_text::{NoMemory, Text};
@@ -138,7 +137,7 @@ pub fn at_path<A: Act<Place>>(
     let alloc = *work.output.allocator();
     match place_of(alloc, current(shared, &work.shared), &view.directory, text) {
         Err(refusal) => {
-            work.stopped = Some(answer_of(refusal)?);
+            work.stopped = Some(refusal.codes()?);
             Ok(())
         }
         Ok(place) => act.act(shared, work, &place),
@@ -158,7 +157,7 @@ pub fn at_names<A: Act<Place>>(
     let alloc = *work.output.allocator();
     match named(alloc, current(shared, &work.shared), &view.directory, text) {
         Err(refusal) => {
-            work.stopped = Some(answer_of(refusal)?);
+            work.stopped = Some(refusal.codes()?);
             Ok(())
         }
         Ok(found) => each(act, shared, work, found.places()),

@@ -13,7 +13,6 @@ use crate::acts::done_with;
 use crate::copy_one::{Copying, make_missing};
 use crate::jobs::{all_jobs, jobs_onto, sources_of};
 use crate::names::Found;
-use crate::refusals::answer_of;
 use crate::rename::is_directory;
 use ados_find::{Act, Codes, Outcome, Shared, ShellView, Work, current, each, place_of};
 use ados_ram::{Entry, Place, Ram};
@@ -40,7 +39,7 @@ pub fn copy_files(
         return Ok(Outcome::answering(alloc, view.limit, missing));
     }
     match sources_of(alloc, shared, &view.directory, texts) {
-        Err(refusal) => Ok(Outcome::answering(alloc, view.limit, answer_of(refusal)?)),
+        Err(refusal) => Ok(Outcome::answering(alloc, view.limit, refusal.codes()?)),
         Ok(found) => {
             let copy = Copy {
                 view,
@@ -76,7 +75,7 @@ fn copied_to(alloc: Global, shared: &Shared, copy: &Copy, to: &Text) -> Result<O
 {
     let view = copy.view;
     match place_of(alloc, shared, &view.directory, to) {
-        Err(refusal) => Ok(Outcome::answering(alloc, view.limit, answer_of(refusal)?)),
+        Err(refusal) => Ok(Outcome::answering(alloc, view.limit, refusal.codes()?)),
         Ok(to) => done_with(alloc, shared, view, copy, slice::from_ref(&to)),
     }
 }

@@ -8,10 +8,8 @@ ghost use Rattle.ados_find.specs.Paths.{Gives};
 ghost use Rattle.ados_files.specs.Dir.{directory_line, file_line, directories_text, files_text, dir_text, dir_at, directory_given, dir_row};
 
 use crate::lines::{Line, keeps, push_lines, put_between};
-use crate::listing::list_fault;
-use crate::refusals::answer_of;
 use ados_find::{Codes, Outcome, Refusal, Shared, ShellView, place_of};
-use ados_ram::{Entry, Place, Ram};
+use ados_ram::{Entry, Place, Ram, list_refusal};
 use ados_readargs::Args;
 use ados_text::{NoMemory, Text};
 use std::alloc::Global;
@@ -26,7 +24,7 @@ pub fn show_directory(
     ensures { IfOk result (λ outcome. effect_of shared.now outcome ≡ dir_row shared.now view.now args.now) }
 {
     match directory_given(alloc, shared, view, args.text(0)) {
-        Err(refusal) => Ok(Outcome::answering(alloc, view.limit, answer_of(refusal)?)),
+        Err(refusal) => Ok(Outcome::answering(alloc, view.limit, refusal.codes()?)),
         Ok(place) => dir_at(alloc, shared, view, args.is_on(1), args.is_on(2), &place),
     }
 }
@@ -56,7 +54,7 @@ fn dir_at(
 ) -> Result<Outcome, NoMemory>
     ensures { IfOk result (λ outcome. effect_of shared.now outcome ≡ dir_at shared.now view.now dirs files (Ok place.now)) }
 {
-    match list_fault(shared.ram.look(place)) {
+    match list_refusal(shared.ram.look(place)) {
         Some(fault) => Ok(Outcome::answering(alloc, view.limit, Codes::erred(fault))),
         None => {
             let output = dir_text(alloc, dirs, files, &shared.ram, place)?;

@@ -16,7 +16,6 @@ mod make_dir;
 mod matching;
 mod names;
 mod protect;
-mod refusals;
 mod rename;
 mod rows;
 mod type_files;

@@ -2,7 +2,6 @@ ghost use Rattle.std.specs.Prelude.{◌≡◌, ◌++◌, IfOk, OnOk, Some};
 ghost use Rattle.std.specs.FinMap as map;
 ghost use Rattle.std.specs.Option.{option_copied};
 ghost use Rattle.ados_ram.specs.Place.{key_of};
-ghost use Rattle.ados_ram.specs.FileOperations.{list_fault};
 ghost use Rattle.ados_find.specs.Done.{done_of, fresh, ended};
 ghost use Rattle.ados_find.specs.Effects.{effect_of};
 ghost use Rattle.ados_find.specs.Paths.{Gives};
@@ -11,12 +10,11 @@ use crate::acts::done_with;
 use crate::lines::{Line, keeps, push_line, push_lines};
 use crate::matching::is_match;
 use crate::names::{Found, named, only, pattern_of, push_places};
-use crate::refusals::answer_of;
 use ados_find::{Act, Codes, Outcome, Refusal, Shared, ShellView, Work, current};
 use ados_pattern::Pattern;
-use ados_ram::{Entry, Place, Ram};
+use ados_ram::{Entry, Place, Ram, list_refusal};
 use ados_readargs::Args;
-use ados_text::{NoMemory, Result2, Text};
+use ados_text::{NoMemory, Text};
 use std::alloc::Global;
 use std::slice;
 
@@ -42,7 +40,7 @@ pub fn list(
     ensures { IfOk result (λ outcome. effect_of shared.now outcome ≡ list_row shared.now view.now args.now) }
 {
     match pattern_given(alloc, args.text(1)) {
-        Err(refusal) => Ok(Outcome::answering(alloc, view.limit, answer_of(refusal)?)),
+        Err(refusal) => Ok(Outcome::answering(alloc, view.limit, refusal.codes()?)),
         Ok(pattern) => {
             let shape = Shape {
                 pattern,
@@ -112,7 +110,7 @@ fn list_text(
     let now = current(shared, &work.shared);
     match named(alloc, now, &view.directory, text) {
         Err(refusal) => {
-            work.stopped = Some(answer_of(refusal)?);
+            work.stopped = Some(refusal.codes()?);
             Ok(())
         }
         Ok(found) => {
@@ -141,7 +139,7 @@ fn list_at(shape: &Shape, shared: &Shared, work: &mut Work, place: &Place) -> Re
     ensures { OnOk result (done_of shared.now work.new ≡ list_at shape.now (done_of shared.now work.old) place.now) }
 {
     let ram = &current(shared, &work.shared).ram;
-    match list_fault(ram.look(place)) {
+    match list_refusal(ram.look(place)) {
         Some(fault) => {
             work.stopped = Some(Codes::erred(fault));
             Ok(())
@@ -150,17 +148,6 @@ fn list_at(shape: &Shape, shared: &Shared, work: &mut Work, place: &Place) -> Re
             let places = ram.children(place)?;
             push_lines(&mut work.output, shape, ram, &places)
         }
-    }
-}
-
-/// The fault of the listing of a directory.
-pub fn list_fault(there: Option<&Entry>) -> Option<Result2>
-    ensures { result ≡ list_fault (option_copied there.entry) }
-{
-    match there {
-        None => Some(Result2::OBJECT_NOT_FOUND),
-        Some(entry) if entry.is_directory() => None,
-        Some(_) => Some(Result2::WRONG_TYPE),
     }
 }
 

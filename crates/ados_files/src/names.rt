@@ -203,7 +203,7 @@ fn matching(
 }
 
 /// There is an entry, and its name matches.
-pub fn wants(pattern: &Pattern, there: Option<&Entry>) -> Result<bool, NoMemory>
+fn wants(pattern: &Pattern, there: Option<&Entry>) -> Result<bool, NoMemory>
     ensures { IfOk result (λ wanted. wanted ≡ wants pattern.now.form (option_copied there.entry)) }
 {
     match there {

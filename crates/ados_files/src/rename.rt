@@ -10,7 +10,6 @@ ghost use Rattle.ados_find.specs.Effects.{DoesTo, answering, effect_of};
 ghost use Rattle.ados_find.specs.Paths.{place_of};
 ghost use Rattle.ados_files.specs.Rename.{target_of, moved, renamed_to, renamed_from, renamed_at, rename_row};
 
-use crate::refusals::answer_of;
 use ados_find::{Codes, Outcome, Renamed, Shared, ShellView, place_of};
 use ados_ram::{Busy, Entry, FsFault, Place, Ram};
 use ados_readargs::Args;
@@ -34,7 +33,7 @@ pub fn rename_object(
         return Ok(missing(alloc, view));
     };
     match place_of(alloc, shared, &view.directory, from) {
-        Err(refusal) => Ok(Outcome::answering(alloc, view.limit, answer_of(refusal)?)),
+        Err(refusal) => Ok(Outcome::answering(alloc, view.limit, refusal.codes()?)),
         Ok(from) => renamed_at(alloc, shared, view, &from, to),
     }
 }
@@ -56,7 +55,7 @@ fn renamed_at(
     ensures { IfOk result (λ outcome. effect_of shared.now outcome ≡ renamed_at shared.now view.now (Ok from.now) (place_of shared.now view.now.directory to.now)) }
 {
     match place_of(alloc, shared, &view.directory, to) {
-        Err(refusal) => Ok(Outcome::answering(alloc, view.limit, answer_of(refusal)?)),
+        Err(refusal) => Ok(Outcome::answering(alloc, view.limit, refusal.codes()?)),
         Ok(to) => renamed_from(alloc, shared, view, from, &to),
     }
 }

@@ -1,9 +1,7 @@
 use crate::places::{at, name};
 use crate::wrong::{Wrong, expect, expect_row};
 use ados_text::{Code, NoMemory, Result2, Text};
-use ados_world::{
-    Answer, Codes, EndReport, Event, HostEntry, NewFault, Out, Outs, Refusal, World,
-};
+use ados_world::{Answer, Codes, EndReport, Event, HostEntry, NewFault, Out, Outs, Refusal, World};
 use std::alloc::Global;
 
 // The helpers have no contract, and few own a world: what the prover need not know costs nothing.
@@ -297,10 +295,7 @@ fn tells(world: &mut World, text: &str, want: &End) -> bool {
 }
 
 const BEFORE_A_QUIT: &[Row] = &[
-    (
-        Act::Type("Echo >>S:g \"Echo a*NQuit 5*NEcho b\""),
-        Ok(""),
-    ),
+    (Act::Type("Echo >>S:g \"Echo a*NQuit 5*NEcho b\""), Ok("")),
     (Act::Turn(1), Ok("")),
     (Act::Type("Execute g"), Ok("")),
     (Act::Turn(1), Ok("")),
@@ -352,7 +347,10 @@ const KEPT: &[Row] = &[
 fn a_world_shows_its_files_and_assigns(rt: HostRuntime) -> Result<(), Wrong> {
     let world = dialogue(rt.alloc(), KEPT)?;
     let place = at(rt.alloc(), "d")?;
-    expect(world.files().look(&place).is_some(), "a directory that was made")?;
+    expect(
+        world.files().look(&place).is_some(),
+        "a directory that was made",
+    )?;
     let assign = world.assigns().get(&name(rt.alloc(), "x")?);
     expect(assign.is_some(), "an assign that was set")
 }

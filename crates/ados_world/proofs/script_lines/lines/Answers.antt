@@ -6,14 +6,14 @@ use Rattle.ados_world.proofs.script_lines.lines.Goals.{then-byte-eq10+in_ok-push
 pub loop-byte-preserved : goal.loop-byte-preserved
 loop-byte-preserved c = elim c.if-byte-eq10.branch [
   | then-byte-eq10+in_ok-push w ↦ rw (w.lines-is, w.line-is, w.new-line-then-byte-eq10.ensures, w.in_ok-push.ensures.ok)
-    (past_newline c.args.bytes.now c.loop-byte.byte-index c.loop-byte.lines c.loop-byte.line (search rules) (search rules) c.loop-byte.invariant)
+      (past_newline c.args.bytes.now c.loop-byte.byte-index c.loop-byte.lines c.loop-byte.line (search rules) (search rules) c.loop-byte.invariant)
   | else-byte-eq10+in_ok-push-2 w ↦ rw (w.lines-is, w.line-is, w.in_ok-push-2.ensures.ok)
-    (past_byte c.args.bytes.now c.loop-byte.byte-index c.loop-byte.lines c.loop-byte.line (search rules) (search rules) c.loop-byte.invariant)
+      (past_byte c.args.bytes.now c.loop-byte.byte-index c.loop-byte.lines c.loop-byte.line (search rules) (search rules) c.loop-byte.invariant)
 ]
 
 pub returns : goal.returns
 returns c = elim c.if-not-is_empty.branch [
   | then-not-is_empty+in_ok-push-3 w ↦ rw (w.lines-is, w.in_ok-push-3.ensures.ok)
-    (last_counts c.args.bytes.now c.loop-byte.byte-index c.loop-byte.lines c.loop-byte.line (search rules) (search rules) c.loop-byte.invariant)
+      (last_counts c.args.bytes.now c.loop-byte.byte-index c.loop-byte.lines c.loop-byte.line (search rules) (search rules) c.loop-byte.invariant)
   | else-not-is_empty w ↦ rw (w.lines-is) (none_behind c.args.bytes.now c.loop-byte.byte-index c.loop-byte.lines c.loop-byte.line (search rules) (search rules) c.loop-byte.invariant)
 ]
