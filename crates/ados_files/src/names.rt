@@ -202,7 +202,7 @@ fn matching(
     Ok(found)
 }
 
-/// There is an entry, and its name matches.
+// There is an entry, and its name matches.
 fn wants(pattern: &Pattern, there: Option<&Entry>) -> Result<bool, NoMemory>
     ensures { IfOk result (λ wanted. wanted ≡ wants pattern.now.form (option_copied there.entry)) }
 {
