@@ -109,7 +109,10 @@ fn is_onto(ram: &Ram, found: &Found, to: &Place) -> bool
 fn is_file(there: Option<&Entry>) -> bool
     ensures { result ≡ is_some_file (option_copied there.entry) }
 {
-    there.is_some_and(|entry| !entry.is_directory())
+    match there {
+        None => false,
+        Some(entry) => !entry.is_directory(),
+    }
 }
 
 // What stands at the one source.

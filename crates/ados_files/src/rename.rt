@@ -93,7 +93,10 @@ fn target_of(ram: &Ram, from: &Place, entry: &Entry, to: &Place) -> Result<Place
 pub fn is_directory(there: Option<&Entry>) -> bool
     ensures { result ≡ is_some_directory (option_copied there.entry) }
 {
-    there.is_some_and(|entry| entry.is_directory())
+    match there {
+        None => false,
+        Some(entry) => entry.is_directory(),
+    }
 }
 
 fn renamed_to(
