@@ -257,6 +257,7 @@ fn half_copied_file(rt: HostRuntime) -> Result<(), Wrong> {
 }
 
 // How a script of shell 1 ended.
+#[derive(Clone, Copy)]
 struct End<'a> {
     name: &'a str,
     last_line: usize,
