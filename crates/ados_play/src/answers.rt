@@ -1,0 +1,74 @@
+//! What an event gave, as text.
+
+use crate::texts::{push_all, push_count, push_lines};
+use ados_text::{NoMemory, push_number};
+use ados_world::{EndReport, Job, Out, Refusal, Request};
+
+/// Adds what the world answered to an event.
+pub fn push_answer(text: &mut Vec<u8>, answer: &Result<Out, Refusal>) -> Result<(), NoMemory> {
+    match answer {
+        Ok(out) => push_out(text, out),
+        Err(refusal) => push_all(text, &[b"refused: ", name_of(*refusal).as_bytes(), b"\n"]),
+    }
+}
+
+fn name_of(refusal: Refusal) -> &'static str {
+    match refusal {
+        Refusal::Over => "Over",
+        Refusal::NoSuchShell => "NoSuchShell",
+        Refusal::NotReady => "NotReady",
+        Refusal::WrongAnswer => "WrongAnswer",
+        Refusal::QueueFull => "QueueFull",
+        Refusal::LineTooLong => "LineTooLong",
+        Refusal::NoMemory => "NoMemory",
+    }
+}
+
+fn push_out(text: &mut Vec<u8>, out: &Out) -> Result<(), NoMemory> {
+    push_lines(text, out.bytes.as_bytes())?;
+    if let Some(request) = &out.request {
+        push_request(text, b"asks: ", request)?;
+    }
+    for report in out.reports.as_slice() {
+        push_report(text, report)?;
+    }
+    Ok(())
+}
+
+/// Adds a line of what a launcher is asked for, behind a word.
+pub fn push_request(text: &mut Vec<u8>, word: &[u8], request: &Request) -> Result<(), NoMemory> {
+    text.extend_from_slice(word)?;
+    match request {
+        Request::Start(job) => push_job(text, job)?,
+        Request::Read(shell) => push_numbered(text, b"read ", *shell)?,
+        Request::Wait(shell) => push_numbered(text, b"wait ", *shell)?,
+    }
+    text.push(b'\n')?;
+    Ok(())
+}
+
+fn push_job(text: &mut Vec<u8>, job: &Job) -> Result<(), NoMemory> {
+    push_numbered(text, b"start ", job.shell)?;
+    push_all(text, &[b" \"", job.program.as_bytes(), b"\""])?;
+    for arg in job.args.as_slice() {
+        push_all(text, &[b" \"", arg.as_bytes(), b"\""])?;
+    }
+    Ok(())
+}
+
+fn push_numbered(text: &mut Vec<u8>, word: &[u8], shell: u8) -> Result<(), NoMemory> {
+    text.extend_from_slice(word)?;
+    push_number(text, i32::from(shell))
+}
+
+fn push_report(text: &mut Vec<u8>, report: &EndReport) -> Result<(), NoMemory> {
+    push_all(text, &[b"ended: ", report.name.as_bytes()])?;
+    push_numbered(text, b" of shell ", report.shell)?;
+    text.extend_from_slice(b", line ")?;
+    push_count(text, report.last_line)?;
+    text.extend_from_slice(b", code ")?;
+    push_number(text, report.code.0)?;
+    let early: &[u8] = if report.early { b", early\n" } else { b"\n" };
+    text.extend_from_slice(early)?;
+    Ok(())
+}

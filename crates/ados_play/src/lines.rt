@@ -1,0 +1,122 @@
+//! The lines of a list.
+
+use ados_text::{NoMemory, Octets, Text};
+use ados_world::{Answer, Event};
+use std::alloc::Global;
+
+/// What a line of a list asks for.
+#[derive(Clone, Copy)]
+pub enum Line {
+    /// Nothing: it is blank or a comment.
+    Nothing,
+    /// A fresh world.
+    Fresh,
+    /// What the world shows.
+    Show(View),
+    /// An event, where it is well formed.
+    Event,
+}
+
+/// What a world shows.
+#[derive(Clone, Copy)]
+pub enum View {
+    Shells,
+    Codes(u8),
+    Ready(u8),
+    Pending(u8),
+    WantsLine,
+    Files,
+    Assigns,
+}
+
+/// What a line asks for.
+pub fn line_of(text: &str) -> Line {
+    if text.is_empty() || text.starts_with('#') {
+        return Line::Nothing;
+    }
+    if text == "fresh" {
+        return Line::Fresh;
+    }
+    match view_of(text) {
+        Some(view) => Line::Show(view),
+        None => Line::Event,
+    }
+}
+
+// The view that a line asks for.
+fn view_of(text: &str) -> Option<View> {
+    let (word, rest) = parted(text);
+    match word {
+        "shells" => Some(View::Shells),
+        "codes" => number(rest).map(View::Codes),
+        "ready" => number(rest).map(View::Ready),
+        "pending" => number(rest).map(View::Pending),
+        "wants" => Some(View::WantsLine),
+        "files" => Some(View::Files),
+        "assigns" => Some(View::Assigns),
+        _ => None,
+    }
+}
+
+/// The event that a line writes; `None` where it writes none.
+pub fn event_of(alloc: Global, text: &str) -> Result<Option<Event>, NoMemory> {
+    let (word, rest) = parted(text);
+    match word {
+        "type" => Ok(Some(Event::Typed(Text::from_bytes(alloc, rest.as_bytes())?))),
+        "end" => Ok(Some(Event::EndOfInput)),
+        "turn" => Ok(number(rest).map(Event::Turn)),
+        "answer" => answer_event_of(alloc, rest),
+        _ => Ok(None),
+    }
+}
+
+// The event of an answer: the number of a shell, and what it is answered.
+fn answer_event_of(alloc: Global, text: &str) -> Result<Option<Event>, NoMemory> {
+    let (shell, answer) = parted(text);
+    let (kind, hex) = parted(answer);
+    let answer = if kind == "bytes" {
+        bytes_of(alloc, hex)?
+    } else {
+        answer_of(kind, hex)
+    };
+    Ok(
+        number(shell)
+            .zip(answer)
+            .map(|(shell, answer)| Event::Answer(shell, answer)),
+    )
+}
+
+// The answer of bytes in hexadecimal digits.
+fn bytes_of(alloc: Global, digits: &str) -> Result<Option<Answer>, NoMemory> {
+    match hex::decode(alloc, digits) {
+        Ok(bytes) => Ok(Some(Answer::Bytes(Octets::from_vec(bytes)))),
+        Err(hex::FromHexError::OutOfMemory) => Err(NoMemory),
+        Err(_) => Ok(None),
+    }
+}
+
+// The answer of a kind, which has a status where it is `exit`.
+fn answer_of(kind: &str, status: &str) -> Option<Answer> {
+    match kind {
+        "started" => Some(Answer::Started),
+        "notfound" => Some(Answer::NotFound),
+        "denied" => Some(Answer::Denied),
+        "memory" => Some(Answer::Memory),
+        "other" => Some(Answer::Other),
+        "end" => Some(Answer::End),
+        "pipefault" => Some(Answer::PipeFault),
+        "exit" => number(status).map(Answer::Exit),
+        "signal" => Some(Answer::Signal),
+        "waitfault" => Some(Answer::WaitFault),
+        _ => None,
+    }
+}
+
+// The first word of a text, and what is behind the blank behind it.
+fn parted(text: &str) -> (&str, &str) {
+    text.split_once(' ').unwrap_or((text, ""))
+}
+
+fn number(text: &str) -> Option<u8> {
+    text.parse::<u8>().ok()
+}

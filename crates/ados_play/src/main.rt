@@ -1,0 +1,40 @@
+#![tactic(auto)]
+//! Plays a list of events to a world, and prints what each of them gave: for tests that are written by hand.
+//!
+//!     ados_play [step|run] <LIST
+//!
+//! The lines of a list, and what they print, are described in `examples/events/README.md`. `step`, or no word,
+//! plays the events one by one; `run` plays as one run all those between two lines of the other kinds. What is
+//! printed is the same.
+
+mod answers;
+mod lines;
+mod players;
+mod texts;
+mod views;
+
+use anyhow::bail;
+use players::{Way, played};
+use std::io::Write;
+use std::{env, io};
+
+fn main(rt: HostRuntime) -> anyhow::Result<()> {
+    let words = env::args(&rt)?.collect::<Vec<String>>(rt.alloc())?;
+    let Some(way) = way(&words) else {
+        bail!("usage: ados_play [step|run] <LIST");
+    };
+    let list = io::read_to_string(rt.alloc(), rt.reader())?;
+    let text = played(rt.alloc(), way, &list)?;
+    io::writer(&rt).write_all(text.as_slice())?;
+    Ok(())
+}
+
+// How the words ask for the events to be played.
+fn way(words: &[String]) -> Option<Way> {
+    match words {
+        [] | [_] => Some(Way::Step),
+        [_, word] if word.as_str() == "step" => Some(Way::Step),
+        [_, word] if word.as_str() == "run" => Some(Way::Run),
+        _ => None,
+    }
+}

@@ -1,0 +1,168 @@
+//! A world to which a list is played.
+
+use crate::answers::push_answer;
+use crate::lines::{Line, event_of, line_of};
+use crate::texts::push_all;
+use crate::views::push_view;
+use ados_text::NoMemory;
+use ados_world::{Event, Out, Refusal, World};
+use std::alloc::Global;
+use std::mem::replace;
+use thiserror::Error;
+
+/// How events are played.
+#[derive(Clone, Copy)]
+pub enum Way {
+    /// One by one.
+    Step,
+    /// All at once.
+    Run,
+}
+
+/// Why a list is not played.
+#[derive(Clone, Copy, Debug, Error)]
+pub enum Fault {
+    /// This line, from 1, is none of a list.
+    #[error("line {0} is none of a list of events")]
+    BadLine(usize),
+    /// There was no memory.
+    #[error("no free store")]
+    NoMemory,
+}
+
+impl From<NoMemory> for Fault {
+    fn from(_e: NoMemory) -> Fault {
+        Fault::NoMemory
+    }
+}
+
+/// A world, and the events that are still to be played to it, each with its line.
+#[derive(Drop)]
+struct Player<'a> {
+    alloc: Global,
+    way: Way,
+    world: World,
+    lines: Vec<&'a str>,
+    events: Vec<Event>,
+}
+
+/// What a list prints.
+///
+/// `BadLine` for the first line that is none of a list.
+pub fn played(alloc: Global, way: Way, list: &str) -> Result<Vec<u8>, Fault> {
+    let mut player = Player {
+        alloc,
+        way,
+        world: fresh(alloc)?,
+        lines: Vec::new(alloc),
+        events: Vec::new(alloc),
+    };
+    let mut text = Vec::new(alloc);
+    player.take_all(list, &mut text)?;
+    Ok(text)
+}
+
+impl<'a> Player<'a> {
+    // Takes the lines of a list.
+    fn take_all(&mut self, list: &'a str, text: &mut Vec<u8>) -> Result<(), Fault> {
+        for (place, line) in list.lines().enumerate() {
+            if !self.take(line, text)? {
+                return Err(Fault::BadLine(place.saturating_add(1)));
+            }
+        }
+        self.play(text)?;
+        Ok(())
+    }
+
+    // Takes the next line; `false` where it is none of a list.
+    fn take(&mut self, line: &'a str, text: &mut Vec<u8>) -> Result<bool, NoMemory> {
+        match line_of(line) {
+            Line::Nothing => {}
+            Line::Event => return self.take_event(line),
+            Line::Fresh => {
+                self.play(text)?;
+                self.world = fresh(self.alloc)?;
+                push_line(text, line)?;
+            }
+            Line::Show(view) => {
+                self.play(text)?;
+                push_line(text, line)?;
+                push_view(text, &self.world, view)?;
+            }
+        }
+        Ok(true)
+    }
+
+    // Keeps the event of a line, to be played.
+    fn take_event(&mut self, line: &'a str) -> Result<bool, NoMemory> {
+        match event_of(self.alloc, line)? {
+            None => Ok(false),
+            Some(event) => {
+                self.events.push(event)?;
+                self.lines.push(line)?;
+                Ok(true)
+            }
+        }
+    }
+
+    // Plays the events that are still to be played.
+    fn play(&mut self, text: &mut Vec<u8>) -> Result<(), NoMemory> {
+        let answers = self.answers()?;
+        for (line, answer) in self.lines.iter().zip(&answers) {
+            push_line(text, line)?;
+            push_answer(text, answer)?;
+        }
+        self.lines.clear();
+        self.events.clear();
+        Ok(())
+    }
+
+    // What the world answers to the events.
+    fn answers(&mut self) -> Result<Vec<Result<Out, Refusal>>, NoMemory> {
+        match self.way {
+            Way::Step => stepped(self.alloc, &mut self.world, &self.events),
+            Way::Run => ran(self.alloc, &mut self.world, &self.events),
+        }
+    }
+}
+
+// Adds a line of a list.
+fn push_line(text: &mut Vec<u8>, line: &str) -> Result<(), NoMemory> {
+    push_all(text, &[b"> ", line.as_bytes(), b"\n"])
+}
+
+// A world in which nothing happened.
+fn fresh(alloc: Global) -> Result<World, NoMemory> {
+    match World::new(alloc, &[]) {
+        Ok(world) => Ok(world),
+        Err(_) => Err(NoMemory),
+    }
+}
+
+// What the world answers to the events, one by one.
+fn stepped(
+    alloc: Global,
+    world: &mut World,
+    events: &[Event],
+) -> Result<Vec<Result<Out, Refusal>>, NoMemory> {
+    let mut answers = Vec::new(alloc);
+    for event in events {
+        answers.push(world.step(event))?;
+    }
+    Ok(answers)
+}
+
+// What the world answers to the events as one run.
+fn ran(
+    alloc: Global,
+    world: &mut World,
+    events: &[Event],
+) -> Result<Vec<Result<Out, Refusal>>, NoMemory> {
+    match replace(world, fresh(alloc)?).run(events) {
+        Ok(run) => {
+            *world = run.world;
+            Ok(run.outs.into_vec())
+        }
+        Err(_) => Err(NoMemory),
+    }
+}

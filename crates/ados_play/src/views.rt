@@ -1,0 +1,105 @@
+//! What a world shows, as text.
+
+use crate::answers::push_request;
+use crate::lines::View;
+use crate::texts::{push_all, push_count, push_lines};
+use ados_assign::Assign;
+use ados_ram::{Bits, Entry, Place, Ram};
+use ados_text::{NoMemory, push_number};
+use ados_world::{Codes, Request, World};
+
+/// Adds what the world shows.
+pub fn push_view(text: &mut Vec<u8>, world: &World, view: View) -> Result<(), NoMemory> {
+    match view {
+        View::Shells => push_shells(text, world.shells()),
+        View::Codes(shell) => push_codes(text, world.codes(shell)),
+        View::Ready(shell) => push_answer(text, world.ready(shell)),
+        View::Pending(shell) => push_pending(text, world.pending(shell)),
+        View::WantsLine => push_answer(text, world.wants_line()),
+        View::Files => push_files(text, world.files()),
+        View::Assigns => push_assigns(text, world.files(), world.assigns().list()),
+    }
+}
+
+// Adds yes or no.
+fn push_answer(text: &mut Vec<u8>, is_so: bool) -> Result<(), NoMemory> {
+    let answer: &[u8] = if is_so { b"= yes\n" } else { b"= no\n" };
+    text.extend_from_slice(answer)?;
+    Ok(())
+}
+
+fn push_shells(text: &mut Vec<u8>, shells: [bool; 20]) -> Result<(), NoMemory> {
+    text.push(b'=')?;
+    for (place, runs) in shells.iter().enumerate() {
+        if *runs {
+            text.push(b' ')?;
+            push_count(text, place + 1)?;
+        }
+    }
+    text.push(b'\n')?;
+    Ok(())
+}
+
+fn push_codes(text: &mut Vec<u8>, codes: Codes) -> Result<(), NoMemory> {
+    text.extend_from_slice(b"= ")?;
+    push_number(text, codes.code.0)?;
+    text.push(b' ')?;
+    push_number(text, i32::from(codes.result2.0))?;
+    text.push(b'\n')?;
+    Ok(())
+}
+
+fn push_pending(text: &mut Vec<u8>, pending: Option<&Request>) -> Result<(), NoMemory> {
+    match pending {
+        Some(request) => push_request(text, b"= ", request),
+        None => push_all(text, &[b"= nothing\n"]),
+    }
+}
+
+fn push_files(text: &mut Vec<u8>, files: &Ram) -> Result<(), NoMemory> {
+    let root = Place::root(*text.allocator());
+    for place in &files.contents(&root)? {
+        if let Some(entry) = files.look(place) {
+            push_entry(text, entry, files.full_path(place)?.as_bytes())?;
+        }
+    }
+    Ok(())
+}
+
+// Adds a line of an object, its comment and its bytes.
+fn push_entry(text: &mut Vec<u8>, entry: &Entry, path: &[u8]) -> Result<(), NoMemory> {
+    let kind: &[u8] = if entry.is_directory() {
+        b" dir "
+    } else {
+        b" file "
+    };
+    let comment = entry.comment.as_bytes();
+    push_all(text, &[b"= ", &letters(entry.bits), kind, path, b"\n"])?;
+    if !comment.is_empty() {
+        push_all(text, &[b"; ", comment, b"\n"])?;
+    }
+    push_lines(text, entry.bytes())
+}
+
+fn letters(bits: Bits) -> [u8; 8] {
+    let letter = |is_set: bool, letter: u8| if is_set { letter } else { b'-' };
+    [
+        letter(bits.hold, b'h'),
+        letter(bits.script, b's'),
+        letter(bits.pure, b'p'),
+        letter(bits.archive, b'a'),
+        letter(bits.read, b'r'),
+        letter(bits.write, b'w'),
+        letter(bits.execute, b'e'),
+        letter(bits.delete, b'd'),
+    ]
+}
+
+fn push_assigns(text: &mut Vec<u8>, files: &Ram, assigns: &[Assign]) -> Result<(), NoMemory> {
+    for assign in assigns {
+        let name = assign.name.text().as_bytes();
+        let path = files.full_path(&assign.directory)?;
+        push_all(text, &[b"= ", name, b": ", path.as_bytes(), b"\n"])?;
+    }
+    Ok(())
+}
