@@ -25,7 +25,7 @@ fn name_of(refusal: Refusal) -> &'static str {
 }
 
 fn push_out(text: &mut Vec<u8>, out: &Out) -> Result<(), NoMemory> {
-    push_lines(text, out.bytes.as_bytes())?;
+    push_lines(text, b"", out.bytes.as_bytes())?;
     if let Some(request) = &out.request {
         push_request(text, b"asks: ", request)?;
     }

@@ -18,12 +18,12 @@ pub fn push_count(text: &mut Vec<u8>, count: usize) -> Result<(), NoMemory> {
     Ok(())
 }
 
-/// Adds bytes line by line, and marks one that has no end.
-pub fn push_lines(text: &mut Vec<u8>, bytes: &[u8]) -> Result<(), NoMemory> {
+/// Adds bytes line by line, each behind a word, and marks one that has no end.
+pub fn push_lines(text: &mut Vec<u8>, word: &[u8], bytes: &[u8]) -> Result<(), NoMemory> {
     for line in bytes.split_inclusive(|byte| *byte == b'\n') {
         match line.strip_suffix(b"\n") {
-            Some(line) => push_all(text, &[b"| ", line, b"\n"])?,
-            None => push_all(text, &[b"~ ", line, b"\n"])?,
+            Some(line) => push_all(text, &[word, b"| ", line, b"\n"])?,
+            None => push_all(text, &[word, b"~ ", line, b"\n"])?,
         }
     }
     Ok(())

@@ -73,12 +73,12 @@ fn push_entry(text: &mut Vec<u8>, entry: &Entry, path: &[u8]) -> Result<(), NoMe
     } else {
         b" file "
     };
-    let comment = entry.comment.as_bytes();
-    push_all(text, &[b"= ", &letters(entry.bits), kind, path, b"\n"])?;
-    if !comment.is_empty() {
-        push_all(text, &[b"; ", comment, b"\n"])?;
-    }
-    push_lines(text, entry.bytes())
+    push_all(
+        text,
+        &[b"= ", letters(entry.bits).as_slice(), kind, path, b"\n"],
+    )?;
+    push_lines(text, b"; ", entry.comment.as_bytes())?;
+    push_lines(text, b"", entry.bytes())
 }
 
 fn letters(bits: Bits) -> [u8; 8] {
