@@ -1,60 +1,7 @@
-use crate::wrong::{Wrong, expect, expect_row};
-use ados_items::{Item, ItemFault, next_item, value, words};
+use crate::wrong::{Wrong, expect};
+use ados_items::{ItemFault, words};
 use ados_text::{NoMemory, Texts};
 use std::alloc::Global;
-
-// From each place of a line this item is found.
-fn finds(line: &[u8], rows: &[(usize, Item)]) -> Result<(), Wrong> {
-    for (place, want) in rows {
-        expect_row(next_item(line, *place) == *want, *place)?;
-    }
-    Ok(())
-}
-
-const OF_A_LINE: &[(usize, Item)] = &[
-    (0, Item::Word { from: 1, to: 2 }),
-    (2, Item::Equal(2)),
-    (3, Item::Word { from: 3, to: 4 }),
-    (4, Item::Quoted { from: 7, to: 10 }),
-    (11, Item::Word { from: 11, to: 12 }),
-    (12, Item::End(12)),
-    (99, Item::End(99)),
-];
-
-#[test]
-fn items_by_their_first_byte(_rt: HostRuntime) -> Result<(), Wrong> {
-    finds(b" a=b \t\"c d\"x;y", OF_A_LINE)
-}
-
-#[test]
-fn quotes_begin_where_items_begin(_rt: HostRuntime) -> Result<(), Wrong> {
-    finds(b"a\"b c", &[(0, Item::Word { from: 0, to: 3 })])?;
-    finds(b" \"a*\"", &[(0, Item::Unmatched(2))])?;
-    finds(b"\"a**\"", &[(0, Item::Quoted { from: 1, to: 4 })])
-}
-
-// The first item of each line has this value.
-fn values(alloc: Global, rows: &[(&'static str, &str)]) -> Result<(), Wrong> {
-    for (line, want) in rows {
-        let text = value(alloc, line.as_bytes(), &next_item(line.as_bytes(), 0))?;
-        expect(text.as_bytes() == want.as_bytes(), line)?;
-    }
-    Ok(())
-}
-
-#[test]
-fn values_read_stars_in_quotes_alone(rt: HostRuntime) -> Result<(), Wrong> {
-    values(
-        rt.alloc(),
-        &[
-            ("\"a*N*e*\"**b\"", "a\n\x1b\"*b"),
-            ("\"*n*E*x\"", "\n\x1bx"),
-            ("a*N\"", "a*N\""),
-            ("\"\"", ""),
-            ("=", "="),
-        ],
-    )
-}
 
 fn are_texts(texts: &Texts, want: &[&str]) -> bool {
     if texts.len() != want.len() {

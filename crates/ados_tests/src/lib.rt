@@ -1,7 +1,8 @@
 #![tactic(auto)]
-//! The tests of the crates, one file for each that has them, of what no contract says: that calls succeed where there is
-//! memory, outside vectors. They stand here together, so that no crate is proved a second time for its tests.
-//! What commands print is tried on the built program, in `examples/`.
+//! The tests of the crates, one file for each that has them, of what no contract says, and neither a dialogue of
+//! `examples/` nor a list of events of `examples/events/` can show: that calls which no command makes yet succeed where
+//! there is memory, what stands where memory was refused, and readers and writers that fail. They stand here together,
+//! so that no crate is proved a second time for its tests.
 
 #[cfg(test)]
 mod assign;
@@ -9,8 +10,6 @@ mod assign;
 mod items;
 #[cfg(test)]
 mod launch;
-#[cfg(test)]
-mod line;
 #[cfg(test)]
 mod memory;
 #[cfg(test)]

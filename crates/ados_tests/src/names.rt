@@ -1,5 +1,5 @@
 use crate::wrong::{Wrong, expect, expect_row};
-use ados_names::{NameFault, Path, Step, is_name, last_piece};
+use ados_names::{NameFault, Path, Step};
 use ados_text::{NoMemory, Text};
 use std::alloc::Global;
 
@@ -53,41 +53,6 @@ fn shows(alloc: Global, found: Result<Path, NameFault>, want: &str) -> Result<bo
     }
 }
 
-// Each text is read as this path, or refused.
-fn read(alloc: Global, rows: &[(&'static str, &str)]) -> Result<(), Wrong> {
-    for (written, want) in rows {
-        expect(shows(alloc, path(alloc, written), want)?, written)?;
-    }
-    Ok(())
-}
-
-#[test]
-fn a_slash_goes_up(rt: HostRuntime) -> Result<(), Wrong> {
-    read(rt.alloc(), &[("a//b c/", "[a][/][b c]")])
-}
-
-#[test]
-fn a_device_stands_before_the_one_colon(rt: HostRuntime) -> Result<(), Wrong> {
-    read(
-        rt.alloc(),
-        &[
-            ("Ram Disk:/x", "Ram Disk:[/][x]"),
-            (":", ":"),
-            ("a:b:c", "210"),
-            ("a/b:c", "210"),
-            ("abcdefghijklmnopqrstuvwxyz12345:", "210"),
-        ],
-    )
-}
-
-#[test]
-fn a_path_has_no_control_bytes(rt: HostRuntime) -> Result<(), Wrong> {
-    read(
-        rt.alloc(),
-        &[("a~", "[a~]"), ("a/\t", "210"), ("a\x7f", "210")],
-    )
-}
-
 fn copied(alloc: Global, written: &str) -> Result<Path, NameFault> {
     Ok(path(alloc, written)?.copy()?)
 }
@@ -127,13 +92,9 @@ fn long(alloc: Global, length: usize) -> Result<Text, NoMemory> {
     Ok(text)
 }
 
-// The path of a text of so many bytes, with a name joined to it where one is given.
-fn long_path(alloc: Global, length: usize, name: Option<&str>) -> Result<Path, NameFault> {
-    let path = Path::parse(alloc, &long(alloc, length)?)?;
-    match name {
-        None => Ok(path),
-        Some(name) => joined(alloc, &path, name),
-    }
+// The path of a text of so many bytes, with a name joined to it.
+fn long_path(alloc: Global, length: usize, name: &str) -> Result<Path, NameFault> {
+    joined(alloc, &Path::parse(alloc, &long(alloc, length)?)?, name)
 }
 
 // How many steps a path has, none where it is refused. Want of memory is handed on.
@@ -146,54 +107,16 @@ fn steps(found: Result<Path, NameFault>) -> Result<usize, NoMemory> {
 }
 
 // The paths of so many bytes, with these names joined to them, have so many steps.
-fn long_paths(alloc: Global, rows: &[(usize, Option<&str>, usize)]) -> Result<(), Wrong> {
+fn long_paths(alloc: Global, rows: &[(usize, &str, usize)]) -> Result<(), Wrong> {
     for (place, (length, name, want)) in rows.iter().enumerate() {
         expect_row(steps(long_path(alloc, *length, *name))? == *want, place)?;
     }
     Ok(())
 }
 
-const LONG_PATHS: &[(usize, Option<&str>, usize)] = &[(255, None, 26), (256, None, 0)];
-
-#[test]
-fn a_path_has_255_bytes(rt: HostRuntime) -> Result<(), Wrong> {
-    long_paths(rt.alloc(), LONG_PATHS)
-}
-
-const LONG_JOINED: &[(usize, Option<&str>, usize)] = &[(253, Some("b"), 27), (253, Some("bc"), 0)];
+const LONG_JOINED: &[(usize, &str, usize)] = &[(253, "b", 27), (253, "bc", 0)];
 
 #[test]
 fn a_path_with_one_name_more_has_255_bytes(rt: HostRuntime) -> Result<(), Wrong> {
     long_paths(rt.alloc(), LONG_JOINED)
-}
-
-// Each text is a name, or is none.
-fn are_names(alloc: Global, rows: &[(&'static str, bool)]) -> Result<(), Wrong> {
-    for (written, want) in rows {
-        expect(is_name(&text(alloc, written)?) == *want, written)?;
-    }
-    Ok(())
-}
-
-#[test]
-fn a_name_has_30_bytes(rt: HostRuntime) -> Result<(), Wrong> {
-    are_names(
-        rt.alloc(),
-        &[
-            ("abcdefghijklmnopqrstuvwxyz1234", true),
-            ("abcdefghijklmnopqrstuvwxyz12345", false),
-        ],
-    )
-}
-
-fn last_pieces(alloc: Global, rows: &[(&'static str, usize)]) -> Result<(), Wrong> {
-    for (written, want) in rows {
-        expect(last_piece(&text(alloc, written)?) == *want, written)?;
-    }
-    Ok(())
-}
-
-#[test]
-fn the_last_piece_is_behind_the_last_slash_or_colon(rt: HostRuntime) -> Result<(), Wrong> {
-    last_pieces(rt.alloc(), &[("#?", 0), ("d:#?", 2), ("d:a/b", 4)])
 }
