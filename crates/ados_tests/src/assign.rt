@@ -14,15 +14,27 @@ fn hold(alloc: Global, assigns: &Assigns, place: &str, want: &[&str]) -> Result<
     Ok(are_names(&assigns.holders(&at(alloc, place)?)?, want))
 }
 
+// The directory S is held by `S` alone at first, and no name is bound to `none`.
+fn are_first(alloc: Global) -> Result<bool, NoMemory> {
+    let assigns = Assigns::first(alloc)?;
+    Ok(hold(alloc, &assigns, "s", &["S"])? && hold(alloc, &assigns, "none", &[])?)
+}
+
+fn are_two(alloc: Global) -> Result<bool, NoMemory> {
+    hold(alloc, &with_libs(alloc)?, "s", &["Libs", "S"])
+}
+
 #[test]
 fn a_directory_has_its_holders(rt: HostRuntime) -> Result<(), Wrong> {
-    let alloc = rt.alloc();
-    let assigns = Assigns::first(alloc)?;
-    expect(hold(alloc, &assigns, "s", &["S"])?, "S alone")?;
-    expect(hold(alloc, &assigns, "none", &[])?, "none")?;
-    expect(
-        hold(alloc, &with_libs(alloc)?, "s", &["Libs", "S"])?,
-        "two names",
-    )?;
-    expect(assigns.held()?.len() == 5, "five directories")
+    expect(are_first(rt.alloc())?, "S")?;
+    expect(are_two(rt.alloc())?, "Libs and S")
+}
+
+fn held(alloc: Global) -> Result<usize, NoMemory> {
+    Ok(Assigns::first(alloc)?.held()?.len())
+}
+
+#[test]
+fn assigns_hold_five_directories(rt: HostRuntime) -> Result<(), Wrong> {
+    expect(held(rt.alloc())? == 5, "five directories")
 }

@@ -33,21 +33,38 @@ fn renamed(alloc: Global, ram: &Ram, busy: &Busy, from: &str, to: &str) -> Resul
     ram.rename(busy, &at(alloc, from)?, &at(alloc, to)?)
 }
 
+// Where an output is open at `S/q` the deletion of each of these has this number.
+fn delete(alloc: Global, rows: &[(&'static str, u16)]) -> Result<(), Wrong> {
+    let ram = with_script(alloc)?;
+    let busy = in_use(alloc)?;
+    for (name, want) in rows {
+        expect(fault(deleted(alloc, &ram, &busy, name))? == *want, name)?;
+    }
+    Ok(())
+}
+
 // No command leaves an output open yet.
 #[test]
 fn what_is_above_an_output_is_not_deleted(rt: HostRuntime) -> Result<(), Wrong> {
-    let alloc = rt.alloc();
-    let (ram, busy) = (with_script(alloc)?, in_use(alloc)?);
-    expect(fault(deleted(alloc, &ram, &busy, "X"))? == 205, "X")?;
-    expect(fault(deleted(alloc, &ram, &busy, "S"))? == 202, "S")
+    delete(rt.alloc(), &[("X", 205), ("S", 202)])
+}
+
+// Where an output is open at `S/q` the rename of each of these to T has this number.
+fn rename(alloc: Global, rows: &[(&'static str, u16)]) -> Result<(), Wrong> {
+    let ram = with_script(alloc)?;
+    let busy = in_use(alloc)?;
+    for (name, want) in rows {
+        expect(
+            fault(renamed(alloc, &ram, &busy, name, "T"))? == *want,
+            name,
+        )?;
+    }
+    Ok(())
 }
 
 #[test]
 fn what_is_above_an_output_is_not_renamed(rt: HostRuntime) -> Result<(), Wrong> {
-    let alloc = rt.alloc();
-    let (ram, busy) = (with_script(alloc)?, in_use(alloc)?);
-    expect(fault(renamed(alloc, &ram, &busy, "X", "T"))? == 205, "X")?;
-    expect(fault(renamed(alloc, &ram, &busy, "S", "T"))? == 202, "S")
+    rename(rt.alloc(), &[("X", 205), ("S", 202)])
 }
 
 // How many files are below T.
@@ -55,11 +72,19 @@ fn files_below(alloc: Global, ram: &Ram) -> Result<usize, NoMemory> {
     Ok(ram.files_below(&at(alloc, "t")?, true)?.len())
 }
 
+// The files behind a rename of S to `T/n`.
+fn moved(alloc: Global, old: &Ram) -> Result<Ram, FsFault> {
+    renamed(alloc, &old.copy()?, &Busy::none(alloc), "S", "T/n")
+}
+
+// One file more is below T behind the rename, and none before it.
+fn is_moved(alloc: Global, old: &Ram, new: &Ram) -> Result<bool, NoMemory> {
+    Ok(files_below(alloc, new)? == 1 && files_below(alloc, old)? == 0)
+}
+
 #[test]
 fn an_older_version_stands(rt: HostRuntime) -> Result<(), Wrong> {
-    let alloc = rt.alloc();
-    let old = with_script(alloc)?;
-    let new = renamed(alloc, &old.copy()?, &Busy::none(alloc), "S", "T/n")?;
-    expect(files_below(alloc, &new)? == 1, "T behind the rename")?;
-    expect(files_below(alloc, &old)? == 0, "T before it")
+    let old = with_script(rt.alloc())?;
+    let new = moved(rt.alloc(), &old)?;
+    expect(is_moved(rt.alloc(), &old, &new)?, "T")
 }
