@@ -2,7 +2,7 @@ use crate::memory::{FlakyReader, FlakyWriter, NEVER};
 use crate::world::fresh_world;
 use crate::wrong::{Wrong, expect, expect_row};
 use ados_launch::{Counted, DriveFault, End, drive_lines};
-use ados_text::NoMemory;
+use ados_text::{Code, NoMemory, Result2};
 use ados_world::World;
 use std::alloc::Global;
 
@@ -51,6 +51,27 @@ fn driven(
         Some(DriveFault::Memory) => Err(NoMemory),
         fault => Ok((fault, text.len())),
     }
+}
+
+// What a fresh world driven by these bytes ends with, where nothing fails. Want of memory is handed on.
+fn ended(alloc: Global, input: &[u8]) -> Result<Result<End, DriveFault>, NoMemory> {
+    let mut world = fresh_world(alloc)?;
+    let mut text = Vec::with_capacity(alloc, 200)?;
+    match drive(alloc, &mut world, input, &mut text, NONE_FAILS, ENOUGH) {
+        Err(DriveFault::Memory) => Err(NoMemory),
+        end => Ok(end),
+    }
+}
+
+const FAILED: End = End {
+    code: Code::ERROR,
+    result2: Result2::OBJECT_NOT_FOUND,
+    events: 4,
+};
+
+#[test]
+fn the_end_has_the_codes_of_the_last_command(rt: HostRuntime) -> Result<(), Wrong> {
+    expect(ended(rt.alloc(), b"foo\n")? == Ok(FAILED), "the end")
 }
 
 const TWO_LINES: &[u8] = b"Echo a\nEcho b\n";
