@@ -90,9 +90,13 @@ free_meaning options line given word None = next_meaning options line given word
 free_meaning options line given word (Some place) =
     if (qualifiers_at options place).rest then Stop (Given place (rest_of line word)) else next_meaning options line given word (Some place)
 
--- what a word says behind what is given so far; which option is vacant matters only to a template with /F
+-- in a template with /F, the first plain option that is open
+abbrev pub next_open : List TemplateOption → List Reading → Option ℕ
+next_open options given = if list_any is_rest options then first_vacant options given else None
+
+-- what a word says behind what is given so far; which option is open matters only to a template with /F
 abbrev pub meaning_of : List TemplateOption → List ℕ → List Reading → Pending → LineWord → Meaning
-meaning_of options line given Free word = free_meaning options line given word (if list_any is_rest options then first_vacant options given else None)
+meaning_of options line given Free word = free_meaning options line given word (next_open options given)
 meaning_of options line given (Value place equal) word = value_meaning (is_full (qualifiers_at options place) (is_filled place given)) place equal word
 
 -- the readings where no word is left
