@@ -211,20 +211,18 @@ byte-here line at byte e above = elim (cases_lt at (length line)) [
 ]
 
 -- the bytes of a sign stand where it was found
-abbrev IsSignAt : List ℕ → ℕ → Option Sign → Type 0
-IsSignAt line from None = Unit {0}
-IsSignAt line from (Some sign) = drop from line ≡ sign_bytes sign ++ drop (from + width_of sign) line
-
-sign-here : (line : List ℕ) (from : ℕ) → IsSignAt line from (sign_at line from)
-sign-here line from =
-    let P : Option Sign → Type 0 = λ found. IsSignAt line from found in
-    cond_both (begins line 60 from) (Some Input) _ P (λ b. byte-here line from 60 (and_parts _ _ b).0 (omega arith)) (λ _.
-    cond_both (begins line 62 from) _ None P (λ b.
+sign-here : (line : List ℕ) (from : ℕ) (sign : Sign) → sign_at line from ≡ Some sign → drop from line ≡ sign_bytes sign ++ drop (from + width_of sign) line
+sign-here line from sign =
+    let Q : Sign → Type 0 = λ s. drop from line ≡ sign_bytes s ++ drop (from + width_of s) line in
+    let P : Option Sign → Type 0 = λ found. found ≡ Some sign → Q sign in
+    cond_both (begins line 60 from) _ _ P (λ b e. let same : Input ≡ sign = cc in subst Q same (byte-here line from 60 (and_parts _ _ b).0 (omega arith))) (λ _.
+    cond_both (begins line 62 from) _ _ P (λ b.
     let first = byte-here line from 62 (and_parts _ _ b).0 (omega arith) in
-    cond_both (slice_index line (from + 1) == 62) (Some Append) (Some Output) P
-    (λ c. first ∙ ap (λ l. 62 ∷ l) (byte-here line (from + 1) 62 c (omega arith)) ∙ ap (λ k. 62 ∷ 62 ∷ drop k line) (omega arith))
-    (λ _. first))
-    (λ _. tt))
+    cond_both (slice_index line (from + 1) == 62) _ _ P
+    (λ c e. let same : Append ≡ sign = cc in
+    subst Q same (first ∙ ap (λ l. 62 ∷ l) (byte-here line (from + 1) 62 c (omega arith)) ∙ ap (λ k. 62 ∷ 62 ∷ drop k line) (omega arith)))
+    (λ _ e. let same : Output ≡ sign = cc in subst Q same first))
+    (λ _ e. cc))
 
 wide : (sign : Sign) → 0 < width_of sign
 wide Input = omega arith
@@ -254,10 +252,10 @@ sign-long Append = refl
 
 -- a redirection by the item behind its sign, which ends at a place
 signed-parts : (next : ℕ → Cut → Result Cut LineFault) (line : List ℕ) (read after : Cut) (from : ℕ) (sign : Sign) (item : Item) (to : ℕ)
-    → sign_at line from ≡ Some sign → is_both line from ≡ false → IsSignAt line from (Some sign)
+    → sign_at line from ≡ Some sign → is_both line from ≡ false
     → item_at false line (from + width_of sign) ≡ item → EndsAt to item → from + width_of sign ≤ to → to ≤ length line → is_taken sign read ≡ false
     → GoesOn next line after from → next to (with_name sign (value_of line item) read) ≡ Ok after → Parts line from read after
-signed-parts next line read after from sign item to found single here same ends above within free goes e =
+signed-parts next line read after from sign item to found single same ends above within free goes e =
     let start = from + width_of sign in
     let w = wide sign in
     let behind = bytes_between line start to in
@@ -266,42 +264,42 @@ signed-parts next line read after from sign item to found single here same ends 
     let joins = length-append (sign_bytes sign) behind in
     let P : ℕ → Type 0 = λ k. EndsAt k (item_at false line start) in
     name-parts line from to sign behind (value_of line item) read after free
-    (here ∙ ap (λ l. sign_bytes sign ++ l) spans.0 ∙ sym (append_assoc (sign_bytes sign) behind (drop to line)), omega (arith, joins, wide_sign, spans.1))
+    (sign-here line from sign found ∙ ap (λ l. sign_bytes sign ++ l) spans.0 ∙ sym (append_assoc (sign_bytes sign) behind (drop to line)), omega (arith, joins, wide_sign, spans.1))
     (found, single, subst P (sym spans.1) (rw same ends), ap (value_of line) (sym same))
     (goes to _ (omega (arith, w)) within e)
 
 named-parts : (next : ℕ → Cut → Result Cut LineFault) (line : List ℕ) (read after : Cut) (from : ℕ) (sign : Sign) (item : Item)
-    → sign_at line from ≡ Some sign → is_both line from ≡ false → IsSignAt line from (Some sign)
+    → sign_at line from ≡ Some sign → is_both line from ≡ false
     → item_at false line (from + width_of sign) ≡ item → StandsBehind (from + width_of sign) (length line) item → is_taken sign read ≡ false
     → GoesOn next line after from → named next line sign read item ≡ Ok after → Parts line from read after
-named-parts next line read after from sign (Word start to) found single here same stands free goes e =
-    signed-parts next line read after from sign (Word start to) to found single here same refl (omega (arith, stands.0, stands.1)) stands.2 free goes e
-named-parts next line read after from sign (Quoted start to) found single here same stands free goes e =
-    signed-parts next line read after from sign (Quoted start to) (to + 1) found single here same refl (omega (arith, stands.0, stands.1)) (omega (arith, stands.2)) free goes e
-named-parts next line read after from sign (Equal at) found single here same stands free goes e = cc
-named-parts next line read after from sign (End at) found single here same stands free goes e = cc
-named-parts next line read after from sign (Unmatched start) found single here same stands free goes e = cc
+named-parts next line read after from sign (Word start to) found single same stands free goes e =
+    signed-parts next line read after from sign (Word start to) to found single same refl (omega (arith, stands.0, stands.1)) stands.2 free goes e
+named-parts next line read after from sign (Quoted start to) found single same stands free goes e =
+    signed-parts next line read after from sign (Quoted start to) (to + 1) found single same refl (omega (arith, stands.0, stands.1)) (omega (arith, stands.2)) free goes e
+named-parts next line read after from sign (Equal at) found single same stands free goes e = cc
+named-parts next line read after from sign (End at) found single same stands free goes e = cc
+named-parts next line read after from sign (Unmatched start) found single same stands free goes e = cc
 
 redirected-parts : (next : ℕ → Cut → Result Cut LineFault) (line : List ℕ) (read after : Cut) (from : ℕ) (sign : Sign)
-    → sign_at line from ≡ Some sign → is_both line from ≡ false → IsSignAt line from (Some sign)
+    → sign_at line from ≡ Some sign → is_both line from ≡ false
     → GoesOn next line after from → redirected next line from read sign ≡ Ok after → Parts line from read after
-redirected-parts next line read after from sign found single here goes =
+redirected-parts next line read after from sign found single goes =
     let P : Result Cut LineFault → Type 0 = λ r. r ≡ Ok after → Parts line from read after in
     cond_both (is_taken sign read) (Err TooManyArguments) _ P (λ _ e. cc)
-    (λ free e. named-parts next line read after from sign _ found single here refl (item-behind false line (from + width_of sign)) free goes e)
+    (λ free e. named-parts next line read after from sign _ found single refl (item-behind false line (from + width_of sign)) free goes e)
 
 -- a word
 sign-parts : (next : ℕ → Cut → Result Cut LineFault) (line : List ℕ) (read after : Cut) (place from to : ℕ) (sign : Option Sign)
-    → sign_at line from ≡ sign → is_both line from ≡ false → IsSignAt line from sign → item_at true line place ≡ Word from to
+    → sign_at line from ≡ sign → is_both line from ≡ false → item_at true line place ≡ Word from to
     → place ≤ from → from < to → to ≤ length line → GoesOn next line after place
     → by_sign next line place read from to sign ≡ Ok after → Parts line place read after
-sign-parts next line read after place from to (Some sign) found single here same before long within goes e =
+sign-parts next line read after place from to (Some sign) found single same before long within goes e =
     let bytes = bytes_between line place from in
     let spans = spans-between line place from before (omega arith) in
     blank-parts line place from bytes read after read.command refl spans
     (rw same (omega (arith, spans.1)))
-    (redirected-parts next line _ after from sign found single here (on-later next line after place from before goes) e)
-sign-parts next line read after place from to None found single here same before long within goes e =
+    (redirected-parts next line _ after from sign found single (on-later next line after place from before goes) e)
+sign-parts next line read after place from to None found single same before long within goes e =
     let spans = spans-between line place to (omega arith) within in
     kept-parts line place to (bytes_between line place to) _ read after read.command refl spans
     (rw same (spans.1, refl, unsigned line from found))
@@ -313,7 +311,7 @@ word-parts : (next : ℕ → Cut → Result Cut LineFault) (line : List ℕ) (re
 word-parts next line read after place from to same before long within goes =
     let P : Result Cut LineFault → Type 0 = λ r. r ≡ Ok after → Parts line place read after in
     cond_both (is_both line from) (Err NotImplemented) _ P (λ _ e. cc)
-    (λ single e. sign-parts next line read after place from to (sign_at line from) refl single (sign-here line from) same before long within goes e)
+    (λ single e. sign-parts next line read after place from to (sign_at line from) refl single same before long within goes e)
 
 -- any item
 item-parts : (next : ℕ → Cut → Result Cut LineFault) (line : List ℕ) (read after : Cut) (place : ℕ) (item : Item) → item_at true line place ≡ item
