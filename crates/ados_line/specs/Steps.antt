@@ -1,5 +1,6 @@
 -- What one step of the cut of a line says of the whole.
-use Rattle.std.specs.Prelude.{◌≡◌, ◌⊎◌, ℕ, List, Some, None, Result, Ok, Err}
+use Rattle.std.specs.Prelude.{◌≡◌, ◌⊎◌, ℕ, Some, None, Result, Ok, Err}
+use Rattle.ados_text.specs.Text.{Text}
 use Rattle.ados_line.specs.declared.faults.LineFault.{LineFault}
 use Rattle.ados_line.specs.declared.faults.LineFault.TheVariants.{NoMemory}
 use Rattle.ados_line.specs.declared.cuts.Cut.{Cut}
@@ -18,5 +19,5 @@ abbrev pub IsCut : Result Cut LineFault → Result Cut LineFault → Type 0
 IsCut result whole = (result ≡ Err NoMemory) ⊎ (result ≡ whole)
 
 -- a line of a command and its arguments alone
-abbrev pub with_arguments : List ℕ → List ℕ → Cut
+abbrev pub with_arguments : Text → Text → Cut
 with_arguments command args = record { command = Some command; args = args; input = None; output = None }

@@ -3,6 +3,7 @@
 use Rattle.std.specs.Prelude.{◌≡◌, ◌⊎◌, ℕ, ◌+◌, ◌-◌, ◌<◌, ◌≤◌, ◌==◌, nat_lt, List, [], ◌∷◌, ◌++◌, Bool, true, false, ◌&&◌, ◌||◌, not, Some, None, length, slice_get, slice_index}
 use Rattle.std.specs.List.{flat_map}
 use Rattle.std.specs.Option.{option_map_or}
+use Rattle.ados_text.specs.Text.{Bytes}
 use Rattle.ados_items.specs.Items.{is_blank, bytes_between}
 use Rattle.ados_items.specs.declared.items.Item.{Item}
 use Rattle.ados_items.specs.declared.items.Item.TheVariants as item
@@ -65,7 +66,7 @@ plain_words (Plain word) = item_of word ∷ []
 
 -- A keyword of the option at a place is a run whose first Word is a name of it, unless it has /F, and which ends there
 -- or, where the option takes a value, goes on with `=`. A quoted word is no keyword.
-abbrev pub IsKeyword : List TemplateOption → List ℕ → ℕ → LineWord → Type 0
+abbrev pub IsKeyword : List TemplateOption → Bytes → ℕ → LineWord → Type 0
 IsKeyword options line place (word.Run from key to) =
     ((from == key) ≡ false) × (option : TemplateOption) × (slice_get options place ≡ Some option) × (is_keyword (bytes_between line from key) (key == to) option ≡ true)
 IsKeyword options line place (word.Quoted from to) = ⊥
@@ -92,7 +93,7 @@ abbrev pub is_rest_next : List TemplateOption → List Reading → Bool
 is_rest_next options before = option_map_or (λ place. (qualifiers_at options place).rest) (next_open options before) false
 
 -- a word that begins a phrase of the option at a place, by its keyword
-pub record IsKeyed (options : List TemplateOption) (line : List ℕ) (before : List Reading) (place : ℕ) (word : LineWord) : Type 0 where
+pub record IsKeyed (options : List TemplateOption) (line : Bytes) (before : List Reading) (place : ℕ) (word : LineWord) : Type 0 where
   pub keyword : IsKeyword options line place word
   pub free : may_fill options before place ≡ true
   pub no_rest : is_rest_next options before ≡ false
@@ -104,20 +105,20 @@ IsBetween keyword (equal ∷ []) value = (is_whole keyword && is_equal equal) �
 IsBetween keyword (equal ∷ other ∷ more) value = ⊥
 
 -- a word that is no keyword, and not the rest of the line
-pub record IsPlainWord (options : List TemplateOption) (line : List ℕ) (before : List Reading) (word : LineWord) : Type 0 where
+pub record IsPlainWord (options : List TemplateOption) (line : Bytes) (before : List Reading) (word : LineWord) : Type 0 where
   pub closed : is_open_quote word ≡ false
   pub no_keyword : (place : ℕ) → IsKeyword options line place word → ⊥
   pub no_rest : is_rest_next options before ≡ false
 
 -- a line ends in blanks from a place on, and in no blank before it
-pub record EndsInBlanks (line : List ℕ) (end : ℕ) : Type 0 where
+pub record EndsInBlanks (line : Bytes) (end : ℕ) : Type 0 where
   pub blank : (place : ℕ) → end ≤ place → place < length line → is_blank (slice_index line place) ≡ true
   pub text : (end ≡ 0) ⊎ (is_blank (slice_index line (end - 1)) ≡ false)
 
 -- What a phrase is, behind the fillings before it. A keyword of a switch or toggle stands alone; the value of any other is
 -- what stands behind its `=`, or else the next word. In a template with /F a plain word fills the first plain option that
 -- is open; where that is the /F, the line from the word on is its value, without the blanks at its end.
-abbrev pub IsPhrase : List TemplateOption → List ℕ → List Reading → Phrase → Type 0
+abbrev pub IsPhrase : List TemplateOption → Bytes → List Reading → Phrase → Type 0
 IsPhrase options line before (Switch place keyword) = IsKeyed options line before place keyword × (takes_value (qualifiers_at options place) ≡ false)
 IsPhrase options line before (Joined place keyword) =
     IsKeyed options line before place keyword × (takes_value (qualifiers_at options place) ≡ true) × (has_value keyword ≡ true)
@@ -138,7 +139,7 @@ IsLast (Rest place word words end) behind = behind ≡ []
 IsLast (Plain word) behind = Unit {0}
 
 -- the phrases stand one behind another, behind the fillings before them
-abbrev pub ArePhrases : List TemplateOption → List ℕ → List Reading → List Phrase → Type 0
+abbrev pub ArePhrases : List TemplateOption → Bytes → List Reading → List Phrase → Type 0
 ArePhrases options line before [] = Unit {0}
 ArePhrases options line before (phrase ∷ behind) =
     IsPhrase options line before phrase × IsLast phrase behind × ArePhrases options line (before ++ fillings phrase) behind
@@ -149,12 +150,12 @@ said_by phrases = record { given = flat_map fillings phrases; plain = flat_map p
 
 -- The words of the line are these phrases, in order; each plain word is taken by one option, in order; and the arguments
 -- are what the fillings and the plain words give to the options.
-pub record IsFilledBy (options : List TemplateOption) (line : List ℕ) (args : List Arg) (phrases : List Phrase) : Type 0 where
+pub record IsFilledBy (options : List TemplateOption) (line : Bytes) (args : List Arg) (phrases : List Phrase) : Type 0 where
   pub words : flat_map words_in phrases ≡ line_words_of line
   pub said : ArePhrases options line [] phrases
   pub taken : TakesAll options (said_by phrases)
   pub gives : args ≡ args_of options line (said_by phrases)
 
 -- A line gives these arguments to options: its words are phrases that say so.
-abbrev pub IsFilled : List TemplateOption → List ℕ → List Arg → Type 0
+abbrev pub IsFilled : List TemplateOption → Bytes → List Arg → Type 0
 IsFilled options line args = (phrases : List Phrase) × IsFilledBy options line args phrases
