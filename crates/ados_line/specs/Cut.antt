@@ -15,6 +15,10 @@ use Rattle.ados_line.specs.declared.lines.Expanded.TheVariants.{Nothing, Ready}
 use Rattle.ados_line.specs.Comment.{without_comment}
 use Rattle.ados_line.specs.Signs.{is_both, sign_at, width_of}
 
+-- how the cut goes on from a place, behind what was read
+abbrev pub Next : Type 0
+Next = ℕ → Cut → Result Cut LineFault
+
 -- the first item is the command, and each further piece of the line joins the arguments
 abbrev pub with_piece : Option Text → Text → Text → Cut → Cut
 with_piece None value piece read = record read { command = Some value }
@@ -32,7 +36,7 @@ with_name Output name read = record read { output = Some (record { name = name; 
 with_name Append name read = record read { output = Some (record { name = name; append = true }) }
 
 -- a redirection by the item behind its sign: a quoted item, or a run up to a blank or `;`
-abbrev pub named : (ℕ → Cut → Result Cut LineFault) → Text → Sign → Cut → Item → Result Cut LineFault
+abbrev pub named : Next → Text → Sign → Cut → Item → Result Cut LineFault
 named next line sign read (Word from to) = next to (with_name sign (value_of line (Word from to)) read)
 named next line sign read (Quoted from to) = next (to + 1) (with_name sign (value_of line (Quoted from to)) read)
 named next line sign read (Unmatched from) = Err UnmatchedQuotes
@@ -45,22 +49,22 @@ is_taken Output read = is_some read.output
 is_taken Append read = is_some read.output
 
 -- the redirection whose sign stands at a place; the blanks in front of it were read
-abbrev pub redirected : (ℕ → Cut → Result Cut LineFault) → Text → ℕ → Cut → Sign → Result Cut LineFault
+abbrev pub redirected : Next → Text → ℕ → Cut → Sign → Result Cut LineFault
 redirected next line place read sign =
     if is_taken sign read then Err TooManyArguments else named next line sign read (item_at false line (place + width_of sign))
 
 -- a word that may begin with a sign: a redirection, or a piece
-abbrev pub by_sign : (ℕ → Cut → Result Cut LineFault) → Text → ℕ → Cut → ℕ → ℕ → Option Sign → Result Cut LineFault
+abbrev pub by_sign : Next → Text → ℕ → Cut → ℕ → ℕ → Option Sign → Result Cut LineFault
 by_sign next line place read from to (Some sign) = redirected next line from (with_blanks read.command (bytes_between line place from) read) sign
 by_sign next line place read from to None = next to (with_piece read.command (value_of line (Word from to)) (bytes_between line place to) read)
 
 -- a word
-abbrev pub cut_word : (ℕ → Cut → Result Cut LineFault) → Text → ℕ → Cut → ℕ → ℕ → Result Cut LineFault
+abbrev pub cut_word : Next → Text → ℕ → Cut → ℕ → ℕ → Result Cut LineFault
 cut_word next line place read from to =
     if is_both line from then Err NotImplemented else by_sign next line place read from to (sign_at line from)
 
 -- an item of the line, behind a place up to which this was read
-abbrev pub cut_item : (ℕ → Cut → Result Cut LineFault) → Text → ℕ → Cut → Item → Result Cut LineFault
+abbrev pub cut_item : Next → Text → ℕ → Cut → Item → Result Cut LineFault
 cut_item next line place read (Word from to) = cut_word next line place read from to
 cut_item next line place read (Quoted from to) =
     next (to + 1) (with_piece read.command (value_of line (Quoted from to)) (bytes_between line place (to + 1)) read)
