@@ -1,9 +1,7 @@
-ghost use Rattle.std.specs.Prelude.{◌≡◌, ℕ, ◌≤◌, true, false, length, drop, Result, Ok, IfOk, OnOk};
+ghost use Rattle.std.specs.Prelude.{◌≡◌, ◌≤◌, true, false, length, drop, Ok, IfOk, OnOk};
 ghost use Rattle.std.specs.List.{list_any};
 ghost use Rattle.ados_text.specs.Text.{IsText};
 ghost use Rattle.ados_items.specs.Items.{item_at, value_of, bytes_between, IsWithin};
-ghost use Rattle.ados_line.specs.declared.faults.LineFault.{LineFault};
-ghost use Rattle.ados_line.specs.declared.cuts.Cut.{Cut};
 ghost use Rattle.ados_line.specs.Cut.{Next, with_piece, with_blanks, with_name, named, is_taken, redirected, cut_word, cut_item, cut_of, nothing_read};
 ghost use Rattle.ados_line.specs.Signs.{is_mark};
 ghost use Rattle.ados_line.specs.Steps.{Goes, IsCut, with_arguments};
