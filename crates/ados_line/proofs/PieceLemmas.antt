@@ -1,10 +1,9 @@
 -- a line that was cut is made of its pieces
-use Rattle.std.proofs.Common.{ℕ, zero, suc, ◌+◌, ◌-◌, ◌<◌, ◌≤◌, ◌≡◌, ◌∙◌, List, [], ◌∷◌, ◌++◌, true, false, ◌==◌, Option, Some, None, Result, Ok, Err, IfOk, length, drop, refl, ap, sym, subst, arith, append_assoc, append-nil, inl, inr, nat_lt}
+use Rattle.std.proofs.Common.{ℕ, zero, suc, ◌+◌, ◌-◌, ◌<◌, ◌≤◌, ◌≡◌, ◌∙◌, List, [], ◌∷◌, ◌++◌, true, false, ◌==◌, ◌||◌, Option, Some, None, Result, Ok, Err, IfOk, length, drop, refl, ap, sym, subst, arith, append_assoc, append-nil, inl, inr, nat_lt}
 use Rattle.std.specs.Prelude.{is_some, slice_index, option_to_list}
 use Rattle.std.specs.List.{flat_map}
-use Rattle.std.proofs.lemmas.Grind.{flat_map-append}
 use Rattle.std.proofs.lemmas.Bool.{cond_both, and_parts, eqb-true, cases_lt}
-use Rattle.std.proofs.lemmas.List.{take-append-drop, drop-drop, drop_more, get_or_past}
+use Rattle.std.proofs.lemmas.List.{take-append-drop, drop-drop, drop_more, get_or_past, length-drop, length-take-le, length-append, drop_all}
 use Rattle.ados_items.specs.declared.items.Item.{Item}
 use Rattle.ados_items.specs.declared.items.Item.TheVariants.{Word, Quoted, Equal, End, Unmatched}
 use Rattle.ados_items.specs.Items.{item_at, value_of, bytes_between}
@@ -18,131 +17,192 @@ use Rattle.ados_line.specs.declared.lines.Expanded.{Expanded}
 use Rattle.ados_line.specs.Signs.{begins, is_both, sign_at, width_of}
 use Rattle.ados_line.specs.Cut.{with_piece, with_blanks, with_name, named, is_taken, redirected, by_sign, cut_word, cut_item, cut_from, cut_of, nothing_read, came_to, expanded_by, expanded_of, IsExpanded}
 use Rattle.ados_line.specs.Comment.{without_comment}
-use Rattle.ados_line.specs.Pieces.{Piece, Front, Command, Kept, Redirected, sign_bytes, written, kept, commands, inputs, outputs, IsInPieces}
+use Rattle.ados_line.specs.Pieces.{Piece, Blank, Kept, Redirected, sign_bytes, written, EndsAt, IsPieceAt, Stand, kept, command_of, args_of, inputs, outputs, IsInPieces}
 
--- pieces that are these bytes, and what was read behind them by what was read before
-record Adds (bytes : List ℕ) (before after : Cut) (pieces : List Piece) : Type 0 where
-  joined : flat_map written pieces ≡ bytes
-  command : option_to_list after.command ≡ option_to_list before.command ++ flat_map commands pieces
-  args : after.args ≡ before.args ++ flat_map kept pieces
+-- the command and the arguments, where a command was read or not
+abbrev command_from : Option (List ℕ) → List Piece → Option (List ℕ)
+command_from None pieces = command_of pieces
+command_from (Some command) pieces = Some command
+
+abbrev args_from : Option (List ℕ) → List Piece → List ℕ
+args_from None pieces = args_of pieces
+args_from (Some command) pieces = flat_map kept pieces
+
+-- pieces that are the line from a place on, and what was read behind them by what was read before
+record Adds (line : List ℕ) (place : ℕ) (before after : Cut) (pieces : List Piece) : Type 0 where
+  joined : flat_map written pieces ≡ drop place line
+  placed : Stand line place pieces
+  command : after.command ≡ command_from before.command pieces
+  args : after.args ≡ before.args ++ args_from before.command pieces
   input : option_to_list after.input ≡ option_to_list before.input ++ flat_map inputs pieces
   output : option_to_list after.output ≡ option_to_list before.output ++ flat_map outputs pieces
 
-abbrev Parts : List ℕ → Cut → Cut → Type 0
-Parts bytes before after = (pieces : List Piece) × Adds bytes before after pieces
-
--- some pieces, and then some more
-appended : {A : Type 0} (f : Piece → List A) (whole before behind : List A) (first second : List Piece)
-    → behind ≡ before ++ flat_map f first → whole ≡ behind ++ flat_map f second → whole ≡ before ++ flat_map f (first ++ second)
-appended f whole before behind first second e h =
-    h ∙ ap (λ l. l ++ flat_map f second) e ∙ append_assoc before (flat_map f first) (flat_map f second)
-    ∙ ap (λ l. before ++ l) (sym (flat_map-append f first second))
-
-then-parts : (bytes first second : List ℕ) (before between after : Cut)
-    → Parts first before between → Parts second between after → bytes ≡ first ++ second → Parts bytes before after
-then-parts bytes first second before between after p q e =
-    let a = p.1 in let b = q.1 in (
-      p.0 ++ q.0,
-      record {
-        joined = flat_map-append written p.0 q.0 ∙ ap (λ l. l ++ flat_map written q.0) a.joined ∙ ap (λ l. first ++ l) b.joined ∙ sym e;
-        command = appended commands _ _ _ p.0 q.0 a.command b.command;
-        args = appended kept _ _ _ p.0 q.0 a.args b.args;
-        input = appended inputs _ _ _ p.0 q.0 a.input b.input;
-        output = appended outputs _ _ _ p.0 q.0 a.output b.output;
-      },
-    )
-
-nil-append : {A : Type 0} (l : List A) → l ≡ l ++ []
-nil-append l = sym (append-nil l)
-
--- the command, or a part of the arguments
-piece-parts : (bytes value : List ℕ) (read : Cut) (command : Option (List ℕ)) → read.command ≡ command → Parts bytes read (with_piece command value bytes read)
-piece-parts bytes value read None e = (
-  Command bytes value ∷ [],
-  record {
-    joined = append-nil bytes;
-    command = rw e refl;
-    args = nil-append _;
-    input = nil-append _;
-    output = nil-append _;
-  },
-)
-piece-parts bytes value read (Some text) e = (
-  Kept bytes ∷ [],
-  record {
-    joined = append-nil bytes;
-    command = nil-append _;
-    args = ap (λ l. read.args ++ l) (nil-append bytes);
-    input = nil-append _;
-    output = nil-append _;
-  },
-)
-
--- blanks
-blank-parts : (bytes : List ℕ) (read : Cut) (command : Option (List ℕ)) → read.command ≡ command → Parts bytes read (with_blanks command bytes read)
-blank-parts bytes read None e = (
-  Front bytes ∷ [],
-  record {
-    joined = append-nil bytes;
-    command = nil-append _;
-    args = nil-append _;
-    input = nil-append _;
-    output = nil-append _;
-  },
-)
-blank-parts bytes read (Some text) e = (
-  Kept bytes ∷ [],
-  record {
-    joined = append-nil bytes;
-    command = nil-append _;
-    args = ap (λ l. read.args ++ l) (nil-append bytes);
-    input = nil-append _;
-    output = nil-append _;
-  },
-)
-
-none-listed : {A : Type 0} (o : Option A) → is_some o ≡ false → option_to_list o ≡ []
-none-listed None e = refl
-none-listed (Some x) e = cc
-
--- a redirection
-name-parts : (sign : Sign) (bytes name : List ℕ) (read : Cut) → is_taken sign read ≡ false → Parts (sign_bytes sign ++ bytes) read (with_name sign name read)
-name-parts Input bytes name read e = (
-  Redirected Input bytes name ∷ [],
-  record {
-    joined = append-nil _;
-    command = nil-append _;
-    args = nil-append _;
-    input = ap (λ l. l ++ name ∷ []) (sym (none-listed read.input e));
-    output = nil-append _;
-  },
-)
-name-parts Output bytes name read e = (
-  Redirected Output bytes name ∷ [],
-  record {
-    joined = append-nil _;
-    command = nil-append _;
-    args = nil-append _;
-    input = nil-append _;
-    output = ap (λ l. l ++ record { name = name; append = false } ∷ []) (sym (none-listed read.output e));
-  },
-)
-name-parts Append bytes name read e = (
-  Redirected Append bytes name ∷ [],
-  record {
-    joined = append-nil _;
-    command = nil-append _;
-    args = nil-append _;
-    input = nil-append _;
-    output = ap (λ l. l ++ record { name = name; append = true } ∷ []) (sym (none-listed read.output e));
-  },
-)
+abbrev Parts : List ℕ → ℕ → Cut → Cut → Type 0
+Parts line place before after = (pieces : List Piece) × Adds line place before after pieces
 
 -- a line goes on from one place up to another, and then from there
 pub between : (line : List ℕ) (from to : ℕ) → from ≤ to → drop from line ≡ bytes_between line from to ++ drop to line
 between line from to h =
     let e : from + (to - from) ≡ to = omega arith in
     sym (ap (λ l. bytes_between line from to ++ l) (sym (drop-drop (to - from) from line ∙ ap (λ k. drop k line) e)) ∙ take-append-drop (to - from) (drop from line))
+
+-- so many bytes of the line stand from one place up to another
+abbrev Spans : List ℕ → ℕ → ℕ → List ℕ → Type 0
+Spans line place to bytes = (drop place line ≡ bytes ++ drop to line) × (place + length bytes ≡ to)
+
+spans-between : (line : List ℕ) (from to : ℕ) → from ≤ to → to ≤ length line → Spans line from to (bytes_between line from to)
+spans-between line from to h within =
+    let left = length-drop from line in
+    let long = length-take-le (to - from) (drop from line) (omega arith) in
+    (between line from to h, omega (arith, long))
+
+spans-rest : (line : List ℕ) (place : ℕ) → place ≤ length line → Spans line place (length line) (drop place line)
+spans-rest line place within =
+    let left = length-drop place line in
+    (sym (append-nil (drop place line)) ∙ ap (λ l. drop place line ++ l) (sym (drop_all (length line) line (omega arith))), omega (arith, left))
+
+-- one piece, and those behind it
+stand-more : (line : List ℕ) (place to : ℕ) (piece : Piece) (pieces : List Piece) → IsPieceAt line place piece → place + length (written piece) ≡ to
+    → Stand line to pieces → Stand line place (piece ∷ pieces)
+stand-more line place to piece pieces here e rest = let P : ℕ → Type 0 = λ p. Stand line p pieces in (here, subst P (sym e) rest)
+
+joined-more : (line bytes : List ℕ) (place to : ℕ) (pieces : List Piece) → Spans line place to bytes → flat_map written pieces ≡ drop to line
+    → bytes ++ flat_map written pieces ≡ drop place line
+joined-more line bytes place to pieces spans e = ap (λ l. bytes ++ l) e ∙ sym spans.0
+
+command-none : (command : Option (List ℕ)) → command ≡ command_from command []
+command-none None = refl
+command-none (Some text) = refl
+
+args-none : (command : Option (List ℕ)) (args : List ℕ) → args ≡ args ++ args_from command []
+args-none None args = sym (append-nil args)
+args-none (Some text) args = sym (append-nil args)
+
+-- no piece is left at the line's end
+none-left : (line : List ℕ) (read : Cut) → Parts line (length line) read read
+none-left line read = (
+  [],
+  record {
+    joined = sym (drop_all (length line) line (omega arith));
+    placed = tt;
+    command = command-none read.command;
+    args = args-none read.command read.args;
+    input = sym (append-nil _);
+    output = sym (append-nil _);
+  },
+)
+
+-- an item that is kept: the command, or a part of the arguments
+kept-parts : (line : List ℕ) (place to : ℕ) (bytes text : List ℕ) (read after : Cut) (command : Option (List ℕ)) → read.command ≡ command
+    → Spans line place to bytes → IsPieceAt line place (Kept bytes text) → Parts line to (with_piece command text bytes read) after → Parts line place read after
+kept-parts line place to bytes text read after None e spans here p =
+    let a = p.1 in let piece = Kept bytes text in (
+      piece ∷ p.0,
+      record {
+        joined = joined-more line bytes place to p.0 spans a.joined;
+        placed = stand-more line place to piece p.0 here spans.1 a.placed;
+        command = a.command ∙ ap (λ o. command_from o (piece ∷ p.0)) (sym e);
+        args = a.args ∙ ap (λ o. read.args ++ args_from o (piece ∷ p.0)) (sym e);
+        input = a.input;
+        output = a.output;
+      },
+    )
+kept-parts line place to bytes text read after (Some command) e spans here p =
+    let a = p.1 in let piece = Kept bytes text in (
+      piece ∷ p.0,
+      record {
+        joined = joined-more line bytes place to p.0 spans a.joined;
+        placed = stand-more line place to piece p.0 here spans.1 a.placed;
+        command = a.command ∙ ap (λ o. command_from o p.0) e ∙ ap (λ o. command_from o (piece ∷ p.0)) (sym e);
+        args = a.args ∙ ap (λ o. (read.args ++ bytes) ++ args_from o p.0) e ∙ append_assoc read.args bytes _ ∙ ap (λ o. read.args ++ args_from o (piece ∷ p.0)) (sym e);
+        input = a.input;
+        output = a.output;
+      },
+    )
+
+-- blanks: in front of the command they are dropped
+blank-parts : (line : List ℕ) (place to : ℕ) (bytes : List ℕ) (read after : Cut) (command : Option (List ℕ)) → read.command ≡ command
+    → Spans line place to bytes → IsPieceAt line place (Blank bytes) → Parts line to (with_blanks command bytes read) after → Parts line place read after
+blank-parts line place to bytes read after None e spans here p =
+    let a = p.1 in let piece = Blank bytes in (
+      piece ∷ p.0,
+      record {
+        joined = joined-more line bytes place to p.0 spans a.joined;
+        placed = stand-more line place to piece p.0 here spans.1 a.placed;
+        command = a.command ∙ ap (λ o. command_from o p.0) e ∙ ap (λ o. command_from o (piece ∷ p.0)) (sym e);
+        args = a.args ∙ ap (λ o. read.args ++ args_from o p.0) e ∙ ap (λ o. read.args ++ args_from o (piece ∷ p.0)) (sym e);
+        input = a.input;
+        output = a.output;
+      },
+    )
+blank-parts line place to bytes read after (Some command) e spans here p =
+    let a = p.1 in let piece = Blank bytes in (
+      piece ∷ p.0,
+      record {
+        joined = joined-more line bytes place to p.0 spans a.joined;
+        placed = stand-more line place to piece p.0 here spans.1 a.placed;
+        command = a.command ∙ ap (λ o. command_from o p.0) e ∙ ap (λ o. command_from o (piece ∷ p.0)) (sym e);
+        args = a.args ∙ ap (λ o. (read.args ++ bytes) ++ args_from o p.0) e ∙ append_assoc read.args bytes _ ∙ ap (λ o. read.args ++ args_from o (piece ∷ p.0)) (sym e);
+        input = a.input;
+        output = a.output;
+      },
+    )
+
+none-listed : {A : Type 0} (o : Option A) → is_some o ≡ false → option_to_list o ≡ []
+none-listed None e = refl
+none-listed (Some x) e = cc
+
+-- a redirection leaves nothing in the command and the arguments
+passed-command : (command : Option (List ℕ)) (sign : Sign) (behind name : List ℕ) (pieces : List Piece)
+    → command_from command pieces ≡ command_from command (Redirected sign behind name ∷ pieces)
+passed-command None sign behind name pieces = refl
+passed-command (Some command) sign behind name pieces = refl
+
+passed-args : (command : Option (List ℕ)) (sign : Sign) (behind name : List ℕ) (pieces : List Piece)
+    → args_from command pieces ≡ args_from command (Redirected sign behind name ∷ pieces)
+passed-args None sign behind name pieces = refl
+passed-args (Some command) sign behind name pieces = refl
+
+-- a redirection
+name-parts : (line : List ℕ) (place to : ℕ) (sign : Sign) (behind name : List ℕ) (read after : Cut) → is_taken sign read ≡ false
+    → Spans line place to (sign_bytes sign ++ behind) → IsPieceAt line place (Redirected sign behind name)
+    → Parts line to (with_name sign name read) after → Parts line place read after
+name-parts line place to Input behind name read after free spans here p =
+    let a = p.1 in let piece = Redirected Input behind name in (
+      piece ∷ p.0,
+      record {
+        joined = joined-more line (sign_bytes Input ++ behind) place to p.0 spans a.joined;
+        placed = stand-more line place to piece p.0 here spans.1 a.placed;
+        command = a.command ∙ passed-command read.command Input behind name p.0;
+        args = a.args ∙ ap (λ l. read.args ++ l) (passed-args read.command Input behind name p.0);
+        input = a.input ∙ ap (λ l. l ++ (name ∷ flat_map inputs p.0)) (sym (none-listed read.input free));
+        output = a.output;
+      },
+    )
+name-parts line place to Output behind name read after free spans here p =
+    let a = p.1 in let piece = Redirected Output behind name in (
+      piece ∷ p.0,
+      record {
+        joined = joined-more line (sign_bytes Output ++ behind) place to p.0 spans a.joined;
+        placed = stand-more line place to piece p.0 here spans.1 a.placed;
+        command = a.command ∙ passed-command read.command Output behind name p.0;
+        args = a.args ∙ ap (λ l. read.args ++ l) (passed-args read.command Output behind name p.0);
+        input = a.input;
+        output = a.output ∙ ap (λ l. l ++ (record { name = name; append = false } ∷ flat_map outputs p.0)) (sym (none-listed read.output free));
+      },
+    )
+name-parts line place to Append behind name read after free spans here p =
+    let a = p.1 in let piece = Redirected Append behind name in (
+      piece ∷ p.0,
+      record {
+        joined = joined-more line (sign_bytes Append ++ behind) place to p.0 spans a.joined;
+        placed = stand-more line place to piece p.0 here spans.1 a.placed;
+        command = a.command ∙ passed-command read.command Append behind name p.0;
+        args = a.args ∙ ap (λ l. read.args ++ l) (passed-args read.command Append behind name p.0);
+        input = a.input;
+        output = a.output ∙ ap (λ l. l ++ (record { name = name; append = true } ∷ flat_map outputs p.0)) (sym (none-listed read.output free));
+      },
+    )
 
 byte-here : (line : List ℕ) (at byte : ℕ) → (slice_index line at == byte) ≡ true → 0 < byte → drop at line ≡ byte ∷ drop (at + 1) line
 byte-here line at byte e above = elim (cases_lt at (length line)) [
@@ -151,125 +211,145 @@ byte-here line at byte e above = elim (cases_lt at (length line)) [
 ]
 
 -- the bytes of a sign stand where it was found
-abbrev IsSignAt : List ℕ → ℕ → Option Sign → Type 0
-IsSignAt line from None = Unit {0}
-IsSignAt line from (Some sign) = drop from line ≡ sign_bytes sign ++ drop (from + width_of sign) line
-
-sign-here : (line : List ℕ) (from : ℕ) → IsSignAt line from (sign_at line from)
-sign-here line from =
-    let P : Option Sign → Type 0 = λ found. IsSignAt line from found in
-    cond_both (begins line 60 from) (Some Input) _ P (λ b. byte-here line from 60 (and_parts _ _ b).0 (omega arith)) (λ _.
-    cond_both (begins line 62 from) _ None P (λ b.
+sign-here : (line : List ℕ) (from : ℕ) (sign : Sign) → sign_at line from ≡ Some sign → drop from line ≡ sign_bytes sign ++ drop (from + width_of sign) line
+sign-here line from sign =
+    let Q : Sign → Type 0 = λ s. drop from line ≡ sign_bytes s ++ drop (from + width_of s) line in
+    let P : Option Sign → Type 0 = λ found. found ≡ Some sign → Q sign in
+    cond_both (begins line 60 from) _ _ P (λ b e. let same : Input ≡ sign = cc in subst Q same (byte-here line from 60 (and_parts _ _ b).0 (omega arith))) (λ _.
+    cond_both (begins line 62 from) _ _ P (λ b.
     let first = byte-here line from 62 (and_parts _ _ b).0 (omega arith) in
-    cond_both (slice_index line (from + 1) == 62) (Some Append) (Some Output) P
-    (λ c. first ∙ ap (λ l. 62 ∷ l) (byte-here line (from + 1) 62 c (omega arith)) ∙ ap (λ k. 62 ∷ 62 ∷ drop k line) (omega arith))
-    (λ _. first))
-    (λ _. tt))
+    cond_both (slice_index line (from + 1) == 62) _ _ P
+    (λ c e. let same : Append ≡ sign = cc in
+    subst Q same (first ∙ ap (λ l. 62 ∷ l) (byte-here line (from + 1) 62 c (omega arith)) ∙ ap (λ k. 62 ∷ 62 ∷ drop k line) (omega arith)))
+    (λ _ e. let same : Output ≡ sign = cc in subst Q same first))
+    (λ _ e. cc))
 
 wide : (sign : Sign) → 0 < width_of sign
 wide Input = omega arith
 wide Output = omega arith
 wide Append = omega arith
 
+-- where no sign stands, a word begins with none
+unsigned : (line : List ℕ) (from : ℕ) → sign_at line from ≡ None → (begins line 60 from || begins line 62 from) ≡ false
+unsigned line from =
+    let P : Option Sign → Type 0 = λ found. found ≡ None → (begins line 60 from || begins line 62 from) ≡ false in
+    cond_both (begins line 60 from) (Some Input) _ P (λ _ e. cc) (λ first.
+    cond_both (begins line 62 from) _ None P
+    (λ _. cond_both (slice_index line (from + 1) == 62) (Some Append) (Some Output) P (λ _ e. cc) (λ _ e. cc))
+    (λ second _. rw (first, second) refl))
+
 -- what is known of the line's cut from a later place on
 abbrev GoesOn : (ℕ → Cut → Result Cut LineFault) → List ℕ → Cut → ℕ → Type 0
-GoesOn next line after place = (to : ℕ) (read : Cut) → place < to → to ≤ length line → next to read ≡ Ok after → Parts (drop to line) read after
+GoesOn next line after place = (to : ℕ) (read : Cut) → place < to → to ≤ length line → next to read ≡ Ok after → Parts line to read after
 
 on-later : (next : ℕ → Cut → Result Cut LineFault) (line : List ℕ) (after : Cut) (place behind : ℕ) → place ≤ behind → GoesOn next line after place → GoesOn next line after behind
 on-later next line after place behind h goes = λ to read above within e. goes to read (omega arith) within e
 
--- a redirection by the item behind its sign
-signed-parts : (next : ℕ → Cut → Result Cut LineFault) (line : List ℕ) (read after : Cut) (from : ℕ) (sign : Sign) (name : List ℕ) (to : ℕ)
-    → IsSignAt line from (Some sign) → from + width_of sign ≤ to → to ≤ length line → is_taken sign read ≡ false
-    → GoesOn next line after from → next to (with_name sign name read) ≡ Ok after → Parts (drop from line) read after
-signed-parts next line read after from sign name to here above within free goes e =
-    let behind = from + width_of sign in
+sign-long : (sign : Sign) → length (sign_bytes sign) ≡ width_of sign
+sign-long Input = refl
+sign-long Output = refl
+sign-long Append = refl
+
+-- a redirection by the item behind its sign, which ends at a place
+signed-parts : (next : ℕ → Cut → Result Cut LineFault) (line : List ℕ) (read after : Cut) (from : ℕ) (sign : Sign) (item : Item) (to : ℕ)
+    → sign_at line from ≡ Some sign → is_both line from ≡ false
+    → item_at false line (from + width_of sign) ≡ item → EndsAt to item → from + width_of sign ≤ to → to ≤ length line → is_taken sign read ≡ false
+    → GoesOn next line after from → next to (with_name sign (value_of line item) read) ≡ Ok after → Parts line from read after
+signed-parts next line read after from sign item to found single same ends above within free goes e =
+    let start = from + width_of sign in
     let w = wide sign in
-    then-parts _ (sign_bytes sign ++ bytes_between line behind to) (drop to line) read (with_name sign name read) after
-    (name-parts sign (bytes_between line behind to) name read free)
-    (goes to _ (omega arith) within e)
-    (here ∙ ap (λ l. sign_bytes sign ++ l) (between line behind to above) ∙ sym (append_assoc (sign_bytes sign) _ _))
+    let behind = bytes_between line start to in
+    let spans = spans-between line start to above within in
+    let wide_sign = sign-long sign in
+    let joins = length-append (sign_bytes sign) behind in
+    let P : ℕ → Type 0 = λ k. EndsAt k (item_at false line start) in
+    name-parts line from to sign behind (value_of line item) read after free
+    (sign-here line from sign found ∙ ap (λ l. sign_bytes sign ++ l) spans.0 ∙ sym (append_assoc (sign_bytes sign) behind (drop to line)), omega (arith, joins, wide_sign, spans.1))
+    (found, single, subst P (sym spans.1) (rw same ends), ap (value_of line) (sym same))
+    (goes to _ (omega (arith, w)) within e)
 
 named-parts : (next : ℕ → Cut → Result Cut LineFault) (line : List ℕ) (read after : Cut) (from : ℕ) (sign : Sign) (item : Item)
-    → IsSignAt line from (Some sign) → StandsBehind (from + width_of sign) (length line) item → is_taken sign read ≡ false
-    → GoesOn next line after from → named next line sign read item ≡ Ok after → Parts (drop from line) read after
-named-parts next line read after from sign (Word start to) here stands free goes e =
-    signed-parts next line read after from sign _ to here (omega (arith, stands.0, stands.1)) stands.2 free goes e
-named-parts next line read after from sign (Quoted start to) here stands free goes e =
-    signed-parts next line read after from sign _ (to + 1) here (omega (arith, stands.0, stands.1)) (omega (arith, stands.2)) free goes e
-named-parts next line read after from sign (Equal at) here stands free goes e = cc
-named-parts next line read after from sign (End at) here stands free goes e = cc
-named-parts next line read after from sign (Unmatched start) here stands free goes e = cc
+    → sign_at line from ≡ Some sign → is_both line from ≡ false
+    → item_at false line (from + width_of sign) ≡ item → StandsBehind (from + width_of sign) (length line) item → is_taken sign read ≡ false
+    → GoesOn next line after from → named next line sign read item ≡ Ok after → Parts line from read after
+named-parts next line read after from sign (Word start to) found single same stands free goes e =
+    signed-parts next line read after from sign (Word start to) to found single same refl (omega (arith, stands.0, stands.1)) stands.2 free goes e
+named-parts next line read after from sign (Quoted start to) found single same stands free goes e =
+    signed-parts next line read after from sign (Quoted start to) (to + 1) found single same refl (omega (arith, stands.0, stands.1)) (omega (arith, stands.2)) free goes e
+named-parts next line read after from sign (Equal at) found single same stands free goes e = cc
+named-parts next line read after from sign (End at) found single same stands free goes e = cc
+named-parts next line read after from sign (Unmatched start) found single same stands free goes e = cc
 
 redirected-parts : (next : ℕ → Cut → Result Cut LineFault) (line : List ℕ) (read after : Cut) (from : ℕ) (sign : Sign)
-    → IsSignAt line from (Some sign) → GoesOn next line after from → redirected next line from read sign ≡ Ok after → Parts (drop from line) read after
-redirected-parts next line read after from sign here goes =
-    let P : Result Cut LineFault → Type 0 = λ r. r ≡ Ok after → Parts (drop from line) read after in
+    → sign_at line from ≡ Some sign → is_both line from ≡ false
+    → GoesOn next line after from → redirected next line from read sign ≡ Ok after → Parts line from read after
+redirected-parts next line read after from sign found single goes =
+    let P : Result Cut LineFault → Type 0 = λ r. r ≡ Ok after → Parts line from read after in
     cond_both (is_taken sign read) (Err TooManyArguments) _ P (λ _ e. cc)
-    (λ free e. named-parts next line read after from sign _ here (item-behind false line (from + width_of sign)) free goes e)
+    (λ free e. named-parts next line read after from sign _ found single refl (item-behind false line (from + width_of sign)) free goes e)
 
 -- a word
 sign-parts : (next : ℕ → Cut → Result Cut LineFault) (line : List ℕ) (read after : Cut) (place from to : ℕ) (sign : Option Sign)
-    → IsSignAt line from sign → place ≤ from → from < to → to ≤ length line → GoesOn next line after place
-    → by_sign next line place read from to sign ≡ Ok after → Parts (drop place line) read after
-sign-parts next line read after place from to (Some sign) here before long within goes e =
-    then-parts _ (bytes_between line place from) (drop from line) read (with_blanks read.command (bytes_between line place from) read) after
-    (blank-parts _ read read.command refl)
-    (redirected-parts next line _ after from sign here (on-later next line after place from before goes) e)
-    (between line place from before)
-sign-parts next line read after place from to None here before long within goes e =
-    then-parts _ (bytes_between line place to) (drop to line) read (with_piece read.command (value_of line (Word from to)) (bytes_between line place to) read) after
-    (piece-parts _ _ read read.command refl)
-    (goes to _ (omega arith) within e)
-    (between line place to (omega arith))
-
-word-parts : (next : ℕ → Cut → Result Cut LineFault) (line : List ℕ) (read after : Cut) (place from to : ℕ)
+    → sign_at line from ≡ sign → is_both line from ≡ false → item_at true line place ≡ Word from to
     → place ≤ from → from < to → to ≤ length line → GoesOn next line after place
-    → cut_word next line place read from to ≡ Ok after → Parts (drop place line) read after
-word-parts next line read after place from to before long within goes =
-    let P : Result Cut LineFault → Type 0 = λ r. r ≡ Ok after → Parts (drop place line) read after in
+    → by_sign next line place read from to sign ≡ Ok after → Parts line place read after
+sign-parts next line read after place from to (Some sign) found single same before long within goes e =
+    let bytes = bytes_between line place from in
+    let spans = spans-between line place from before (omega arith) in
+    blank-parts line place from bytes read after read.command refl spans
+    (rw same (omega (arith, spans.1)))
+    (redirected-parts next line _ after from sign found single (on-later next line after place from before goes) e)
+sign-parts next line read after place from to None found single same before long within goes e =
+    let spans = spans-between line place to (omega arith) within in
+    kept-parts line place to (bytes_between line place to) _ read after read.command refl spans
+    (rw same (spans.1, refl, unsigned line from found))
+    (goes to _ (omega arith) within e)
+
+word-parts : (next : ℕ → Cut → Result Cut LineFault) (line : List ℕ) (read after : Cut) (place from to : ℕ) → item_at true line place ≡ Word from to
+    → place ≤ from → from < to → to ≤ length line → GoesOn next line after place
+    → cut_word next line place read from to ≡ Ok after → Parts line place read after
+word-parts next line read after place from to same before long within goes =
+    let P : Result Cut LineFault → Type 0 = λ r. r ≡ Ok after → Parts line place read after in
     cond_both (is_both line from) (Err NotImplemented) _ P (λ _ e. cc)
-    (λ _ e. sign-parts next line read after place from to (sign_at line from) (sign-here line from) before long within goes e)
+    (λ single e. sign-parts next line read after place from to (sign_at line from) refl single same before long within goes e)
 
--- an item that is a piece
-whole-parts : (next : ℕ → Cut → Result Cut LineFault) (line : List ℕ) (read after : Cut) (place to : ℕ) (value : List ℕ)
-    → place < to → to ≤ length line → GoesOn next line after place
-    → next to (with_piece read.command value (bytes_between line place to) read) ≡ Ok after → Parts (drop place line) read after
-whole-parts next line read after place to value above within goes e =
-    then-parts _ (bytes_between line place to) (drop to line) read _ after
-    (piece-parts _ value read read.command refl) (goes to _ above within e) (between line place to (omega arith))
-
-item-parts : (next : ℕ → Cut → Result Cut LineFault) (line : List ℕ) (read after : Cut) (place : ℕ) (item : Item)
-    → StandsBehind place (length line) item → GoesOn next line after place
-    → cut_item next line place read item ≡ Ok after → Parts (drop place line) read after
-item-parts next line read after place (Word from to) stands goes e =
-    word-parts next line read after place from to stands.0 stands.1 stands.2 goes e
-item-parts next line read after place (Quoted from to) stands goes e =
-    whole-parts next line read after place (to + 1) _ (omega (arith, stands.0, stands.1)) (omega (arith, stands.2)) goes e
-item-parts next line read after place (Equal at) stands goes e =
-    whole-parts next line read after place (at + 1) _ (omega (arith, stands.0)) (omega (arith, stands.1)) goes e
-item-parts next line read after place (End at) stands goes e =
-    let same : with_blanks read.command (drop place line) read ≡ after = cc in
-    let P : Cut → Type 0 = λ it. Parts (drop place line) read it in
-    subst P same (blank-parts (drop place line) read read.command refl)
-item-parts next line read after place (Unmatched from) stands goes e = cc
+-- any item
+item-parts : (next : ℕ → Cut → Result Cut LineFault) (line : List ℕ) (read after : Cut) (place : ℕ) (item : Item) → item_at true line place ≡ item
+    → place ≤ length line → StandsBehind place (length line) item → GoesOn next line after place
+    → cut_item next line place read item ≡ Ok after → Parts line place read after
+item-parts next line read after place (Word from to) same inside stands goes e =
+    word-parts next line read after place from to same stands.0 stands.1 stands.2 goes e
+item-parts next line read after place (Quoted from to) same inside stands goes e =
+    let spans = spans-between line place (to + 1) (omega (arith, stands.0, stands.1)) (omega (arith, stands.2)) in
+    kept-parts line place (to + 1) _ _ read after read.command refl spans (rw same (spans.1, refl, refl))
+    (goes (to + 1) _ (omega (arith, stands.0, stands.1)) (omega (arith, stands.2)) e)
+item-parts next line read after place (Equal at) same inside stands goes e =
+    let spans = spans-between line place (at + 1) (omega (arith, stands.0)) (omega (arith, stands.1)) in
+    kept-parts line place (at + 1) _ _ read after read.command refl spans (rw same (spans.1, refl, refl))
+    (goes (at + 1) _ (omega (arith, stands.0)) (omega (arith, stands.1)) e)
+item-parts next line read after place (End at) same inside stands goes e =
+    let equal : with_blanks read.command (drop place line) read ≡ after = cc in
+    let P : Cut → Type 0 = λ it. Parts line place read it in
+    let spans = spans-rest line place inside in
+    subst P equal (blank-parts line place (length line) _ read _ read.command refl spans (rw same spans.1) (none-left line _))
+item-parts next line read after place (Unmatched from) same inside stands goes e = cc
 
 parts-from : (n : ℕ) (line : List ℕ) (place : ℕ) (read after : Cut) → place ≤ length line → length line < n + place
-    → cut_from n line place read ≡ Ok after → Parts (drop place line) read after
+    → cut_from n line place read ≡ Ok after → Parts line place read after
 parts-from zero line place read after within enough e = absurd (omega arith)
 parts-from (suc n) line place read after within enough e =
-    item-parts (cut_from n line) line read after place (item_at true line place) (item-behind true line place)
+    item-parts (cut_from n line) line read after place (item_at true line place) refl within (item-behind true line place)
     (λ to more above end h. parts-from n line to more after end (omega arith) h) e
 
 came-parts : (raw : List ℕ) (read : Cut) (command : Option (List ℕ)) → read.command ≡ command
-    → Parts (without_comment raw) nothing_read read → IsInPieces raw (came_to command read)
-came-parts raw read None e p = tt
+    → Parts (without_comment raw) 0 nothing_read read → IsInPieces raw (came_to command read)
+came-parts raw read None e p = let a = p.1 in (p.0, record { joined = a.joined; placed = a.placed }, sym a.command ∙ e)
 came-parts raw read (Some text) e p =
     let a = p.1 in (
       p.0,
+      record { joined = a.joined; placed = a.placed },
       record {
-        joined = a.joined;
-        command = sym a.command ∙ ap option_to_list e;
+        command = sym a.command ∙ e;
         args = sym a.args;
         input = sym a.input;
         output = sym a.output;

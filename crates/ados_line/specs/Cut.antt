@@ -1,6 +1,7 @@
 -- The cut of a line: its command, its arguments, and the redirections of its input and its output. The pieces
 -- that are no redirection stay, as they stand, in the arguments.
-use Rattle.std.specs.Prelude.{◌≡◌, ◌⊎◌, ℕ, zero, suc, ◌+◌, List, [], ◌∷◌, ◌++◌, Bool, true, false, nat_lt, Option, Some, None, is_some, Result, Ok, Err, length, drop, if◌then◌else◌}
+use Rattle.std.specs.Prelude.{◌≡◌, ◌⊎◌, ℕ, zero, suc, ◌+◌, [], ◌∷◌, ◌++◌, Bool, true, false, nat_lt, Option, Some, None, is_some, Result, Ok, Err, length, drop, if◌then◌else◌}
+use Rattle.ados_text.specs.Text.{Text}
 use Rattle.ados_items.specs.declared.items.Item.{Item}
 use Rattle.ados_items.specs.declared.items.Item.TheVariants.{Word, Quoted, Equal, End, Unmatched}
 use Rattle.ados_items.specs.Items.{item_at, value_of, bytes_between}
@@ -14,24 +15,28 @@ use Rattle.ados_line.specs.declared.lines.Expanded.TheVariants.{Nothing, Ready}
 use Rattle.ados_line.specs.Comment.{without_comment}
 use Rattle.ados_line.specs.Signs.{is_both, sign_at, width_of}
 
+-- how the cut goes on from a place, behind what was read
+abbrev pub Next : Type 0
+Next = ℕ → Cut → Result Cut LineFault
+
 -- the first item is the command, and each further piece of the line joins the arguments
-abbrev pub with_piece : Option (List ℕ) → List ℕ → List ℕ → Cut → Cut
+abbrev pub with_piece : Option Text → Text → Text → Cut → Cut
 with_piece None value piece read = record read { command = Some value }
 with_piece (Some command) value piece read = record read { args = read.args ++ piece }
 
 -- blanks in front of the command are dropped
-abbrev pub with_blanks : Option (List ℕ) → List ℕ → Cut → Cut
+abbrev pub with_blanks : Option Text → Text → Cut → Cut
 with_blanks None blanks read = read
 with_blanks (Some command) blanks read = record read { args = read.args ++ blanks }
 
 -- the name of an input or an output
-abbrev pub with_name : Sign → List ℕ → Cut → Cut
+abbrev pub with_name : Sign → Text → Cut → Cut
 with_name Input name read = record read { input = Some name }
 with_name Output name read = record read { output = Some (record { name = name; append = false }) }
 with_name Append name read = record read { output = Some (record { name = name; append = true }) }
 
 -- a redirection by the item behind its sign: a quoted item, or a run up to a blank or `;`
-abbrev pub named : (ℕ → Cut → Result Cut LineFault) → List ℕ → Sign → Cut → Item → Result Cut LineFault
+abbrev pub named : Next → Text → Sign → Cut → Item → Result Cut LineFault
 named next line sign read (Word from to) = next to (with_name sign (value_of line (Word from to)) read)
 named next line sign read (Quoted from to) = next (to + 1) (with_name sign (value_of line (Quoted from to)) read)
 named next line sign read (Unmatched from) = Err UnmatchedQuotes
@@ -44,22 +49,22 @@ is_taken Output read = is_some read.output
 is_taken Append read = is_some read.output
 
 -- the redirection whose sign stands at a place; the blanks in front of it were read
-abbrev pub redirected : (ℕ → Cut → Result Cut LineFault) → List ℕ → ℕ → Cut → Sign → Result Cut LineFault
+abbrev pub redirected : Next → Text → ℕ → Cut → Sign → Result Cut LineFault
 redirected next line place read sign =
     if is_taken sign read then Err TooManyArguments else named next line sign read (item_at false line (place + width_of sign))
 
 -- a word that may begin with a sign: a redirection, or a piece
-abbrev pub by_sign : (ℕ → Cut → Result Cut LineFault) → List ℕ → ℕ → Cut → ℕ → ℕ → Option Sign → Result Cut LineFault
+abbrev pub by_sign : Next → Text → ℕ → Cut → ℕ → ℕ → Option Sign → Result Cut LineFault
 by_sign next line place read from to (Some sign) = redirected next line from (with_blanks read.command (bytes_between line place from) read) sign
 by_sign next line place read from to None = next to (with_piece read.command (value_of line (Word from to)) (bytes_between line place to) read)
 
 -- a word
-abbrev pub cut_word : (ℕ → Cut → Result Cut LineFault) → List ℕ → ℕ → Cut → ℕ → ℕ → Result Cut LineFault
+abbrev pub cut_word : Next → Text → ℕ → Cut → ℕ → ℕ → Result Cut LineFault
 cut_word next line place read from to =
     if is_both line from then Err NotImplemented else by_sign next line place read from to (sign_at line from)
 
 -- an item of the line, behind a place up to which this was read
-abbrev pub cut_item : (ℕ → Cut → Result Cut LineFault) → List ℕ → ℕ → Cut → Item → Result Cut LineFault
+abbrev pub cut_item : Next → Text → ℕ → Cut → Item → Result Cut LineFault
 cut_item next line place read (Word from to) = cut_word next line place read from to
 cut_item next line place read (Quoted from to) =
     next (to + 1) (with_piece read.command (value_of line (Quoted from to)) (bytes_between line place (to + 1)) read)
@@ -69,19 +74,19 @@ cut_item next line place read (End at) = Ok (with_blanks read.command (drop plac
 cut_item next line place read (Unmatched from) = Err UnmatchedQuotes
 
 -- the items from a place on, at most so many
-abbrev pub cut_from : ℕ → List ℕ → ℕ → Cut → Result Cut LineFault
+abbrev pub cut_from : ℕ → Text → ℕ → Cut → Result Cut LineFault
 cut_from zero line place read = Ok read
 cut_from (suc count) line place read = cut_item (cut_from count line) line place read (item_at true line place)
 
 abbrev pub nothing_read : Cut
 nothing_read = record { command = None; args = []; input = None; output = None }
 
--- the cut of a line, or the fault that stands first in it; a line has no more items than bytes
-abbrev pub cut_of : List ℕ → Result Cut LineFault
+-- The cut of a line, or the fault that stands first in it. A line has no more items than bytes.
+abbrev pub cut_of : Text → Result Cut LineFault
 cut_of line = cut_from (length line + 1) line 0 nothing_read
 
 -- a line without a command asks for nothing
-abbrev pub came_to : Option (List ℕ) → Cut → Expanded
+abbrev pub came_to : Option Text → Cut → Expanded
 came_to None read = Nothing
 came_to (Some command) read = Ready (record { command = command; args = read.args; input = read.input; output = read.output })
 
@@ -89,10 +94,10 @@ abbrev pub expanded_by : Result Cut LineFault → Result Expanded LineFault
 expanded_by (Ok read) = Ok (came_to read.command read)
 expanded_by (Err fault) = Err fault
 
--- what a raw line comes to: it has at most 512 bytes, its comment is dropped, and the rest is cut
-abbrev pub expanded_of : List ℕ → Result Expanded LineFault
+-- What a raw line comes to: it has at most 512 bytes, its comment is dropped, and the rest is cut.
+abbrev pub expanded_of : Text → Result Expanded LineFault
 expanded_of raw = if nat_lt 512 (length raw) then Err LineTooLong else expanded_by (cut_of (without_comment raw))
 
--- the answer is the definition's, or memory was wanting
-abbrev pub IsExpanded : Result Expanded LineFault → List ℕ → Type 0
+-- The answer is the definition's, or memory was wanting.
+abbrev pub IsExpanded : Result Expanded LineFault → Text → Type 0
 IsExpanded result raw = (result ≡ Err NoMemory) ⊎ (result ≡ expanded_of raw)

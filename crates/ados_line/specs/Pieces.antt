@@ -1,6 +1,10 @@
--- A line as its pieces, in order: those that are taken out of it, and those that stay in the arguments.
-use Rattle.std.specs.Prelude.{◌≡◌, ℕ, List, [], ◌∷◌, ◌++◌, true, false, option_to_list}
+-- A line as its pieces, in order: what is kept of it, and the redirections that are taken out.
+use Rattle.std.specs.Prelude.{◌≡◌, ℕ, ◌+◌, ◌≤◌, ◌<◌, List, [], ◌∷◌, ◌++◌, Bool, true, false, ◌||◌, Option, Some, None, length, option_to_list}
 use Rattle.std.specs.List.{flat_map}
+use Rattle.ados_text.specs.Text.{Text}
+use Rattle.ados_items.specs.declared.items.Item.{Item}
+use Rattle.ados_items.specs.declared.items.Item.TheVariants.{Word, Quoted, Equal, End, Unmatched}
+use Rattle.ados_items.specs.Items.{item_at, value_of}
 use Rattle.ados_line.specs.declared.signs.Sign.{Sign}
 use Rattle.ados_line.specs.declared.signs.Sign.TheVariants.{Input, Output, Append}
 use Rattle.ados_line.specs.declared.lines.Redirection.{Redirection}
@@ -8,67 +12,122 @@ use Rattle.ados_line.specs.declared.lines.Line.{Line}
 use Rattle.ados_line.specs.declared.lines.Expanded.{Expanded}
 use Rattle.ados_line.specs.declared.lines.Expanded.TheVariants.{Nothing, Ready}
 use Rattle.ados_line.specs.Comment.{without_comment}
+use Rattle.ados_line.specs.Signs.{begins, is_both, sign_at, width_of}
 
--- a piece of a line, as it is written, with the text that it stands for
+-- A piece of a line, as it is written: bytes in which no item begins; an item with the blanks in front of it, and its
+-- text; or a redirection, by its sign, what stands behind the sign, and the name.
 pub data Piece : Type 0 where
-  Front : List ℕ → Piece
-  Command : List ℕ → List ℕ → Piece
-  Kept : List ℕ → Piece
-  Redirected : Sign → List ℕ → List ℕ → Piece
+  Blank : Text → Piece
+  Kept : Text → Text → Piece
+  Redirected : Sign → Text → Text → Piece
 
 -- the bytes of a sign
-abbrev pub sign_bytes : Sign → List ℕ
+abbrev pub sign_bytes : Sign → Text
 sign_bytes Input = 60 ∷ []
 sign_bytes Output = 62 ∷ []
 sign_bytes Append = 62 ∷ 62 ∷ []
 
--- the bytes of a piece; a redirection's are its sign and what stands behind it, up to its name's end
-abbrev pub written : Piece → List ℕ
-written (Front blanks) = blanks
-written (Command bytes text) = bytes
-written (Kept bytes) = bytes
+-- the bytes of a piece
+abbrev pub written : Piece → Text
+written (Blank bytes) = bytes
+written (Kept bytes text) = bytes
 written (Redirected sign behind name) = sign_bytes sign ++ behind
 
+-- an item ends at a place: neither the line's end nor an open quote does
+abbrev pub EndsAt : ℕ → Item → Type 0
+EndsAt place (Word from to) = place ≡ to
+EndsAt place (Quoted from to) = place ≡ to + 1
+EndsAt place (Equal at) = place ≡ at + 1
+EndsAt place (End at) = ⊥
+EndsAt place (Unmatched from) = ⊥
+
+-- no item begins before a place: where none is left, the place is the line's end
+abbrev pub StopsBefore : Text → ℕ → Item → Type 0
+StopsBefore line place (Word from to) = place ≤ from
+StopsBefore line place (Quoted from to) = place < from
+StopsBefore line place (Equal at) = place ≤ at
+StopsBefore line place (End at) = place ≡ length line
+StopsBefore line place (Unmatched from) = place < from
+
+-- an item is a word that begins with the sign of a redirection, at a word's start
+abbrev pub is_signed : Text → Item → Bool
+is_signed line (Word from to) = begins line 60 from || begins line 62 from
+is_signed line (Quoted from to) = false
+is_signed line (Equal at) = false
+is_signed line (End at) = false
+is_signed line (Unmatched from) = false
+
+-- What a piece is that stands at a place of the line: no item begins in blanks; a piece that is kept ends with the item
+-- there, which begins with no sign; a redirection is the longest sign, with the item behind it, whose text is the name.
+abbrev pub IsPieceAt : Text → ℕ → Piece → Type 0
+IsPieceAt line place (Blank bytes) = StopsBefore line (place + length bytes) (item_at true line place)
+IsPieceAt line place (Kept bytes text) =
+    let item = item_at true line place in
+    EndsAt (place + length bytes) item × (text ≡ value_of line item) × (is_signed line item ≡ false)
+IsPieceAt line place (Redirected sign behind name) =
+    let item = item_at false line (place + width_of sign) in
+    (sign_at line place ≡ Some sign) × (is_both line place ≡ false) × EndsAt (place + width_of sign + length behind) item × (name ≡ value_of line item)
+
+-- the pieces stand in the line from a place on, one behind another
+abbrev pub Stand : Text → ℕ → List Piece → Type 0
+Stand line place [] = Unit {0}
+Stand line place (piece ∷ pieces) = IsPieceAt line place piece × Stand line (place + length (written piece)) pieces
+
+-- the pieces are the line, in order
+pub record ArePieces (line : Text) (pieces : List Piece) : Type 0 where
+  pub joined : flat_map written pieces ≡ line
+  pub placed : Stand line 0 pieces
+
 -- what a piece leaves in the arguments
-abbrev pub kept : Piece → List ℕ
-kept (Kept bytes) = bytes
-kept _ = []
+abbrev pub kept : Piece → Text
+kept (Blank bytes) = bytes
+kept (Kept bytes text) = bytes
+kept (Redirected sign behind name) = []
 
--- the command, where the piece is one
-abbrev pub commands : Piece → List (List ℕ)
-commands (Command bytes text) = text ∷ []
-commands _ = []
+-- the command is the first item that is kept
+abbrev pub command_of : List Piece → Option Text
+command_of [] = None
+command_of (Blank bytes ∷ pieces) = command_of pieces
+command_of (Kept bytes text ∷ pieces) = Some text
+command_of (Redirected sign behind name ∷ pieces) = command_of pieces
 
-abbrev pub input_by : Sign → List ℕ → List (List ℕ)
+-- the arguments are what is kept behind the command, joined as it stands
+abbrev pub args_of : List Piece → Text
+args_of [] = []
+args_of (Blank bytes ∷ pieces) = args_of pieces
+args_of (Kept bytes text ∷ pieces) = flat_map kept pieces
+args_of (Redirected sign behind name ∷ pieces) = args_of pieces
+
+abbrev pub input_by : Sign → Text → List Text
 input_by Input name = name ∷ []
 input_by Output name = []
 input_by Append name = []
 
-abbrev pub output_by : Sign → List ℕ → List Redirection
+abbrev pub output_by : Sign → Text → List Redirection
 output_by Input name = []
 output_by Output name = record { name = name; append = false } ∷ []
 output_by Append name = record { name = name; append = true } ∷ []
 
 -- the input, where the piece names one
-abbrev pub inputs : Piece → List (List ℕ)
+abbrev pub inputs : Piece → List Text
+inputs (Blank bytes) = []
+inputs (Kept bytes text) = []
 inputs (Redirected sign behind name) = input_by sign name
-inputs _ = []
 
 -- the output, where the piece names one
 abbrev pub outputs : Piece → List Redirection
+outputs (Blank bytes) = []
+outputs (Kept bytes text) = []
 outputs (Redirected sign behind name) = output_by sign name
-outputs _ = []
 
--- the pieces are the line without its comment, in order; the arguments are those that are kept, joined as they
--- stand; one of the others is the command, at most one the input, and at most one the output
-pub record IsJoined (raw : List ℕ) (line : Line) (pieces : List Piece) : Type 0 where
-  pub joined : flat_map written pieces ≡ without_comment raw
-  pub command : flat_map commands pieces ≡ line.command ∷ []
-  pub args : flat_map kept pieces ≡ line.args
+-- A line is what its pieces say: the redirections are at most one input and at most one output.
+pub record IsSaid (line : Line) (pieces : List Piece) : Type 0 where
+  pub command : command_of pieces ≡ Some line.command
+  pub args : args_of pieces ≡ line.args
   pub input : flat_map inputs pieces ≡ option_to_list line.input
   pub output : flat_map outputs pieces ≡ option_to_list line.output
 
--- a line that was cut is made of pieces
-abbrev pub IsInPieces : List ℕ → Expanded → Type 0
-IsInPieces raw Nothing = Unit {0}
-IsInPieces raw (Ready line) = (pieces : List Piece) × IsJoined raw line pieces
+-- What a raw line came to is made of the pieces of it without its comment; where it asks for nothing no item is kept.
+abbrev pub IsInPieces : Text → Expanded → Type 0
+IsInPieces raw Nothing = (pieces : List Piece) × ArePieces (without_comment raw) pieces × (command_of pieces ≡ None)
+IsInPieces raw (Ready line) = (pieces : List Piece) × ArePieces (without_comment raw) pieces × IsSaid line pieces

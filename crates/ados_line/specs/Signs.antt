@@ -1,18 +1,19 @@
 -- The sign of a redirection: `<`, `>` or `>>` at a word's start.
-use Rattle.std.specs.Prelude.{ℕ, ◌+◌, ◌-◌, List, Bool, not, ◌==◌, ◌&&◌, ◌||◌, nat_lt, Option, Some, None, slice_index, if◌then◌else◌}
+use Rattle.std.specs.Prelude.{ℕ, ◌+◌, ◌-◌, Bool, not, ◌==◌, ◌&&◌, ◌||◌, nat_lt, Option, Some, None, slice_index, if◌then◌else◌}
+use Rattle.ados_text.specs.Text.{Text}
 use Rattle.ados_line.specs.declared.signs.Sign.{Sign}
 use Rattle.ados_line.specs.declared.signs.Sign.TheVariants.{Input, Output, Append}
 
 -- the byte at a place is this one, at the start of a word: a byte behind `=` goes on with a word
-abbrev pub begins : List ℕ → ℕ → ℕ → Bool
+abbrev pub begins : Text → ℕ → ℕ → Bool
 begins line byte place = (slice_index line place == byte) && not (nat_lt 0 place && (slice_index line (place - 1) == 61))
 
 -- `<>` at a place, which is neither an input nor an output
-abbrev pub is_both : List ℕ → ℕ → Bool
+abbrev pub is_both : Text → ℕ → Bool
 is_both line place = begins line 60 place && (slice_index line (place + 1) == 62)
 
--- the sign at a place, if one stands there
-abbrev pub sign_at : List ℕ → ℕ → Option Sign
+-- The sign at a place, if one stands there at a word's start; `>>` is one sign.
+abbrev pub sign_at : Text → ℕ → Option Sign
 sign_at line place =
     if begins line 60 place then Some Input else
     (if begins line 62 place then (if slice_index line (place + 1) == 62 then Some Append else Some Output) else None)

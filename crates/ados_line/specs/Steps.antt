@@ -1,14 +1,16 @@
 -- What one step of the cut of a line says of the whole.
-use Rattle.std.specs.Prelude.{◌≡◌, ◌⊎◌, ℕ, List, Some, None, Result, Ok, Err}
+use Rattle.std.specs.Prelude.{◌≡◌, ◌⊎◌, Some, None, Result, Ok, Err}
+use Rattle.ados_text.specs.Text.{Text}
 use Rattle.ados_line.specs.declared.faults.LineFault.{LineFault}
 use Rattle.ados_line.specs.declared.faults.LineFault.TheVariants.{NoMemory}
 use Rattle.ados_line.specs.declared.cuts.Cut.{Cut}
 use Rattle.ados_line.specs.declared.cuts.Reading.{Reading}
 use Rattle.ados_line.specs.declared.cuts.Reading.TheVariants.{Onward, Done}
+use Rattle.ados_line.specs.Cut.{Next}
 
 -- with what was read, the cut goes on with `next` from a place, or is done, or has this fault, unless memory was
 -- wanting
-abbrev pub Goes : (ℕ → Cut → Result Cut LineFault) → Result Reading LineFault → Cut → Result Cut LineFault → Type 0
+abbrev pub Goes : Next → Result Reading LineFault → Cut → Result Cut LineFault → Type 0
 Goes next (Ok (Onward to)) read whole = whole ≡ next to read
 Goes next (Ok Done) read whole = whole ≡ Ok read
 Goes next (Err fault) read whole = (fault ≡ NoMemory) ⊎ (whole ≡ Err fault)
@@ -18,5 +20,5 @@ abbrev pub IsCut : Result Cut LineFault → Result Cut LineFault → Type 0
 IsCut result whole = (result ≡ Err NoMemory) ⊎ (result ≡ whole)
 
 -- a line of a command and its arguments alone
-abbrev pub with_arguments : List ℕ → List ℕ → Cut
+abbrev pub with_arguments : Text → Text → Cut
 with_arguments command args = record { command = Some command; args = args; input = None; output = None }

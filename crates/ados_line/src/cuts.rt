@@ -1,10 +1,8 @@
-ghost use Rattle.std.specs.Prelude.{◌≡◌, ℕ, ◌≤◌, true, false, length, drop, Result, Ok, IfOk, OnOk};
+ghost use Rattle.std.specs.Prelude.{◌≡◌, ◌≤◌, true, false, length, drop, Ok, IfOk, OnOk};
 ghost use Rattle.std.specs.List.{list_any};
 ghost use Rattle.ados_text.specs.Text.{IsText};
 ghost use Rattle.ados_items.specs.Items.{item_at, value_of, bytes_between, IsWithin};
-ghost use Rattle.ados_line.specs.declared.faults.LineFault.{LineFault};
-ghost use Rattle.ados_line.specs.declared.cuts.Cut.{Cut};
-ghost use Rattle.ados_line.specs.Cut.{with_piece, with_blanks, with_name, named, is_taken, redirected, cut_word, cut_item, cut_of, nothing_read};
+ghost use Rattle.ados_line.specs.Cut.{Next, with_piece, with_blanks, with_name, named, is_taken, redirected, cut_word, cut_item, cut_of, nothing_read};
 ghost use Rattle.ados_line.specs.Signs.{is_mark};
 ghost use Rattle.ados_line.specs.Steps.{Goes, IsCut, with_arguments};
 
@@ -125,7 +123,7 @@ impl Cut {
         item: &Item,
     ) -> Result<Reading, LineFault>
         requires { IsWithin line.now item.now }
-        ensures { (next : ℕ → Cut → Result Cut LineFault) → Goes next result self.new (named next line.now sign self.old item.now) }
+        ensures { (next : Next) → Goes next result self.new (named next line.now sign self.old item.now) }
     {
         match *item {
             Item::Word { to, .. } => {
@@ -162,7 +160,7 @@ impl Cut {
         sign: Sign,
     ) -> Result<Reading, LineFault>
         requires { place ≤ length line.now }
-        ensures { (next : ℕ → Cut → Result Cut LineFault) → Goes next result self.new (redirected next line.now place self.old sign) }
+        ensures { (next : Next) → Goes next result self.new (redirected next line.now place self.old sign) }
     {
         if self.is_taken(sign) {
             return Err(LineFault::TooManyArguments);
@@ -182,7 +180,7 @@ impl Cut {
     ) -> Result<Reading, LineFault>
         requires ascii { IsText line.now }
         requires within { from ≤ length line.now }
-        ensures { (next : ℕ → Cut → Result Cut LineFault) → Goes next result self.new (cut_word next line.now place self.old from to) }
+        ensures { (next : Next) → Goes next result self.new (cut_word next line.now place self.old from to) }
     {
         if is_both(line, from) {
             return Err(LineFault::NotImplemented);
@@ -202,7 +200,7 @@ impl Cut {
     // The item at a place up to which the line was read.
     fn take_item(&mut self, alloc: Global, line: &[u8], place: usize) -> Result<Reading, LineFault>
         requires { IsText line.now }
-        ensures { (next : ℕ → Cut → Result Cut LineFault) →
+        ensures { (next : Next) →
             Goes next result self.new (cut_item next line.now place self.old (item_at true line.now place)) }
     {
         let item = next_item(line, place);

@@ -64,8 +64,10 @@ pub enum Expanded {
 ///
 /// `LineTooLong` comes first; of the other faults the one that stands first in the line. At one
 /// place a second input or output comes before a missing name, and that before an open quote; `<>`
-/// counts as neither and is not implemented. The arguments are pieces of the line as they stand: the
-/// line is these, the command and the redirections, in order.
+/// counts as neither and is not implemented. The line is its pieces, in order: the items that are
+/// kept, of which none begins with the sign of a redirection, the blanks between them, and the
+/// redirections, each a sign with the item behind it, whose text is the name. The first item that is
+/// kept is the command, and what is kept behind it the arguments, as it stands.
 pub fn expand(alloc: Global, raw: &Text) -> Result<Expanded, LineFault>
     ensures value { IsExpanded result raw.now }
     ensures long { 512 < length raw.now → result ≡ Err LineFault.LineTooLong }

@@ -1,5 +1,7 @@
-use Rattle.std.specs.Prelude.{ℕ, List, [], ◌∷◌, Bool, true, false, ◌&&◌, ◌||◌, not}
+-- The tests of filled options: none with /A lacks a value, and what /N holds are numbers.
+use Rattle.std.specs.Prelude.{List, [], ◌∷◌, Bool, true, false, ◌&&◌, ◌||◌, not}
 use Rattle.std.specs.List.{list_any}
+use Rattle.ados_text.specs.Text.{Text}
 use Rattle.ados_text.specs.Number.{is_number}
 use Rattle.ados_readargs.specs.declared.options.TemplateOption.{TemplateOption}
 use Rattle.ados_readargs.specs.declared.args.Arg.{Arg}
@@ -23,7 +25,7 @@ lacks (option ∷ options) [] = false
 lacks (option ∷ options) (arg ∷ args) = is_lacking option arg || lacks options args
 
 -- the text is no number
-abbrev pub is_bad_text : List ℕ → Bool
+abbrev pub is_bad_text : Text → Bool
 is_bad_text text = not (is_number text)
 
 -- one of the texts of an argument is no number

@@ -1,3 +1,4 @@
+-- The faults of templates and of lines that do not fill them, and the numbers by which commands answer.
 use Rattle.std.specs.Prelude.{◌≡◌, Option, None, Result, Ok, Err}
 use Rattle.ados_text.specs.declared.codes.Result2.{Result2}
 use Rattle.ados_text.specs.declared.errors.NoMemory.{NoMemory}

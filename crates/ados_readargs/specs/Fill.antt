@@ -1,4 +1,6 @@
-use Rattle.std.specs.Prelude.{ℕ, List, Bool, Option, Some, None, Result, Ok, Err, IfOk, if◌then◌else◌}
+-- What a line gives to the options of a template, or the first fault that holds.
+use Rattle.std.specs.Prelude.{List, Bool, Option, Some, None, Result, Ok, Err, IfOk, if◌then◌else◌}
+use Rattle.ados_text.specs.Text.{Bytes, Text}
 use Rattle.ados_readargs.specs.declared.errors.ArgFault.{ArgFault}
 use Rattle.ados_readargs.specs.declared.errors.ArgFault.TheVariants as fault
 use Rattle.ados_readargs.specs.declared.options.TemplateOption.{TemplateOption}
@@ -19,23 +21,23 @@ checked_args options left args =
     (if has_bad options args then Err fault.BadNumber else Ok args))
 
 -- the arguments by what the words of the line say
-abbrev pub args_read : List TemplateOption → List ℕ → Result Readings ArgFault → Result (List Arg) ArgFault
+abbrev pub args_read : List TemplateOption → Bytes → Result Readings ArgFault → Result (List Arg) ArgFault
 args_read options line (Err fault) = Err fault
 args_read options line (Ok readings) = checked_args options (is_left options readings) (args_of options line readings)
 
 -- the arguments that a line gives to options
-abbrev pub args_for : List TemplateOption → List ℕ → Result (List Arg) ArgFault
+abbrev pub args_for : List TemplateOption → Bytes → Result (List Arg) ArgFault
 args_for options line = args_read options line (read_of options line (line_words_of line))
 
 -- the same, where there are options
-abbrev pub fill_by : List ℕ → Option (List TemplateOption) → Result (List Arg) ArgFault
+abbrev pub fill_by : Bytes → Option (List TemplateOption) → Result (List Arg) ArgFault
 fill_by line None = Err fault.BadTemplate
 fill_by line (Some options) = args_for options line
 
--- the arguments that a line gives to the options of a template's text
-abbrev pub fill_of : List ℕ → List ℕ → Result (List Arg) ArgFault
+-- The arguments that a line gives to the options of a template's text, or the first fault that holds.
+abbrev pub fill_of : Text → Bytes → Result (List Arg) ArgFault
 fill_of template line = fill_by line (template_of template)
 
 -- each plain word of the line is taken by one option, in the order of the line
-abbrev pub LosesNoWord : List TemplateOption → List ℕ → Type 0
+abbrev pub LosesNoWord : List TemplateOption → Bytes → Type 0
 LosesNoWord options line = IfOk (read_of options line (line_words_of line)) (λ readings. TakesAll options readings)

@@ -6,5 +6,6 @@ pub mod Meanings
 pub mod Shares
 pub mod Args
 pub mod Checks
+pub mod Phrases
 pub mod Template
 pub mod Fill

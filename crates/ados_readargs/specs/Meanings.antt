@@ -1,5 +1,7 @@
+-- What each word of a line says, read from left to right, behind what was read before it.
 use Rattle.std.specs.Prelude.{ℕ, ◌+◌, ◌==◌, nat_lt, List, [], ◌∷◌, ◌++◌, Bool, false, ◌&&◌, ◌||◌, not, Option, Some, None, Result, Ok, Err, position, if◌then◌else◌}
 use Rattle.std.specs.List.{list_any}
+use Rattle.ados_text.specs.Text.{Bytes}
 use Rattle.ados_items.specs.Items.{is_blank, bytes_between}
 use Rattle.ados_items.specs.declared.items.Item.{Item}
 use Rattle.ados_items.specs.declared.items.Item.TheVariants as item
@@ -20,18 +22,18 @@ use Rattle.ados_readargs.specs.Words.{item_of, start_of, is_open_quote, is_equal
 use Rattle.ados_readargs.specs.Readings.{Readings, nothing_read, is_filled, first_vacant}
 
 -- a run whose first Word is the name, and which ends there or not, is a keyword of the option
-abbrev pub is_keyword : List ℕ → Bool → TemplateOption → Bool
+abbrev pub is_keyword : Bytes → Bool → TemplateOption → Bool
 is_keyword name whole option = has_name name option && (not option.qualifiers.rest && (whole || takes_value option.qualifiers))
 
 -- the option that a word is a keyword of
-abbrev pub keyword_of : List TemplateOption → List ℕ → LineWord → Option ℕ
+abbrev pub keyword_of : List TemplateOption → Bytes → LineWord → Option ℕ
 keyword_of options line (word.Run from key to) =
     if from == key then None else position (is_keyword (bytes_between line from key) (key == to)) options
 keyword_of options line (word.Quoted from to) = None
 keyword_of options line (word.Open from) = None
 
 -- the place behind the last byte that is no blank, or `end`, where the text stands at `place`
-abbrev pub trimmed_from : ℕ → ℕ → List ℕ → ℕ
+abbrev pub trimmed_from : ℕ → ℕ → Bytes → ℕ
 trimmed_from end place [] = end
 trimmed_from end place (c ∷ cs) = trimmed_from (if is_blank c then end else place + 1) (place + 1) cs
 
@@ -76,23 +78,27 @@ value_meaning full place equal word =
     (if equal && is_equal word then Wait place false else given_meaning full place (item_of word))
 
 -- what a word says that is not the rest of the line
-abbrev pub next_meaning : List TemplateOption → List ℕ → List Reading → LineWord → Option ℕ → Meaning
+abbrev pub next_meaning : List TemplateOption → Bytes → List Reading → LineWord → Option ℕ → Meaning
 next_meaning options line given word vacant =
     if is_open_quote word then Refuse fault.Unmatched else word_meaning options given vacant word (keyword_of options line word)
 
 -- the text from a word to the line's end, without the blanks there
-abbrev pub rest_of : List ℕ → LineWord → Item
+abbrev pub rest_of : Bytes → LineWord → Item
 rest_of line word = item.Word (start_of word) (trimmed_from 0 0 line)
 
 -- what a word says, by the first vacant option of a template with /F: where that is the /F, no other is vacant
-abbrev pub free_meaning : List TemplateOption → List ℕ → List Reading → LineWord → Option ℕ → Meaning
+abbrev pub free_meaning : List TemplateOption → Bytes → List Reading → LineWord → Option ℕ → Meaning
 free_meaning options line given word None = next_meaning options line given word None
 free_meaning options line given word (Some place) =
     if (qualifiers_at options place).rest then Stop (Given place (rest_of line word)) else next_meaning options line given word (Some place)
 
--- what a word says behind what is given so far; which option is vacant matters only to a template with /F
-abbrev pub meaning_of : List TemplateOption → List ℕ → List Reading → Pending → LineWord → Meaning
-meaning_of options line given Free word = free_meaning options line given word (if list_any is_rest options then first_vacant options given else None)
+-- in a template with /F, the first plain option that is open
+abbrev pub next_open : List TemplateOption → List Reading → Option ℕ
+next_open options given = if list_any is_rest options then first_vacant options given else None
+
+-- what a word says behind what is given so far; which option is open matters only to a template with /F
+abbrev pub meaning_of : List TemplateOption → Bytes → List Reading → Pending → LineWord → Meaning
+meaning_of options line given Free word = free_meaning options line given word (next_open options given)
 meaning_of options line given (Value place equal) word = value_meaning (is_full (qualifiers_at options place) (is_filled place given)) place equal word
 
 -- the readings where no word is left
@@ -109,7 +115,7 @@ read_behind next readings (Stop reading) = Ok (record readings { given = reading
 read_behind next readings (Refuse fault) = Err fault
 
 -- the readings of the words, behind the readings so far
-abbrev pub read_from : List TemplateOption → List ℕ → Readings → Pending → List LineWord → Result Readings ArgFault
+abbrev pub read_from : List TemplateOption → Bytes → Readings → Pending → List LineWord → Result Readings ArgFault
 read_from options line readings pending [] = read_end readings pending
 read_from options line readings pending (word ∷ words) =
     read_behind (λ more next. read_from options line more next words) readings (meaning_of options line readings.given pending word)
@@ -129,6 +135,6 @@ abbrev pub with_quotes : Bool → Result Readings ArgFault → Result Readings A
 with_quotes unclosed (Ok readings) = Ok readings
 with_quotes unclosed (Err fault) = Err (quotes_first unclosed fault)
 
--- what the words of a line say
-abbrev pub read_of : List TemplateOption → List ℕ → List LineWord → Result Readings ArgFault
+-- What the words of a line say, or the first fault: an open quote comes before a word too many.
+abbrev pub read_of : List TemplateOption → Bytes → List LineWord → Result Readings ArgFault
 read_of options line words = with_quotes (list_any is_open_quote words) (read_from options line nothing_read Free words)

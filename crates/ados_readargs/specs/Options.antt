@@ -1,11 +1,12 @@
+-- The options of a template: their names, and what their qualifiers make of them.
 use Rattle.std.specs.Prelude.{ℕ, List, Bool, false, ◌||◌, not, Option, Some, None, slice_get}
 use Rattle.std.specs.List.{list_any}
-use Rattle.ados_text.specs.Text.{is_same}
+use Rattle.ados_text.specs.Text.{Bytes, is_same}
 use Rattle.ados_readargs.specs.declared.options.Qualifiers.{Qualifiers}
 use Rattle.ados_readargs.specs.declared.options.TemplateOption.{TemplateOption}
 
 -- the option has the name
-abbrev pub has_name : List ℕ → TemplateOption → Bool
+abbrev pub has_name : Bytes → TemplateOption → Bool
 has_name name option = list_any (λ own. is_same own name) option.names
 
 -- the option has /F

@@ -1,3 +1,4 @@
+-- What the words of a line are read as: fillings of options, and plain words.
 use Rattle.std.specs.Prelude.{ℕ, ◌+◌, ◌==◌, List, [], ◌∷◌, Bool, false, ◌&&◌, not, Option, Some, None, if◌then◌else◌}
 use Rattle.std.specs.List.{list_any, filter_map, count_by}
 use Rattle.ados_items.specs.declared.items.Item.{Item}

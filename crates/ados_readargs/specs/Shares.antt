@@ -1,3 +1,4 @@
+-- How plain words are laid on the options that are open: in front of the /M, on it, and behind it.
 use Rattle.std.specs.Prelude.{◌≡◌, ℕ, zero, suc, ◌+◌, ◌-◌, ◌==◌, nat_lt, List, [], ◌∷◌, ◌++◌, Bool, true, false, ◌&&◌, ◌||◌, not, Option, Some, None, length, take, drop, position, if◌then◌else◌}
 use Rattle.ados_items.specs.declared.items.Item.{Item}
 use Rattle.ados_readargs.specs.declared.options.TemplateOption.{TemplateOption}
@@ -55,7 +56,7 @@ is_left_by (Some middle) options readings = false
 abbrev pub is_left : List TemplateOption → Readings → Bool
 is_left options readings = is_left_by (middle_of options) options readings
 
--- what the option at a place holds
+-- What the option at a place holds: what keywords give it, and behind that its plain words.
 abbrev pub held_items : List TemplateOption → Readings → ℕ → List Item
 held_items options readings place = given_items place readings.given ++ share_by (middle_of options) options readings place
 
@@ -64,6 +65,6 @@ abbrev pub shares_to : Option ℕ → ℕ → List TemplateOption → Readings �
 shares_to middle zero options readings = []
 shares_to middle (suc n) options readings = shares_to middle n options readings ++ share_by middle options readings n
 
--- each plain word is taken by one option, in the order of the line
+-- Each plain word is taken by one option, in the order of the line.
 abbrev pub TakesAll : List TemplateOption → Readings → Type 0
 TakesAll options readings = shares_to (middle_of options) (length options) options readings ≡ readings.plain

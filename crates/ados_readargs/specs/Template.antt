@@ -1,6 +1,7 @@
+-- The options of a template by its text, and which texts are templates.
 use Rattle.std.specs.Prelude.{ℕ, ◌-◌, ◌==◌, nat_lt, List, [], ◌∷◌, ◌++◌, Bool, true, false, ◌&&◌, ◌||◌, not, Option, Some, None, length, take, map, IsSome, if◌then◌else◌}
 use Rattle.std.specs.List.{slice_split, list_any, count_by}
-use Rattle.ados_text.specs.Text.{fold_of, to_ascii, is_same}
+use Rattle.ados_text.specs.Text.{Bytes, Text, fold_of, to_ascii, is_same}
 use Rattle.ados_readargs.specs.declared.options.Qualifiers.{Qualifiers}
 use Rattle.ados_readargs.specs.declared.options.TemplateOption.{TemplateOption}
 use Rattle.ados_readargs.specs.Options.{has_name, is_rest, unqualified}
@@ -17,7 +18,7 @@ with_letter c q =
     (if c == 102 && not q.rest then Some (record q { rest = true }) else None))))))
 
 -- the same by the text of a qualifier
-abbrev pub with_piece : List ℕ → Qualifiers → Option Qualifiers
+abbrev pub with_piece : Bytes → Qualifiers → Option Qualifiers
 with_piece [] q = None
 with_piece (c ∷ []) q = with_letter (fold_of c) q
 with_piece (c ∷ d ∷ more) q = None
@@ -28,7 +29,7 @@ letters_behind next None = None
 letters_behind next (Some q) = next q
 
 -- the qualifiers with those of the pieces
-abbrev pub qualifiers_from : Qualifiers → List (List ℕ) → Option Qualifiers
+abbrev pub qualifiers_from : Qualifiers → List Bytes → Option Qualifiers
 qualifiers_from q [] = Some q
 qualifiers_from q (piece ∷ pieces) = letters_behind (λ more. qualifiers_from more pieces) (with_piece piece q)
 
@@ -37,7 +38,7 @@ abbrev pub alone : ℕ → Qualifiers → Option Qualifiers
 alone count q = if (q.switch || q.toggle) && nat_lt 1 count then None else Some q
 
 -- the qualifiers that the pieces of an option say
-abbrev pub qualifiers_of_pieces : List (List ℕ) → Option Qualifiers
+abbrev pub qualifiers_of_pieces : List Bytes → Option Qualifiers
 qualifiers_of_pieces pieces = letters_behind (alone (length pieces)) (qualifiers_from unqualified pieces)
 
 -- the byte is the one
@@ -45,21 +46,21 @@ abbrev pub is_byte : ℕ → ℕ → Bool
 is_byte c b = b == c
 
 -- the names, parted by `=`
-abbrev pub names_of : List ℕ → List (List ℕ)
+abbrev pub names_of : Bytes → List Text
 names_of text = map (map to_ascii) (slice_split (is_byte 61) text)
 
 -- the option of the names, where there are qualifiers
-abbrev pub option_with : List ℕ → Option Qualifiers → Option TemplateOption
+abbrev pub option_with : Bytes → Option Qualifiers → Option TemplateOption
 option_with names None = None
 option_with names (Some q) = Some (record { names = names_of names; qualifiers = q })
 
 -- an option from its names and qualifiers, which `/` parts
-abbrev pub option_of_pieces : List (List ℕ) → Option TemplateOption
+abbrev pub option_of_pieces : List Bytes → Option TemplateOption
 option_of_pieces [] = None
 option_of_pieces (names ∷ pieces) = option_with names (qualifiers_of_pieces pieces)
 
 -- the option of a text
-abbrev pub option_of : List ℕ → Option TemplateOption
+abbrev pub option_of : Bytes → Option TemplateOption
 option_of text = option_of_pieces (slice_split (is_byte 47) text)
 
 -- the options with one more, if there is one, where `next` goes on
@@ -68,16 +69,16 @@ options_behind next done None = None
 options_behind next done (Some option) = next (done ++ option ∷ [])
 
 -- the options of the texts, behind those so far
-abbrev pub options_from : List TemplateOption → List (List ℕ) → Option (List TemplateOption)
+abbrev pub options_from : List TemplateOption → List Bytes → Option (List TemplateOption)
 options_from done [] = Some done
 options_from done (text ∷ texts) = options_behind (λ more. options_from more texts) done (option_of text)
 
 -- the name is not empty, and stands among the names or in one of the options
-abbrev pub stands_again : List ℕ → List (List ℕ) → List TemplateOption → Bool
+abbrev pub stands_again : Text → List Text → List TemplateOption → Bool
 stands_again name names later = nat_lt 0 (length name) && (list_any (is_same name) names || list_any (has_name name) later)
 
 -- one of the names stands twice in the option, or in a later option
-abbrev pub is_twice : List (List ℕ) → List TemplateOption → Bool
+abbrev pub is_twice : List Text → List TemplateOption → Bool
 is_twice [] later = false
 is_twice (name ∷ names) later = stands_again name names later || is_twice names later
 
@@ -101,8 +102,8 @@ abbrev pub checked : Option (List TemplateOption) → Option (List TemplateOptio
 checked None = None
 checked (Some options) = if is_template options then Some options else None
 
--- the options of a template's text
-abbrev pub template_of : List ℕ → Option (List TemplateOption)
+-- The options of a template's text, which commas part; none where the text is no template.
+abbrev pub template_of : Text → Option (List TemplateOption)
 template_of [] = Some []
 template_of (c ∷ cs) = checked (options_from [] (slice_split (is_byte 44) (c ∷ cs)))
 
@@ -112,9 +113,9 @@ options_or_none None = []
 options_or_none (Some options) = options
 
 -- the options of a template's text, none where it is bad
-abbrev pub options_of : List ℕ → List TemplateOption
+abbrev pub options_of : Text → List TemplateOption
 options_of text = options_or_none (template_of text)
 
--- the text is a template
-abbrev pub IsTemplate : List ℕ → Type 0
+-- The text is a template.
+abbrev pub IsTemplate : Text → Type 0
 IsTemplate text = IsSome (template_of text)

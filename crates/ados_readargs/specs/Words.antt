@@ -1,4 +1,6 @@
+-- The words of a line: quoted items, and longest runs of touching Word and Equal items.
 use Rattle.std.specs.Prelude.{ℕ, zero, suc, ◌+◌, ◌-◌, ◌==◌, ◌&&◌, List, [], ◌∷◌, Bool, true, false, Option, Some, None, if◌then◌else◌, length}
+use Rattle.ados_text.specs.Text.{Bytes}
 use Rattle.ados_items.specs.Items.{item_at}
 use Rattle.ados_items.specs.declared.items.Item.{Item}
 use Rattle.ados_items.specs.declared.items.Item.TheVariants as item
@@ -14,16 +16,16 @@ run_end_behind next place (item.End from) = place
 run_end_behind next place (item.Unmatched from) = place
 
 -- where the touching Word and Equal items from a place on end, at most so many
-abbrev pub run_end_from : ℕ → List ℕ → ℕ → ℕ
+abbrev pub run_end_from : ℕ → Bytes → ℕ → ℕ
 run_end_from zero line place = place
 run_end_from (suc count) line place = run_end_behind (λ to. run_end_from count line to) place (item_at true line place)
 
 -- where the run that has come to a place ends
-abbrev pub run_end : List ℕ → ℕ → ℕ
+abbrev pub run_end : Bytes → ℕ → ℕ
 run_end line place = run_end_from (length line + 1) line place
 
 -- the word that begins with an item, and where the words behind it begin; none at the line's end
-abbrev pub word_of : List ℕ → Item → Option (LineWord × ℕ)
+abbrev pub word_of : Bytes → Item → Option (LineWord × ℕ)
 word_of line (item.Word from to) = Some (Run from to (run_end line to), run_end line to)
 word_of line (item.Equal from) = Some (Run from from (run_end line (from + 1)), run_end line (from + 1))
 word_of line (item.Quoted from to) = Some (Quoted from to, to + 1)
@@ -36,12 +38,12 @@ words_behind next None = []
 words_behind next (Some (word, behind)) = word ∷ next behind
 
 -- the words of a line from a place on, at most so many
-abbrev pub words_from : ℕ → List ℕ → ℕ → List LineWord
+abbrev pub words_from : ℕ → Bytes → ℕ → List LineWord
 words_from zero line place = []
 words_from (suc count) line place = words_behind (λ to. words_from count line to) (word_of line (item_at true line place))
 
--- the words of a line, which are no more than its bytes; a quote that none closes is the last
-abbrev pub line_words_of : List ℕ → List LineWord
+-- The words of a line, in order, by their places; a quote that none closes is the last. A line has no more words than bytes.
+abbrev pub line_words_of : Bytes → List LineWord
 line_words_of line = words_from (length line + 1) line 0
 
 -- the item whose text is the word's

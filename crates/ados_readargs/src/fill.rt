@@ -2,6 +2,7 @@ ghost use Rattle.std.specs.Prelude.{◌≡◌, Ok, false, IfOk, IfErr};
 ghost use Rattle.ados_readargs.specs.Checks.{has_bad};
 ghost use Rattle.ados_readargs.specs.Faults.{IsFaultOf};
 ghost use Rattle.ados_readargs.specs.Fill.{args_for, args_read, LosesNoWord};
+ghost use Rattle.ados_readargs.specs.Phrases.{IsFilled};
 ghost use Rattle.ados_readargs.specs.Shares.{TakesAll};
 
 use crate::args::{Args, args_of};
@@ -47,6 +48,7 @@ pub fn fill_options(
     ensures ok { IfOk result (λ args. args_for options.now line.now ≡ Ok args) }
     ensures numbers { IfOk result (λ args. has_bad options.now args ≡ false) }
     ensures taken { IfOk result (λ _. LosesNoWord options.now line.now) }
+    ensures said { IfOk result (λ args. IsFilled options.now line.now args) }
     ensures fault { IfErr result (λ e. IsFaultOf (args_for options.now line.now) e) }
 {
     let readings = read(alloc, options, line)?;

@@ -5,6 +5,7 @@ ghost use Rattle.ados_readargs.specs.Options.{has_name, unqualified};
 ghost use Rattle.ados_readargs.specs.Checks.{has_bad};
 ghost use Rattle.ados_readargs.specs.Fill.{fill_of, LosesNoWord};
 ghost use Rattle.ados_readargs.specs.Faults.{IsFaultOf, IsBadTemplate};
+ghost use Rattle.ados_readargs.specs.Phrases.{IsFilled};
 ghost use Rattle.ados_readargs.specs.Template.{IsTemplate, with_letter, with_piece, qualifiers_from, qualifiers_of_pieces, is_byte, names_of, option_of, options_from, is_many, stands_again, is_twice, has_twice, is_template, template_of, options_of};
 
 use crate::args::Args;
@@ -69,6 +70,9 @@ impl Template {
 
     /// What a line gives to each option.
     ///
+    /// The words of the line are keywords with their values, plain words, and the rest of the line
+    /// for an `/F`, in order. A quoted word is no keyword, and each plain word is taken by one option.
+    ///
     /// Of the faults the first that holds: `Unmatched` where a word's quote is never closed,
     /// outside the rest that an `/F` option takes; `ValueMissing` or `TooMany` at the first word
     /// that asks for it; `TooMany` for a plain word left over; `ArgumentMissing` for an `/A`
@@ -78,6 +82,7 @@ impl Template {
         ensures ok { IfOk result (λ args. fill_of self.now line.now ≡ Ok args) }
         ensures numbers { IfOk result (λ args. has_bad (options_of self.now) args ≡ false) }
         ensures taken { IfOk result (λ _. LosesNoWord (options_of self.now) line.now) }
+        ensures said { IfOk result (λ args. IsFilled (options_of self.now) line.now args) }
         ensures fault { IfErr result (λ e. IsFaultOf (fill_of self.now line.now) e) }
     {
         fill_options(alloc, self.options.as_slice(), line)

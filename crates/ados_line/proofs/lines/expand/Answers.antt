@@ -1,7 +1,10 @@
 use Rattle.std.proofs.Common.{rules, Ok}
-use Rattle.ados_line.specs.declared.lines.Expanded.TheVariants.{Ready}
+use Rattle.ados_line.specs.declared.lines.Expanded.TheVariants.{Nothing, Ready}
 use Rattle.ados_line.proofs.PieceLemmas.{in_pieces}
 use Rattle.ados_line.proofs.lines.expand.Goals as goal
+
+pub returns-in-None-clause-pieces : goal.returns-in-None-clause-pieces
+returns-in-None-clause-pieces c = in_pieces (Ok Nothing) c.args.raw.now (search rules)
 
 pub returns-in-Some-clause-pieces : goal.returns-in-Some-clause-pieces
 returns-in-Some-clause-pieces c =
