@@ -1,4 +1,3 @@
-pub mod Matching
 pub mod Names
 pub mod Acts
 pub mod Texts

@@ -13,7 +13,6 @@ mod join;
 mod lines;
 mod listing;
 mod make_dir;
-mod matching;
 mod names;
 mod protect;
 mod rename;

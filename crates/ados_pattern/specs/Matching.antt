@@ -1,4 +1,4 @@
--- Whether a text is what a pattern says, as a test.
+-- Whether a text is what a pattern says, as a test: for definitions that compute.
 use Rattle.std.specs.Prelude.{ℕ, zero, suc, List, [], ◌∷◌, length, Bool, true, false, ◌&&◌, ◌||◌, ◌==◌, not}
 use Rattle.ados_pattern.specs.Form.{Form, Empty, Char, Any, Range, Outside, Many, Other, Then, Either}
 use Rattle.ados_pattern.specs.Matches.{is_one, is_same, is_any, in_range}
