@@ -112,7 +112,7 @@ get-moved_in : (m : Files) (from to : List (List ℕ)) (name : List ℕ) (way : 
 get-moved_in m from to name way within =
     get-from_entries place_cmp_total _ (to ++ way) ∙ find-moved_in from to name (map.entries m) way within ∙ ap (option_map (renamed name way)) (sym (get-entries m (from ++ way)))
 
-get-moved_out : (m : Files) (from to : List (List ℕ)) (name : List ℕ) (q : List (List ℕ)) → behind to q ≡ None → map.get (rename_of m from to name) q ≡ cond (is_at_or_below from q) nothing (map.get m q)
+pub get-moved_out : (m : Files) (from to : List (List ℕ)) (name : List ℕ) (q : List (List ℕ)) → behind to q ≡ None → map.get (rename_of m from to name) q ≡ cond (is_at_or_below from q) nothing (map.get m q)
 get-moved_out m from to name q out =
     get-from_entries place_cmp_total _ q ∙ find-moved_out from to name (map.entries m) q out ∙ ap (cond (is_at_or_below from q) nothing) (sym (get-entries m q))
 
@@ -258,7 +258,7 @@ none_above directory place n rest h = false_of _ (λ t.
       | Some w ↦ λ p. clash (sym h ∙ at_or_below directory (w ++ n ∷ rest) (place ++ n ∷ rest) (ap (λ q. q ++ n ∷ rest) (behind-exact directory place w p) ∙ append_assoc directory w (n ∷ rest)))
     ] refl)
 
-none_of : (o : Option (List (List ℕ))) → is_some o ≡ false → o ≡ None
+pub none_of : (o : Option (List (List ℕ))) → is_some o ≡ false → o ≡ None
 none_of None h = refl
 none_of (Some w) h = clash (sym h)
 

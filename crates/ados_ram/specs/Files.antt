@@ -1,9 +1,9 @@
 -- Files: a finite map from places to entries. The root is there and is a directory, each place above one that is there
 -- is a directory, and the limits hold.
-use Rattle.std.specs.Prelude.{◌+◌, ◌≤◌, ℕ, Bool, false, not, List, [], ◌∷◌, ◌++◌, Option, Some, None, IsSome, IsTrue, codes, length}
+use Rattle.std.specs.Prelude.{◌≡◌, ◌+◌, ◌≤◌, ℕ, Bool, false, not, List, [], ◌∷◌, ◌++◌, Option, Some, None, IsSome, IsTrue, codes, length}
 use Rattle.std.specs.Coded.{Coded, coded_list, coded_ℕ}
 use Rattle.std.specs.FinMap as map
-use Rattle.ados_ram.specs.Place.{key_of, place_cmp}
+use Rattle.ados_ram.specs.Place.{Key, key_of, place_cmp}
 use Rattle.ados_ram.specs.Entry.{is_directory, bytes_of, size_of, new_directory, coded_entry}
 use Rattle.ados_ram.specs.declared.entries.Entry.{Entry}
 
@@ -36,6 +36,10 @@ bytes_at (Some e) = bytes_of e
 abbrev pub total_of : Rows → ℕ
 total_of [] = 0
 total_of (e ∷ es) = size_of e.1 + total_of es
+
+-- each place that is no target has the entry that it had
+abbrev pub OthersStay : (Key → Bool) → Files → Files → Type 0
+OthersStay is_target old new = (place : Key) → is_target place ≡ false → map.get new place ≡ map.get old place
 
 -- the limits: bytes in one file, bytes in all, objects with the root
 abbrev pub file_limit : ℕ

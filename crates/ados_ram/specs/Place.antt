@@ -8,8 +8,16 @@ use Rattle.std.specs.FinMap.{IsAntisymmetric, slice_cmp-IsAntisymmetric}
 use Rattle.ados_text.specs.Text.{folded}
 use Rattle.ados_text.specs.Name.{name_cmp, name_cmp_total, name_cmp_exact}
 
+-- a place: the names from the root down, as they are written
+abbrev pub Place : Type 0
+Place = List (List ℕ)
+
+-- which place it is: the names from the root down, in lower case
+abbrev pub Key : Type 0
+Key = List (List ℕ)
+
 -- which place it is: its names in lower case
-abbrev pub key_of : List (List ℕ) → List (List ℕ)
+abbrev pub key_of : Place → Key
 key_of = map folded
 
 -- the order of keys, name by name: a directory comes before what is in it

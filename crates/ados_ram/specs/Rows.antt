@@ -2,7 +2,7 @@
 use Rattle.std.specs.Prelude.{◌≡◌, ◌<◌, ◌≤◌, ℕ, cond, List, [], ◌∷◌, length, Some, None, Result, MatchResult, IsTrue, slice_index_or, slice_set, codes}
 use Rattle.std.specs.List.{insert, remove}
 use Rattle.std.specs.FinMap as map
-use Rattle.ados_ram.specs.Place.{place_cmp, is_same_key}
+use Rattle.ados_ram.specs.Place.{Place, key_of, place_cmp, is_same_key, is_below}
 use Rattle.ados_ram.specs.Entry.{new_directory}
 use Rattle.ados_ram.specs.Files.{Rows, directory_row, total_of, bytes_limit}
 use Rattle.ados_ram.specs.declared.entries.Entry.{Entry}
@@ -39,3 +39,12 @@ IsPosition key es at = MatchResult at (IsThere key es) (IsGap key es)
 -- the rows at first
 abbrev pub first_rows : Rows
 first_rows = ([], new_directory []) ∷ directory_row (codes "C") ∷ directory_row (codes "Env") ∷ directory_row (codes "S") ∷ directory_row (codes "T") ∷ []
+
+-- the place is in lower case
+abbrev pub IsKey : Place → Type 0
+IsKey place = key_of place ≡ place
+
+-- a place behind those below it with which a list begins, where case is ignored
+abbrev pub put_by_key : Place → List Place → List Place
+put_by_key place [] = place ∷ []
+put_by_key place (q ∷ qs) = cond (is_below (key_of place) (key_of q)) (q ∷ put_by_key place qs) (place ∷ q ∷ qs)
