@@ -78,10 +78,10 @@ name-first [] one other way rest e = ap (λ o. ordering_then o (contents_cmp way
 name-first (x ∷ xs) one other way rest e = ap (λ o. ordering_then o (contents_cmp (xs ++ one ∷ way) (xs ++ other ∷ rest))) (equal (name_cmp x x) ((eq_by_cmp_equiv name_cmp_total).refl x)) ∙ name-first xs one other way rest e
 
 -- what a list holds
-here : {X : Type 0} (x : X) (xs : List X) → Contains (x ∷ xs) x
+pub here : {X : Type 0} (x : X) (xs : List X) → Contains (x ∷ xs) x
 here x xs = (0, omega arith, refl)
 
-there : {X : Type 0} (y x : X) (xs : List X) → Contains xs x → Contains (y ∷ xs) x
+pub there : {X : Type 0} (y x : X) (xs : List X) → Contains xs x → Contains (y ∷ xs) x
 there y x xs h = Contains-append_right (y ∷ []) xs x h
 
 only : {X : Type 0} (y x : X) → Contains (y ∷ []) x → y ≡ x
@@ -91,10 +91,10 @@ only y x h = at h.0 h.1 h.2
     at zero l e = e
     at (suc k) l e = absurd (omega (arith, l))
 
-cases : {X : Type 0} (y x : X) (xs : List X) → Contains (y ∷ xs) x → (y ≡ x) ⊎ Contains xs x
+pub cases : {X : Type 0} (y x : X) (xs : List X) → Contains (y ∷ xs) x → (y ≡ x) ⊎ Contains xs x
 cases y x xs h = elim (Contains-append_cases (y ∷ []) xs x h) [ inl e ↦ inl (only y x e) | inr e ↦ inr e ]
 
-none : {A X : Type 0} (x : X) → Contains [] x → A
+pub none : {A X : Type 0} (x : X) → Contains [] x → A
 none x h = absurd (omega (arith, h.1))
 
 all-at : {X : Type 0} (P : X → Type 0) (xs : List X) (x : X) → AllByRecursion P xs → Contains xs x → P x

@@ -1,0 +1,5 @@
+pub mod Stays
+pub mod CopyStays
+pub mod RenameStays
+pub mod PartLemmas
+pub mod DeleteStays
