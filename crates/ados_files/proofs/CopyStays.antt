@@ -23,7 +23,7 @@ use Rattle.ados_files.specs.Copy.{between, made_at, make_missing, copy_fault, co
 use Rattle.ados_files.specs.Jobs.{all_jobs, jobs_onto, sources_of}
 use Rattle.ados_files.specs.MakeDir.{made}
 use Rattle.ados_files.specs.Names.{FoundPlaces}
-use Rattle.ados_files.specs.Targets.{is_under, is_under_path, is_copy_target}
+use Rattle.ados_files.specs.MayChange.{is_under, is_under_path, copy_may_change}
 use Rattle.ados_files.proofs.Stays.{Stay, kept-each, kept-refused, kept-unless, stay-kept}
 
 -- a place at or below another
@@ -117,5 +117,5 @@ texts-stay shared view all quiet texts None = λ key out. refl
 texts-stay shared view all quiet [] (Some to) = λ key out. refl
 texts-stay shared view all quiet (text ∷ texts) (Some to) = from-stays shared view all quiet (sources_of shared view.directory (text ∷ texts)) to
 
-pub copy-stays : (shared : SharedState) (view : View) (args : List Arg) → OthersStay (is_copy_target shared view args) shared.files (copy_row shared view args).shared.files
+pub copy-stays : (shared : SharedState) (view : View) (args : List Arg) → OthersStay (copy_may_change shared view args) shared.files (copy_row shared view args).shared.files
 copy-stays shared view args = texts-stay shared view (is_on args 2) (is_on args 3) (texts_at args 0) (text_at args 1)

@@ -22,13 +22,13 @@ use Rattle.ados_find.specs.Views.{View}
 use Rattle.ados_files.specs.Acts.{at_places, at_names}
 use Rattle.ados_files.specs.Delete.{delete_one, targets, delete_place, delete_row}
 use Rattle.ados_files.specs.Names.{FoundPlaces, named}
-use Rattle.ados_files.specs.Targets.{is_under_any, is_under_found, is_under_names, is_delete_target}
+use Rattle.ados_files.specs.MayChange.{is_under_any, is_under_found, is_under_names, delete_may_change}
 use Rattle.ados_files.proofs.PartLemmas.{IsPart, IsPartOf, named-part}
 use Rattle.ados_files.proofs.Stays.{IsKept, Stay, kept-each, kept-refused, kept-unless, stay-kept}
 
--- the files are part of those before, and all but the targets stay
-record Shrinks (is_target : Key → Bool) (before after : SharedState) : Type 0 where
-  pub stay : Stay is_target before after
+-- the files are part of those before, and all that may not change stays
+record Shrinks (may_change : Key → Bool) (before after : SharedState) : Type 0 where
+  pub stay : Stay may_change before after
   pub part : IsPartOf after before
 
 whole : (a : SharedState) → IsPartOf a a
@@ -37,10 +37,10 @@ whole a = record { files = λ key e h. h; assigns = refl }
 part-then : (a b c : SharedState) → IsPartOf b a → IsPartOf c b → IsPartOf c a
 part-then a b c f g = record { files = λ key e h. f.files key e (g.files key e h); assigns = g.assigns ∙ f.assigns }
 
-shrinks-kept : (is_target : Key → Bool) → IsKept (Shrinks is_target)
-shrinks-kept is_target = record {
+shrinks-kept : (may_change : Key → Bool) → IsKept (Shrinks may_change)
+shrinks-kept may_change = record {
   same = λ a. record { stay = λ key out. refl; part = whole a };
-  joined = λ a b c f g. record { stay = (stay-kept is_target).joined a b c f.stay g.stay; part = part-then a b c f.part g.part };
+  joined = λ a b c f g. record { stay = (stay-kept may_change).joined a b c f.stay g.stay; part = part-then a b c f.part g.part };
 }
 
 wider : (one other : Key → Bool) (a b : SharedState) → ((key : Key) → other key ≡ false → one key ≡ false) → Shrinks one a b → Shrinks other a b
@@ -53,9 +53,9 @@ remove-part files key q e h = left (is_same_key q key) (sym (get-remove place_cm
     left true g = cc
     left false g = g
 
-one-shrinks : (view : View) (quiet : Bool) (is_target : Key → Bool) (done : Done) (place : Place) → ((key : Key) → is_target key ≡ false → is_same_key (key_of place) key ≡ false) → Shrinks is_target done.shared (delete_one view quiet done place).shared
-one-shrinks view quiet is_target done place apart =
-    kept-refused (shrinks-kept is_target) (delete_fault view.busy done.shared.files (key_of place)) done _
+one-shrinks : (view : View) (quiet : Bool) (may_change : Key → Bool) (done : Done) (place : Place) → ((key : Key) → may_change key ≡ false → is_same_key (key_of place) key ≡ false) → Shrinks may_change done.shared (delete_one view quiet done place).shared
+one-shrinks view quiet may_change done place apart =
+    kept-refused (shrinks-kept may_change) (delete_fault view.busy done.shared.files (key_of place)) done _
     (record {
       stay = λ key out. remove-stays done.shared.files (key_of place) key (apart key out);
       part = record { files = remove-part done.shared.files (key_of place); assigns = refl };
@@ -114,5 +114,5 @@ texts-stay shared view all quiet done (text ∷ texts) part =
     (λ key out. s.stay key (false_of _ (λ h. clash (sym (neither (is_under_found (named shared view.directory text) key) (is_under_names shared view texts key) out).0 ∙ named-part done.shared shared part view.directory text key h))))
     (λ key out. rest key (neither (is_under_found (named shared view.directory text) key) (is_under_names shared view texts key) out).1))
 
-pub delete-stays : (shared : SharedState) (view : View) (args : List Arg) → OthersStay (is_delete_target shared view args) shared.files (delete_row shared view args).shared.files
+pub delete-stays : (shared : SharedState) (view : View) (args : List Arg) → OthersStay (delete_may_change shared view args) shared.files (delete_row shared view args).shared.files
 delete-stays shared view args = texts-stay shared view (is_on args 1) (is_on args 2) (fresh shared) (texts_at args 0) (whole shared)

@@ -21,7 +21,7 @@ use Rattle.ados_find.specs.declared.codes.Codes.{Codes}
 use Rattle.ados_find.specs.Shared.{SharedState}
 use Rattle.ados_find.specs.Paths.{or_erred, place_by, place_of}
 use Rattle.ados_files.specs.Names.{wants, matching, some_matches, matches_in, the_one, matches_at, one_at, named_by, named_with, named, pattern_of, head_of, piece_of}
-use Rattle.ados_files.specs.Targets.{is_under_any, is_under_found}
+use Rattle.ados_files.specs.MayChange.{is_under_any, is_under_found}
 
 -- each entry is one of the old files
 abbrev pub IsPart : Files → Files → Type 0

@@ -14,7 +14,7 @@ use Rattle.ados_find.specs.Shared.{SharedState}
 use Rattle.ados_find.specs.Views.{View}
 use Rattle.ados_find.specs.Paths.{place_of}
 use Rattle.ados_files.specs.Rename.{target_of, renamed_unless, renamed_from, renamed_at, renamed_texts, rename_row}
-use Rattle.ados_files.specs.Targets.{is_under, is_under_path, is_rename_target}
+use Rattle.ados_files.specs.MayChange.{is_under, is_under_path, rename_may_change}
 
 abbrev Both : Place → Place → Key → Bool
 Both from to key = is_at_or_below (key_of from) key || is_at_or_below (key_of to) key
@@ -52,5 +52,5 @@ texts-stay shared view None to = λ key out. refl
 texts-stay shared view (Some from) None = λ key out. refl
 texts-stay shared view (Some from) (Some to) = at-stays shared view (place_of shared view.directory from) (place_of shared view.directory to)
 
-pub rename-row-stays : (shared : SharedState) (view : View) (args : List Arg) → OthersStay (is_rename_target shared view args) shared.files (rename_row shared view args).shared.files
+pub rename-row-stays : (shared : SharedState) (view : View) (args : List Arg) → OthersStay (rename_may_change shared view args) shared.files (rename_row shared view args).shared.files
 rename-row-stays shared view args = texts-stay shared view (text_at args 0) (text_at args 1)

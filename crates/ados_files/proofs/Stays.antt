@@ -28,9 +28,9 @@ kept-each kept act P h done (x ∷ xs) all =
     kept-unless kept done.stopped done (each act (act done x) xs)
     (kept.joined done.shared (act done x).shared (each act (act done x) xs).shared (h done x all.0) (kept-each kept act P h (act done x) xs all.1))
 
--- all files but the targets stay
+-- all that may not change stays
 abbrev pub Stay : (Key → Bool) → SharedState → SharedState → Type 0
-Stay is_target before after = OthersStay is_target before.files after.files
+Stay may_change before after = OthersStay may_change before.files after.files
 
-pub stay-kept : (is_target : Key → Bool) → IsKept (Stay is_target)
-stay-kept is_target = record { same = λ a key out. refl; joined = λ a b c f g key out. g key out ∙ f key out }
+pub stay-kept : (may_change : Key → Bool) → IsKept (Stay may_change)
+stay-kept may_change = record { same = λ a key out. refl; joined = λ a b c f g key out. g key out ∙ f key out }

@@ -10,7 +10,7 @@ pub mod Lines
 pub mod Listing
 pub mod Dir
 pub mod Rename
-pub mod Targets
+pub mod MayChange
 pub mod Join
 pub mod Jobs
 pub mod Copy

@@ -7,13 +7,13 @@ ghost use Rattle.ados_find.specs.Views.{View};
 ghost use Rattle.ados_files.specs.Copy.{copy_row};
 ghost use Rattle.ados_files.specs.Delete.{delete_row};
 ghost use Rattle.ados_files.specs.Rename.{rename_row};
-ghost use Rattle.ados_files.specs.Targets.{is_copy_target, is_delete_target, is_rename_target};
+ghost use Rattle.ados_files.specs.MayChange.{copy_may_change, delete_may_change, rename_may_change};
 
-/// A place that is no target of Copy, Delete or Rename has the entry behind the command that it had before: Copy changes
-/// nothing but TO and what is below it; Delete nothing but what its arguments name in the files as they were, and what
-/// is below that; Rename nothing but FROM, TO, and what is below them.
+/// Copy, Delete and Rename leave other places alone, each with the entry that it had: Copy all that is not TO or below
+/// it; Delete all that is not at or below an object that its arguments name in the files as they were; Rename all that
+/// is not FROM or TO, or below one of them.
 pub fn others_stay()
-    ensures copy { (shared : SharedState) (view : View) (args : List Arg) → OthersStay (is_copy_target shared view args) shared.files (copy_row shared view args).shared.files }
-    ensures delete { (shared : SharedState) (view : View) (args : List Arg) → OthersStay (is_delete_target shared view args) shared.files (delete_row shared view args).shared.files }
-    ensures rename { (shared : SharedState) (view : View) (args : List Arg) → OthersStay (is_rename_target shared view args) shared.files (rename_row shared view args).shared.files }
+    ensures copy { (shared : SharedState) (view : View) (args : List Arg) → OthersStay (copy_may_change shared view args) shared.files (copy_row shared view args).shared.files }
+    ensures delete { (shared : SharedState) (view : View) (args : List Arg) → OthersStay (delete_may_change shared view args) shared.files (delete_row shared view args).shared.files }
+    ensures rename { (shared : SharedState) (view : View) (args : List Arg) → OthersStay (rename_may_change shared view args) shared.files (rename_row shared view args).shared.files }
 {}

@@ -37,9 +37,9 @@ abbrev pub total_of : Rows → ℕ
 total_of [] = 0
 total_of (e ∷ es) = size_of e.1 + total_of es
 
--- each place that is no target has the entry that it had
+-- each place that may not change has the entry that it had
 abbrev pub OthersStay : (Key → Bool) → Files → Files → Type 0
-OthersStay is_target old new = (place : Key) → is_target place ≡ false → map.get new place ≡ map.get old place
+OthersStay may_change old new = (place : Key) → may_change place ≡ false → map.get new place ≡ map.get old place
 
 -- the limits: bytes in one file, bytes in all, objects with the root
 abbrev pub file_limit : ℕ

@@ -1,4 +1,4 @@
--- Targets: the places that Copy, Delete and Rename may change. Each other place keeps the entry that it had.
+-- What Copy, Delete and Rename may change. Each other place keeps the entry that it had.
 use Rattle.std.specs.Prelude.{ℕ, Bool, false, ◌||◌, List, [], ◌∷◌, Option, Some, None, Result, Ok, Err}
 use Rattle.ados_readargs.specs.declared.args.Arg.{Arg}
 use Rattle.ados_readargs.specs.Args.{texts_at, text_at}
@@ -34,13 +34,13 @@ is_under_names shared view [] key = false
 is_under_names shared view (text ∷ texts) key = is_under_found (named shared view.directory text) key || is_under_names shared view texts key
 
 -- Copy: TO, and what is below it
-abbrev pub is_copy_target : SharedState → View → List Arg → Key → Bool
-is_copy_target shared view args key = is_under_path shared view (text_at args 1) key
+abbrev pub copy_may_change : SharedState → View → List Arg → Key → Bool
+copy_may_change shared view args key = is_under_path shared view (text_at args 1) key
 
 -- Delete: the objects that its arguments name, and what is below them
-abbrev pub is_delete_target : SharedState → View → List Arg → Key → Bool
-is_delete_target shared view args key = is_under_names shared view (texts_at args 0) key
+abbrev pub delete_may_change : SharedState → View → List Arg → Key → Bool
+delete_may_change shared view args key = is_under_names shared view (texts_at args 0) key
 
 -- Rename: FROM and TO, and what is below them
-abbrev pub is_rename_target : SharedState → View → List Arg → Key → Bool
-is_rename_target shared view args key = is_under_path shared view (text_at args 0) key || is_under_path shared view (text_at args 1) key
+abbrev pub rename_may_change : SharedState → View → List Arg → Key → Bool
+rename_may_change shared view args key = is_under_path shared view (text_at args 0) key || is_under_path shared view (text_at args 1) key
