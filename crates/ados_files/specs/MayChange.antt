@@ -1,5 +1,6 @@
 -- What Copy, Delete and Rename may change. Each other place keeps the entry that it had.
-use Rattle.std.specs.Prelude.{ℕ, Bool, false, ◌||◌, List, [], ◌∷◌, Option, Some, None, Result, Ok, Err}
+use Rattle.std.specs.Prelude.{Bool, false, ◌||◌, List, [], ◌∷◌, Option, Some, None, Result, Ok, Err}
+use Rattle.ados_text.specs.Text.{Text}
 use Rattle.ados_readargs.specs.declared.args.Arg.{Arg}
 use Rattle.ados_readargs.specs.Args.{texts_at, text_at}
 use Rattle.ados_ram.specs.Place.{Place, Key, key_of, is_at_or_below}
@@ -15,7 +16,7 @@ is_under (Err codes) key = false
 is_under (Ok place) key = is_at_or_below (key_of place) key
 
 -- the key is at or below the place to which a path leads
-abbrev pub is_under_path : SharedState → View → Option (List ℕ) → Key → Bool
+abbrev pub is_under_path : SharedState → View → Option Text → Key → Bool
 is_under_path shared view None key = false
 is_under_path shared view (Some text) key = is_under (place_of shared view.directory text) key
 
@@ -29,7 +30,7 @@ is_under_found (Err codes) key = false
 is_under_found (Ok found) key = is_under_any found.places key
 
 -- the key is at or below an object that one of the arguments names
-abbrev pub is_under_names : SharedState → View → List (List ℕ) → Key → Bool
+abbrev pub is_under_names : SharedState → View → List Text → Key → Bool
 is_under_names shared view [] key = false
 is_under_names shared view (text ∷ texts) key = is_under_found (named shared view.directory text) key || is_under_names shared view texts key
 
