@@ -1,1 +1,5 @@
-pub mod MatchLemmas
+pub mod Stays
+pub mod CopyStays
+pub mod RenameStays
+pub mod PartLemmas
+pub mod DeleteStays

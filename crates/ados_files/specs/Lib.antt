@@ -1,4 +1,3 @@
-pub mod Matching
 pub mod Names
 pub mod Acts
 pub mod Texts
@@ -11,6 +10,7 @@ pub mod Lines
 pub mod Listing
 pub mod Dir
 pub mod Rename
+pub mod MayChange
 pub mod Join
 pub mod Jobs
 pub mod Copy

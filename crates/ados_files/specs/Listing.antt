@@ -15,7 +15,7 @@ use Rattle.ados_find.specs.Shared.{SharedState}
 use Rattle.ados_find.specs.Views.{View}
 use Rattle.ados_find.specs.Effects.{Effect, answering}
 use Rattle.ados_find.specs.Done.{Done, fresh, stopped_by, refused_or, each, ended}
-use Rattle.ados_files.specs.Matching.{is_match}
+use Rattle.ados_pattern.specs.Matching.{is_match}
 use Rattle.ados_files.specs.Names.{FoundPlaces, pattern_of, named}
 use Rattle.ados_files.specs.Lines.{keeps, lines_by, list_line}
 use Rattle.ados_files.specs.declared.listing.Shape.{Shape}

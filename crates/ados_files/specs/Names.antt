@@ -19,7 +19,7 @@ use Rattle.ados_find.specs.declared.codes.Codes.{Codes}
 use Rattle.ados_find.specs.Codes.{erred}
 use Rattle.ados_find.specs.Shared.{SharedState}
 use Rattle.ados_find.specs.Paths.{place_of}
-use Rattle.ados_files.specs.Matching.{is_match}
+use Rattle.ados_pattern.specs.Matching.{is_match}
 
 -- a warning, by a fault
 abbrev pub warned : Result2 → Codes

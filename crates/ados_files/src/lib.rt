@@ -10,10 +10,10 @@ mod dir;
 mod filenote;
 mod jobs;
 mod join;
+mod laws;
 mod lines;
 mod listing;
 mod make_dir;
-mod matching;
 mod names;
 mod protect;
 mod rename;
@@ -21,4 +21,5 @@ mod rows;
 mod type_files;
 
 pub use commands::Command;
+pub use laws::others_stay;
 pub use rows::run;

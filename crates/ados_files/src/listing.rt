@@ -8,7 +8,6 @@ ghost use Rattle.ados_find.specs.Paths.{Gives};
 
 use crate::acts::done_with;
 use crate::lines::{Line, keeps, push_line, push_lines};
-use crate::matching::is_match;
 use crate::names::{Found, named, only, pattern_of, push_places};
 use ados_find::{Act, Codes, Outcome, Refusal, Shared, ShellView, Work, current};
 use ados_pattern::Pattern;
@@ -225,7 +224,7 @@ fn passes(pattern: &Option<Pattern>, entry: &Entry) -> Result<bool, NoMemory>
 {
     match pattern {
         None => Ok(true),
-        Some(pattern) => is_match(pattern, entry.name.text()),
+        Some(pattern) => pattern.matches(entry.name.text()),
     }
 }
 

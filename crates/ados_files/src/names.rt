@@ -5,7 +5,6 @@ ghost use Rattle.std.specs.Option.{option_copied};
 ghost use Rattle.ados_ram.specs.Place.{key_of};
 ghost use Rattle.ados_find.specs.Paths.{place_of, Gives};
 
-use crate::matching::is_match;
 use ados_find::{Codes, Refusal, Shared, place_of};
 use ados_names::last_piece;
 use ados_pattern::{Pattern, PatternFault};
@@ -208,7 +207,7 @@ fn wants(pattern: &Pattern, there: Option<&Entry>) -> Result<bool, NoMemory>
 {
     match there {
         None => Ok(false),
-        Some(entry) => is_match(pattern, entry.name.text()),
+        Some(entry) => pattern.matches(entry.name.text()),
     }
 }
 

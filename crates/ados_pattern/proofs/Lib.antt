@@ -17,3 +17,4 @@ pub mod GrammarReads
 pub mod GrammarBuilds
 pub mod GrammarNames
 pub mod ParseLaws
+pub mod MatchLemmas

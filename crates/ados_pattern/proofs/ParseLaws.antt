@@ -110,3 +110,50 @@ pattern-no-fault text form place p at =
 
 pub one-form : (text : List ℕ) (one other : Form) → IsPattern text one → IsPattern text other → one ≡ other
 one-form text one other p q = sym (pattern-form text one p) ∙ pattern-form text other q
+
+-- what is computed of a text
+pub no-fault-pattern : (text : List ℕ) (form : Form) → (fault_of text ≡ None) × ((meaning_of text).form ≡ form) ↔ (length text ≤ 255) × IsPattern text form
+no-fault-pattern text form = (λ h. reads h.0 h.1 (fault-case text), λ h. free h.0 h.1 (fault-case text))
+  where
+    reads : fault_of text ≡ None → (meaning_of text).form ≡ form → FaultCase text → (length text ≤ 255) × IsPattern text form
+    reads e same (is_long l f) = let h : None ≡ Some TooLong = sym e ∙ f in absurd cc
+    reads e same (is_bad place l f g) = let h : None ≡ Some (BadPattern place) = sym e ∙ g in absurd cc
+    reads e same (is_good l f g) = (l, subst (IsPattern text) same (kept-pattern text f))
+
+    free : length text ≤ 255 → IsPattern text form → FaultCase text → (fault_of text ≡ None) × ((meaning_of text).form ≡ form)
+    free l p (is_long m f) = absurd (omega (arith, l, m))
+    free l p (is_bad place m f g) = let h : None ≡ Some place = sym (pattern-kept text form p) ∙ f in absurd cc
+    free l p (is_good m f g) = (g, pattern-form text form p)
+
+pub no-fault-name : (text : List ℕ) → fault_of text ≡ None → (meaning_of text).name ≡ name_in (meaning_of text).form
+no-fault-name text e = pattern-name text (meaning_of text).form ((no-fault-pattern text (meaning_of text).form).0 (e, refl)).1
+
+pub bad-fault : (text : List ℕ) (place : ℕ) → (fault_of text ≡ Some (BadPattern place)) ↔ (length text ≤ 255) × IsFirstFault text place
+bad-fault text place = (λ e. bad e (fault-case text), λ h. first h.0 h.1 (fault-case text))
+  where
+    bad : fault_of text ≡ Some (BadPattern place) → FaultCase text → (length text ≤ 255) × IsFirstFault text place
+    bad e (is_long l f) = let h : Some TooLong ≡ Some (BadPattern place) = sym f ∙ e in absurd cc
+    bad e (is_bad found l f g) =
+        let h : Some (BadPattern found) ≡ Some (BadPattern place) = sym g ∙ e in
+        let same : found ≡ place = cc in (l, subst (IsFirstFault text) same (first-found text found f))
+    bad e (is_good l f g) = let h : None ≡ Some (BadPattern place) = sym g ∙ e in absurd cc
+
+    first : length text ≤ 255 → IsFirstFault text place → FaultCase text → fault_of text ≡ Some (BadPattern place)
+    first l h (is_long m f) = absurd (omega (arith, l, m))
+    first l h (is_bad found m f g) =
+        let same : Some found ≡ Some place = sym f ∙ first-is-found text place h in
+        let e : found ≡ place = cc in g ∙ ap (λ p. Some (BadPattern p)) e
+    first l h (is_good m f g) = let same : None ≡ Some place = sym f ∙ first-is-found text place h in absurd cc
+
+pub long-fault : (text : List ℕ) → (fault_of text ≡ Some TooLong) ↔ (255 < length text)
+long-fault text = (λ e. long e (fault-case text), λ l. short l (fault-case text))
+  where
+    long : fault_of text ≡ Some TooLong → FaultCase text → 255 < length text
+    long e (is_long l f) = l
+    long e (is_bad place l f g) = let h : Some (BadPattern place) ≡ Some TooLong = sym g ∙ e in absurd cc
+    long e (is_good l f g) = let h : None ≡ Some TooLong = sym g ∙ e in absurd cc
+
+    short : 255 < length text → FaultCase text → fault_of text ≡ Some TooLong
+    short l (is_long m f) = f
+    short l (is_bad place m f g) = absurd (omega (arith, l, m))
+    short l (is_good m f g) = absurd (omega (arith, l, m))

@@ -1,5 +1,6 @@
 -- Which texts are no patterns, and the least place at which a fault stands.
 use Rattle.std.specs.Prelude.{ℕ, ◌+◌, ◌-◌, List, [], ◌∷◌, length, Option, Some, None, option_map, Bool, true, false, not, ◌==◌, nat_lt, if◌then◌else◌}
+use Rattle.ados_text.specs.Text.{Text}
 use Rattle.ados_pattern.specs.declared.tokens.Token.{Token}
 use Rattle.ados_pattern.specs.declared.tokens.Token.TheVariants.{Many, Other, Bar, Open, Close, ClassOpen, Member, ClassClose, Hanging}
 use Rattle.ados_pattern.specs.declared.errors.PatternFault.{PatternFault}
@@ -58,5 +59,5 @@ fault_from depth place [] = None
 fault_from depth place (t ∷ ts) = if is_fault depth t ts then Some place else fault_from (depth_after depth t) (place + 1) ts
 
 -- why a text is no pattern
-abbrev pub fault_of : List ℕ → Option PatternFault
+abbrev pub fault_of : Text → Option PatternFault
 fault_of text = if nat_lt 255 (length text) then Some TooLong else option_map BadPattern (fault_from 0 0 (tokens_of text))

@@ -1,6 +1,7 @@
 pub mod Form
 pub mod FormCode
 pub mod Matches
+pub mod Matching
 pub mod Tokens
 pub mod Fault
 pub mod Build

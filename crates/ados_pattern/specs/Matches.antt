@@ -1,24 +1,24 @@
 -- Which texts a pattern matches.
-use Rattle.std.specs.Prelude.{◌≡◌, ℕ, ◌+◌, ◌-◌, ◌<◌, List, [], ◌∷◌, ◌++◌, length, ◌⊎◌, Bool, true, false, ◌==◌, IsTrue}
+use Rattle.std.specs.Prelude.{◌≡◌, ℕ, ◌+◌, ◌-◌, ◌<◌, [], ◌∷◌, ◌++◌, length, ◌⊎◌, Bool, true, false, ◌==◌, IsTrue}
 use Rattle.std.specs.List.{range_with_len, list_any}
-use Rattle.ados_text.specs.Text.{fold_of}
+use Rattle.ados_text.specs.Text.{Text, fold_of}
 use Rattle.ados_pattern.specs.Form.{Form, Empty, Char, Any, Range, Outside, Many, Other, Then, Either}
 
 -- some cut of the text has a front with P and a rest with Q
-pub record HasCut (P Q : List ℕ → Type 0) (text : List ℕ) : Type 0 where
-  pub front : List ℕ
-  pub rest : List ℕ
+pub record HasCut (P Q : Text → Type 0) (text : Text) : Type 0 where
+  pub front : Text
+  pub rest : Text
   pub joined : text ≡ front ++ rest
   pub first : P front
   pub second : Q rest
 
 -- zero or more texts with P, each not empty
-pub data Repeats (P : List ℕ → Type 0) : List ℕ → Type 0 where
+pub data Repeats (P : Text → Type 0) : Text → Type 0 where
   none : Repeats P []
-  more : (text front rest : List ℕ) → text ≡ front ++ rest → 0 < length front → P front → Repeats P rest → Repeats P text
+  more : (text front rest : Text) → text ≡ front ++ rest → 0 < length front → P front → Repeats P rest → Repeats P text
 
 -- one character with the test
-abbrev pub is_one : (ℕ → Bool) → List ℕ → Bool
+abbrev pub is_one : (ℕ → Bool) → Text → Bool
 is_one test [] = false
 is_one test (c ∷ []) = test c
 is_one test (c ∷ d ∷ s) = false
@@ -34,7 +34,7 @@ abbrev pub in_range : ℕ → ℕ → ℕ → Bool
 in_range low high c = list_any (λ m. is_same m c) (range_with_len low (high + 1 - low))
 
 -- the text is what the pattern says
-abbrev pub Matches : Form → List ℕ → Type 0
+abbrev pub Matches : Form → Text → Type 0
 Matches Empty s = s ≡ []
 Matches (Char c) s = IsTrue (is_one (is_same c) s)
 Matches Any s = IsTrue (is_one is_any s)

@@ -1,6 +1,7 @@
 -- What a pattern is.
-use Rattle.std.specs.Prelude.{ℕ, List, Option, refl}
+use Rattle.std.specs.Prelude.{Option, refl}
 use Rattle.std.specs.Coded.{Coded, code_by, coded×, coded_ℕ, coded_list, coded_option}
+use Rattle.ados_text.specs.Text.{Text}
 use Rattle.ados_pattern.specs.Form.{Form}
 use Rattle.ados_pattern.specs.FormCode.{form_code}
 use Rattle.ados_pattern.specs.Build.{whole_of}
@@ -10,12 +11,12 @@ use Rattle.ados_pattern.specs.Tokens.{tokens_of}
 -- what a pattern says, and its name where it is literal
 pub record Meaning : Type 0 where
   pub form : Form
-  pub name : Option (List ℕ)
+  pub name : Option Text
 
 abbrev pub meaning_code : Coded Meaning
 meaning_code =
-    code_by (Form × Option (List ℕ)) (coded× form_code (coded_option (coded_list coded_ℕ))) (λ m. (m.form, m.name)) (λ p. record { form = p.0; name = p.1 }) (λ _. refl)
+    code_by (Form × Option Text) (coded× form_code (coded_option (coded_list coded_ℕ))) (λ m. (m.form, m.name)) (λ p. record { form = p.0; name = p.1 }) (λ _. refl)
 
 -- what a text says, where it is a pattern
-abbrev pub meaning_of : List ℕ → Meaning
+abbrev pub meaning_of : Text → Meaning
 meaning_of text = record { form = whole_of (tokens_of text); name = literal_name text }

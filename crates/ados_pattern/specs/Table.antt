@@ -4,6 +4,7 @@ use Rattle.std.specs.Prelude.{Vec}
 use Rattle.std.specs.Global.{Global}
 use Rattle.std.specs.Int.{bit_at}
 use Rattle.std.specs.List.{range_with_len, list_any}
+use Rattle.ados_text.specs.Text.{Text}
 use Rattle.ados_pattern.specs.declared.tables.Table.{Table}
 use Rattle.ados_pattern.specs.declared.tables.Rule.{Rule}
 use Rattle.ados_pattern.specs.declared.tables.Rule.TheVariants.{Empty, One, Next, Outside, Many, Other, Then, Either}
@@ -17,7 +18,7 @@ unfoldable pub is_set : ℕ → ℕ → Bool
 is_set word b = bit_at word b == 1
 
 -- the byte behind a start
-abbrev pub byte_at : List ℕ → ℕ → Option ℕ
+abbrev pub byte_at : Text → ℕ → Option ℕ
 byte_at text i = slice_get text (length text - i)
 
 abbrev pub or_zero : Option ℕ → ℕ
@@ -56,7 +57,7 @@ abbrev pub cells_of : Table → Cells
 cells_of t i j = cells_at (columns_of t) i j
 
 -- what a rule says of a cell, where the cells of shorter starts are known
-abbrev pub cell_of : Rule → List ℕ → Cells → Cells
+abbrev pub cell_of : Rule → Text → Cells → Cells
 cell_of Empty text known i j = i == j
 cell_of (One test) text known i j = (i == j + 1) && has_test (test_of test) (byte_at text i)
 cell_of (Next test b) text known i j = has_test (test_of test) (byte_at text i) && cells_of b (i - 1) j
@@ -67,27 +68,27 @@ cell_of (Then a b) text known i j = list_any (λ k. cells_of a i k && cells_of b
 cell_of (Either a b) text known i j = cells_of a i j || cells_of b i j
 
 -- the same, for the ends that do not come before the start alone
-abbrev pub row_cell : Rule → List ℕ → Cells → Cells
+abbrev pub row_cell : Rule → Text → Cells → Cells
 row_cell rule text known i j = cell_of rule text known i j && nat_le j i
 
 -- the words of the starts with less than so many bytes left, in one column of the table of a rule
-pub record IsBuilt (rule : Rule) (text : List ℕ) (group : ℕ) (words : List ℕ) (count : ℕ) : Type 0 where
+pub record IsBuilt (rule : Rule) (text : Text) (group : ℕ) (words : List ℕ) (count : ℕ) : Type 0 where
   pub counted : length words ≡ count
   pub inside : (i j : ℕ) → i < count → j ≤ i → j / 64 ≡ group → cells_in words group i j ≡ cell_of rule text (cells_in words group) i j
   pub above : (i j : ℕ) → i < j → cells_in words group i j ≡ false
 
 -- the table of a rule
-pub record IsFilled (rule : Rule) (text : List ℕ) (cells : Cells) : Type 0 where
+pub record IsFilled (rule : Rule) (text : Text) (cells : Cells) : Type 0 where
   pub inside : (i j : ℕ) → i ≤ length text → j ≤ i → cells i j ≡ cell_of rule text cells i j
   pub past : (i j : ℕ) → length text < i → cells i j ≡ false
   pub above : (i j : ℕ) → i < j → cells i j ≡ false
 
 -- the bytes from a start to an end
-abbrev pub piece : List ℕ → ℕ → ℕ → List ℕ
+abbrev pub piece : Text → ℕ → ℕ → Text
 piece text i j = take (i - j) (drop (length text - i) text)
 
 -- the cells say which pieces have P
-pub record IsTable (P : List ℕ → Type 0) (text : List ℕ) (cells : Cells) : Type 0 where
+pub record IsTable (P : Text → Type 0) (text : Text) (cells : Cells) : Type 0 where
   pub ordered : (i j : ℕ) → cells i j ≡ true → j ≤ i
   pub within : (i j : ℕ) → cells i j ≡ true → i ≤ length text
   pub sound : (i j : ℕ) → cells i j ≡ true → P (piece text i j)

@@ -16,5 +16,5 @@ mod tokens;
 mod words;
 
 pub use errors::PatternFault;
-pub use grammar::one_reading;
+pub use grammar::{computed_reading, one_reading};
 pub use patterns::Pattern;

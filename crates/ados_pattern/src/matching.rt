@@ -15,14 +15,22 @@ use ados_text::{NoMemory, Text};
 use std::alloc::Global;
 
 impl Pattern {
-    ghost use Rattle.std.specs.Prelude.{◌↔◌, IsTrue, IfOk};
+    ghost use Rattle.std.specs.Prelude.{◌≡◌, ◌↔◌, IsTrue, IfOk};
     ghost use Rattle.ados_pattern.specs.Matches.{Matches};
+    ghost use Rattle.ados_pattern.specs.Matching.{is_match};
 
     /// Whether the text is what the pattern says, where case is ignored.
     ///
     /// `NoMemory` where a growth was refused. The work is bounded: for each byte of the pattern's
     /// text, by the square of the name's length, and by a 64th of its cube from 64 bytes on.
     pub fn matches(&self, text: &Text) -> Result<bool, NoMemory>
+        ensures said { IfOk result (λ b. IsTrue b ↔ Matches self.now.form text.now) }
+        ensures computed { IfOk result (λ b. b ≡ is_match self.now.form text.now) }
+    {
+        self.matched(text)
+    }
+
+    fn matched(&self, text: &Text) -> Result<bool, NoMemory>
         ensures { IfOk result (λ b. IsTrue b ↔ Matches self.now.form text.now) }
     {
         let text = text.as_bytes();

@@ -4,3 +4,5 @@ pub mod RowsLemmas
 pub mod FilesLemmas
 pub mod FirstLemmas
 pub mod RenameLemmas
+pub mod ContentsLemmas
+pub mod StayLemmas

@@ -23,7 +23,7 @@ same_way a b e = ap (λ (o : Option (List (List ℕ))). unwrap_or o a) e
 self : (a : List (List ℕ)) → is_same_key a a ≡ true
 self a = (eq_by_cmp_equiv place_cmp_total).refl a
 
-false_of : (b : Bool) → (b ≡ true → ⊥) → b ≡ false
+pub false_of : (b : Bool) → (b ≡ true → ⊥) → b ≡ false
 false_of true h = absurd (h refl)
 false_of false h = refl
 
@@ -31,7 +31,7 @@ cons : {A : Type 0} (x y : A) (xs ys : List A) → x ≡ y → xs ≡ ys → x �
 cons x y xs ys e f = ap (λ z. z ∷ xs) e ∙ ap (λ zs. y ∷ zs) f
 
 -- a place is the directory with the way behind it
-behind-exact : (place q way : List (List ℕ)) → behind place q ≡ Some way → q ≡ place ++ way
+pub behind-exact : (place q way : List (List ℕ)) → behind place q ≡ Some way → q ≡ place ++ way
 behind-exact [] q way e = same_way q way e
 behind-exact (n ∷ ns) [] way e = cc
 behind-exact (n ∷ ns) (x ∷ xs) way e =
@@ -60,7 +60,7 @@ later k e es h = elim (is_same_key k e.0) as (λ b. IsSome (cond b (Some e.1) (f
 here : (e : List (List ℕ) × Entry) (es : Rows) → IsSome (find place_cmp e.0 (e ∷ es))
 here e es = subst (λ (b : Bool). IsSome (cond b (Some e.1) (find place_cmp e.0 es))) (sym (self e.0)) refl
 
-at_or_below : (place way k : List (List ℕ)) → k ≡ place ++ way → is_at_or_below place k ≡ true
+pub at_or_below : (place way k : List (List ℕ)) → k ≡ place ++ way → is_at_or_below place k ≡ true
 at_or_below place way k e = ap is_some (ap (behind place) e ∙ behind-append place way)
 
 -- what is found where things moved to
@@ -112,7 +112,7 @@ get-moved_in : (m : Files) (from to : List (List ℕ)) (name : List ℕ) (way : 
 get-moved_in m from to name way within =
     get-from_entries place_cmp_total _ (to ++ way) ∙ find-moved_in from to name (map.entries m) way within ∙ ap (option_map (renamed name way)) (sym (get-entries m (from ++ way)))
 
-get-moved_out : (m : Files) (from to : List (List ℕ)) (name : List ℕ) (q : List (List ℕ)) → behind to q ≡ None → map.get (rename_of m from to name) q ≡ cond (is_at_or_below from q) nothing (map.get m q)
+pub get-moved_out : (m : Files) (from to : List (List ℕ)) (name : List ℕ) (q : List (List ℕ)) → behind to q ≡ None → map.get (rename_of m from to name) q ≡ cond (is_at_or_below from q) nothing (map.get m q)
 get-moved_out m from to name q out =
     get-from_entries place_cmp_total _ q ∙ find-moved_out from to name (map.entries m) q out ∙ ap (cond (is_at_or_below from q) nothing) (sym (get-entries m q))
 
@@ -258,7 +258,7 @@ none_above directory place n rest h = false_of _ (λ t.
       | Some w ↦ λ p. clash (sym h ∙ at_or_below directory (w ++ n ∷ rest) (place ++ n ∷ rest) (ap (λ q. q ++ n ∷ rest) (behind-exact directory place w p) ∙ append_assoc directory w (n ∷ rest)))
     ] refl)
 
-none_of : (o : Option (List (List ℕ))) → is_some o ≡ false → o ≡ None
+pub none_of : (o : Option (List (List ℕ))) → is_some o ≡ false → o ≡ None
 none_of None h = refl
 none_of (Some w) h = clash (sym h)
 

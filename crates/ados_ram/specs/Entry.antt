@@ -1,11 +1,15 @@
 -- Entries: what stands at a place.
 use Rattle.std.specs.Prelude.{◌≡◌, ℕ, List, [], ◌∷◌, Bool, true, false, Option, Some, None, length, refl}
 use Rattle.std.specs.Coded.{Coded, code_by, coded×, coded_ℕ, coded_bool, coded_list, coded_option}
+use Rattle.ados_text.specs.Text.{Text, Bytes}
+use Rattle.ados_text.specs.Name.{Name}
+use Rattle.ados_ram.specs.Place.{Key}
 use Rattle.ados_ram.specs.declared.entries.Bits.{Bits}
 use Rattle.ados_ram.specs.declared.entries.Body.{Body}
 use Rattle.ados_ram.specs.declared.entries.Body.TheVariants.{Directory, File}
 use Rattle.ados_ram.specs.declared.entries.Entry.{Entry}
 
+-- the object is a directory
 abbrev pub is_directory_body : Body → Bool
 is_directory_body Directory = true
 is_directory_body (File bytes) = false
@@ -14,11 +18,11 @@ abbrev pub is_directory : Entry → Bool
 is_directory e = is_directory_body e.body
 
 -- what a file holds; a directory holds no bytes
-abbrev pub bytes_of_body : Body → List ℕ
+abbrev pub bytes_of_body : Body → Bytes
 bytes_of_body Directory = []
 bytes_of_body (File bytes) = bytes
 
-abbrev pub bytes_of : Entry → List ℕ
+abbrev pub bytes_of : Entry → Bytes
 bytes_of e = bytes_of_body e.body
 
 abbrev pub size_of : Entry → ℕ
@@ -33,36 +37,36 @@ abbrev pub unarchived : Bits → Bits
 unarchived b = record b { archive = false }
 
 -- a new directory, with nothing in it
-abbrev pub new_directory : List ℕ → Entry
+abbrev pub new_directory : Name → Entry
 new_directory name = record { name = name; body = Directory; bits = fresh_bits; comment = [] }
 
 -- a file that holds the bytes: a new one of the name and the bits, or the old one, which keeps its name, comment and bits but for a
-abbrev pub written_as : Bits → Option Entry → List ℕ → List ℕ → Entry
+abbrev pub written_as : Bits → Option Entry → Name → Bytes → Entry
 written_as bits None name bytes = record { name = name; body = File bytes; bits = bits; comment = [] }
 written_as bits (Some e) name bytes = record e { body = File bytes; bits = unarchived e.bits }
 
 -- the same, where a new one has the bits of a new object
-abbrev pub written : Option Entry → List ℕ → List ℕ → Entry
+abbrev pub written : Option Entry → Name → Bytes → Entry
 written o name bytes = written_as fresh_bits o name bytes
 
 -- an entry with other bits, another comment
 abbrev pub with_bits : Bits → Entry → Entry
 with_bits bits e = record e { bits = bits }
 
-abbrev pub with_comment : List ℕ → Entry → Entry
+abbrev pub with_comment : Text → Entry → Entry
 with_comment comment e = record e { comment = comment }
 
 -- an entry that moved, by the way down to it from the object that was renamed: that one itself takes the new name
-abbrev pub renamed : List ℕ → List (List ℕ) → Entry → Entry
+abbrev pub renamed : Name → Key → Entry → Entry
 renamed name [] e = record e { name = name }
 renamed name (n ∷ ns) e = e
 
 -- how an entry is stored: as its fields
-abbrev pub option_of_body : Body → Option (List ℕ)
+abbrev pub option_of_body : Body → Option Bytes
 option_of_body Directory = None
 option_of_body (File bytes) = Some bytes
 
-abbrev pub body_of_option : Option (List ℕ) → Body
+abbrev pub body_of_option : Option Bytes → Body
 body_of_option None = Directory
 body_of_option (Some bytes) = File bytes
 

@@ -5,7 +5,9 @@ use Rattle.std.specs.Option.{option_or}
 use Rattle.std.specs.FinMap as map
 use Rattle.ados_text.specs.declared.codes.Result2.{Result2}
 use Rattle.ados_text.specs.declared.codes.TheConstants.Result2.{OBJECT_IN_USE, OBJECT_EXISTS, DIRECTORY_NOT_FOUND, OBJECT_NOT_FOUND, WRONG_TYPE, DIRECTORY_NOT_EMPTY, COMMENT_TOO_LONG, DISK_FULL, DELETE_PROTECTED, WRITE_PROTECTED, READ_PROTECTED}
-use Rattle.ados_ram.specs.Place.{is_root, is_same_key, behind, is_below, is_child}
+use Rattle.ados_text.specs.Text.{Text, Bytes}
+use Rattle.ados_text.specs.Name.{Name}
+use Rattle.ados_ram.specs.Place.{Key, is_root, is_same_key, behind, is_below, is_child}
 use Rattle.ados_ram.specs.Entry.{is_directory, new_directory, written, written_as, with_bits, with_comment, renamed}
 use Rattle.ados_ram.specs.Files.{Files, Rows, is_some_file, bytes_at, total_of, file_limit, bytes_limit, objects_limit}
 use Rattle.ados_ram.specs.InUse.{InUse, is_in_use, holds_output}
@@ -26,7 +28,7 @@ on_the_way None further = Some DIRECTORY_NOT_FOUND
 on_the_way (Some e) further = cond (is_directory e) further (Some WRONG_TYPE)
 
 -- the fault of the places above one, from the root on
-abbrev pub way_fault : Files → List (List ℕ) → List (List ℕ) → Option Result2
+abbrev pub way_fault : Files → Key → Key → Option Result2
 way_fault m above [] = None
 way_fault m above (name ∷ rest) = on_the_way (map.get m above) (way_fault m (above ++ name ∷ []) rest)
 
@@ -50,12 +52,12 @@ list_fault None = Some OBJECT_NOT_FOUND
 list_fault (Some e) = cond (is_directory e) None (Some WRONG_TYPE)
 
 -- the names, as they are written, of what is directly in a directory, in the order of its places
-abbrev pub names_in : List (List ℕ) → Rows → List (List ℕ)
+abbrev pub names_in : Key → Rows → List Name
 names_in directory [] = []
 names_in directory (e ∷ es) = cond (is_child directory e.0) (e.1.name ∷ names_in directory es) (names_in directory es)
 
 -- Write
-abbrev pub write_of : Files → List (List ℕ) → List ℕ → List ℕ → Files
+abbrev pub write_of : Files → Key → Name → Bytes → Files
 write_of m key name bytes = map.insert m key (written (map.get m key) name bytes)
 
 abbrev pub write_target_fault : Bool → Option Entry → Option Result2
@@ -63,100 +65,100 @@ write_target_fault is_open None = None
 write_target_fault is_open (Some e) =
     cond (is_directory e) (Some WRONG_TYPE) (cond is_open (Some OBJECT_IN_USE) (cond e.bits.write None (Some WRITE_PROTECTED)))
 
-abbrev pub write_fault : Bool → Files → List (List ℕ) → List ℕ → List ℕ → Option Result2
+abbrev pub write_fault : Bool → Files → Key → Name → Bytes → Option Result2
 write_fault is_open m key name bytes =
     option_or (way_fault m [] key)
     (option_or (write_target_fault is_open (map.get m key)) (full_fault (length bytes) (write_of m key name bytes)))
 
 -- Write, where a new file takes other bits; the faults are those of writing
-abbrev pub write_as_of : Files → List (List ℕ) → List ℕ → List ℕ → Bits → Files
+abbrev pub write_as_of : Files → Key → Name → Bytes → Bits → Files
 write_as_of m key name bytes bits = map.insert m key (written_as bits (map.get m key) name bytes)
 
 -- Append: to write what stands there with the bytes behind it
-abbrev pub append_of : Files → List (List ℕ) → List ℕ → List ℕ → Files
+abbrev pub append_of : Files → Key → Name → Bytes → Files
 append_of m key name bytes = write_of m key name (bytes_at (map.get m key) ++ bytes)
 
-abbrev pub append_fault : Bool → Files → List (List ℕ) → List ℕ → List ℕ → Option Result2
+abbrev pub append_fault : Bool → Files → Key → Name → Bytes → Option Result2
 append_fault is_open m key name bytes = write_fault is_open m key name (bytes_at (map.get m key) ++ bytes)
 
 -- Put bytes to an open output: append them, whatever its bits say, where there is one byte or more and a file stands
 -- there. The limits alone refuse it
-abbrev pub is_put : Option Entry → List ℕ → Bool
+abbrev pub is_put : Option Entry → Bytes → Bool
 is_put there bytes = is_some_file there && nat_lt 0 (length bytes)
 
-abbrev pub put_open_of : Files → List (List ℕ) → List ℕ → List ℕ → Files
+abbrev pub put_open_of : Files → Key → Name → Bytes → Files
 put_open_of m key name bytes = cond (is_put (map.get m key) bytes) (append_of m key name bytes) m
 
-abbrev pub put_open_fault : Files → List (List ℕ) → List ℕ → List ℕ → Option Result2
+abbrev pub put_open_fault : Files → Key → Name → Bytes → Option Result2
 put_open_fault m key name bytes =
     cond (is_put (map.get m key) bytes) (full_fault (length (bytes_at (map.get m key) ++ bytes)) (append_of m key name bytes)) None
 
 -- Make a directory: of the limits only the number of objects can be passed
-abbrev pub make_dir_of : Files → List (List ℕ) → List ℕ → Files
+abbrev pub make_dir_of : Files → Key → Name → Files
 make_dir_of m key name = map.insert m key (new_directory name)
 
 abbrev pub free_fault : Option Entry → Option Result2
 free_fault None = None
 free_fault (Some e) = Some OBJECT_EXISTS
 
-abbrev pub make_dir_fault : Files → List (List ℕ) → List ℕ → Option Result2
+abbrev pub make_dir_fault : Files → Key → Name → Option Result2
 make_dir_fault m key name =
     option_or (way_fault m [] key) (option_or (free_fault (map.get m key)) (full_fault 0 (make_dir_of m key name)))
 
 -- Delete: the files without a place
-abbrev pub any_below : List (List ℕ) → Rows → Bool
+abbrev pub any_below : Key → Rows → Bool
 any_below key [] = false
 any_below key (e ∷ es) = is_below key e.0 || any_below key es
 
-abbrev pub delete_target_fault : InUse → Rows → List (List ℕ) → Option Entry → Option Result2
+abbrev pub delete_target_fault : InUse → Rows → Key → Option Entry → Option Result2
 delete_target_fault busy es key None = Some OBJECT_NOT_FOUND
 delete_target_fault busy es key (Some e) =
     cond (is_in_use busy key || is_root key) (Some OBJECT_IN_USE)
     (cond e.bits.delete (cond (any_below key es) (Some DIRECTORY_NOT_EMPTY) None) (Some DELETE_PROTECTED))
 
-abbrev pub delete_fault : InUse → Files → List (List ℕ) → Option Result2
+abbrev pub delete_fault : InUse → Files → Key → Option Result2
 delete_fault busy m key = delete_target_fault busy (map.entries m) key (map.get m key)
 
 -- Rename: the files in which what is at a place or below it is at another or below that, and the object itself has the
 -- last name of the new place
-abbrev pub moved_row : List (List ℕ) → List ℕ → List (List ℕ) → Entry → Option (List (List ℕ)) → List (List ℕ) × Entry
+abbrev pub moved_row : Key → Name → Key → Entry → Option Key → Key × Entry
 moved_row to name key e None = (key, e)
 moved_row to name key e (Some way) = (to ++ way, renamed name way e)
 
-abbrev pub moved_rows : List (List ℕ) → List (List ℕ) → List ℕ → Rows → Rows
+abbrev pub moved_rows : Key → Key → Name → Rows → Rows
 moved_rows from to name [] = []
 moved_rows from to name (e ∷ es) = moved_row to name e.0 e.1 (behind from e.0) ∷ moved_rows from to name es
 
-abbrev pub rename_of : Files → List (List ℕ) → List (List ℕ) → List ℕ → Files
+abbrev pub rename_of : Files → Key → Key → Name → Files
 rename_of m from to name = map.from_entries (moved_rows from to name (map.entries m))
 
-abbrev pub rename_target_fault : InUse → List (List ℕ) → List (List ℕ) → Option Entry → Option Entry → Option Result2
+abbrev pub rename_target_fault : InUse → Key → Key → Option Entry → Option Entry → Option Result2
 rename_target_fault busy from to None there = Some OBJECT_NOT_FOUND
 rename_target_fault busy from to (Some e) there =
     cond (holds_output busy from || is_root from || is_below from to) (Some OBJECT_IN_USE)
     (cond (is_some there && not (is_same_key from to)) (Some OBJECT_EXISTS) None)
 
-abbrev pub rename_fault : InUse → Files → List (List ℕ) → List (List ℕ) → Option Result2
+abbrev pub rename_fault : InUse → Files → Key → Key → Option Result2
 rename_fault busy m from to = option_or (way_fault m [] to) (rename_target_fault busy from to (map.get m from) (map.get m to))
 
 -- Protect and comment: the files with an entry changed
-abbrev pub changed : Files → List (List ℕ) → (Entry → Entry) → Option Entry → Files
+abbrev pub changed : Files → Key → (Entry → Entry) → Option Entry → Files
 changed m key change None = m
 changed m key change (Some e) = map.insert m key (change e)
 
-abbrev pub change_fault : List (List ℕ) → Option Entry → Option Result2
+abbrev pub change_fault : Key → Option Entry → Option Result2
 change_fault key None = Some OBJECT_NOT_FOUND
 change_fault key (Some e) = cond (is_root key) (Some WRONG_TYPE) None
 
-abbrev pub protect_of : Files → List (List ℕ) → Bits → Files
+abbrev pub protect_of : Files → Key → Bits → Files
 protect_of m key bits = changed m key (with_bits bits) (map.get m key)
 
-abbrev pub protect_fault : Files → List (List ℕ) → Option Result2
+abbrev pub protect_fault : Files → Key → Option Result2
 protect_fault m key = change_fault key (map.get m key)
 
-abbrev pub comment_of : Files → List (List ℕ) → List ℕ → Files
+abbrev pub comment_of : Files → Key → Text → Files
 comment_of m key comment = changed m key (with_comment comment) (map.get m key)
 
-abbrev pub comment_fault : Files → List (List ℕ) → List ℕ → Option Result2
+abbrev pub comment_fault : Files → Key → Text → Option Result2
 comment_fault m key comment =
     option_or (change_fault key (map.get m key)) (cond (nat_le (length comment) 79) None (Some COMMENT_TOO_LONG))

@@ -1,12 +1,15 @@
 -- Files: a finite map from places to entries. The root is there and is a directory, each place above one that is there
 -- is a directory, and the limits hold.
-use Rattle.std.specs.Prelude.{◌+◌, ◌≤◌, ℕ, Bool, false, not, List, [], ◌∷◌, ◌++◌, Option, Some, None, IsSome, IsTrue, codes, length}
+use Rattle.std.specs.Prelude.{◌≡◌, ◌+◌, ◌≤◌, ℕ, Bool, false, not, List, [], ◌∷◌, ◌++◌, Option, Some, None, IsSome, IsTrue, codes, length}
 use Rattle.std.specs.Coded.{Coded, coded_list, coded_ℕ}
 use Rattle.std.specs.FinMap as map
-use Rattle.ados_ram.specs.Place.{key_of, place_cmp}
+use Rattle.ados_text.specs.Text.{Bytes}
+use Rattle.ados_text.specs.Name.{Name}
+use Rattle.ados_ram.specs.Place.{Key, key_of, place_cmp}
 use Rattle.ados_ram.specs.Entry.{is_directory, bytes_of, size_of, new_directory, coded_entry}
 use Rattle.ados_ram.specs.declared.entries.Entry.{Entry}
 
+-- the files: what stands at each place
 abbrev pub Files : Type 0
 Files = map.FinMap place_cmp Entry
 
@@ -15,7 +18,7 @@ coded_files = map.code (coded_list (coded_list coded_ℕ)) coded_entry
 
 -- entries with their places, in order
 abbrev pub Rows : Type 0
-Rows = List (List (List ℕ) × Entry)
+Rows = List (Key × Entry)
 
 -- a directory stands there
 abbrev pub is_some_directory : Option Entry → Bool
@@ -28,7 +31,7 @@ is_some_file None = false
 is_some_file (Some e) = not (is_directory e)
 
 -- the bytes that stand there; none where there is no file
-abbrev pub bytes_at : Option Entry → List ℕ
+abbrev pub bytes_at : Option Entry → Bytes
 bytes_at None = []
 bytes_at (Some e) = bytes_of e
 
@@ -36,6 +39,10 @@ bytes_at (Some e) = bytes_of e
 abbrev pub total_of : Rows → ℕ
 total_of [] = 0
 total_of (e ∷ es) = size_of e.1 + total_of es
+
+-- each place that may not change has the entry that it had
+abbrev pub OthersStay : (Key → Bool) → Files → Files → Type 0
+OthersStay may_change old new = (place : Key) → may_change place ≡ false → map.get new place ≡ map.get old place
 
 -- the limits: bytes in one file, bytes in all, objects with the root
 abbrev pub file_limit : ℕ
@@ -47,15 +54,16 @@ bytes_limit = 1048576
 abbrev pub objects_limit : ℕ
 objects_limit = 1025
 
+-- what all files are: a tree of directories within the limits
 pub record AreFiles (m : Files) : Type 0 where
   pub root : IsTrue (is_some_directory (map.get m []))
-  pub above : (place : List (List ℕ)) (name : List ℕ) (rest : List (List ℕ)) → IsSome (map.get m (place ++ name ∷ rest)) → IsTrue (is_some_directory (map.get m place))
-  pub each_file : (place : List (List ℕ)) → length (bytes_at (map.get m place)) ≤ file_limit
+  pub above : (place : Key) (name : Name) (rest : Key) → IsSome (map.get m (place ++ name ∷ rest)) → IsTrue (is_some_directory (map.get m place))
+  pub each_file : (place : Key) → length (bytes_at (map.get m place)) ≤ file_limit
   pub all_bytes : total_of (map.entries m) ≤ bytes_limit
   pub objects : map.len m ≤ objects_limit
 
 -- a directory in the root
-abbrev pub directory_row : List ℕ → List (List ℕ) × Entry
+abbrev pub directory_row : Name → Key × Entry
 directory_row name = (key_of (name ∷ []), new_directory name)
 
 -- the files at first: the root with C, Env, S and T in it, and nothing in these

@@ -1,25 +1,26 @@
--- Whether a text is what a pattern says, as a test.
-use Rattle.std.specs.Prelude.{ℕ, zero, suc, List, [], ◌∷◌, length, Bool, true, false, ◌&&◌, ◌||◌, ◌==◌, not}
+-- Whether a text is what a pattern says, as a test: for definitions that compute.
+use Rattle.std.specs.Prelude.{ℕ, zero, suc, [], ◌∷◌, length, Bool, true, false, ◌&&◌, ◌||◌, ◌==◌, not}
+use Rattle.ados_text.specs.Text.{Text}
 use Rattle.ados_pattern.specs.Form.{Form, Empty, Char, Any, Range, Outside, Many, Other, Then, Either}
 use Rattle.ados_pattern.specs.Matches.{is_one, is_same, is_any, in_range}
 
-abbrev pub is_empty : List ℕ → Bool
+abbrev pub is_empty : Text → Bool
 is_empty [] = true
 is_empty (c ∷ cs) = false
 
 -- some cut of the text has a front with one test and a rest with the other
-abbrev pub has_cut : (List ℕ → Bool) → (List ℕ → Bool) → List ℕ → Bool
+abbrev pub has_cut : (Text → Bool) → (Text → Bool) → Text → Bool
 has_cut first second [] = first [] && second []
 has_cut first second (c ∷ cs) = first [] && second (c ∷ cs) || has_cut (λ front. first (c ∷ front)) second cs
 
 -- the text is zero or more pieces with the test, at most so many of them, each not empty
-abbrev pub repeats : (List ℕ → Bool) → ℕ → List ℕ → Bool
+abbrev pub repeats : (Text → Bool) → ℕ → Text → Bool
 repeats test count [] = true
 repeats test zero (c ∷ cs) = false
 repeats test (suc count) (c ∷ cs) = has_cut (λ front. test (c ∷ front)) (repeats test count) cs
 
 -- the text is what the pattern says
-abbrev pub is_match : Form → List ℕ → Bool
+abbrev pub is_match : Form → Text → Bool
 is_match Empty text = is_empty text
 is_match (Char c) text = is_one (is_same c) text
 is_match Any text = is_one is_any text

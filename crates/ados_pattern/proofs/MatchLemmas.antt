@@ -1,4 +1,4 @@
--- The test of a pattern is what its pattern says.
+-- The test of a text is true just where the text is what the pattern says.
 use Rattle.std.proofs.Common.{◌≡◌, ℕ, zero, suc, ◌<◌, ◌≤◌, List, [], ◌∷◌, ◌++◌, length, length-append, Bool, true, false, ◌&&◌, ◌==◌, refl, sym, ap, arith, inl, inr, subst, IsTrue}
 use Rattle.std.specs.Prelude.{◌↔◌}
 use Rattle.std.proofs.Math.Bool.{not}
@@ -6,7 +6,7 @@ use Rattle.ados_pattern.specs.Form.{Form, Empty, Char, Any, Range, Outside, Many
 use Rattle.ados_pattern.specs.Matches.{HasCut, Repeats, none, more, Matches}
 use Rattle.ados_pattern.proofs.Anys.{both-left, both-right, both-true, either-cases, or-left, or-right}
 use Rattle.ados_pattern.proofs.RuleLemmas.{eq-is, is-eq}
-use Rattle.ados_files.specs.Matching.{is_empty, has_cut, repeats, is_match}
+use Rattle.ados_pattern.specs.Matching.{is_empty, has_cut, repeats, is_match}
 
 abbrev Holds : (List ℕ → Bool) → List ℕ → Type 0
 Holds test text = test text ≡ true

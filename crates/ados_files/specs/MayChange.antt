@@ -1,0 +1,47 @@
+-- What Copy, Delete and Rename may change. Each other place keeps the entry that it had.
+use Rattle.std.specs.Prelude.{Bool, false, ◌||◌, List, [], ◌∷◌, Option, Some, None, Result, Ok, Err}
+use Rattle.ados_text.specs.Text.{Text}
+use Rattle.ados_readargs.specs.declared.args.Arg.{Arg}
+use Rattle.ados_readargs.specs.Args.{texts_at, text_at}
+use Rattle.ados_ram.specs.Place.{Place, Key, key_of, is_at_or_below}
+use Rattle.ados_find.specs.declared.codes.Codes.{Codes}
+use Rattle.ados_find.specs.Shared.{SharedState}
+use Rattle.ados_find.specs.Views.{View}
+use Rattle.ados_find.specs.Paths.{place_of}
+use Rattle.ados_files.specs.Names.{FoundPlaces, named}
+
+-- the key is at a place or below it, where there is one
+abbrev pub is_under : Result Place Codes → Key → Bool
+is_under (Err codes) key = false
+is_under (Ok place) key = is_at_or_below (key_of place) key
+
+-- the key is at or below the place to which a path leads
+abbrev pub is_under_path : SharedState → View → Option Text → Key → Bool
+is_under_path shared view None key = false
+is_under_path shared view (Some text) key = is_under (place_of shared view.directory text) key
+
+-- the key is at or below one of the places
+abbrev pub is_under_any : List Place → Key → Bool
+is_under_any [] key = false
+is_under_any (place ∷ places) key = is_at_or_below (key_of place) key || is_under_any places key
+
+abbrev pub is_under_found : Result FoundPlaces Codes → Key → Bool
+is_under_found (Err codes) key = false
+is_under_found (Ok found) key = is_under_any found.places key
+
+-- the key is at or below an object that one of the arguments names
+abbrev pub is_under_names : SharedState → View → List Text → Key → Bool
+is_under_names shared view [] key = false
+is_under_names shared view (text ∷ texts) key = is_under_found (named shared view.directory text) key || is_under_names shared view texts key
+
+-- Copy: TO, and what is below it
+abbrev pub copy_may_change : SharedState → View → List Arg → Key → Bool
+copy_may_change shared view args key = is_under_path shared view (text_at args 1) key
+
+-- Delete: the objects that its arguments name, and what is below them
+abbrev pub delete_may_change : SharedState → View → List Arg → Key → Bool
+delete_may_change shared view args key = is_under_names shared view (texts_at args 0) key
+
+-- Rename: FROM and TO, and what is below them
+abbrev pub rename_may_change : SharedState → View → List Arg → Key → Bool
+rename_may_change shared view args key = is_under_path shared view (text_at args 0) key || is_under_path shared view (text_at args 1) key

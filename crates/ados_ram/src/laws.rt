@@ -1,0 +1,36 @@
+// Laws of the files, over their definitions.
+ghost use Rattle.std.specs.Prelude.{◌≡◌, ◌&&◌, ◌||◌, ◌++◌, ◌∷◌, Bool};
+ghost use Rattle.std.specs.declared.cmp.Ordering.TheVariants.{Less};
+ghost use Rattle.std.specs.FinMap as map;
+ghost use Rattle.ados_text.specs.Text.{Bytes, Text};
+ghost use Rattle.ados_text.specs.Name.{Name, name_cmp};
+ghost use Rattle.ados_ram.specs.declared.entries.Bits.{Bits};
+ghost use Rattle.ados_ram.specs.Place.{Key, place_cmp, is_same_key, is_child, is_below, is_at_or_below};
+ghost use Rattle.ados_ram.specs.Files.{Files, is_some_file, OthersStay};
+ghost use Rattle.ados_ram.specs.FileOperations.{write_of, write_as_of, append_of, put_open_of, make_dir_of, rename_of, protect_of, comment_of};
+ghost use Rattle.ados_ram.specs.Contents.{children, contents, is_within, files_below, contents_cmp, ListsJust};
+
+/// What is listed of a directory is just what it is to be, each once: its contents are the places below it, each
+/// directory behind all that is in it, and where names differ in their order; its children the places directly in it, and
+/// its files the places of files, both in the order of places.
+pub fn contents_in_order()
+    ensures contents { (files : Files) (directory : Key) → ListsJust files (is_below directory) contents_cmp (contents directory (map.entries files)) }
+    ensures children { (files : Files) (directory : Key) → ListsJust files (is_child directory) place_cmp (children directory (map.entries files)) }
+    ensures files { (files : Files) (all : Bool) (directory : Key) → ListsJust files (λ place. is_within all directory place && is_some_file (map.get files place)) place_cmp (files_below all directory (map.entries files)) }
+    ensures inside { (place : Key) (name : Name) (way : Key) → contents_cmp (place ++ name ∷ way) place ≡ Less }
+    ensures beside { (place : Key) (one other : Name) (way rest : Key) → name_cmp one other ≡ Less → contents_cmp (place ++ one ∷ way) (place ++ other ∷ rest) ≡ Less }
+{}
+
+/// An operation changes the object that it is for, and nothing else: each other place has the entry that it had. A
+/// rename changes what is at the old place or the new one, or below one of these.
+pub fn others_stay()
+    ensures write { (files : Files) (key : Key) (name : Name) (bytes : Bytes) → OthersStay (is_same_key key) files (write_of files key name bytes) }
+    ensures write_as { (files : Files) (key : Key) (name : Name) (bytes : Bytes) (bits : Bits) → OthersStay (is_same_key key) files (write_as_of files key name bytes bits) }
+    ensures append { (files : Files) (key : Key) (name : Name) (bytes : Bytes) → OthersStay (is_same_key key) files (append_of files key name bytes) }
+    ensures put_open { (files : Files) (key : Key) (name : Name) (bytes : Bytes) → OthersStay (is_same_key key) files (put_open_of files key name bytes) }
+    ensures make_dir { (files : Files) (key : Key) (name : Name) → OthersStay (is_same_key key) files (make_dir_of files key name) }
+    ensures delete { (files : Files) (key : Key) → OthersStay (is_same_key key) files (map.remove files key) }
+    ensures rename { (files : Files) (from to : Key) (name : Name) → OthersStay (λ place. is_at_or_below from place || is_at_or_below to place) files (rename_of files from to name) }
+    ensures protect { (files : Files) (key : Key) (bits : Bits) → OthersStay (is_same_key key) files (protect_of files key bits) }
+    ensures comment { (files : Files) (key : Key) (comment : Text) → OthersStay (is_same_key key) files (comment_of files key comment) }
+{}
