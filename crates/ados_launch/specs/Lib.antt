@@ -1,3 +1,5 @@
 pub mod Faults
 pub mod Lines
 pub mod Schedule
+pub mod Session
+pub mod Taken
