@@ -1,14 +1,13 @@
 -- A run in which shell 1 takes input reads on until the reader's end.
-use Rattle.std.proofs.Common.{◌≡◌, ℕ, ◌∷◌, List, [], length, Option, Some, None, Ok, true, refl, ap, sym, ◌∙◌, ◌⊎◌, inl, inr, arith}
+use Rattle.std.proofs.Common.{◌≡◌, ℕ, ◌∷◌, List, [], length, Option, Some, None, true, refl, ap, sym, ◌∙◌, ◌⊎◌, inl, inr, arith}
 use Rattle.std.proofs.lemmas.Bool.{true≢false}
 use Rattle.std.proofs.lemmas.Grind.{common_steps}
 use Rattle.ados_machine.specs.World.{WorldState}
-use Rattle.ados_machine.specs.Step.{step_of}
 use Rattle.ados_machine.specs.Runs.{Runs}
 use Rattle.ados_machine.specs.declared.events.Event.TheVariants.{Typed, EndOfInput, Turn, Answer}
-use Rattle.ados_launch.specs.declared.lines.LineKind.TheVariants.{End, Short, Long}
-use Rattle.ados_launch.specs.Lines.{line_of, rest_of, kind_of, kind_of_length, ahead, Known}
-use Rattle.ados_launch.specs.Taken.{Taken, Given, LongLine, events_in, outs_in, world_behind, IsAccepted, IsNext, left_behind, AreRead, left_after}
+use Rattle.ados_launch.specs.declared.lines.LineKind.TheVariants.{End}
+use Rattle.ados_launch.specs.Lines.{line_of, rest_of, kind_of, kind_of_length, ahead}
+use Rattle.ados_launch.specs.Taken.{Taken, Given, LongLine, events_in, outs_in, world_behind, IsNext, left_behind, AreRead, left_after}
 use Rattle.ados_launch.specs.Schedule.{takes_input, IsIdle}
 use Rattle.ados_launch.proofs.Inputs.{typed-takes, turn-takes, answer-takes, takes-due}
 

@@ -1,5 +1,5 @@
 -- What was taken, with one more behind it.
-use Rattle.std.proofs.Common.{◌≡◌, ℕ, ◌+◌, List, [], ◌∷◌, ◌++◌, length, Option, Some, refl, ap, sym, ◌∙◌, append_assoc, append-nil, length-append}
+use Rattle.std.proofs.Common.{◌≡◌, ℕ, ◌+◌, List, [], ◌∷◌, ◌++◌, length, Some, refl, ap, sym, ◌∙◌, append_assoc, append-nil, length-append}
 use Rattle.ados_machine.specs.World.{WorldState}
 use Rattle.ados_machine.specs.Runs.{Runs}
 use Rattle.ados_launch.specs.Taken.{Taken, Given, LongLine, events_in, outs_in, bytes_of, written_for, world_behind, IsAccepted, IsNext, left_behind, AreRead, left_after}

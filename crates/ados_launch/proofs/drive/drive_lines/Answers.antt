@@ -1,4 +1,4 @@
-use Rattle.std.proofs.Common.{rules, IsErrOf, ◌≡◌, ◌+◌, refl, subst, ◌∙◌, arith}
+use Rattle.std.proofs.Common.{rules, IsErrOf, ◌≡◌, ◌+◌, subst, ◌∙◌, arith}
 use Rattle.ados_launch.proofs.Places.{due_below, due_is, idle, behind_in_round, running}
 use Rattle.ados_launch.proofs.Sessions.{driven-more, driven-cut, stands, written-whole, written-cut, why-read, reading}
 use Rattle.ados_launch.proofs.Alone.{none-left}
