@@ -1,9 +1,11 @@
 pub mod Scanning
 pub mod HeldLines
 pub mod Appending
-pub mod Runs
+pub mod Places
+pub mod Taken
+pub mod Taking
+pub mod Sessions
 pub mod Inputs
 pub mod Accepts
 pub mod ReaderEnd
 pub mod Alone
-pub mod Places

@@ -1,55 +1,46 @@
 -- A run in which shell 1 takes input reads on until the reader's end.
-use Rattle.std.proofs.Common.{◌≡◌, ℕ, zero, suc, ◌∷◌, List, [], length, Option, Some, None, true, refl, ap, sym, ◌∙◌, ◌⊎◌, inl, inr, arith}
+use Rattle.std.proofs.Common.{◌≡◌, ℕ, ◌∷◌, List, [], length, Option, Some, None, true, refl, ap, sym, ◌∙◌, ◌⊎◌, inl, inr, arith}
 use Rattle.std.proofs.lemmas.Bool.{true≢false}
 use Rattle.std.proofs.lemmas.Grind.{common_steps}
 use Rattle.ados_machine.specs.World.{WorldState}
-use Rattle.ados_machine.specs.Step.{Response, Refused, Accepted, step_of}
-use Rattle.ados_machine.specs.declared.events.Event.TheVariants.{EndOfInput, Turn}
-use Rattle.ados_launch.specs.declared.lines.LineKind.{LineKind}
-use Rattle.ados_launch.specs.declared.lines.LineKind.TheVariants.{End, Short, Long, Overlong}
+use Rattle.ados_machine.specs.Runs.{Runs}
+use Rattle.ados_machine.specs.declared.events.Event.TheVariants.{Typed, EndOfInput, Turn, Answer}
+use Rattle.ados_launch.specs.declared.lines.LineKind.TheVariants.{End}
 use Rattle.ados_launch.specs.Lines.{line_of, rest_of, kind_of, kind_of_length, ahead}
-use Rattle.ados_launch.specs.Schedule.{takes_input, did_by, did_line, did_at, text_of, Standing, advance_by, after, due, IsIdle}
-use Rattle.ados_launch.proofs.Inputs.{typed-takes, turn-takes, takes-due}
-use Rattle.ados_launch.proofs.Runs.{At}
+use Rattle.ados_launch.specs.Taken.{Taken, Given, LongLine, events_in, outs_in, world_behind, IsNext, left_behind, AreRead, left_after}
+use Rattle.ados_launch.specs.Schedule.{takes_input, IsIdle}
+use Rattle.ados_launch.proofs.Inputs.{typed-takes, turn-takes, answer-takes, takes-due}
 
 -- shell 1 takes input, or nothing is left to read
 abbrev Reads : WorldState → List ℕ → Type 0
 Reads w left = (takes_input w ≡ true) ⊎ (left ≡ [])
 
-did_by-left : (w : WorldState) (left : List ℕ) (r : Response) → (did_by w left r).left ≡ left
-did_by-left w left (Accepted world out log) = refl
-did_by-left w left (Refused why) = refl
-
 not_end : (n : ℕ) → kind_of_length n ≡ End → ⊥
 not_end n e = grind (arith, common_steps)
 
-line-reads : (w : WorldState) (left : List ℕ) (kind : LineKind) → takes_input w ≡ true → (kind ≡ End → left ≡ []) → Reads (did_line w left kind).world (did_line w left kind).left
-line-reads w left End e h = inr (did_by-left w (rest_of left) (step_of w EndOfInput) ∙ ap rest_of (h refl))
-line-reads w left Short e h = inl (typed-takes w (rest_of left) (text_of (line_of left)) e)
-line-reads w left Long e h = inl e
-line-reads w left Overlong e h = inl e
+-- only where nothing is left does the end come
+end_empty : (left : List ℕ) → kind_of left ≡ End → rest_of left ≡ []
+end_empty [] e = refl
+end_empty (b ∷ bytes) e = absurd (not_end (length (line_of (b ∷ bytes))) e)
 
-lines-read : (w : WorldState) (left : List ℕ) → Reads w left → Reads (did_line w left (kind_of left)).world (did_line w left (kind_of left)).left
-lines-read w [] r = inr (did_by-left w [] (step_of w EndOfInput))
-lines-read w (b ∷ bytes) (inl e) = line-reads w (b ∷ bytes) (kind_of (b ∷ bytes)) e (λ h. absurd (not_end (length (line_of (b ∷ bytes))) h))
-lines-read w (b ∷ bytes) (inr e) = cc
+item-reads : (w : WorldState) (left : List ℕ) (item : Taken) → IsNext left item → Reads w left → Reads (world_behind w item) (left_behind left item)
+item-reads w left (Given (Typed line) out) next (inl e) = inl (typed-takes w out line e)
+item-reads w left (Given (Typed line) out) next (inr e) = inr (ap rest_of e)
+item-reads w left (Given EndOfInput out) next r = inr (end_empty left next)
+item-reads w left (Given (Turn k) out) next (inl e) = inl (turn-takes w out k e)
+item-reads w left (Given (Turn k) out) next (inr e) = inr e
+item-reads w left (Given (Answer k reply) out) next (inl e) = inl (answer-takes w out k reply e)
+item-reads w left (Given (Answer k reply) out) next (inr e) = inr e
+item-reads w left LongLine next (inl e) = inl e
+item-reads w left LongLine next (inr e) = inr (ap rest_of e)
 
-turns-read : (w : WorldState) (left : List ℕ) (k : ℕ) → Reads w left → Reads (did_by w left (step_of w (Turn k))).world (did_by w left (step_of w (Turn k))).left
-turns-read w left k (inl e) = inl (turn-takes w left k e)
-turns-read w left k (inr e) = inr (did_by-left w left (step_of w (Turn k)) ∙ e)
-
-places-read : (w : WorldState) (left : List ℕ) (place : ℕ) → Reads w left → Reads (did_at w left place).world (did_at w left place).left
-places-read w left zero r = lines-read w left r
-places-read w left (suc k) r = turns-read w left (suc k) r
-
-advance-reads : (s : Standing) (next : Option ℕ) → Reads s.world s.left → Reads (advance_by s next).world (advance_by s next).left
-advance-reads s None r = r
-advance-reads s (Some k) r = places-read s.world s.left k r
-
-after-reads : (n : ℕ) (start : Standing) → Reads start.world start.left → Reads (after n start).world (after n start).left
-unfolding after
-after-reads zero start r = r
-after-reads (suc n) start r = advance-reads (after n start) (due (after n start).place (after n start).world) (after-reads n start r)
+run-reads : (w : WorldState) (left : List ℕ) (taken : List Taken) (last : WorldState) → Runs w (events_in taken) (outs_in taken) last → AreRead left taken → Reads w left
+    → Reads last (left_after left taken)
+run-reads w left [] last run lines r = rw run r
+run-reads w left (Given event out ∷ taken) last run lines r =
+    run-reads (world_behind w (Given event out)) (left_behind left (Given event out)) taken last run.1 lines.1 (item-reads w left (Given event out) lines.0 r)
+run-reads w left (LongLine ∷ taken) last run lines r =
+    run-reads w (left_behind left LongLine) taken last run lines.1 (item-reads w left LongLine lines.0 r)
 
 -- where nothing is due, shell 1 takes no input
 idle-takes : (w : WorldState) → IsIdle w → takes_input w ≡ true → ⊥
@@ -65,10 +56,10 @@ none_ahead [] (Some ys) xs e h = cc
 none_ahead (b ∷ held) (Some ys) xs e h = cc
 
 -- where nothing is due any more, the reader came to its end
-pub reader-ended : (n : ℕ) (start : Standing) (place : ℕ) (w : WorldState) (held : List ℕ) (left before now : Option (List ℕ))
-    → At (after n start) place w (ahead held left) before now → IsIdle w → takes_input start.world ≡ true → left ≡ Some []
-reader-ended n start place w held left before now s idle e =
-    elim (after-reads n start (inl e)) [
-      | inl takes ↦ absurd (idle-takes w idle (rw s.world_is takes))
-      | inr none ↦ none_ahead held left (after n start).left s.left_is none
+pub reader-ended : (w : WorldState) (bytes : List ℕ) (taken : List Taken) (last : WorldState) (held : List ℕ) (left : Option (List ℕ))
+    → Runs w (events_in taken) (outs_in taken) last → AreRead bytes taken → ahead held left ≡ Some (left_after bytes taken) → IsIdle last → takes_input w ≡ true → left ≡ Some []
+reader-ended w bytes taken last held left run lines left_is idle e =
+    elim (run-reads w bytes taken last run lines (inl e)) [
+      | inl takes ↦ absurd (idle-takes last idle takes)
+      | inr none ↦ none_ahead held left (left_after bytes taken) left_is none
     ]

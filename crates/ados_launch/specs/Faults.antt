@@ -1,5 +1,5 @@
 -- How the faults of a reader and a writer are counted.
-use Rattle.std.specs.Prelude.{◌≡◌, ℕ, ◌+◌, ◌&&◌, nat_lt, ◌==◌, if◌then◌else◌, MatchResult, Result}
+use Rattle.std.specs.Prelude.{◌≡◌, ℕ, ◌+◌, ◌-◌, ◌^◌, min, ◌&&◌, nat_lt, ◌==◌, if◌then◌else◌, MatchResult, Result}
 use Rattle.ados_launch.specs.declared.faults.DriveFault.{DriveFault}
 use Rattle.ados_launch.specs.declared.faults.DriveFault.TheVariants.{Read, Memory}
 use Rattle.ados_launch.specs.declared.lines.LineFault.{LineFault}
@@ -9,10 +9,14 @@ use Rattle.ados_launch.specs.declared.lines.LineFault.TheVariants.{Read as Unrea
 abbrev pub CountsFault : {T E : Type 0} → ℕ → ℕ → Result T E → Type 0
 CountsFault before after result = MatchResult result (λ _. after ≡ before) (λ _. after ≡ before + 1)
 
+-- one more, in a count that stops at 2^64 - 1
+abbrev pub one_more : ℕ → ℕ
+one_more count = min (count + 1) (2 ^ 64 - 1)
+
 -- taking nothing of a buffer that is not empty adds one, any other answer keeps the count
 abbrev pub CountsStall : {E : Type 0} → ℕ → ℕ → Result ℕ E → ℕ → Type 0
 CountsStall before after result room =
-    MatchResult result (λ n. after ≡ (if (n == 0) && nat_lt 0 room then before + 1 else before)) (λ _. after ≡ before)
+    MatchResult result (λ n. after ≡ (if (n == 0) && nat_lt 0 room then one_more before else before)) (λ _. after ≡ before)
 
 -- why a run stops where the next line was not taken
 abbrev pub drive_fault : LineFault → DriveFault

@@ -1,3 +1,6 @@
 pub mod Faults
+pub mod Laws
 pub mod Lines
 pub mod Schedule
+pub mod Session
+pub mod Taken

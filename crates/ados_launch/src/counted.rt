@@ -33,7 +33,7 @@ pub trait Sink {
     /// How many writes have failed.
     ghost faults: { Self → ℕ };
 
-    /// How many writes took nothing of a buffer that was not empty.
+    /// How many writes took nothing of a buffer that was not empty; the count stops at 2^64 - 1.
     ghost stalls: { Self → ℕ };
 
     /// Writes a front of the buffer, and gives its length.
@@ -41,8 +41,7 @@ pub trait Sink {
     /// An `Err` writes nothing and adds one to the faults; one whose kind is `Interrupted` is an
     /// `Err` as any other. `Ok(0)` of a buffer that is not empty adds one to the stalls.
     fn write(&mut self, buffer: &[u8]) -> io::Result<usize>
-        requires room { faults self.old < 2 ^ 64 - 1 }
-        requires stall_room { stalls self.old < 2 ^ 64 - 1 }
+        requires { faults self.old < 2 ^ 64 - 1 }
         ensures bound { WritesAtMost result buffer.now }
         ensures bytes { WriteAppends (contents self.old) (contents self.new) result buffer.now }
         ensures counted { CountsFault (faults self.old) (faults self.new) result }
@@ -97,7 +96,7 @@ impl<W: Write> Sink for Counted<W> {
         match self.inner.write(buffer) {
             Ok(count) => {
                 if count == 0 && !buffer.is_empty() {
-                    self.stalls += 1;
+                    self.stalls = self.stalls.saturating_add(1);
                 }
                 Ok(count)
             }

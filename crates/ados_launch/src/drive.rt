@@ -1,8 +1,12 @@
 // A world driven by a reader's lines.
-ghost use Rattle.std.specs.Prelude.{◌≡◌, ◌⊎◌, ◌<◌, ◌≤◌, ◌^◌, ◌-◌, ◌+◌, ℕ, true, [], Some, IfOk, OnOk, IsErrOf};
+ghost use Rattle.std.specs.Prelude.{◌≡◌, ◌⊎◌, ◌<◌, ◌≤◌, ◌^◌, ◌-◌, ◌+◌, ℕ, true, List, [], length, take, Some, IfOk, OnOk, IsErrOf};
+ghost use Rattle.std.specs.Io.KnownBytes.{Appends};
 ghost use Rattle.ados_machine.specs.World.{codes_at, is_over};
+ghost use Rattle.ados_launch.specs.Faults.{one_more};
 ghost use Rattle.ados_launch.specs.Lines.{Known, kind_of};
-ghost use Rattle.ados_launch.specs.Schedule.{IsAlone, IsIdle, IsReading, IsRunning, Stands, StandsCut, after, begun, due, takes_input};
+ghost use Rattle.ados_launch.specs.Schedule.{IsAlone, IsIdle, IsReading, IsRunning, takes_input};
+ghost use Rattle.ados_launch.specs.Session.{Session, Stands, StandsCut, IsReadAhead};
+ghost use Rattle.ados_launch.specs.Taken.{Taken, written_for, left_after};
 
 use crate::events::take_event;
 use crate::faults::DriveFault;
@@ -57,9 +61,9 @@ impl End {
 /// `Turns`: a further event was due. `Memory`: there was none for the next line or event. A read
 /// or write that is interrupted has failed, and is not tried again.
 ///
-/// Before the call each count of the reader and the writer is below 2^64 - 1. Bytes are read ahead
-/// of the lines: those read and not taken are lost at the return, also to a second call with the
-/// same reader.
+/// Before the call the reader's faults and the writer's are below 2^64 - 1. Bytes are read ahead of
+/// the lines, as many as come with a read: those read and not taken are lost at the return, also to
+/// a second call with the same reader.
 pub fn drive_lines<S: Source, K: Sink>(
     alloc: Global,
     world: &mut World,
@@ -69,18 +73,19 @@ pub fn drive_lines<S: Source, K: Sink>(
 ) -> Result<End, DriveFault>
     requires reader { S.faults reader.old < 2 ^ 64 - 1 }
     requires writer { K.faults writer.old < 2 ^ 64 - 1 }
-    requires stalls { K.stalls writer.old < 2 ^ 64 - 1 }
 
-    // At the end all is written that the schedule of the reader's bytes writes.
-    ensures ended { IfOk result (λ end. Known (S.left reader.old) (λ bytes.
-        Stands (after end.events (begun world.old bytes)) world.new (K.contents writer.old) (K.contents writer.new))) }
+    // At every end, whatever the reader and the writer do: what was taken is a run of the machine, which accepted
+    // each event, in the order of the schedule, and a front of its bytes was written.
+    ensures session { (taken : List Taken) × (length taken ≤ turns) × Session world.old (S.left reader.old) taken world.new
+        × (n : ℕ) × Appends (K.contents writer.old) (K.contents writer.new) (take n (written_for taken)) }
+
+    // At the end of a run as many were taken as it says, and all of their bytes were written.
+    ensures ended { IfOk result (λ end.
+        Stands world.old (S.left reader.old) end.events world.new (K.contents writer.old) (K.contents writer.new)) }
     // Nothing is due in the world that is left.
     ensures idle { OnOk result (IsIdle world.new) }
     // No shell is left, where only shell 1 ran before.
-    ensures over { OnOk result (Known (S.left reader.old) (λ bytes. IsAlone world.old → is_over world.new ≡ true)) }
-    // At each earlier count a further event was due.
-    ensures counted { IfOk result (λ end. Known (S.left reader.old) (λ bytes.
-        (n : ℕ) → n < end.events → IsRunning (after n (begun world.old bytes)))) }
+    ensures over { OnOk result (IsAlone world.old → is_over world.new ≡ true) }
     ensures within { IfOk result (λ end. end.events ≤ turns) }
     ensures code { IfOk result (λ end. end.code ≡ (codes_at world.new 1).code) }
     ensures result2 { IfOk result (λ end. end.result2 ≡ (codes_at world.new 1).result2) }
@@ -91,23 +96,34 @@ pub fn drive_lines<S: Source, K: Sink>(
     ensures reader_ended { OnOk result (Known (S.left reader.old) (λ bytes.
         takes_input world.old ≡ true → S.left reader.new ≡ Some [])) }
 
-    // A fault leaves what the events before it wrote.
-    ensures turns { IsErrOf result DriveFault.Turns → Known (S.left reader.old) (λ bytes.
-        Stands (after turns (begun world.old bytes)) world.new (K.contents writer.old) (K.contents writer.new)
-        × IsRunning (after turns (begun world.old bytes))) }
-    ensures turns_counted { IsErrOf result DriveFault.Turns → Known (S.left reader.old) (λ bytes.
-        (n : ℕ) → n < turns → IsRunning (after n (begun world.old bytes))) }
-    ensures memory { IsErrOf result DriveFault.Memory → Known (S.left reader.old) (λ bytes.
-        (n : ℕ) × (n < turns) × Stands (after n (begun world.old bytes)) world.new (K.contents writer.old) (K.contents writer.new)
-        × IsRunning (after n (begun world.old bytes))) }
-    ensures read { IsErrOf result DriveFault.Read → Known (S.left reader.old) (λ bytes.
-        (n : ℕ) × (n < turns) × Stands (after n (begun world.old bytes)) world.new (K.contents writer.old) (K.contents writer.new)
-        × IsReading (after n (begun world.old bytes))
-        × ((S.faults reader.new ≡ S.faults reader.old + 1) ⊎ (kind_of (after n (begun world.old bytes)).left ≡ LineKind.Overlong))) }
-    ensures write { IsErrOf result DriveFault.Write → Known (S.left reader.old) (λ bytes.
-        (n : ℕ) × (n ≤ turns) × StandsCut (after n (begun world.old bytes)) world.new (K.contents writer.old) (K.contents writer.new)) }
+    // As many as were allowed were taken, all of their bytes were written, and something is due.
+    ensures turns { IsErrOf result DriveFault.Turns →
+        Stands world.old (S.left reader.old) turns world.new (K.contents writer.old) (K.contents writer.new) × IsRunning world.new }
+    // For what is due nothing was read: no read failed, and what is left stands behind the lines that were taken,
+    // but for less than 4,096 bytes that came with them.
+    ensures turns_unread { IsErrOf result DriveFault.Turns → Known (S.left reader.old) (λ bytes.
+        (stands : Stands world.old (S.left reader.old) turns world.new (K.contents writer.old) (K.contents writer.new))
+        × IsReadAhead (left_after bytes stands.taken) (S.left reader.new)) }
+    ensures turns_honest { IsErrOf result DriveFault.Turns → (S.faults reader.new ≡ S.faults reader.old)
+        × (K.faults writer.new ≡ K.faults writer.old) × (K.stalls writer.new ≡ K.stalls writer.old) }
+    // Where none is allowed the reader and the writer stay as they are.
+    ensures untouched { turns ≡ 0 → (reader.new ≡ reader.old) × (writer.new ≡ writer.old) }
+
+    // Less than were allowed were taken, all of their bytes were written, and something is due.
+    ensures memory { IsErrOf result DriveFault.Memory → (n : ℕ) × (n < turns)
+        × Stands world.old (S.left reader.old) n world.new (K.contents writer.old) (K.contents writer.new) × IsRunning world.new }
+    // Less than were allowed were taken, all of their bytes were written, and a line is due, whose read failed or
+    // which is too long to be read.
+    ensures read { IsErrOf result DriveFault.Read → (n : ℕ) × (n < turns)
+        × (stands : Stands world.old (S.left reader.old) n world.new (K.contents writer.old) (K.contents writer.new))
+        × IsReading stands.taken world.new
+        × ((S.faults reader.new ≡ S.faults reader.old + 1)
+        ⊎ Known (S.left reader.old) (λ bytes. kind_of (left_after bytes stands.taken) ≡ LineKind.Overlong)) }
+    // All bytes but some of the last one's were written, at whose write the writer failed or took nothing.
+    ensures write { IsErrOf result DriveFault.Write → (n : ℕ) × (n ≤ turns)
+        × StandsCut world.old (S.left reader.old) n world.new (K.contents writer.old) (K.contents writer.new) }
     ensures write_cause { IsErrOf result DriveFault.Write →
-        (K.faults writer.new ≡ K.faults writer.old + 1) ⊎ (K.stalls writer.new ≡ K.stalls writer.old + 1) }
+        (K.faults writer.new ≡ K.faults writer.old + 1) ⊎ (K.stalls writer.new ≡ one_more (K.stalls writer.old)) }
 {
     let mut held = ReadAhead::new();
     let mut line = Vec::new(alloc);

@@ -1,8 +1,10 @@
 // Taking the event that is due.
-ghost use Rattle.std.specs.Prelude.{◌≡◌, ◌⊎◌, ◌<◌, ◌^◌, ◌-◌, ◌+◌, true, IfOk, OnOk, OnErr, IsErrOf, Err};
+ghost use Rattle.std.specs.Prelude.{◌≡◌, ◌⊎◌, ◌<◌, ◌^◌, ◌-◌, ◌+◌, true, length, IfOk, OnOk, OnErr, IsErrOf, Ok, Err};
 ghost use Rattle.ados_machine.specs.Step.{step_of};
+ghost use Rattle.ados_machine.specs.Runs.{IsAnswer, world_after};
 ghost use Rattle.ados_launch.specs.Lines.{ahead, Known, kind_of};
-ghost use Rattle.ados_launch.specs.Schedule.{is_due, is_accepted, IsTaken, DidAt};
+ghost use Rattle.ados_launch.specs.Schedule.{is_due, is_accepted};
+ghost use Rattle.ados_launch.specs.Session.{TakesAt};
 
 use crate::Source;
 use crate::faults::DriveFault;
@@ -25,12 +27,13 @@ pub fn take_event<S: Source>(
 ) -> Result<Out, DriveFault>
     requires reader { S.faults reader.old < 2 ^ 64 - 1 }
     requires due { is_due world.old place ≡ true }
-    ensures did { IfOk result (λ out. Known (ahead held.old (S.left reader.old)) (λ bytes.
-        DidAt world.old bytes place world.new (ahead held.new (S.left reader.new)) out.bytes)) }
+    ensures took { IfOk result (λ out.
+        TakesAt world.old (ahead held.old (S.left reader.old)) place world.new (ahead held.new (S.left reader.new)) out.bytes) }
+    ensures few { OnOk result (length held.old < 4096 → length held.new < 4096) }
     ensures honest { OnOk result (S.faults reader.new ≡ S.faults reader.old) }
     ensures err { OnErr result (world.new ≡ world.old) }
-    ensures read { IsErrOf result DriveFault.Read → Known (ahead held.old (S.left reader.old)) (λ bytes.
-        (S.faults reader.new ≡ S.faults reader.old + 1) ⊎ (kind_of bytes ≡ LineKind.Overlong)) }
+    ensures read { IsErrOf result DriveFault.Read → (S.faults reader.new ≡ S.faults reader.old + 1)
+        ⊎ Known (ahead held.old (S.left reader.old)) (λ bytes. kind_of bytes ≡ LineKind.Overlong) }
     ensures reading { IsErrOf result DriveFault.Read → place ≡ 0 }
     ensures no_write { IsErrOf result DriveFault.Write → ⊥ }
     ensures no_turns { IsErrOf result DriveFault.Turns → ⊥ }
@@ -53,14 +56,15 @@ fn take_line<S: Source>(
 ) -> Result<Out, DriveFault>
     requires reader { S.faults reader.old < 2 ^ 64 - 1 }
     requires due { is_due world.old 0 ≡ true }
-    ensures did { IfOk result (λ out. Known (ahead held.old (S.left reader.old)) (λ bytes.
-        DidAt world.old bytes 0 world.new (ahead held.new (S.left reader.new)) out.bytes)) }
+    ensures took { IfOk result (λ out.
+        TakesAt world.old (ahead held.old (S.left reader.old)) 0 world.new (ahead held.new (S.left reader.new)) out.bytes) }
+    ensures few { OnOk result (length held.old < 4096 → length held.new < 4096) }
     ensures honest { OnOk result (S.faults reader.new ≡ S.faults reader.old) }
     ensures err { OnErr result (world.new ≡ world.old) }
-    ensures read { IsErrOf result DriveFault.Read → Known (ahead held.old (S.left reader.old)) (λ bytes.
-        (S.faults reader.new ≡ S.faults reader.old + 1) ⊎ (kind_of bytes ≡ LineKind.Overlong)) }
-    ensures no_write { IsErrOf result DriveFault.Write → ⊥ }
-    ensures no_turns { IsErrOf result DriveFault.Turns → ⊥ }
+    ensures read { IsErrOf result DriveFault.Read → (S.faults reader.new ≡ S.faults reader.old + 1)
+        ⊎ Known (ahead held.old (S.left reader.old)) (λ bytes. kind_of bytes ≡ LineKind.Overlong) }
+    ensures never_write { IsErrOf result DriveFault.Write → ⊥ }
+    ensures never_turns { IsErrOf result DriveFault.Turns → ⊥ }
 {
     match next_line(held, reader, line)? {
         LineKind::End => give(world, &Event::EndOfInput),
@@ -79,7 +83,8 @@ fn take_line<S: Source>(
 // Gives the world an event that it accepts, unless memory is wanting.
 fn give(world: &mut World, event: &Event) -> Result<Out, DriveFault>
     requires { is_accepted (step_of world.old event.now) ≡ true }
-    ensures taken { IfOk result (λ out. IsTaken world.new out (step_of world.old event.now)) }
+    ensures answer { IfOk result (λ out. IsAnswer event.now (Ok out) (step_of world.old event.now)) }
+    ensures world { IfOk result (λ out. world.new ≡ world_after world.old (Ok out) (step_of world.old event.now)) }
     ensures memory { OnErr result (result ≡ Err DriveFault.Memory) }
     ensures err { OnErr result (world.new ≡ world.old) }
 {

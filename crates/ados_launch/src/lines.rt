@@ -49,7 +49,8 @@ impl From<AllocError> for LineFault {
 /// Takes the next line, up to byte 10 or the end, and gives its kind.
 ///
 /// A last line without byte 10 counts if it is not empty. `line` then holds a short line; of any
-/// other it holds at most the first 512 bytes. Of an overlong line 65,537 bytes are taken.
+/// other it holds at most the first 512 bytes. Of an overlong line 65,537 bytes are taken. The source
+/// is read only where a byte of the line, or its end, was not read ahead.
 ///
 /// `Read`: a read failed. `NoMemory`: no memory to hold the line. After both the bytes taken so far
 /// are lost.
@@ -62,6 +63,7 @@ pub fn next_line<S: Source>(
     ensures taken { IfOk result (λ kind. Known (ahead held.old (S.left source.old))
         (λ bytes. TakesLine bytes kind line.new.items (ahead held.new (S.left source.new)))) }
     ensures short { vec_len line.new ≤ 512 }
+    ensures few { OnOk result (length held.old < 4096 → length held.new < 4096) }
     ensures read { IsErrOf result LineFault.Read → S.faults source.new ≡ S.faults source.old + 1 }
     ensures others { (IsErrOf result LineFault.Read → ⊥) → S.faults source.new ≡ S.faults source.old }
 {
@@ -96,6 +98,7 @@ fn take_held(held: &mut ReadAhead, line: &mut Vec<u8>) -> Result<bool, AllocErro
         TakesLine bytes LineKind.Short line.new.items (ahead held.new left))) }
     ensures none { IfOk result (λ is_taken. is_taken ≡ false → (held.new ≡ held.old) × (line.new.items ≡ [])) }
     ensures short { vec_len line.new ≤ 512 }
+    ensures few { OnOk result (length held.old < 4096 → length held.new < 4096) }
 {
     let bytes = held.bytes();
     let Some(length) = newline_at(&bytes[..bytes.len().min(LINE_BYTES + 1)]) else {

@@ -1,4 +1,4 @@
-ghost use Rattle.std.specs.Prelude.{◌≡◌, ◌<◌, ◌≤◌, ◌^◌, ◌-◌, ℕ, List, [], ◌∷◌, length, take, drop, IfOk, IfSome, IfNone, OnErr};
+ghost use Rattle.std.specs.Prelude.{◌≡◌, ◌<◌, ◌≤◌, ◌^◌, ◌-◌, ℕ, List, [], ◌∷◌, length, take, drop, IfOk, IfSome, IfNone, OnOk, OnErr};
 ghost use Rattle.std.specs.Io.KnownBytes.{Consumes, Keeps, IsAtEnd};
 ghost use Rattle.ados_launch.specs.Faults.{CountsFault};
 ghost use Rattle.ados_launch.specs.Lines.{ahead};
@@ -48,6 +48,7 @@ impl ReadAhead {
             Consumes (ahead self.old (S.left source.old)) (ahead self.new (S.left source.new)) (byte ∷ []))) }
         ensures end { IfOk result (λ next. IfNone next
             (IsAtEnd (ahead self.old (S.left source.old)) × Keeps (ahead self.old (S.left source.old)) (ahead self.new (S.left source.new)))) }
+        ensures few { OnOk result (length self.new < 4096) }
         ensures counted { CountsFault (S.faults source.old) (S.faults source.new) result }
     {
         if self.from == self.to {
@@ -69,7 +70,8 @@ impl ReadAhead {
     /// Takes so many of the bytes that were read ahead.
     pub fn skip(&mut self, count: usize)
         requires { count ≤ length self.old }
-        ensures { self.new ≡ drop count self.old }
+        ensures rest { self.new ≡ drop count self.old }
+        ensures few { 0 < count → length self.new < 4096 }
     {
         self.from += count;
     }
@@ -77,7 +79,8 @@ impl ReadAhead {
     // Takes the first of the bytes read ahead.
     fn pop(&mut self) -> u8
         requires { 0 < length self.old }
-        ensures { self.old ≡ result ∷ self.new }
+        ensures first { self.old ≡ result ∷ self.new }
+        ensures few { length self.new < 4096 }
     {
         let byte = self.buffer[self.from];
         self.from += 1;

@@ -1,5 +1,6 @@
 ghost use Rattle.std.specs.Prelude.{◌≡◌, ◌⊎◌, ◌<◌, ◌^◌, ◌-◌, ◌+◌, ℕ, length, take, OnOk, OnErr};
 ghost use Rattle.std.specs.Io.KnownBytes.{Appends};
+ghost use Rattle.ados_launch.specs.Faults.{one_more};
 
 use crate::Sink;
 use thiserror::Error;
@@ -13,12 +14,11 @@ pub struct WriteFault;
 ///
 /// `WriteFault`: a write failed or took nothing, and a front of the bytes was written.
 pub fn write_whole<K: Sink>(writer: &mut K, bytes: &[u8]) -> Result<(), WriteFault>
-    requires faults { K.faults writer.old < 2 ^ 64 - 1 }
-    requires stalls { K.stalls writer.old < 2 ^ 64 - 1 }
+    requires { K.faults writer.old < 2 ^ 64 - 1 }
     ensures whole { OnOk result (Appends (K.contents writer.old) (K.contents writer.new) bytes.now) }
     ensures honest { OnOk result ((K.faults writer.new ≡ K.faults writer.old) × (K.stalls writer.new ≡ K.stalls writer.old)) }
     ensures front { OnErr result ((n : ℕ) × (n < length bytes.now) × Appends (K.contents writer.old) (K.contents writer.new) (take n bytes.now)) }
-    ensures cause { OnErr result ((K.faults writer.new ≡ K.faults writer.old + 1) ⊎ (K.stalls writer.new ≡ K.stalls writer.old + 1)) }
+    ensures cause { OnErr result ((K.faults writer.new ≡ K.faults writer.old + 1) ⊎ (K.stalls writer.new ≡ one_more (K.stalls writer.old))) }
 {
     let mut at = 0;
     while at < bytes.len() {

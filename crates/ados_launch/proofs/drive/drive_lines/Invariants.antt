@@ -1,8 +1,6 @@
-use Rattle.std.proofs.Common.{◌≡◌, ◌≤◌, ◌<◌, ℕ}
+use Rattle.std.proofs.Common.{◌≡◌, ◌≤◌, ◌<◌, length}
 use Rattle.ados_launch.specs.Lines.{ahead}
-use Rattle.ados_launch.specs.Lines.{Known}
-use Rattle.ados_launch.specs.Schedule.{after, begun, IsRunning}
-use Rattle.ados_launch.proofs.Runs.{At}
+use Rattle.ados_launch.proofs.Sessions.{Driven}
 use Rattle.ados_launch.proofs.drive.drive_lines.Given as goal
 
 abbrev pub invariant-loop-events : goal.invariant-loop-events
@@ -11,7 +9,9 @@ invariant-loop-events g l = record {
   writer : g.K.Sink.faults l.writer ≡ g.K.Sink.faults l.fn.writer;
   stalls : g.K.Sink.stalls l.writer ≡ g.K.Sink.stalls l.fn.writer;
   in_round : l.place ≤ 21;
-  running : Known (g.S.Source.left l.fn.reader) (λ bytes. (n : ℕ) → n < l.events → IsRunning (after n (begun l.fn.world bytes)));
-  stands : Known (g.S.Source.left l.fn.reader) (λ bytes.
-      At (after l.events (begun l.fn.world bytes)) l.place l.world (ahead l.held (g.S.Source.left l.reader)) (g.K.Sink.contents l.fn.writer) (g.K.Sink.contents l.writer));
+  few : length l.held < 4096;
+  fresh_reader : l.events ≡ 0 → l.reader ≡ l.fn.reader;
+  fresh_writer : l.events ≡ 0 → l.writer ≡ l.fn.writer;
+  driven : Driven l.fn.world (g.S.Source.left l.fn.reader) l.events l.place l.world (ahead l.held (g.S.Source.left l.reader))
+      (g.K.Sink.contents l.fn.writer) (g.K.Sink.contents l.writer);
 }

@@ -27,6 +27,7 @@ loop-length-preserved g c =
     record {
       faults = c.in-Ok-Some.ensures.counted ∙ c.loop-length.invariant.faults;
       short = c.in_ok-keep-in-Ok-Some.ensures.short;
+      few = λ _. c.in-Ok-Some.ensures.few;
       scanned = λ bytes e. scanned_more bytes c.loop-length.length _ _ _ _ c.in-Ok-Some.byte (c.loop-length.invariant.scanned bytes e) h c.in-Ok-Some.byte-test.1
           c.in_ok-keep-in-Ok-Some.ensures.kept;
     }

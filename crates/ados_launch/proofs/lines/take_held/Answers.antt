@@ -13,4 +13,4 @@ returns-clause-taken c t left bytes known =
     subst (λ xs. length_is < length (take c.min.result xs)) c.bytes-bytes.ensures c.in-Some.ensures.within in
     let kept : c.extend_from_slice.new.self.items ≡ take length_is held =
     c.in_ok-extend_from_slice.ensures.items ∙ (ap (λ xs. xs ++ take length_is c.bytes-bytes.result.now) c.requires ∙ ap (take length_is) c.bytes-bytes.ensures) in
-    taken_held held c.extend_from_slice.new.self.items c.skip.new.self c.min.result length_is at within (omega (arith, c.min.ensures)) kept c.skip.ensures left bytes known
+    taken_held held c.extend_from_slice.new.self.items c.skip.new.self c.min.result length_is at within (omega (arith, c.min.ensures)) kept c.skip.ensures.rest left bytes known

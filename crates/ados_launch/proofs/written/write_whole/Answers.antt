@@ -8,6 +8,6 @@ loop-at-preserved g c =
     record {
       in_range = omega (arith, c.in-Ok.ensures.bound, length-drop c.loop-at.at c.args.bytes.now, length-take {A = ℕ});
       faults = c.in-Ok.ensures.counted ∙ i.faults;
-      stalls = no_stall c.in-Ok.count _ _ _ c.in-Ok.ensures.stalled c.in-Ok.count-test.1 ∙ i.stalls;
+      stalls = no_stall c.in-Ok.count _ _ _ _ c.in-Ok.ensures.stalled c.in-Ok.count-test.1 ∙ i.stalls;
       written = appends_more _ _ _ c.loop-at.at c.in-Ok.count c.args.bytes.now i.written c.in-Ok.ensures.bytes;
     }

@@ -2,8 +2,8 @@ use Rattle.std.proofs.Common.{◌≡◌, ◌+◌, ◌-◌, ◌≤◌, arith, ap,
 use Rattle.std.proofs.lemmas.List.{drop-take, drop-drop}
 use Rattle.ados_launch.proofs.read_ahead.ReadAhead.skip.Goals as goal
 
-pub returns : goal.returns
-returns c =
+pub returns-clause-rest : goal.returns-clause-rest
+returns-clause-rest c =
     let rest = drop c.self.inside.from c.self.inside.buffer in
     let left = c.self.inside.to - (c.self.inside.from + c.args.count) in
     let seen : c.args.self.now ≡ take (c.self.inside.to - c.self.inside.from) rest = sym c.self.view_is in
