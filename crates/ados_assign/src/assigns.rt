@@ -154,13 +154,12 @@ impl Assigns {
         Ok(places)
     }
 
-    /// What is in use, for shells with these current directories.
-    pub fn busy(&self, current: Vec<Place>) -> Result<Busy, NoMemory>
-        ensures { IfOk result (λ busy. busy ≡ busy_of current.items self.now) }
+    /// What is in use, for shells with these current directories and these open outputs.
+    pub fn busy(&self, current: Vec<Place>, outputs: Vec<Place>) -> Result<Busy, NoMemory>
+        ensures { IfOk result (λ busy. busy ≡ busy_of current.items outputs.items self.now) }
     {
         let mut dirs = current;
         push_directories(&mut dirs, self.rows())?;
-        let outputs = Vec::new(*self.rows.allocator());
         Ok(Busy { dirs, outputs })
     }
 

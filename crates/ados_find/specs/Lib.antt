@@ -4,3 +4,4 @@ pub mod Views
 pub mod Effects
 pub mod Done
 pub mod Paths
+pub mod Targets

@@ -7,6 +7,7 @@ mod outcomes;
 mod paths;
 mod refusals;
 mod shared;
+mod targets;
 mod views;
 mod work;
 
@@ -15,5 +16,6 @@ pub use outcomes::{Outcome, Renamed};
 pub use paths::place_of;
 pub use refusals::Refusal;
 pub use shared::Shared;
+pub use targets::{Target, target_of};
 pub use views::ShellView;
 pub use work::{Act, Work, current, each};

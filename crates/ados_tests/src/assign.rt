@@ -174,7 +174,7 @@ fn is_held(alloc: Global, busy: &Busy, place: &str) -> Result<bool, NoMemory> {
 
 // The directories are five, of which C is one and D is none.
 fn are_held(alloc: Global, assigns: &Assigns) -> Result<bool, NoMemory> {
-    let busy = assigns.busy(Vec::new(alloc))?;
+    let busy = assigns.busy(Vec::new(alloc), Vec::new(alloc))?;
     Ok(assigns.held()?.len() == 5 && is_held(alloc, &busy, "c")? && !is_held(alloc, &busy, "D")?)
 }
 
