@@ -1,8 +1,8 @@
 // Frames.
-ghost use Rattle.std.specs.Prelude.{◌≡◌, ◌+◌, ◌<◌, ◌^◌, List, IfOk, OnSome, slice_get};
+ghost use Rattle.std.specs.Prelude.{◌≡◌, ◌+◌, ◌<◌, ◌^◌, List, IfOk, OnSome, reverse, slice_get};
 ghost use Rattle.std.specs.Option.{option_copied};
 
-use crate::code_rule::is_reached;
+use crate::code_rule::{FIRST_LIMIT, is_reached};
 use crate::kinds::Kind;
 use crate::records::Record;
 use ados_find::{Codes, Target};
@@ -211,5 +211,19 @@ impl Frame {
             None => false,
             Some(entry) => self.is_script() && is_reached(entry.limit, entry.codes.code),
         }
+    }
+}
+
+ghost use Rattle.ados_flow.specs.Frames.{limit_behind};
+
+/// The limit behind the end of a script that began at this limit, above these frames, of which the newest is the last:
+/// that limit, and the first one where no script is left.
+pub fn limit_behind(below: &[Frame], limit: Code) -> Code
+    ensures { result ≡ limit_behind (reverse below.now) limit }
+{
+    match below.split_first() {
+        None => FIRST_LIMIT,
+        Some((oldest, _)) if oldest.is_script() => limit,
+        Some((_, newer)) => limit_behind(newer, limit),
     }
 }
