@@ -7,6 +7,6 @@ mod faults;
 mod resolve;
 mod rows;
 
-pub use assigns::{Assign, Assigns};
+pub use assigns::{Assign, Assigns, Binding};
 pub use devices::{is_on_nil, is_reserved};
 pub use faults::{AssignFault, ResolveFault};

@@ -16,7 +16,12 @@ pub enum Command {
 }
 
 impl Command {
-    ghost use Rattle.ados_env.specs.Commands.{command_of, template_of_command};
+    ghost use Rattle.ados_env.specs.Commands.{command_of, reads_in_use, template_of_command};
+    ghost use Rattle.std.specs.Prelude.{List, false};
+    ghost use Rattle.ados_readargs.specs.declared.args.Arg.{Arg};
+    ghost use Rattle.ados_find.specs.Shared.{SharedState};
+    ghost use Rattle.ados_find.specs.Views.{IgnoresInUse};
+    ghost use Rattle.ados_env.specs.Rows.{row_of};
 
     /// The command of this name; case is ignored.
     pub fn named(word: &Text) -> Option<Command>
@@ -53,6 +58,23 @@ impl Command {
             Command::FailAt => "RCLIM/N",
             Command::Fault => "/N/M",
             Command::Why => "",
+        }
+    }
+
+    /// Whether its row reads what is in use.
+    #[tactic(auto, using(crate::proofs::InUseLemmas::ignores))]
+    pub fn reads_in_use(self) -> bool
+        ensures value { result ≡ reads_in_use self }
+        ensures ignores { result ≡ false → (shared : SharedState) (args : List Arg) → IgnoresInUse (λ view. row_of self shared view args) }
+    {
+        match self {
+            Command::Assign
+            | Command::Cd
+            | Command::Echo
+            | Command::Eval
+            | Command::FailAt
+            | Command::Fault
+            | Command::Why => false,
         }
     }
 }

@@ -1,5 +1,5 @@
 -- The commands that flow, by their names, and the options that each takes.
-use Rattle.std.specs.Prelude.{ℕ, List, Option, Some, None, codes, if◌then◌else◌}
+use Rattle.std.specs.Prelude.{ℕ, List, Bool, true, false, Option, Some, None, codes, if◌then◌else◌}
 use Rattle.ados_text.specs.Text.{is_same}
 use Rattle.ados_flow.specs.declared.commands.Command.{Command}
 use Rattle.ados_flow.specs.declared.commands.Command.TheVariants.{Execute, Quit}
@@ -14,3 +14,8 @@ command_of word =
 abbrev pub template_of_command : Command → List ℕ
 template_of_command Execute = codes "FILE/A,ARGS/F"
 template_of_command Quit = codes "RC/N"
+
+-- whether a command's row reads what is in use: a script that is an open output is not read
+abbrev pub reads_in_use : Command → Bool
+reads_in_use Execute = true
+reads_in_use Quit = false

@@ -12,7 +12,12 @@ pub enum Command {
 }
 
 impl Command {
-    ghost use Rattle.ados_flow.specs.Commands.{command_of, template_of_command};
+    ghost use Rattle.ados_flow.specs.Commands.{command_of, reads_in_use, template_of_command};
+    ghost use Rattle.std.specs.Prelude.{List, Bool, false};
+    ghost use Rattle.ados_readargs.specs.declared.args.Arg.{Arg};
+    ghost use Rattle.ados_find.specs.Shared.{SharedState};
+    ghost use Rattle.ados_find.specs.Views.{IgnoresInUse};
+    ghost use Rattle.ados_flow.specs.Rows.{row_of};
 
     /// The command of this name; case is ignored.
     pub fn named(word: &Text) -> Option<Command>
@@ -34,6 +39,18 @@ impl Command {
         match self {
             Command::Execute => "FILE/A,ARGS/F",
             Command::Quit => "RC/N",
+        }
+    }
+
+    /// Whether its row reads what is in use.
+    #[tactic(auto, using(crate::proofs::InUseLemmas::ignores))]
+    pub fn reads_in_use(self) -> bool
+        ensures value { result ≡ reads_in_use self }
+        ensures ignores { result ≡ false → (simple : Bool) (shared : SharedState) (args : List Arg) → IgnoresInUse (λ view. row_of self simple shared view args) }
+    {
+        match self {
+            Command::Execute => true,
+            Command::Quit => false,
         }
     }
 }

@@ -1,6 +1,6 @@
 use crate::places::{are_names, at, name};
 use crate::wrong::{Wrong, expect};
-use ados_assign::{AssignFault, Assigns, ResolveFault, is_on_nil};
+use ados_assign::{AssignFault, Assigns, Binding, ResolveFault, is_on_nil};
 use ados_names::{NameFault, Path};
 use ados_ram::{Busy, FsFault, Place, Ram};
 use ados_text::{Name, NoMemory, Text};
@@ -105,7 +105,7 @@ fn nil_is_a_device(rt: HostRuntime) -> Result<(), Wrong> {
 }
 
 fn bound(alloc: Global, old: &Assigns, name: Name, place: &str) -> Result<Assigns, NoMemory> {
-    old.set(name, at(alloc, place)?)
+    old.set(name, Binding::Directory(at(alloc, place)?))
 }
 
 // The first assigns, `Libs` bound to T, and then to S in another spelling.
