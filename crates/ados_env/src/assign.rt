@@ -68,12 +68,10 @@ fn bound_to(
 {
     match directory_of(alloc, shared, view, target) {
         Err(refusal) => Ok(Outcome::answering(alloc, view.limit, refusal.codes()?)),
-        Ok(place) => reassigned(
-            alloc,
-            shared,
-            view,
-            shared.assigns.set(name, Binding::Directory(place))?,
-        ),
+        Ok(place) => {
+            let assigns = shared.assigns.set(name, Binding::Directory(place))?;
+            reassigned(alloc, shared, view, assigns)
+        }
     }
 }
 
