@@ -1,8 +1,8 @@
 // Frames.
-ghost use Rattle.std.specs.Prelude.{◌≡◌, ◌+◌, ◌<◌, ◌^◌, List, IfOk, OnSome, reverse, slice_get};
+ghost use Rattle.std.specs.Prelude.{◌≡◌, ◌+◌, ◌<◌, ◌^◌, List, IfOk, OnSome, slice_get};
 ghost use Rattle.std.specs.Option.{option_copied};
 
-use crate::code_rule::{FIRST_LIMIT, is_reached};
+use crate::code_rule::is_reached;
 use crate::kinds::Kind;
 use crate::records::Record;
 use ados_find::{Codes, Target};
@@ -139,34 +139,13 @@ impl Frame {
         &self.fixed.kind
     }
 
-    /// It is a script's.
-    pub fn is_script(&self) -> bool
+    // It is a script's.
+    fn is_script(&self) -> bool
         ensures { result ≡ is_script self.now.kind }
     {
         match &self.fixed.kind {
             Kind::Script { .. } => true,
         }
-    }
-
-    /// Its lines.
-    pub fn lines(&self) -> &Texts
-        ensures { result.now ≡ self.now.lines }
-    {
-        &self.fixed.lines
-    }
-
-    /// The place of its next line, counted from 0.
-    pub fn position(&self) -> usize
-        ensures { result ≡ self.now.position }
-    {
-        self.position
-    }
-
-    /// The line at which its command began, from 1; 0 before the first.
-    pub fn line(&self) -> usize
-        ensures { result ≡ self.now.line }
-    {
-        self.line
     }
 
     /// The limit that stood at its beginning.
@@ -211,19 +190,5 @@ impl Frame {
             None => false,
             Some(entry) => self.is_script() && is_reached(entry.limit, entry.codes.code),
         }
-    }
-}
-
-ghost use Rattle.ados_flow.specs.Frames.{limit_behind};
-
-/// The limit behind the end of a script that began at this limit, above these frames, of which the newest is the last:
-/// that limit, and the first one where no script is left.
-pub fn limit_behind(below: &[Frame], limit: Code) -> Code
-    ensures { result ≡ limit_behind (reverse below.now) limit }
-{
-    match below.split_first() {
-        None => FIRST_LIMIT,
-        Some((oldest, _)) if oldest.is_script() => limit,
-        Some((_, newer)) => limit_behind(newer, limit),
     }
 }

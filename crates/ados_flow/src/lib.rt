@@ -16,7 +16,7 @@ pub use actions::Action;
 pub use called::Called;
 pub use code_rule::{FIRST_LIMIT, is_reached};
 pub use commands::Command;
-pub use frames::{Frame, limit_behind};
+pub use frames::Frame;
 pub use kinds::Kind;
 pub use records::Record;
 pub use rows::run;
