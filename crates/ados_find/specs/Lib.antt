@@ -5,3 +5,4 @@ pub mod Effects
 pub mod Done
 pub mod Paths
 pub mod Targets
+pub mod Commands

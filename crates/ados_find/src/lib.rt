@@ -3,6 +3,7 @@
 //! in order, and the outcome of a command.
 
 mod codes;
+mod commands;
 mod outcomes;
 mod paths;
 mod refusals;
@@ -12,6 +13,7 @@ mod views;
 mod work;
 
 pub use codes::Codes;
+pub use commands::CommandEntry;
 pub use outcomes::{Outcome, Renamed};
 pub use paths::place_of;
 pub use refusals::Refusal;
