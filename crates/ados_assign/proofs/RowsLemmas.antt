@@ -11,7 +11,7 @@ use Rattle.ados_text.specs.Text.{folded}
 use Rattle.ados_text.specs.Name.{name_cmp, name_cmp_total, name_cmp_exact}
 use Rattle.ados_ram.specs.InUse.{InUse}
 use Rattle.ados_assign.specs.declared.assigns.Assign.{Assign}
-use Rattle.ados_assign.specs.Assigns.{AssignMap, binding, keyed, first_rows, first_assigns, bound, set_of, carried_row, carry_of}
+use Rattle.ados_assign.specs.Assigns.{AssignMap, binding, keyed, first_rows, first_assigns, bound, bind_of, carried_row, carry_of}
 use Rattle.ados_assign.specs.Rows.{rows_with, rows_without, carried_assign}
 
 abbrev in_use_by : List (List (List ℕ)) → List (List (List ℕ)) → InUse
@@ -82,7 +82,7 @@ keyed-with name directory (a ∷ rest) h =
       | Greater ↦ λ p. ap (λ (es : List (List ℕ × Assign)). (folded a.name, a) ∷ es) (keyed-with name directory rest (second _ _ h))
     ] refl
 
-pub set_rows : {m : AssignMap} {rows new : List Assign} (name : List ℕ) (directory : List (List ℕ)) → AreRowsOf rows m → new ≡ rows_with name directory rows → AreRowsOf new (set_of m name directory)
+pub set_rows : {m : AssignMap} {rows new : List Assign} (name : List ℕ) (directory : List (List ℕ)) → AreRowsOf rows m → new ≡ rows_with name directory rows → AreRowsOf new (bind_of m name directory)
 set_rows {m} {rows} {new} name directory r e =
     let key = folded name in
     let value = bound (find name_cmp key (keyed rows)) name directory in

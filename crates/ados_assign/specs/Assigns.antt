@@ -5,7 +5,11 @@ use Rattle.std.specs.FinMap as map
 use Rattle.ados_text.specs.Text.{folded}
 use Rattle.ados_text.specs.Name.{name_cmp}
 use Rattle.ados_ram.specs.Place.{key_of, is_same_key, carried}
+use Rattle.ados_ram.specs.Files.{Files}
+use Rattle.ados_ram.specs.Written.{full_path}
 use Rattle.ados_assign.specs.declared.assigns.Assign.{Assign}
+use Rattle.ados_assign.specs.declared.assigns.Binding.{Binding}
+use Rattle.ados_assign.specs.declared.assigns.Binding.TheVariants.{Directory}
 use Rattle.ados_assign.specs.declared.faults.AssignFault.{AssignFault}
 use Rattle.ados_assign.specs.declared.faults.AssignFault.TheVariants.{NotFound, NoMemory}
 
@@ -47,8 +51,15 @@ abbrev pub bound : Option Assign → List ℕ → List (List ℕ) → Assign
 bound None name directory = binding name directory
 bound (Some a) name directory = record a { directory = directory }
 
-abbrev pub set_of : AssignMap → List ℕ → List (List ℕ) → AssignMap
-set_of m name directory = map.insert m (folded name) (bound (map.get m (folded name)) name directory)
+abbrev pub bind_of : AssignMap → List ℕ → List (List ℕ) → AssignMap
+bind_of m name directory = map.insert m (folded name) (bound (map.get m (folded name)) name directory)
+
+abbrev pub set_of : AssignMap → List ℕ → Binding → AssignMap
+set_of m name (Directory place) = bind_of m name place
+
+-- what an assign stands for, as a text: the full path of its directory
+abbrev pub text_of : Files → Assign → List ℕ
+text_of files a = full_path files a.directory
 
 -- Remove: it goes through where the name is bound, and wants memory only there
 abbrev pub Removes : {X : Type 0} → Result X AssignFault → Option Assign → Type 0

@@ -1,7 +1,7 @@
 -- Resolve: where a path leads, by cases on its device, and then by recursion on its steps.
-use Rattle.std.specs.Prelude.{◌≡◌, ℕ, Bool, false, ◌||◌, List, [], ◌∷◌, ◌++◌, Option, Some, None, Result, Ok, Err, codes, if◌then◌else◌}
+use Rattle.std.specs.Prelude.{◌≡◌, ℕ, List, [], ◌∷◌, ◌++◌, Option, Some, None, Result, Ok, Err, if◌then◌else◌}
 use Rattle.std.specs.FinMap as map
-use Rattle.ados_text.specs.Text.{folded, is_same}
+use Rattle.ados_text.specs.Text.{folded}
 use Rattle.ados_text.specs.declared.codes.Result2.{Result2}
 use Rattle.ados_text.specs.declared.codes.TheConstants.Result2.{DIRECTORY_NOT_FOUND, OBJECT_NOT_FOUND, WRONG_TYPE, DEVICE_NOT_MOUNTED}
 use Rattle.ados_names.specs.Path.{PathParts}
@@ -12,6 +12,7 @@ use Rattle.ados_ram.specs.Entry.{is_directory}
 use Rattle.ados_ram.specs.Files.{Files}
 use Rattle.ados_ram.specs.declared.entries.Entry.{Entry}
 use Rattle.ados_assign.specs.Assigns.{AssignMap}
+use Rattle.ados_assign.specs.Devices.{is_volume, is_nil}
 use Rattle.ados_assign.specs.declared.assigns.Assign.{Assign}
 use Rattle.ados_assign.specs.declared.faults.ResolveFault.{ResolveFault}
 use Rattle.ados_assign.specs.declared.faults.ResolveFault.TheVariants.{Refused, NoMemory}
@@ -19,18 +20,6 @@ use Rattle.ados_assign.specs.declared.faults.ResolveFault.TheVariants.{Refused, 
 -- a place, or why there is none
 abbrev pub Resolved : Type 0
 Resolved = Result (List (List ℕ)) Result2
-
--- the device is the RAM disk: it has no name, or one of the disk's own
-abbrev pub is_volume : List ℕ → Bool
-is_volume device = is_same device [] || is_same device (codes "RAM") || is_same device (codes "Ram Disk")
-
--- the device is NIL, which has no places
-abbrev pub is_nil : List ℕ → Bool
-is_nil device = is_same device (codes "NIL")
-
-abbrev pub is_on_nil : Option (List ℕ) → Bool
-is_on_nil None = false
-is_on_nil (Some device) = is_nil device
 
 -- an unknown device is 218
 abbrev pub directory_of : Option Assign → Resolved

@@ -7,8 +7,8 @@ ghost use Rattle.ados_ram.specs.Place.{key_of};
 
 use crate::faults::AssignFault;
 use crate::rows::{carried_rows, find, first_rows, holders, push_directories, with_name, without};
-use ados_ram::{Busy, Place};
-use ados_text::{Name, NoMemory};
+use ados_ram::{Busy, Place, Ram};
+use ados_text::{Name, NoMemory, Text};
 use std::alloc::Global;
 use std::marker::Model;
 use std::rc::Rc;
@@ -20,7 +20,23 @@ pub struct Assign {
     pub directory: Place,
 }
 
+/// What a name is bound to.
+#[derive(Drop)]
+pub enum Binding {
+    /// The directory at a place.
+    Directory(Place),
+}
+
 impl Assign {
+    ghost use Rattle.ados_assign.specs.Assigns.{text_of};
+
+    /// What it stands for, as a text: the full path of its directory.
+    pub fn text(&self, ram: &Ram) -> Result<Text, NoMemory>
+        ensures { IfOk result (λ text. text ≡ text_of ram.now self.now) }
+    {
+        ram.full_path(&self.directory)
+    }
+
     /// An equal assign, spelled alike.
     pub fn copy(&self) -> Result<Assign, NoMemory>
         ensures { IfOk result (λ assign. assign ≡ self.now) }
@@ -55,7 +71,7 @@ impl Model for Assigns {
 }
 
 impl Assigns {
-    ghost use Rattle.ados_assign.specs.Assigns.{keyed, first_assigns, set_of, Removes, carry_of, holders_in};
+    ghost use Rattle.ados_assign.specs.Assigns.{keyed, first_assigns, bind_of, set_of, Removes, carry_of, holders_in};
     ghost use Rattle.ados_assign.specs.InUse.{held_by, busy_of};
 
     // The assigns in the order of their folded names.
@@ -83,9 +99,18 @@ impl Assigns {
         Assigns::of(alloc, first_rows(alloc)?)
     }
 
-    /// The assigns with a name bound to a directory. A name that is bound already keeps its first spelling.
-    pub fn set(&self, name: Name, directory: Place) -> Result<Assigns, NoMemory>
-        ensures { IfOk result (λ new. new ≡ set_of self.now name directory) }
+    /// The assigns with a name bound. A name that is bound already keeps its first spelling.
+    pub fn set(&self, name: Name, binding: Binding) -> Result<Assigns, NoMemory>
+        ensures { IfOk result (λ new. new ≡ set_of self.now name binding) }
+    {
+        match binding {
+            Binding::Directory(directory) => self.bind(name, directory),
+        }
+    }
+
+    // The assigns with a name bound to a directory.
+    fn bind(&self, name: Name, directory: Place) -> Result<Assigns, NoMemory>
+        ensures { IfOk result (λ new. new ≡ bind_of self.now name directory) }
     {
         let alloc = *self.rows.allocator();
         Assigns::of(alloc, with_name(alloc, self.rows(), name, directory)?)
@@ -154,13 +179,12 @@ impl Assigns {
         Ok(places)
     }
 
-    /// What is in use, for shells with these current directories.
-    pub fn busy(&self, current: Vec<Place>) -> Result<Busy, NoMemory>
-        ensures { IfOk result (λ busy. busy ≡ busy_of current.items self.now) }
+    /// What is in use, for shells with these current directories and these open outputs.
+    pub fn busy(&self, current: Vec<Place>, outputs: Vec<Place>) -> Result<Busy, NoMemory>
+        ensures { IfOk result (λ busy. busy ≡ busy_of current.items outputs.items self.now) }
     {
         let mut dirs = current;
         push_directories(&mut dirs, self.rows())?;
-        let outputs = Vec::new(*self.rows.allocator());
         Ok(Busy { dirs, outputs })
     }
 

@@ -1,8 +1,9 @@
 ghost use Rattle.std.specs.Prelude.{◌≡◌};
 ghost use Rattle.std.specs.Option.{option_copied};
-ghost use Rattle.ados_assign.specs.Resolve.{is_volume, is_nil, is_on_nil, base_of, walked, resolved, Gives};
+ghost use Rattle.ados_assign.specs.Resolve.{base_of, walked, resolved, Gives};
 
 use crate::assigns::Assigns;
+use crate::devices::{is_nil, is_volume};
 use crate::faults::ResolveFault;
 use ados_names::{Path, Step};
 use ados_ram::{Place, Ram};
@@ -44,16 +45,6 @@ impl Assigns {
     }
 }
 
-/// The device of a path is NIL.
-pub fn is_on_nil(path: &Path) -> bool
-    ensures { result ≡ is_on_nil path.now.device }
-{
-    match path.device() {
-        None => false,
-        Some(device) => is_nil(device),
-    }
-}
-
 // The place to which steps lead from another.
 fn walk(ram: &Ram, from: Place, steps: &[Step]) -> Result<Place, ResolveFault>
     ensures { Gives result (walked ram.now from steps.now) }
@@ -78,18 +69,4 @@ fn walk(ram: &Ram, from: Place, steps: &[Step]) -> Result<Place, ResolveFault>
             }
         }
     }
-}
-
-// The device is the RAM disk.
-fn is_volume(device: &Text) -> bool
-    ensures { result ≡ is_volume device.now }
-{
-    device.is("") || device.is("RAM") || device.is("Ram Disk")
-}
-
-// The device is NIL.
-fn is_nil(device: &Text) -> bool
-    ensures { result ≡ is_nil device.now }
-{
-    device.is("NIL")
 }

@@ -1,1 +1,2 @@
 pub mod EchoLemmas
+pub mod InUseLemmas

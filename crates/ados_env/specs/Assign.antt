@@ -6,14 +6,14 @@ use Rattle.ados_text.specs.Text.{folded}
 use Rattle.ados_text.specs.declared.codes.TheConstants.Code.{WARN}
 use Rattle.ados_text.specs.declared.codes.TheConstants.Result2.{NONE, ARGUMENT_MISSING, TOO_MANY_ARGUMENTS, OBJECT_NOT_FOUND}
 use Rattle.ados_ram.specs.Files.{Files}
-use Rattle.ados_ram.specs.Written.{full_path}
-use Rattle.ados_assign.specs.Assigns.{AssignMap, set_of}
+use Rattle.ados_assign.specs.Assigns.{AssignMap, set_of, text_of}
+use Rattle.ados_assign.specs.declared.assigns.Binding.TheVariants.{Directory}
 use Rattle.ados_assign.specs.declared.assigns.Assign.{Assign}
 use Rattle.ados_readargs.specs.declared.args.Arg.{Arg}
 use Rattle.ados_readargs.specs.Args.{text_at, is_on}
 use Rattle.ados_find.specs.declared.codes.Codes.{Codes}
 use Rattle.ados_find.specs.Codes.{went_well, failed, erred}
-use Rattle.ados_find.specs.Shared.{SharedState}
+use Rattle.ados_find.specs.Shared.{SharedState, with_assigns}
 use Rattle.ados_find.specs.Views.{View}
 use Rattle.ados_find.specs.Effects.{Effect, answering, putting}
 use Rattle.ados_env.specs.AssignNames.{name_of}
@@ -21,7 +21,7 @@ use Rattle.ados_env.specs.Directories.{directory_of}
 
 -- the line of an assign: its name, and the full path of its directory
 abbrev pub assign_line : Files → Assign → List ℕ
-assign_line files a = a.name ++ codes ": " ++ full_path files a.directory ++ 10 ∷ []
+assign_line files a = a.name ++ codes ": " ++ text_of files a ++ 10 ∷ []
 
 -- the lines of all assigns, in the order of their names
 abbrev pub all_told : SharedState → View → Effect
@@ -38,7 +38,7 @@ told_named shared view (Ok name) = told shared view (map.get shared.assigns (fol
 
 -- other assigns, and nothing is put out
 abbrev pub reassigned : SharedState → View → AssignMap → Effect
-reassigned shared view assigns = answering (record shared { assigns = assigns }) view.limit went_well
+reassigned shared view assigns = answering (with_assigns shared assigns) view.limit went_well
 
 -- a name alone is removed, where there is an assign of the name
 abbrev pub removed : SharedState → View → List ℕ → Option Assign → Effect
@@ -53,7 +53,7 @@ removed_named shared view (Ok name) = removed shared view name (map.get shared.a
 abbrev pub bound_to : SharedState → View → Result (List ℕ) Codes → Result (List (List ℕ)) Codes → Effect
 bound_to shared view (Err codes) place = answering shared view.limit codes
 bound_to shared view (Ok name) (Err codes) = answering shared view.limit codes
-bound_to shared view (Ok name) (Ok place) = reassigned shared view (set_of shared.assigns name place)
+bound_to shared view (Ok name) (Ok place) = reassigned shared view (set_of shared.assigns name (Directory place))
 
 -- without NAME, TARGET is a fault, and else all assigns are told
 abbrev pub assigned_to : SharedState → View → Option (List ℕ) → List ℕ → Effect

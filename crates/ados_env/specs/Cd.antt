@@ -13,8 +13,7 @@ use Rattle.ados_env.specs.Directories.{directory_of}
 -- a directory that was found is the current one from now on
 abbrev pub moved_to : SharedState → View → Result (List (List ℕ)) Codes → Effect
 moved_to shared view (Err codes) = answering shared view.limit codes
-moved_to shared view (Ok place) =
-    record { shared = shared; limit = view.limit; codes = went_well; output = []; directory = Some place; renamed = None }
+moved_to shared view (Ok place) = record (answering shared view.limit went_well) { directory = Some place }
 
 -- without DIR it tells the full path of the current directory
 abbrev pub moved : SharedState → View → Option (List ℕ) → Effect

@@ -8,11 +8,11 @@ ghost use Rattle.ados_env.specs.Directories.{directory_of};
 
 use crate::assign_names::name_of;
 use crate::directories::directory_of;
-use ados_assign::{Assign, AssignFault, Assigns};
+use ados_assign::{Assign, AssignFault, Assigns, Binding};
 use ados_find::{Codes, Outcome, Shared, ShellView};
 use ados_ram::Ram;
 use ados_readargs::Args;
-use ados_text::{Code, Name, NoMemory, Octets, Result2, Text};
+use ados_text::{Code, Name, NoMemory, Result2, Text};
 use std::alloc::Global;
 
 /// Assign gives names to directories, takes them away, and tells them.
@@ -68,7 +68,10 @@ fn bound_to(
 {
     match directory_of(alloc, shared, view, target) {
         Err(refusal) => Ok(Outcome::answering(alloc, view.limit, refusal.codes()?)),
-        Ok(place) => reassigned(alloc, shared, view, shared.assigns.set(name, place)?),
+        Ok(place) => {
+            let assigns = shared.assigns.set(name, Binding::Directory(place))?;
+            reassigned(alloc, shared, view, assigns)
+        }
     }
 }
 
@@ -81,17 +84,8 @@ fn reassigned(
 ) -> Result<Outcome, NoMemory>
     ensures { IfOk result (λ outcome. effect_of shared.now outcome ≡ reassigned shared.now view.now assigns) }
 {
-    Ok(Outcome {
-        shared: Some(Shared {
-            ram: shared.ram.copy()?,
-            assigns,
-        }),
-        limit: view.limit,
-        codes: Codes::NONE,
-        output: Octets::from_vec(Vec::new(alloc)),
-        directory: None,
-        renamed: None,
-    })
+    let new = shared.with_assigns(assigns)?;
+    Ok(Outcome::answering(alloc, view.limit, Codes::NONE).with_shared(new))
 }
 
 // Takes NAME away; without it tells all assigns.
@@ -194,7 +188,7 @@ fn push_line(output: &mut Vec<u8>, ram: &Ram, assign: &Assign) -> Result<(), NoM
 {
     output.extend_from_slice(assign.name.text().as_bytes())?;
     output.extend_from_slice(b": ")?;
-    output.extend_from_slice(ram.full_path(&assign.directory)?.as_bytes())?;
+    output.extend_from_slice(assign.text(ram)?.as_bytes())?;
     output.push(b'\n')?;
     Ok(())
 }

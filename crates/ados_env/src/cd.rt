@@ -7,7 +7,7 @@ use crate::directories::directory_of;
 use ados_find::{Codes, Outcome, Shared, ShellView};
 use ados_ram::{Place, Ram};
 use ados_readargs::Args;
-use ados_text::{NoMemory, Octets};
+use ados_text::NoMemory;
 use std::alloc::Global;
 
 /// CD changes the current directory, or tells it.
@@ -33,14 +33,7 @@ pub fn cd(
 fn moved_to(alloc: Global, view: &ShellView, place: Place) -> Outcome
     ensures { DoesTo result (λ shared. moved_to shared view.now (Ok place)) }
 {
-    Outcome {
-        shared: None,
-        limit: view.limit,
-        codes: Codes::NONE,
-        output: Octets::from_vec(Vec::new(alloc)),
-        directory: Some(place),
-        renamed: None,
-    }
+    Outcome::answering(alloc, view.limit, Codes::NONE).with_directory(place)
 }
 
 // The line of a full path.

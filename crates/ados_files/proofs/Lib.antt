@@ -3,3 +3,4 @@ pub mod CopyStays
 pub mod RenameStays
 pub mod PartLemmas
 pub mod DeleteStays
+mod RenameLemmas

@@ -5,14 +5,13 @@ use Rattle.ados_text.specs.declared.codes.Result2.{Result2}
 use Rattle.ados_text.specs.declared.codes.TheConstants.Result2.{ARGUMENT_MISSING, OBJECT_NOT_FOUND}
 use Rattle.ados_readargs.specs.declared.args.Arg.{Arg}
 use Rattle.ados_readargs.specs.Args.{text_at}
-use Rattle.ados_ram.specs.Place.{key_of, last_name, is_same_key}
+use Rattle.ados_ram.specs.Place.{key_of, is_same_key}
 use Rattle.ados_ram.specs.Files.{Files, is_some_directory}
-use Rattle.ados_ram.specs.FileOperations.{rename_of, rename_fault}
+use Rattle.ados_ram.specs.FileOperations.{rename_fault}
 use Rattle.ados_ram.specs.declared.entries.Entry.{Entry}
-use Rattle.ados_assign.specs.Assigns.{carry_of}
 use Rattle.ados_find.specs.declared.codes.Codes.{Codes}
 use Rattle.ados_find.specs.Codes.{went_well, failed, erred}
-use Rattle.ados_find.specs.Shared.{SharedState}
+use Rattle.ados_find.specs.Shared.{SharedState, after_rename}
 use Rattle.ados_find.specs.Views.{View}
 use Rattle.ados_find.specs.Effects.{Effect, answering}
 use Rattle.ados_find.specs.Paths.{place_of}
@@ -22,23 +21,11 @@ abbrev pub target_of : Files → List (List ℕ) → Entry → List (List ℕ) �
 target_of files from e to =
     if is_some_directory (map.get files (key_of to)) && not (is_same_key (key_of to) (key_of from)) then to ++ e.name ∷ [] else to
 
--- the shared parts after a rename: the assigns are carried along
-abbrev pub moved : SharedState → List (List ℕ) → List (List ℕ) → SharedState
-moved shared from to =
-    record { files = rename_of shared.files (key_of from) (key_of to) (last_name to); assigns = carry_of from to shared.assigns }
-
 -- the object is renamed, and the current directories of all shells are to be carried along
 abbrev pub renamed_unless : Option Result2 → SharedState → View → List (List ℕ) → List (List ℕ) → Effect
 renamed_unless (Some fault) shared view from to = answering shared view.limit (erred fault)
 renamed_unless None shared view from to =
-    record {
-      shared = moved shared from to;
-      limit = view.limit;
-      codes = went_well;
-      output = [];
-      directory = None;
-      renamed = Some (record { from = from; to = to });
-    }
+    record (answering (after_rename shared from to) view.limit went_well) { renamed = Some (record { from = from; to = to }) }
 
 abbrev pub renamed_to : SharedState → View → List (List ℕ) → List (List ℕ) → Effect
 renamed_to shared view from to = renamed_unless (rename_fault view.busy shared.files (key_of from) (key_of to)) shared view from to

@@ -3,17 +3,16 @@ ghost use Rattle.std.specs.FinMap as map;
 ghost use Rattle.std.specs.Option.{option_copied};
 ghost use Rattle.ados_ram.specs.Place.{key_of};
 ghost use Rattle.ados_ram.specs.Files.{is_some_directory};
-ghost use Rattle.ados_ram.specs.FileOperations.{Answers, rename_fault};
 ghost use Rattle.ados_text.specs.declared.codes.TheConstants.Result2.{ARGUMENT_MISSING};
 ghost use Rattle.ados_find.specs.Codes.{failed};
 ghost use Rattle.ados_find.specs.Effects.{DoesTo, answering, effect_of};
 ghost use Rattle.ados_find.specs.Paths.{place_of};
-ghost use Rattle.ados_files.specs.Rename.{target_of, moved, renamed_to, renamed_from, renamed_at, rename_row};
+ghost use Rattle.ados_files.specs.Rename.{target_of, renamed_to, renamed_from, renamed_at, rename_row};
 
 use ados_find::{Codes, Outcome, Renamed, Shared, ShellView, place_of};
-use ados_ram::{Busy, Entry, FsFault, Place, Ram};
+use ados_ram::{Entry, FsFault, Place, Ram};
 use ados_readargs::Args;
-use ados_text::{NoMemory, Octets, Result2, Text};
+use ados_text::{NoMemory, Result2, Text};
 use std::alloc::Global;
 use std::slice;
 
@@ -107,30 +106,13 @@ fn renamed_to(
 ) -> Result<Outcome, NoMemory>
     ensures { IfOk result (λ outcome. effect_of shared.now outcome ≡ renamed_to shared.now view.now renamed.from renamed.to) }
 {
-    match moved(shared, &view.busy, &renamed.from, &renamed.to) {
+    match shared.renamed(&view.busy, &renamed.from, &renamed.to) {
         Err(FsFault::NoMemory) => Err(NoMemory),
         Err(FsFault::Refused(fault)) => {
             Ok(Outcome::answering(alloc, view.limit, Codes::erred(fault)))
         }
-        Ok(moved) => Ok(Outcome {
-            shared: Some(moved),
-            limit: view.limit,
-            codes: Codes::NONE,
-            output: Octets::from_vec(Vec::new(alloc)),
-            directory: None,
-            renamed: Some(Box::new(alloc, renamed)?),
-        }),
+        Ok(new) => Outcome::answering(alloc, view.limit, Codes::NONE)
+            .with_shared(new)
+            .with_renamed(alloc, renamed),
     }
-}
-
-// Renames an object, and carries the assigns along.
-fn moved(shared: &Shared, busy: &Busy, from: &Place, to: &Place) -> Result<Shared, FsFault>
-    ensures ok { IfOk result (λ new. new ≡ moved shared.now from.now to.now) }
-    ensures fault { Answers result (rename_fault busy.now shared.now.files (key_of from.now) (key_of to.now)) }
-{
-    let ram = shared.ram.rename(busy, from, to)?;
-    Ok(Shared {
-        ram,
-        assigns: shared.assigns.carry(from, to)?,
-    })
 }

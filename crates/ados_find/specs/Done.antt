@@ -6,7 +6,7 @@ use Rattle.ados_find.specs.declared.codes.Codes.{Codes}
 use Rattle.ados_find.specs.declared.work.Work.{Work}
 use Rattle.ados_find.specs.Codes.{went_well, erred}
 use Rattle.ados_find.specs.Shared.{SharedState, version}
-use Rattle.ados_find.specs.Effects.{Effect}
+use Rattle.ados_find.specs.Effects.{Effect, answering}
 
 -- the shared parts behind what was done, what was put out, and the refusal at which it stopped
 pub record Done : Type 0 where
@@ -44,8 +44,7 @@ codes_of (Some codes) = codes
 
 -- the command ends with what was done
 abbrev pub ended : Code → Done → Effect
-ended limit done =
-    record { shared = done.shared; limit = limit; codes = codes_of done.stopped; output = done.output; directory = None; renamed = None }
+ended limit done = record (answering done.shared limit (codes_of done.stopped)) { output = done.output }
 
 -- what work is to the shared parts as they were
 abbrev pub done_of : SharedState → Work → Done

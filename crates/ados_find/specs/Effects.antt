@@ -23,8 +23,7 @@ answering shared limit codes = record { shared = shared; limit = limit; codes = 
 
 -- all went well: it changes nothing, and puts this out
 abbrev pub putting : SharedState → Code → List ℕ → Effect
-putting shared limit output =
-    record { shared = shared; limit = limit; codes = went_well; output = output; directory = None; renamed = None }
+putting shared limit output = record (answering shared limit went_well) { output = output }
 
 -- what an outcome is to the shared parts as they were
 abbrev pub effect_of : SharedState → Outcome → Effect

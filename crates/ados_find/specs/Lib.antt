@@ -4,3 +4,5 @@ pub mod Views
 pub mod Effects
 pub mod Done
 pub mod Paths
+pub mod Targets
+pub mod Commands

@@ -3,17 +3,21 @@
 //! in order, and the outcome of a command.
 
 mod codes;
+mod commands;
 mod outcomes;
 mod paths;
 mod refusals;
 mod shared;
+mod targets;
 mod views;
 mod work;
 
 pub use codes::Codes;
+pub use commands::CommandEntry;
 pub use outcomes::{Outcome, Renamed};
 pub use paths::place_of;
 pub use refusals::Refusal;
 pub use shared::Shared;
+pub use targets::{Target, target_of};
 pub use views::ShellView;
 pub use work::{Act, Work, current, each};

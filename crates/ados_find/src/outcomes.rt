@@ -1,7 +1,10 @@
+// What a command makes.
+ghost use Rattle.std.specs.Prelude.{◌≡◌, Some, IfOk};
+
 use crate::codes::Codes;
 use crate::shared::Shared;
 use ados_ram::Place;
-use ados_text::{Code, Octets};
+use ados_text::{Code, NoMemory, Octets};
 use std::alloc::Global;
 
 /// An object that was renamed: where it was, and where it is.
@@ -30,7 +33,8 @@ pub struct Outcome {
 }
 
 impl Outcome {
-    ghost use Rattle.ados_find.specs.Effects.{answering, putting, DoesTo};
+    ghost use Rattle.ados_find.specs.Shared.{SharedState};
+    ghost use Rattle.ados_find.specs.Effects.{answering, effect_of, putting, DoesTo};
 
     /// The command answers this, changes nothing and puts nothing out.
     pub fn answering(alloc: Global, limit: Code, codes: Codes) -> Outcome
@@ -58,5 +62,32 @@ impl Outcome {
             directory: None,
             renamed: None,
         }
+    }
+
+    /// The same, and the shared parts behind it are these.
+    pub fn with_shared(self, shared: Shared) -> Outcome
+        ensures { (old : SharedState) → effect_of old result ≡ record (effect_of old self) { shared = shared } }
+    {
+        let mut outcome = self;
+        outcome.shared = Some(shared);
+        outcome
+    }
+
+    /// The same, and this is the current directory of its shell from now on.
+    pub fn with_directory(self, directory: Place) -> Outcome
+        ensures { (old : SharedState) → effect_of old result ≡ record (effect_of old self) { directory = Some directory } }
+    {
+        let mut outcome = self;
+        outcome.directory = Some(directory);
+        outcome
+    }
+
+    /// The same, and it renamed an object.
+    pub fn with_renamed(self, alloc: Global, renamed: Renamed) -> Result<Outcome, NoMemory>
+        ensures { IfOk result (λ outcome. (old : SharedState) → effect_of old outcome ≡ record (effect_of old self) { renamed = Some renamed }) }
+    {
+        let mut outcome = self;
+        outcome.renamed = Some(Box::new(alloc, renamed)?);
+        Ok(outcome)
     }
 }

@@ -1,10 +1,12 @@
 // What all shells share.
 ghost use Rattle.std.specs.Prelude.{◌≡◌, IfOk};
+ghost use Rattle.ados_ram.specs.Place.{key_of};
+ghost use Rattle.ados_ram.specs.FileOperations.{Answers, rename_fault};
 ghost use Rattle.ados_assign.specs.Resolve.{resolved, Gives};
 
 use ados_assign::{Assigns, ResolveFault};
 use ados_names::Path;
-use ados_ram::{Place, Ram};
+use ados_ram::{Busy, FsFault, Place, Ram};
 use ados_text::NoMemory;
 use std::alloc::Global;
 use std::marker::Model;
@@ -30,7 +32,7 @@ impl Model for Shared {
 }
 
 impl Shared {
-    ghost use Rattle.ados_find.specs.Shared.{first_shared, with_files};
+    ghost use Rattle.ados_find.specs.Shared.{first_shared, with_files, with_assigns, after_rename};
 
     /// The files and the assigns at first.
     pub fn first(alloc: Global) -> Result<Shared, NoMemory>
@@ -61,5 +63,27 @@ impl Shared {
             ram,
             assigns: self.assigns.copy()?,
         })
+    }
+
+    /// The shared parts with other assigns.
+    pub fn with_assigns(&self, assigns: Assigns) -> Result<Shared, NoMemory>
+        ensures { IfOk result (λ shared. shared ≡ with_assigns self.now assigns) }
+    {
+        Ok(Shared {
+            ram: self.ram.copy()?,
+            assigns,
+        })
+    }
+
+    /// The shared parts once an object was renamed: the assigns are carried along.
+    ///
+    /// What renaming refuses: 204, 212, 205, 202, 203.
+    pub fn renamed(&self, busy: &Busy, from: &Place, to: &Place) -> Result<Shared, FsFault>
+        ensures ok { IfOk result (λ shared. shared ≡ after_rename self.now from.now to.now) }
+        ensures fault { Answers result (rename_fault busy.now self.now.files (key_of from.now) (key_of to.now)) }
+    {
+        let ram = self.ram.rename(busy, from, to)?;
+        let assigns = self.assigns.carry(from, to)?;
+        Ok(Shared { ram, assigns })
     }
 }

@@ -5,7 +5,7 @@ use Rattle.std.specs.List.{position, position_or_len}
 use Rattle.std.proofs.lemmas.Bool.{cases_Bool}
 use Rattle.std.proofs.lemmas.Grind.{common_steps}
 use Rattle.std.proofs.lemmas.List.{take-append-le, drop-append-le, take-append-drop}
-use Rattle.ados_machine.specs.ScriptLines.{is_newline}
+use Rattle.ados_text.specs.Lines.{is_newline}
 use Rattle.ados_launch.specs.Lines.{ahead, line_of, rest_of, kind_of, kind_of_length, TakesLine}
 use Rattle.ados_launch.specs.declared.lines.LineKind.TheVariants.{Short}
 use Rattle.ados_launch.proofs.Scanning.{kind_of-line}

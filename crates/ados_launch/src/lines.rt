@@ -1,15 +1,13 @@
 ghost use Rattle.std.specs.Prelude.{◌≡◌, ◌<◌, ◌≤◌, ℕ, List, Option, true, false, vec_len, length, position, ◌^◌, ◌-◌, ◌+◌, [], ◌∷◌, ◌++◌, take, IfOk, IfSome, OnOk, IsErrOf};
-ghost use Rattle.ados_machine.specs.ScriptLines.{is_newline};
+ghost use Rattle.ados_text.specs.Lines.{is_newline};
 ghost use Rattle.ados_launch.specs.Lines.{ahead, kind_of_length, Known, TakesLine};
 ghost use Rattle.ados_launch.specs.declared.lines.LineFault.TheVariants.{NoMemory as OutOfMemory};
 
 use crate::Source;
 use crate::read_ahead::ReadAhead;
+use ados_text::LINE_BYTES;
 use std::alloc::AllocError;
 use thiserror::Error;
-
-// The longest line that the machine takes.
-const LINE_BYTES: usize = 512;
 
 // The longest line that is read to its end.
 const INPUT_LINE_BYTES: u32 = 65_536;
@@ -133,7 +131,7 @@ fn keep(line: &mut Vec<u8>, byte: u8) -> Result<(), AllocError>
 fn kind_of(length: u32) -> LineKind
     ensures { result ≡ kind_of_length length }
 {
-    if length <= 512 {
+    if length <= LINE_BYTES as u32 {
         LineKind::Short
     } else if length <= INPUT_LINE_BYTES {
         LineKind::Long

@@ -3,3 +3,4 @@ pub mod Cut
 pub mod Pieces
 pub mod Signs
 pub mod Steps
+pub mod Faults

@@ -1,7 +1,8 @@
 ghost use Rattle.std.specs.Prelude.{◌≡◌};
+ghost use Rattle.ados_line.specs.Faults.{result2_of};
 ghost use Rattle.ados_line.specs.declared.faults.LineFault.TheVariants.{NoMemory as OutOfMemory};
 
-use ados_text::NoMemory;
+use ados_text::{NoMemory, Result2};
 use thiserror::Error;
 
 /// Why a line can't be read.
@@ -25,6 +26,22 @@ pub enum LineFault {
     /// There was no memory for what the line says.
     #[error("no free store")]
     NoMemory,
+}
+
+impl LineFault {
+    /// The number by which the fault is answered.
+    pub fn result2(self) -> Result2
+        ensures { result ≡ result2_of self }
+    {
+        match self {
+            LineFault::ArgumentMissing => Result2::ARGUMENT_MISSING,
+            LineFault::TooManyArguments => Result2::TOO_MANY_ARGUMENTS,
+            LineFault::UnmatchedQuotes => Result2::UNMATCHED_QUOTES,
+            LineFault::LineTooLong => Result2::LINE_TOO_LONG,
+            LineFault::NotImplemented => Result2::NOT_IMPLEMENTED,
+            LineFault::NoMemory => Result2::NO_FREE_STORE,
+        }
+    }
 }
 
 impl From<NoMemory> for LineFault {

@@ -5,11 +5,8 @@ ghost use Rattle.ados_line.specs.Pieces.{IsInPieces};
 use crate::comments::without_comment;
 use crate::cuts::{Cut, cut_line};
 use crate::faults::LineFault;
-use ados_text::{NoMemory, Text};
+use ados_text::{LINE_BYTES, NoMemory, Text};
 use std::alloc::Global;
-
-// A raw line has no more bytes than this.
-const LINE_BYTES: usize = 512;
 
 /// Where a command's output goes in place of the console.
 #[derive(Clone, Drop)]

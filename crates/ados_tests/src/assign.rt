@@ -1,12 +1,12 @@
 use crate::places::{are_names, at, name};
 use crate::wrong::{Wrong, expect};
-use ados_assign::Assigns;
+use ados_assign::{Assigns, Binding};
 use ados_text::NoMemory;
 use std::alloc::Global;
 
 // The first assigns with `Libs` bound to S too.
 fn with_libs(alloc: Global) -> Result<Assigns, NoMemory> {
-    Assigns::first(alloc)?.set(name(alloc, "Libs")?, at(alloc, "S")?)
+    Assigns::first(alloc)?.set(name(alloc, "Libs")?, Binding::Directory(at(alloc, "S")?))
 }
 
 // These names are bound to a place.

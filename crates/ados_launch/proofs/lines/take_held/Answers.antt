@@ -1,5 +1,5 @@
 use Rattle.std.proofs.Common.{◌≡◌, ◌<◌, ◌++◌, Some, length, arith, ap, sym, ◌∙◌, take, position, subst}
-use Rattle.ados_machine.specs.ScriptLines.{is_newline}
+use Rattle.ados_text.specs.Lines.{is_newline}
 use Rattle.ados_launch.proofs.HeldLines.{taken_held}
 use Rattle.ados_launch.proofs.lines.take_held.Goals as goal
 

@@ -1,7 +1,7 @@
 use Rattle.std.proofs.Common.{◌≡◌, subst, IfOk}
 use Rattle.ados_assign.specs.Assigns.{AssignMap}
 use Rattle.ados_assign.proofs.RowsLemmas.{AreRowsOf, set_rows}
-use Rattle.ados_assign.proofs.assigns.Assigns.set.Goals as goal
+use Rattle.ados_assign.proofs.assigns.Assigns.bind.Goals as goal
 
 pub of-requires : goal.of-requires
 of-requires c =

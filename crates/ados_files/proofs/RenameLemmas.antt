@@ -1,0 +1,13 @@
+-- An object that was renamed.
+use Rattle.std.proofs.Common.{◌≡◌, ℕ, List, Option, Some, None, refl}
+use Rattle.ados_text.specs.declared.codes.Result2.{Result2}
+use Rattle.ados_find.specs.Codes.{went_well}
+use Rattle.ados_find.specs.Effects.{answering}
+use Rattle.ados_find.specs.Shared.{SharedState, after_rename}
+use Rattle.ados_find.specs.Views.{View}
+use Rattle.ados_files.specs.Rename.{renamed_unless}
+
+pub renamed-is : (shared : SharedState) (view : View) (from to : List (List ℕ)) (fault : Option Result2) → fault ≡ None
+    → record (answering (after_rename shared from to) view.limit went_well) { renamed = Some (record { from = from; to = to }) }
+    ≡ renamed_unless fault shared view from to
+renamed-is shared view from to fault e = rw e refl

@@ -1,0 +1,19 @@
+-- What a command does to its shell.
+use Rattle.ados_find.specs.declared.codes.Codes.{Codes}
+use Rattle.ados_find.specs.Effects.{Effect, effect_of}
+use Rattle.ados_find.specs.Shared.{SharedState}
+pub use Rattle.ados_flow.specs.declared.called.Called.{Called}
+use Rattle.ados_flow.specs.declared.actions.Action as code
+use Rattle.ados_flow.specs.declared.actions.Action.TheVariants as made
+
+-- it answers; it ends its script with these codes, and elsewhere answers them; or it calls a script
+pub data Action : Type 0 where
+  Does : Effect → Action
+  Quits : Codes → Action
+  Calls : Called → Action
+
+-- what an action is to the shared parts as they were
+abbrev pub acting : SharedState → code.Action → Action
+acting shared (made.Does outcome) = Does (effect_of shared outcome)
+acting shared (made.Quits codes) = Quits codes
+acting shared (made.Calls script) = Calls script

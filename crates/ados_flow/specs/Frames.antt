@@ -1,0 +1,95 @@
+-- Frames, and the code rule: when a frame ends, and which limit stands behind its end.
+use Rattle.std.specs.Prelude.{ℕ, zero, suc, pos, List, [], ◌∷◌, length, ◌+◌, Bool, true, false, ◌||◌, ◌&&◌, nat_le, Option, Some, None, if◌then◌else◌}
+use Rattle.ados_text.specs.declared.codes.Code.{Code}
+use Rattle.ados_find.specs.declared.codes.Codes.{Codes}
+use Rattle.ados_find.specs.Codes.{went_well}
+use Rattle.ados_find.specs.declared.targets.Target.{Target}
+use Rattle.ados_flow.specs.CodeRule.{is_reached}
+pub use Rattle.ados_flow.specs.declared.records.Record.{Record}
+pub use Rattle.ados_flow.specs.declared.kinds.Kind.{Kind}
+pub use Rattle.ados_flow.specs.declared.kinds.Kind.TheVariants.{Script}
+
+-- the frame is a script's
+abbrev pub is_script : Kind → Bool
+is_script (Script name command) = true
+
+-- a frame that runs: what it is, its lines, the place of the next one, the line at which its command began, the limit
+-- that stood at its beginning, its own output, which is open until it ends, and its last record
+pub record FrameState : Type 0 where
+  pub kind : Kind
+  pub lines : List (List ℕ)
+  pub position : ℕ
+  pub line : ℕ
+  pub limit : Code
+  pub output : Option Target
+  pub last : Option Record
+
+-- a frame that begins
+abbrev pub began : Kind → List (List ℕ) → Code → Option Target → FrameState
+began kind lines limit output = record { kind = kind; lines = lines; position = 0; line = 0; limit = limit; output = output; last = None }
+
+-- a frame takes a line: its position moves on before the command runs
+abbrev pub moved : FrameState → FrameState
+moved frame = record frame { position = frame.position + 1; line = frame.position + 1 }
+
+-- the frame has no line left
+abbrev pub is_over : FrameState → Bool
+is_over frame = nat_le (length frame.lines) frame.position
+
+-- how many of the frames are scripts
+abbrev pub scripts_in : List FrameState → ℕ
+scripts_in [] = 0
+scripts_in (frame ∷ frames) = if is_script frame.kind then suc (scripts_in frames) else scripts_in frames
+
+-- a shell begins with limit 10, and it is 10 again where no script is left
+abbrev pub first_limit : Code
+first_limit = record { 0 = pos 10 }
+
+-- the limit behind the end of a script that began at a limit, where so many scripts run below it: that limit, and 10
+-- where no script is left
+abbrev pub limit_for : ℕ → Code → Code
+limit_for zero limit = first_limit
+limit_for (suc n) limit = limit
+
+-- the same above these frames
+abbrev pub limit_behind : List FrameState → Code → Code
+limit_behind frames limit = limit_for (scripts_in frames) limit
+
+-- the line at which the command began; 0 on the console
+abbrev pub line_taken : List FrameState → ℕ
+line_taken [] = 0
+line_taken (frame ∷ frames) = frame.line
+
+-- the line of a frame's last record, and what it answered: 0, and all well, where it has none
+abbrev pub last_line : Option Record → ℕ
+last_line None = 0
+last_line (Some entry) = entry.line
+
+abbrev pub last_codes : Option Record → Codes
+last_codes None = went_well
+last_codes (Some entry) = entry.codes
+
+-- the last record was at its limit
+abbrev pub is_at_limit : Option Record → Bool
+is_at_limit None = false
+is_at_limit (Some entry) = is_reached entry.limit entry.codes.code
+
+-- a script alone ends early
+abbrev pub is_early : Kind → Option Record → Bool
+is_early kind last = is_script kind && is_at_limit last
+
+-- the record of a command that began at the newest frame's line
+abbrev pub entry_of : List FrameState → Codes → Code → Record
+entry_of frames answered limit = record { line = line_taken frames; codes = answered; limit = limit }
+
+-- a frame with its last record
+abbrev pub answered_frame : FrameState → List FrameState → Codes → Code → FrameState
+answered_frame frame frames answered limit = record frame { last = Some (entry_of (frame ∷ frames) answered limit) }
+
+-- a frame ends where no line is left, and a script also where it quits and at the limit
+abbrev pub is_ended : Bool → Codes → Code → FrameState → Bool
+is_ended quits answered limit frame = is_over frame || (is_script frame.kind && (quits || is_reached limit answered.code))
+
+-- the word of the command that made a script
+abbrev pub maker : Kind → List ℕ
+maker (Script name command) = command

@@ -1,0 +1,21 @@
+-- Quit: the end of a script.
+use Rattle.std.specs.Prelude.{ℤ, List, Option, Some, None}
+use Rattle.ados_text.specs.declared.codes.Code.{Code}
+use Rattle.ados_text.specs.declared.codes.TheConstants.Code.{OK}
+use Rattle.ados_text.specs.declared.codes.TheConstants.Result2.{NONE}
+use Rattle.ados_readargs.specs.declared.args.Arg.{Arg}
+use Rattle.ados_readargs.specs.Args.{number_at}
+use Rattle.ados_find.specs.declared.codes.Codes.{Codes}
+use Rattle.ados_flow.specs.Actions.{Action, Quits}
+
+abbrev pub quit_codes : Code → Codes
+quit_codes code = record { code = code; result2 = NONE }
+
+-- the code is RC, and 0 without one
+abbrev pub quits : Option ℤ → Action
+quits None = Quits (quit_codes OK)
+quits (Some number) = Quits (quit_codes (record { 0 = number }))
+
+-- Quit ends its script with a code
+abbrev pub quit_row : List Arg → Action
+quit_row args = quits (number_at args 0)

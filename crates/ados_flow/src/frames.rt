@@ -1,0 +1,194 @@
+// Frames.
+ghost use Rattle.std.specs.Prelude.{◌≡◌, ◌+◌, ◌<◌, ◌^◌, List, IfOk, OnSome, slice_get};
+ghost use Rattle.std.specs.Option.{option_copied};
+
+use crate::code_rule::is_reached;
+use crate::kinds::Kind;
+use crate::records::Record;
+use ados_find::{Codes, Target};
+use ados_text::{Code, NoMemory, Text, Texts};
+use std::alloc::Global;
+use std::marker::Model;
+use std::rc::Rc;
+
+/// What stays of a frame while it runs.
+#[derive(Drop)]
+struct Fixed {
+    kind: Kind,
+    lines: Texts,
+    output: Option<Target>,
+}
+
+/// A script that runs. Copies share its lines, its name and its output.
+#[derive(Drop)]
+pub struct Frame {
+    fixed: Rc<Fixed>,
+    position: usize,
+    line: usize,
+    limit: Code,
+    last: Option<Record>,
+}
+
+impl Model for Frame {
+    ghost use Rattle.ados_flow.specs.Frames.{FrameState};
+
+    ghost Value = { FrameState };
+
+    ghost view = { λ f. record {
+      kind = f.fixed.value.kind;
+      lines = f.fixed.value.lines;
+      position = f.position;
+      line = f.line;
+      limit = f.limit;
+      output = f.fixed.value.output;
+      last = f.last;
+    } };
+}
+
+impl Frame {
+    ghost use Rattle.ados_flow.specs.Frames.{FrameState, began, moved, answered_frame, is_over, is_ended, is_script, last_line, last_codes, is_early};
+
+    /// A frame that begins: what it is, its lines, the limit that stands, and its own output, if it has one.
+    pub fn new(
+        alloc: Global,
+        kind: Kind,
+        lines: Texts,
+        limit: Code,
+        output: Option<Target>,
+    ) -> Result<Frame, NoMemory>
+        ensures { IfOk result (λ frame. frame ≡ began kind lines limit output) }
+    {
+        let fixed = Fixed {
+            kind,
+            lines,
+            output,
+        };
+        Ok(Frame {
+            fixed: Rc::new(alloc, fixed)?,
+            position: 0,
+            line: 0,
+            limit,
+            last: None,
+        })
+    }
+
+    /// The same frame; what stays of it is shared.
+    pub fn share(&self) -> Result<Frame, NoMemory>
+        ensures { IfOk result (λ frame. frame ≡ self.now) }
+    {
+        Ok(Frame {
+            fixed: self.fixed.clone()?,
+            position: self.position,
+            line: self.line,
+            limit: self.limit,
+            last: self.last,
+        })
+    }
+
+    /// The line that is due; `None` where none is left.
+    pub fn next_line(&self) -> Option<&Text>
+        ensures line { option_copied result ≡ slice_get self.now.lines self.now.position }
+        ensures below { OnSome result (self.now.position + 1 < 2 ^ 64) }
+    {
+        if self.position < self.fixed.lines.len() {
+            self.fixed.lines.get(self.position)
+        } else {
+            None
+        }
+    }
+
+    /// The line that is due was taken.
+    pub fn move_on(&mut self)
+        requires { self.old.position + 1 < 2 ^ 64 }
+        ensures { self.new ≡ moved self.old }
+    {
+        self.position += 1;
+        self.line = self.position;
+    }
+
+    /// A command of it answered, with this limit behind it.
+    pub fn answer(&mut self, answered: Codes, limit: Code)
+        ensures { (below : List FrameState) → self.new ≡ answered_frame self.old below answered limit }
+    {
+        self.last = Some(Record {
+            line: self.line,
+            codes: answered,
+            limit,
+        });
+    }
+
+    /// No line is left.
+    pub fn is_over(&self) -> bool
+        ensures { result ≡ is_over self.now }
+    {
+        self.fixed.lines.len() <= self.position
+    }
+
+    /// The code rule: behind a command that answered this, with this limit behind it, the frame ends where no line is
+    /// left, and a script also where the command quits and where its code reaches the limit.
+    pub fn is_ended(&self, quits: bool, answered: Codes, limit: Code) -> bool
+        ensures { result ≡ is_ended quits answered limit self.now }
+    {
+        self.is_over() || (self.is_script() && (quits || is_reached(limit, answered.code)))
+    }
+
+    /// What it is.
+    pub fn kind(&self) -> &Kind
+        ensures { result.now ≡ self.now.kind }
+    {
+        &self.fixed.kind
+    }
+
+    // It is a script's.
+    fn is_script(&self) -> bool
+        ensures { result ≡ is_script self.now.kind }
+    {
+        match &self.fixed.kind {
+            Kind::Script { .. } => true,
+        }
+    }
+
+    /// The limit that stood at its beginning.
+    pub fn limit(&self) -> Code
+        ensures { result ≡ self.now.limit }
+    {
+        self.limit
+    }
+
+    /// Its own output, which is open until it ends.
+    pub fn output(&self) -> Option<&Target>
+        ensures { option_copied result ≡ self.now.output }
+    {
+        self.fixed.output.as_ref()
+    }
+
+    /// The line of its last record; 0 where it has none.
+    pub fn last_line(&self) -> usize
+        ensures { result ≡ last_line self.now.last }
+    {
+        match self.last {
+            None => 0,
+            Some(entry) => entry.line,
+        }
+    }
+
+    /// What its last command answered; all well where none has.
+    pub fn last_codes(&self) -> Codes
+        ensures { result ≡ last_codes self.now.last }
+    {
+        match self.last {
+            None => Codes::NONE,
+            Some(entry) => entry.codes,
+        }
+    }
+
+    /// It is a script whose last record was at its limit: where it ends, it ends early.
+    pub fn is_early(&self) -> bool
+        ensures { result ≡ is_early self.now.kind self.now.last }
+    {
+        match self.last {
+            None => false,
+            Some(entry) => self.is_script() && is_reached(entry.limit, entry.codes.code),
+        }
+    }
+}
