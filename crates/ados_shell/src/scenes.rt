@@ -20,6 +20,7 @@ pub struct Scene<'a> {
 }
 
 /// The input of a shell: the first of the lines that wait for it, and whether no further one will come.
+#[derive(Drop)]
 pub struct Input<'a> {
     /// The first line that waits.
     pub line: Option<&'a Text>,
