@@ -1,11 +1,11 @@
 // A turn of a shell.
-ghost use Rattle.std.specs.Prelude.{◌≡◌, [], IfOk, OnSome};
+ghost use Rattle.std.specs.Prelude.{◌≡◌, [], IfOk, OnErr, OnSome};
 ghost use Rattle.std.specs.Option.{option_copied};
 ghost use Rattle.ados_machine.specs.Lines.{answer_deed, line_deed};
 ghost use Rattle.ados_machine.specs.Settle.{here_of, settle};
 ghost use Rattle.ados_shell.specs.Drafts.{IsDrafted};
 ghost use Rattle.ados_shell.specs.Turns.{start_of};
-ghost use Rattle.ados_shell.specs.Turnings.{GivesAnswer, GivesConsole, GivesTurning, IsScriptDrafted, next_of};
+ghost use Rattle.ados_shell.specs.Turnings.{GivesAnswer, GivesConsole, GivesTurning, IsScriptDrafted, TakesAnswer, TakesConsole, TakesTurn, next_of};
 ghost use Rattle.ados_shell.specs.Stacks.{HasRoom};
 
 use crate::drafts::Draft;
@@ -34,8 +34,11 @@ impl Shell {
     /// A shell that waits for the answer to a prompt takes a line of its input, and at its end an empty one. One that
     /// is ready takes the next line of its newest frame; without a frame it takes a line of its input, and ends at the
     /// end of that.
+    ///
+    /// `NoMemory` where there is none for what the turn makes, and only where the shell has something to take.
     pub fn turn(&self, number: u8, scene: &Scene, input: &Input) -> Result<Turning, NoMemory>
-        ensures { IfOk result (λ turn. GivesTurning number scene.now self.now input.now turn) }
+        ensures turn { IfOk result (λ turn. GivesTurning number scene.now self.now input.now turn) }
+        ensures memory { OnErr result (TakesTurn scene.now self.now input.now) }
     {
         match &self.waits {
             Some(wait) => match &**wait {
@@ -61,7 +64,8 @@ impl Shell {
         asking: &Asking,
         input: &Input,
     ) -> Result<Turning, NoMemory>
-        ensures { IfOk result (λ turn. GivesAnswer number scene.now self.now asking.now input.now turn) }
+        ensures turn { IfOk result (λ turn. GivesAnswer number scene.now self.now asking.now input.now turn) }
+        ensures memory { OnErr result (TakesAnswer scene.now self.now asking.now input.now) }
     {
         match input.line {
             Some(line) => Ok(Turning::Takes(self.answered(number, scene, asking, line)?)),
@@ -92,7 +96,8 @@ impl Shell {
     /// A turn of a shell that is ready and runs no frame.
     fn console_turn(&self, number: u8, scene: &Scene, input: &Input) -> Result<Turning, NoMemory>
         requires { self.now.frames ≡ [] }
-        ensures { IfOk result (λ turn. GivesConsole number scene.now self.now input.now turn) }
+        ensures turn { IfOk result (λ turn. GivesConsole number scene.now self.now input.now turn) }
+        ensures memory { OnErr result (TakesConsole scene.now self.now input.now) }
     {
         match input.line {
             Some(line) => Ok(Turning::Takes(self.typed(number, scene, line)?)),

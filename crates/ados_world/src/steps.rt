@@ -103,7 +103,8 @@ impl World {
 
     /// The shell of this number ends; its codes stay.
     fn end_shell(&mut self, number: u8, codes: Codes) -> Out
-        requires { IsShellNumber number }
+        requires number { IsShellNumber number }
+        requires sane { IsSane (ended_world number codes self.old) }
         ensures out { result ≡ giving [] [] }
         ensures world { self.new ≡ ended_world number codes self.old }
     {
