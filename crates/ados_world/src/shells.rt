@@ -1,5 +1,5 @@
 // The shells of a world, by their numbers.
-ghost use Rattle.std.specs.Prelude.{◌≡◌, None, map, replicate, is_some, IfOk, OnErr, OnOk, OnSome};
+ghost use Rattle.std.specs.Prelude.{◌≡◌, None, map, replicate, is_some, IfOk, OnErr, OnOk, OnSome, true};
 ghost use Rattle.std.specs.List.{list_any};
 ghost use Rattle.std.specs.Option.{option_copied};
 ghost use Rattle.ados_machine.specs.World.{flatten, numbered};
@@ -70,14 +70,15 @@ pub fn move_in(
     }
 }
 
-/// The same where an object was moved: the current directories of all shells are carried.
+/// The same of a shell that runs, where an object was moved: the current directories of all shells are carried.
 pub fn carry_in(
     shells: &mut [Option<Shell>; 20],
     number: u8,
     draft: ShellDraft,
     moved: &Renamed,
 ) -> Result<(), NoMemory>
-    requires { IsShellNumber number }
+    requires number { IsShellNumber number }
+    requires runs { is_some (flatten (numbered shells.old number)) ≡ true }
     ensures ok { OnOk result (shells.new ≡ carried_in number moved.now draft shells.old) }
     ensures err { OnErr result (shells.new ≡ shells.old) }
 {

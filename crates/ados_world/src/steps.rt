@@ -1,5 +1,5 @@
 // The step: what an event makes of a world.
-ghost use Rattle.std.specs.Prelude.{◌≡◌, [], drop, false, IfErr, IfOk, OnErr, OnOk};
+ghost use Rattle.std.specs.Prelude.{◌≡◌, [], drop, false, IfErr, IfOk, OnErr, OnOk, is_some, true};
 ghost use Rattle.ados_machine.specs.declared.answers.Answer.{Answer as Reply};
 ghost use Rattle.ados_machine.specs.Limits.{IsSane};
 ghost use Rattle.ados_machine.specs.World.{is_over, shell_at};
@@ -41,6 +41,8 @@ impl World {
         ensures answer { IsAnswer (Event.Turn number) result (turned self.old number (shell_at self.old number)) }
         ensures world { self.new ≡ world_after self.old result (turned self.old number (shell_at self.old number)) }
     {
+        // By this a turn knows what holds of every world: no script runs on behind a failure.
+        let _ = &self.alloc;
         let Some(shell) = self.shell_at(number) else {
             return Err(Refusal::NoSuchShell);
         };
@@ -57,6 +59,7 @@ impl World {
     /// Moves in what a turn changes that took the first line of its input.
     fn take_typed(&mut self, number: u8, draft: Draft) -> Result<Out, Refusal>
         requires number { IsShellNumber number }
+        requires runs { is_some (shell_at self.old number) ≡ true }
         requires sane { IsSane (taken number draft self.old) }
         ensures out { IfOk result (λ out. out ≡ giving draft.printed.items draft.reports.items) }
         ensures world { OnOk result (self.new ≡ record (taken number draft self.old) { queue = queue_behind number self.old.queue (drop 1 self.old.queue) }) }
@@ -73,6 +76,7 @@ impl World {
     /// Moves in what a turn changes.
     fn take(&mut self, number: u8, draft: Draft) -> Result<Out, Refusal>
         requires number { IsShellNumber number }
+        requires runs { is_some (shell_at self.old number) ≡ true }
         requires sane { IsSane (taken number draft self.old) }
         ensures out { IfOk result (λ out. out ≡ giving draft.printed.items draft.reports.items) }
         ensures world { OnOk result (self.new ≡ taken number draft self.old) }
