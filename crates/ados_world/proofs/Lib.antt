@@ -1,7 +1,2 @@
-mod ViewLemmas
 mod FillLemmas
-mod SettleLemmas
-mod DraftLemmas
-pub mod RunsOnLemmas
-mod CommandLemmas
-mod ScriptLineLemmas
+mod StepLemmas

@@ -1,8 +1,3 @@
-pub mod Shells
-pub mod Frames
-pub mod Answers
-pub mod Actions
-pub mod Drafts
 pub mod Hosts
+pub mod Shells
 pub mod Steps
-pub mod Views

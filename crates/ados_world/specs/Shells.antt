@@ -1,32 +1,25 @@
--- The parts of a shell.
-use Rattle.std.specs.Prelude.{◌≡◌, ◌+◌, ◌<◌, ◌^◌, List, [], ◌∷◌, Option, Some, None}
-use Rattle.ados_ram.specs.InUse.{InUse}
-use Rattle.ados_find.specs.Views.{View}
-use Rattle.ados_machine.specs.declared.phases.Asking.{Asking as Question}
-use Rattle.ados_machine.specs.declared.phases.Phase.{Phase}
-use Rattle.ados_machine.specs.declared.phases.Phase.TheVariants.{Ready, Asking}
-use Rattle.ados_machine.specs.Frames.{FrameState, ShellState}
-use Rattle.ados_machine.specs.Step.{moved}
+-- The shells of a world, by their numbers.
+use Rattle.std.specs.Prelude.{◌≤◌, ◌-◌, ℕ, List, Option, Some, option_map, slice_set}
+use Rattle.ados_find.specs.declared.outcomes.Renamed.{Renamed}
+use Rattle.ados_machine.specs.Shells.{ShellState}
+use Rattle.ados_machine.specs.Carrying.{carried_shell, carried_shells}
+use Rattle.ados_machine.specs.World.{flatten, numbered}
+use Rattle.ados_shell.specs.declared.drafts.ShellDraft.{ShellDraft}
+use Rattle.ados_shell.specs.Drafts.{behind}
 
--- a shell waits where its command asked for its arguments
-abbrev pub phase_of : Option Question → Phase
-phase_of None = Ready
-phase_of (Some question) = Asking question
+pub record IsShellNumber (number : ℕ) : Type 0 where
+  pub first : 1 ≤ number
+  pub last : number ≤ 20
 
--- what commands read of a shell, with what is in use
-abbrev pub seen : ShellState → InUse → View
-seen shell busy = record { limit = shell.limit; codes = shell.codes; directory = shell.directory; busy = busy }
+-- what stands at a number is replaced by what a function makes of it
+abbrev pub with_shell : ℕ → (ShellState → ShellState) → List (Option ShellState) → List (Option ShellState) → List (Option ShellState)
+with_shell number change shells others = slice_set others (number - 1) (option_map change (flatten (numbered shells number)))
 
-abbrev pub newest : List FrameState → Option FrameState
-newest [] = None
-newest (frame ∷ frames) = Some frame
+-- the shells behind what a turn makes of one of them
+abbrev pub moved_in : ℕ → ShellDraft → List (Option ShellState) → List (Option ShellState)
+moved_in number draft shells = with_shell number (behind draft) shells shells
 
--- the newest frame's next line has a number
-abbrev pub HasRoom : List FrameState → Type 0
-HasRoom [] = Unit {0}
-HasRoom (frame ∷ frames) = frame.position + 1 < 2 ^ 64
-
--- the newest frame's line was taken
-abbrev pub IsMovedOn : ShellState → ShellState → List FrameState → Type 0
-IsMovedOn old new [] = new ≡ old
-IsMovedOn old new (frame ∷ frames) = new ≡ moved old frame frames
+-- the same where an object was moved
+abbrev pub carried_in : ℕ → Renamed → ShellDraft → List (Option ShellState) → List (Option ShellState)
+carried_in number moved draft shells =
+    with_shell number (λ shell. carried_shell moved (behind draft shell)) shells (carried_shells (Some moved) shells)

@@ -2,25 +2,12 @@
 //! The world of shells: it takes events one by one, and answers what is printed and which scripts
 //! ended.
 
-mod actions;
-mod commands;
-mod console;
-mod drafts;
-mod files;
-mod frames;
+mod carrying;
 mod hosts;
-mod inputs;
-mod outputs;
-mod renames;
+mod queue;
 mod runs;
-mod scenes;
-mod script_lines;
-mod scripts;
-mod settled;
 mod shells;
 mod steps;
-mod targets;
-mod turns;
 mod worlds;
 
 pub use ados_machine::{Answer, Codes, EndReport, Event, Job, Out, Refusal, Reports, Request};

@@ -1,23 +1,20 @@
 // The step: what an event makes of a world.
-ghost use Rattle.std.specs.Prelude.{◌≡◌, [], Some, None, OnSome, drop, slice_set, unwrap_or};
-ghost use Rattle.std.specs.Option.{option_copied};
+ghost use Rattle.std.specs.Prelude.{◌≡◌, [], drop, false, IfErr, IfOk, OnErr, OnOk, is_some, true};
 ghost use Rattle.ados_machine.specs.declared.answers.Answer.{Answer as Reply};
-ghost use Rattle.ados_machine.specs.World.{shell_at};
-ghost use Rattle.ados_world.specs.Steps.{AsksAt, IsFirst, IsFreeAt, IsShellNumber, IsGiven, IsTaken, KeepFrames, RunsOn};
-ghost use Rattle.ados_machine.specs.Step.{step_of, typed, end_of_input, turned, waiting, replied, giving, with_shell};
+ghost use Rattle.ados_machine.specs.Limits.{IsSane};
+ghost use Rattle.ados_machine.specs.World.{is_over, shell_at};
+ghost use Rattle.ados_machine.specs.Step.{step_of, turned, replied, giving, queue_behind};
 ghost use Rattle.ados_machine.specs.Runs.{IsAnswer, world_after};
+ghost use Rattle.ados_machine.specs.declared.refusals.Refusal.TheVariants.{NoMemory};
+ghost use Rattle.ados_world.specs.Shells.{IsShellNumber};
+ghost use Rattle.ados_world.specs.Steps.{ended_world, taken};
 
-use crate::renames::Shells;
-use crate::settled::{Settled, console_settled, prompt_settled, script_settled};
-use crate::shells::Shell;
+use crate::carrying::moved_by;
+use crate::shells::{carry_in, move_in};
 use crate::worlds::World;
 use ados_find::Codes;
 use ados_machine::{Event, Out, Refusal};
-use ados_text::Text;
-
-const QUEUE_LINES: usize = 256;
-
-const LINE_BYTES: usize = 512;
+use ados_shell::{Draft, Turning};
 
 impl World {
     /// Takes one event, or refuses it and stays as it was.
@@ -39,168 +36,85 @@ impl World {
         }
     }
 
-    fn type_line(&mut self, line: &Text) -> Result<Out, Refusal>
-        ensures answer { IsAnswer (Event.Typed line.now) result (typed self.old line.now) }
-        ensures world { self.new ≡ world_after self.old result (typed self.old line.now) }
-    {
-        if self.input_ended {
-            return Err(Refusal::NotReady);
-        }
-        if self.queue.len() >= QUEUE_LINES {
-            return Err(Refusal::QueueFull);
-        }
-        if line.as_bytes().len() > LINE_BYTES {
-            return Err(Refusal::LineTooLong);
-        }
-        let Ok(line) = line.copy() else {
-            return Err(Refusal::NoMemory);
-        };
-        match self.queue.push_back(line) {
-            Ok(()) => Ok(Out::giving(Vec::new(self.alloc), Vec::new(self.alloc))),
-            Err(_) => Err(Refusal::NoMemory),
-        }
-    }
-
-    fn end_input(&mut self) -> Result<Out, Refusal>
-        ensures answer { IsAnswer Event.EndOfInput result (end_of_input self.old) }
-        ensures world { self.new ≡ world_after self.old result (end_of_input self.old) }
-    {
-        if self.input_ended {
-            return Err(Refusal::NotReady);
-        }
-        self.input_ended = true;
-        Ok(Out::giving(Vec::new(self.alloc), Vec::new(self.alloc)))
-    }
-
     fn turn(&mut self, number: u8) -> Result<Out, Refusal>
+        requires { is_over self.old ≡ false }
         ensures answer { IsAnswer (Event.Turn number) result (turned self.old number (shell_at self.old number)) }
         ensures world { self.new ≡ world_after self.old result (turned self.old number (shell_at self.old number)) }
     {
+        // By this a turn knows what holds of every world: no script runs on behind a failure.
+        let _ = &self.alloc;
         let Some(shell) = self.shell_at(number) else {
             return Err(Refusal::NoSuchShell);
         };
-        if shell.question().is_some() {
-            return self.prompt_turn(number);
-        }
-        if shell.is_free() {
-            return self.console_turn(number);
-        }
-        match script_settled(&self.scene(), number, shell) {
-            Ok(done) => Ok(self.take(number, done)),
+        let codes = shell.codes();
+        match shell.turn(number, &self.scene(), &self.input(number)) {
             Err(_) => Err(Refusal::NoMemory),
+            Ok(Turning::NotReady) => Err(Refusal::NotReady),
+            Ok(Turning::Ends) => Ok(self.end_shell(number, codes)),
+            Ok(Turning::Goes(draft)) => self.take(number, draft),
+            Ok(Turning::Takes(draft)) => self.take_typed(number, draft),
         }
     }
 
-    /// A turn of a shell that waits for the answer to a prompt: the first line that waits, and an
-    /// empty one at the end of its input.
-    fn prompt_turn(&mut self, number: u8) -> Result<Out, Refusal>
-        requires { AsksAt (shell_at self.old number) }
-        ensures answer { IsAnswer (Event.Turn number) result (turned self.old number (shell_at self.old number)) }
-        ensures world { self.new ≡ world_after self.old result (turned self.old number (shell_at self.old number)) }
+    /// Moves in what a turn changes that took the first line of its input.
+    fn take_typed(&mut self, number: u8, draft: Draft) -> Result<Out, Refusal>
+        requires number { IsShellNumber number }
+        requires runs { is_some (shell_at self.old number) ≡ true }
+        requires sane { IsSane (taken number draft self.old) }
+        ensures out { IfOk result (λ out. out ≡ giving draft.printed.items draft.reports.items) }
+        ensures world { OnOk result (self.new ≡ record (taken number draft self.old) { queue = queue_behind number self.old.queue (drop 1 self.old.queue) }) }
+        ensures refusal { IfErr result (λ why. why ≡ NoMemory) }
+        ensures unchanged { OnErr result (self.new ≡ self.old) }
     {
-        let world = &*self;
-        let Some(shell) = world.shell_at(number) else {
-            return Err(Refusal::NoSuchShell);
-        };
-        let Some(question) = shell.question() else {
-            return Err(Refusal::NotReady);
-        };
-        if number == 1 && !world.has_input() {
-            return Err(Refusal::NotReady);
-        }
-        match world.waiting_line(number) {
-            None => {
-                let empty = Text::new(world.alloc);
-                match prompt_settled(&world.scene(), number, shell, question, &empty) {
-                    Ok(done) => Ok(self.take(number, done)),
-                    Err(_) => Err(Refusal::NoMemory),
-                }
-            }
-            Some(line) => match prompt_settled(&world.scene(), number, shell, question, line) {
-                Ok(done) => Ok(self.take_typed(done)),
-                Err(_) => Err(Refusal::NoMemory),
-            },
-        }
-    }
-
-    /// The line that waits for the shell of this number: a background shell's input is at its end.
-    fn waiting_line(&self, number: u8) -> Option<&Text>
-        ensures line { IsFirst (option_copied result) (waiting self.now number) }
-        ensures number { OnSome result (number ≡ 1) }
-    {
+        let out = self.take(number, draft)?;
         if number == 1 {
-            self.queue.front()
-        } else {
-            None
+            let _ = self.queue.pop_front();
         }
-    }
-
-    /// A turn of a ready shell that runs no script: shell 1 takes the first line that waits, and ends where
-    /// there is none.
-    fn console_turn(&mut self, number: u8) -> Result<Out, Refusal>
-        requires { IsFreeAt (shell_at self.old number) }
-        ensures answer { IsAnswer (Event.Turn number) result (turned self.old number (shell_at self.old number)) }
-        ensures world { self.new ≡ world_after self.old result (turned self.old number (shell_at self.old number)) }
-    {
-        let world = &*self;
-        let Some(shell) = world.shell_at(number) else {
-            return Err(Refusal::NoSuchShell);
-        };
-        if number != 1 || !world.has_input() {
-            return Err(Refusal::NotReady);
-        }
-        match world.queue.front() {
-            Some(line) => match console_settled(&world.scene(), shell, line) {
-                Ok(done) => Ok(self.take_typed(done)),
-                Err(_) => Err(Refusal::NoMemory),
-            },
-            None => {
-                let codes = shell.codes();
-                Ok(self.end_shell(codes))
-            }
-        }
-    }
-
-    /// Moves in what a turn changes that took the first line that waited.
-    fn take_typed(&mut self, done: Settled) -> Out
-        requires { RunsOn self.old.shells done }
-        ensures out { IsGiven done result }
-        ensures world { IsTaken (record self.old { queue = drop 1 self.old.queue }) 1 done self.new }
-    {
-        let _ = self.queue.pop_front();
-        self.take(1, done)
+        Ok(out)
     }
 
     /// Moves in what a turn changes.
-    fn take(&mut self, number: u8, done: Settled) -> Out
+    fn take(&mut self, number: u8, draft: Draft) -> Result<Out, Refusal>
         requires number { IsShellNumber number }
-        requires runs_on { RunsOn self.old.shells done }
-        ensures out { IsGiven done result }
-        ensures world { IsTaken self.old number done self.new }
+        requires runs { is_some (shell_at self.old number) ≡ true }
+        requires sane { IsSane (taken number draft self.old) }
+        ensures out { IfOk result (λ out. out ≡ giving draft.printed.items draft.reports.items) }
+        ensures world { OnOk result (self.new ≡ taken number draft self.old) }
+        ensures refusal { IfErr result (λ why. why ≡ NoMemory) }
+        ensures unchanged { OnErr result (self.new ≡ self.old) }
     {
-        let Settled { shells, draft } = done;
-        self.replace(shells);
-        draft.move_in(&mut self.shells[number as usize - 1], &mut self.shared)
-    }
-
-    /// Moves in all shells, where there are new ones.
-    fn replace(&mut self, new: Option<Shells>)
-        requires { KeepFrames self.old.shells new }
-        ensures { self.new ≡ record self.old { shells = unwrap_or new self.old.shells } }
-    {
-        match new {
+        let Draft {
+            shell,
+            shared,
+            renamed,
+            printed,
+            reports,
+        } = draft;
+        let moved = moved_by(&self.shared, shared.as_ref(), renamed.as_deref());
+        let placed = match moved {
+            None => move_in(&mut self.shells, number, shell),
+            Some(moved) => carry_in(&mut self.shells, number, shell, moved),
+        };
+        let Ok(()) = placed else {
+            return Err(Refusal::NoMemory);
+        };
+        match shared {
             None => {}
-            Some(shells) => self.shells = shells.into_array(),
+            Some(new) => self.shared = new,
         }
+        Ok(Out::giving(printed, reports))
     }
 
-    /// Shell 1 ends; these codes of it stay.
-    fn end_shell(&mut self, codes: Codes) -> Out
+    /// The shell of this number ends; its codes stay.
+    fn end_shell(&mut self, number: u8, codes: Codes) -> Out
+        requires number { IsShellNumber number }
+        requires sane { IsSane (ended_world number codes self.old) }
         ensures out { result ≡ giving [] [] }
-        ensures world { self.new ≡ record (with_shell self.old 1 None) { ended = slice_set self.old.ended 0 codes } }
+        ensures world { self.new ≡ ended_world number codes self.old }
     {
-        self.shells[0] = None;
-        self.ended[0] = codes;
+        let place = number as usize - 1;
+        self.shells[place] = None;
+        self.ended[place] = codes;
         Out::giving(Vec::new(self.alloc), Vec::new(self.alloc))
     }
 

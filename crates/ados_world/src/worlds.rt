@@ -1,20 +1,17 @@
 // A world, and what it shows.
-ghost use Rattle.std.specs.Prelude.{◌≡◌, [], None, map, replicate, is_some, IfOk, IfErr, IfSome, MatchBool, OnSome};
-ghost use Rattle.std.specs.List.{list_any};
+ghost use Rattle.std.specs.Prelude.{◌≡◌, [], IfOk, IfErr, MatchBool, OnSome};
 ghost use Rattle.std.specs.Option.{option_copied};
-ghost use Rattle.ados_machine.specs.Limits.{AllRunOn};
 ghost use Rattle.ados_world.specs.Hosts.{is_nil};
-ghost use Rattle.ados_world.specs.Steps.{IsShellNumber};
-ghost use Rattle.ados_machine.specs.World.{flatten, numbered, fresh_world, shell_at, is_over, is_ready, has_input, wants_line, codes_at, ended_at, running, pending_of};
+ghost use Rattle.ados_world.specs.Shells.{IsShellNumber};
+ghost use Rattle.ados_machine.specs.World.{fresh_world, shell_at, is_over, is_ready, wants_line, codes_at, ended_at, running, pending_of};
 
-use crate::commands::Commands;
 use crate::hosts::{HostEntry, NewFault};
-use crate::scenes::Scene;
-use crate::shells::Shell;
+use crate::shells::{any_runs, find_shell, no_shells, taken};
 use ados_assign::Assigns;
 use ados_find::{Codes, Shared};
 use ados_machine::Request;
 use ados_ram::Ram;
+use ados_shell::{Commands, Scene, Shell};
 use ados_text::Text;
 use std::alloc::Global;
 use std::collections::VecDeque;
@@ -98,18 +95,15 @@ impl World {
         }
     }
 
-    /// The shell of this number can take a turn: it runs a script, or is shell 1 and a line waits or
-    /// the input has ended. One that waits for the answer to a prompt takes that line alone: shell 1 is
-    /// ready where a line waits or the input has ended, another shell always, since its input is at its end.
+    /// The shell of this number can take a turn: it is ready and runs a frame, or it takes of its input and a line waits
+    /// there or it has ended. One that waits for the answer to a prompt takes that line alone. The input of a background
+    /// shell is at its end.
     pub fn ready(&self, number: u8) -> bool
         ensures { result ≡ is_ready self.now number }
     {
         match self.shell_at(number) {
             None => false,
-            Some(shell) => match shell.question() {
-                None => !shell.is_free() || (number == 1 && self.has_input()),
-                Some(_) => number != 1 || self.has_input(),
-            },
+            Some(shell) => shell.can_take(self.has_input(number)),
         }
     }
 
@@ -163,16 +157,9 @@ impl World {
         !any_runs(&self.shells)
     }
 
-    pub(crate) fn has_input(&self) -> bool
-        ensures { result ≡ has_input self.now }
-    {
-        !self.queue.is_empty() || self.input_ended
-    }
-
     pub(crate) fn shell_at(&self, number: u8) -> Option<&Shell>
         ensures shell { option_copied result ≡ shell_at self.now number }
         ensures number { OnSome result (IsShellNumber number) }
-        ensures runs_on { IfSome result (λ shell. AllRunOn shell.now.frames) }
     {
         find_shell(&self.shells, number)
     }
@@ -187,45 +174,5 @@ impl World {
                 None => Codes::NONE,
             },
         }
-    }
-}
-
-/// A place for each number, and no shell.
-pub fn no_shells() -> [Option<Shell>; 20]
-    ensures { result ≡ replicate 20 None }
-{
-    [
-        None, None, None, None, None, None, None, None, None, None, None, None, None, None, None,
-        None, None, None, None, None,
-    ]
-}
-
-fn any_runs(shells: &[Option<Shell>]) -> bool
-    ensures { result ≡ list_any is_some shells.now }
-{
-    shells.iter().any(Option::is_some)
-}
-
-fn taken(shells: &[Option<Shell>; 20]) -> [bool; 20]
-    ensures { result ≡ map is_some shells.now }
-{
-    let mut taken = [false; 20];
-    for place in 0..20 {
-        taken[place] = shells[place].is_some();
-    }
-    taken
-}
-
-/// The shell of a number, which counts from 1.
-fn find_shell(shells: &[Option<Shell>; 20], number: u8) -> Option<&Shell>
-    ensures shell { option_copied result ≡ flatten (numbered shells.now number) }
-    ensures number { OnSome result (IsShellNumber number) }
-{
-    match number {
-        0 => None,
-        _ => match shells.get(number as usize - 1) {
-            Some(Some(shell)) => Some(shell),
-            _ => None,
-        },
     }
 }

@@ -3,7 +3,7 @@ use Rattle.std.proofs.lemmas.Grind.{common_steps}
 use Rattle.std.proofs.lemmas.List.{take_more}
 use Rattle.ados_machine.specs.Runs.{Runs}
 use Rattle.ados_machine.proofs.RunLemmas.{Runs-more}
-use Rattle.ados_machine.proofs.Traces.{limits-hold}
+use Rattle.ados_machine.proofs.Traces.{frames-hold, limits-hold}
 use Rattle.ados_machine.proofs.Ends.{reports-hold}
 use Rattle.ados_world.proofs.worlds.World.run.Goals as goal
 
@@ -32,3 +32,9 @@ returns-clause-reports c =
     let all : take c.loop-event.event-index c.args.events.now ≡ c.args.events.now = grind (arith, common_steps) in
     let run : Runs c.args.self c.args.events.now c.loop-event.outs.items c.loop-event.self = rw all at c.loop-event.invariant.run in
     rw c.from_vec.ensures (reports-hold c.args.self c.args.events.now c.loop-event.outs.items c.loop-event.self run)
+
+pub returns-clause-frames : goal.returns-clause-frames
+returns-clause-frames c =
+    let all : take c.loop-event.event-index c.args.events.now ≡ c.args.events.now = grind (arith, common_steps) in
+    let run : Runs c.args.self c.args.events.now c.loop-event.outs.items c.loop-event.self = rw all at c.loop-event.invariant.run in
+    rw c.from_vec.ensures (frames-hold c.args.self c.args.events.now c.loop-event.outs.items c.loop-event.self run (rw c.self.view_is at c.self.invariant))

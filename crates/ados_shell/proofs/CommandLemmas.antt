@@ -1,0 +1,58 @@
+-- The texts of the templates are ASCII, and templates; each stands at its command's place.
+use Rattle.std.proofs.Common.{◌≡◌, ℕ, [], Some, map, option_map, get_or, slice_get, refl, ap, ◌∙◌}
+use Rattle.std.proofs.lemmas.Option.{slice_get-map, get_or_from_slice_get}
+use Rattle.ados_text.specs.Text.{to_ascii}
+use Rattle.ados_readargs.specs.Template.{IsTemplate}
+use Rattle.ados_env.specs.declared.commands.Command.TheVariants as env
+use Rattle.ados_files.specs.declared.commands.Command.TheVariants as files
+use Rattle.ados_machine.specs.declared.builtins.Builtin.{Builtin}
+use Rattle.ados_flow.specs.declared.commands.Command.TheVariants as flow
+use Rattle.ados_machine.specs.declared.builtins.Builtin.TheVariants.{Env, Files, Flow}
+use Rattle.ados_machine.specs.declared.builtins.TheConstants.Builtin.{ALL}
+use Rattle.ados_machine.specs.Commands.{template_of}
+
+pub ascii : (builtin : Builtin) → map to_ascii (template_of builtin) ≡ template_of builtin
+ascii (Env env.Assign) = refl
+ascii (Env env.Cd) = refl
+ascii (Env env.Echo) = refl
+ascii (Env env.Eval) = refl
+ascii (Env env.FailAt) = refl
+ascii (Env env.Fault) = refl
+ascii (Env env.Why) = refl
+ascii (Files files.Copy) = refl
+ascii (Files files.Delete) = refl
+ascii (Files files.Dir) = refl
+ascii (Files files.Filenote) = refl
+ascii (Files files.Join) = refl
+ascii (Files files.List) = refl
+ascii (Files files.MakeDir) = refl
+ascii (Files files.Protect) = refl
+ascii (Files files.Rename) = refl
+ascii (Files files.«Type») = refl
+ascii (Flow flow.Execute) = refl
+ascii (Flow flow.Quit) = refl
+
+pub are_templates : (builtin : Builtin) → IsTemplate (template_of builtin)
+are_templates (Env env.Assign) = refl
+are_templates (Env env.Cd) = refl
+are_templates (Env env.Echo) = refl
+are_templates (Env env.Eval) = refl
+are_templates (Env env.FailAt) = refl
+are_templates (Env env.Fault) = refl
+are_templates (Env env.Why) = refl
+are_templates (Files files.Copy) = refl
+are_templates (Files files.Delete) = refl
+are_templates (Files files.Dir) = refl
+are_templates (Files files.Filenote) = refl
+are_templates (Files files.Join) = refl
+are_templates (Files files.List) = refl
+are_templates (Files files.MakeDir) = refl
+are_templates (Files files.Protect) = refl
+are_templates (Files files.Rename) = refl
+are_templates (Files files.«Type») = refl
+are_templates (Flow flow.Execute) = refl
+are_templates (Flow flow.Quit) = refl
+
+pub at_place : (builtin : Builtin) (place : ℕ) → slice_get ALL place ≡ Some builtin → get_or (map template_of ALL) place [] ≡ template_of builtin
+at_place builtin place h =
+    get_or_from_slice_get (map template_of ALL) place (template_of builtin) [] (slice_get-map template_of ALL place ∙ ap (option_map template_of) h)

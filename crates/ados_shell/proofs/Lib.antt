@@ -1,0 +1,5 @@
+pub mod CommandLemmas
+pub mod DraftLemmas
+pub mod StackLemmas
+pub mod TurnLemmas
+pub mod ViewLemmas

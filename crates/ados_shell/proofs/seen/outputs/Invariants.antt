@@ -1,0 +1,7 @@
+use Rattle.std.proofs.Common.{◌≡◌, ◌++◌, drop}
+use Rattle.ados_machine.specs.Course.{outputs_of}
+use Rattle.ados_machine.specs.World.{seen_in}
+use Rattle.ados_shell.proofs.seen.outputs.Given as goal
+
+abbrev pub invariant-loop-shell : goal.invariant-loop-shell
+invariant-loop-shell l = l.places.items ++ outputs_of (seen_in (drop l.shell-index l.shells)) ≡ outputs_of (seen_in l.shells)

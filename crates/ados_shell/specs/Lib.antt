@@ -1,0 +1,8 @@
+pub mod Shells
+pub mod Reports
+pub mod Stacks
+pub mod Turns
+pub mod Drafts
+pub mod Outputs
+pub mod Turnings
+pub mod Views

@@ -1,0 +1,33 @@
+-- Outputs that are opened, and what is put there.
+use Rattle.std.specs.Prelude.{◌≡◌, Some, None, Result, Ok, Err}
+use Rattle.ados_text.specs.declared.codes.Result2.{Result2}
+use Rattle.ados_ram.specs.declared.faults.FsFault.{FsFault}
+use Rattle.ados_ram.specs.declared.faults.FsFault.TheVariants.{Refused, NoMemory}
+use Rattle.ados_find.specs.declared.codes.Codes.{Codes}
+use Rattle.ados_find.specs.Shared.{SharedState}
+use Rattle.ados_find.specs.declared.targets.Target.TheVariants.{Nil as Null, At}
+use Rattle.ados_machine.specs.Course as course
+use Rattle.ados_machine.specs.Opening as line
+use Rattle.ados_shell.specs.declared.outputs.Opened.{Opened}
+use Rattle.ados_shell.specs.declared.outputs.Opened.TheVariants.{Nothing, Nil, File}
+use Rattle.ados_shell.specs.declared.scenes.Scene.{Scene}
+use Rattle.ados_shell.specs.declared.turns.Turn.{Turn}
+use Rattle.ados_shell.specs.Turns.{course_of}
+
+-- an output was opened: a file, with the shared parts behind that, or another, for which nothing changes
+abbrev pub IsOpened : SharedState → Result Opened FsFault → Result line.Opened Result2 → Type 0
+IsOpened shared (Ok Nothing) (Ok opened) = opened ≡ record { shared = shared; target = None }
+IsOpened shared (Ok Nil) (Ok opened) = opened ≡ record { shared = shared; target = Some Null }
+IsOpened shared (Ok (File new place)) (Ok opened) = opened ≡ record { shared = new; target = Some (At place) }
+IsOpened shared (Err (Refused fault)) (Err other) = fault ≡ other
+IsOpened shared (Err NoMemory) opened = Unit {0}
+IsOpened shared _ _ = ⊥
+
+-- a turn after output was put, and what the command answers then
+pub record IsPut (scene : Scene) (before after : Turn) (codes : Codes) (done : course.Put) : Type 0 where
+  pub number : after.number ≡ before.number
+  pub shell : after.shell.now ≡ before.shell.now
+  pub frames : after.frames ≡ before.frames
+  pub codes_are : codes ≡ done.codes
+  pub course : course_of scene after ≡ done.course
+  pub reports : after.reports.items ≡ before.reports.items

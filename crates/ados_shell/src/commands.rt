@@ -1,0 +1,106 @@
+// The commands and their templates.
+ghost use Rattle.std.specs.Prelude.{◌≡◌, map, IfOk};
+ghost use Rattle.ados_find.specs.Shared.{SharedState};
+ghost use Rattle.ados_machine.specs.Commands.{action_of, row_of, template_of};
+ghost use Rattle.ados_flow.specs.Actions.{acting};
+
+use ados_find::{Codes, Shared, ShellView};
+use ados_flow::Action;
+use ados_machine::Builtin;
+use ados_readargs::{Args, Template};
+use ados_text::{NoMemory, Text};
+use std::alloc::Global;
+use std::marker::Model;
+
+/// The templates of the commands, each parsed once.
+#[derive(Drop)]
+pub struct Commands {
+    // In the order of `Builtin::ALL`.
+    templates: Vec<Template>,
+}
+
+impl Model for Commands {
+    ghost use Rattle.std.specs.Prelude.{◌≡◌, map};
+    ghost use Rattle.ados_machine.specs.Commands.{template_of};
+    ghost use Rattle.ados_machine.specs.declared.builtins.TheConstants.Builtin.{ALL};
+
+    ghost Value = { Unit {0} };
+
+    ghost view = { λ _. tt };
+
+    ghost invariant = { λ c. c.templates.items ≡ map template_of ALL };
+}
+
+impl Commands {
+    /// Parses the templates.
+    pub fn new(alloc: Global) -> Result<Commands, NoMemory> {
+        Ok(Commands {
+            templates: templates_of(alloc, &Builtin::ALL)?,
+        })
+    }
+
+    /// The template of a command.
+    #[tactic(auto, using(crate::proofs::CommandLemmas::at_place))]
+    pub fn template(&self, builtin: Builtin) -> &Template
+        ensures { result.now ≡ template_of builtin }
+    {
+        &self.templates[builtin.place()]
+    }
+
+    /// What a command does with the text of its arguments; `simple` says that it stands in no script
+    /// and that its output is not redirected.
+    #[tactic(auto, unfolding(ados_machine::specs::Commands::action_of))]
+    pub fn perform(
+        &self,
+        alloc: Global,
+        builtin: Builtin,
+        simple: bool,
+        shared: &Shared,
+        view: &ShellView,
+        args: &Text,
+    ) -> Result<Action, NoMemory>
+        ensures { IfOk result (λ action. acting shared.now action ≡ action_of builtin simple shared.now view.now args.now) }
+    {
+        match self.template(builtin).fill(alloc, args.as_bytes()) {
+            Ok(args) => row(alloc, builtin, simple, shared, view, &args),
+            Err(fault) => Ok(Action::answering(alloc, view.limit, Codes::failed(fault.result2()?))),
+        }
+    }
+}
+
+fn templates_of(alloc: Global, builtins: &[Builtin]) -> Result<Vec<Template>, NoMemory>
+    ensures { IfOk result (λ templates. templates.items ≡ map template_of builtins.now) }
+{
+    let mut templates = Vec::with_capacity(alloc, builtins.len())?;
+    for builtin in builtins {
+        templates.push(template(alloc, *builtin)?)?;
+    }
+    Ok(templates)
+}
+
+fn template(alloc: Global, builtin: Builtin) -> Result<Template, NoMemory>
+    ensures { IfOk result (λ template. template ≡ template_of builtin) }
+{
+    Template::known(alloc, builtin.template())
+}
+
+fn row(
+    alloc: Global,
+    builtin: Builtin,
+    simple: bool,
+    shared: &Shared,
+    view: &ShellView,
+    args: &Args,
+) -> Result<Action, NoMemory>
+    ensures { IfOk result (λ action. acting shared.now action ≡ row_of builtin simple shared.now view.now args.now) }
+{
+    match builtin {
+        Builtin::Env(command) => Ok(Action::Does(ados_env::run(
+            alloc, command, shared, view, args,
+        )?)),
+        Builtin::Files(command) => Ok(Action::Does(ados_files::run(
+            alloc, command, shared, view, args,
+        )?)),
+        Builtin::Flow(command) => ados_flow::run(alloc, command, simple, shared, view, args),
+    }
+}

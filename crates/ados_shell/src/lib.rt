@@ -1,0 +1,25 @@
+#![tactic(auto)]
+//! One shell: its frames, what it waits for and its parts; and a turn of it, which gives a draft of what it changes.
+
+mod carrying;
+mod code_rule;
+mod commands;
+mod console;
+mod drafts;
+mod inputs;
+mod lines;
+mod outputs;
+mod prompts;
+mod rows;
+mod scenes;
+mod seen;
+mod shells;
+mod stacks;
+mod turnings;
+mod turns;
+
+pub use commands::Commands;
+pub use drafts::{Draft, ShellDraft};
+pub use scenes::{Input, Scene};
+pub use shells::Shell;
+pub use turnings::Turning;

@@ -1,0 +1,144 @@
+// The output of a command: its opening, and what is put there.
+ghost use Rattle.std.specs.Prelude.{◌≡◌, Ok, Some, IfOk};
+ghost use Rattle.std.specs.Option.{option_copied};
+ghost use Rattle.ados_machine.specs.Opening.{opened_at, opening, opening_by};
+ghost use Rattle.ados_machine.specs.Course.{put};
+ghost use Rattle.ados_machine.specs.Sinks.{To, sink_or};
+ghost use Rattle.ados_find.specs.declared.targets.Target.TheVariants.{At};
+
+use crate::console::push_output;
+use crate::scenes::Scene;
+use crate::seen::open_outputs;
+use crate::turns::Turn;
+use ados_find::{Codes, Shared, Target, target_of};
+use ados_line::Redirection;
+use ados_ram::{Busy, FsFault, Place};
+use ados_text::{NoMemory, Octets};
+use std::alloc::Global;
+
+/// An output that was opened.
+#[derive(Drop)]
+pub enum Opened {
+    /// None was named.
+    Nothing,
+    /// NIL:.
+    Nil,
+    /// A file, with the shared parts behind its opening.
+    File(Shared, Place),
+}
+
+impl Opened {
+    ghost use Rattle.ados_shell.specs.Outputs.{IsOpened};
+
+    /// Opens what a redirection names, from a current directory, where these outputs are open: `>` empties the file or
+    /// makes it, `>>` keeps it or makes it.
+    ///
+    /// 210 for a name that is no path, what resolving refuses (204, 205, 212, 218), and what writing refuses (202,
+    /// 212, 221, 223).
+    pub fn by(
+        alloc: Global,
+        shared: &Shared,
+        busy: &Busy,
+        directory: &Place,
+        output: &Redirection,
+    ) -> Result<Opened, FsFault>
+        ensures { IsOpened shared.now result (opening_by shared.now busy.now.outputs directory.now (Some output.now)) }
+    {
+        match target_of(alloc, shared, directory, &output.name) {
+            Err(fault) => Err(fault),
+            Ok(Target::Nil) => Ok(Opened::Nil),
+            Ok(Target::At(place)) => Opened::at(shared, busy, output.append, place),
+        }
+    }
+
+    fn at(shared: &Shared, busy: &Busy, append: bool, place: Place) -> Result<Opened, FsFault>
+        ensures { IsOpened shared.now result (opened_at shared.now busy.now.outputs append (Ok (At place))) }
+    {
+        match shared.open(busy, append, &place) {
+            Err(fault) => Err(fault),
+            Ok(new) => Ok(Opened::File(new, place)),
+        }
+    }
+}
+
+impl Turn<'_> {
+    ghost use Rattle.ados_shell.specs.Outputs.{IsOpened, IsPut};
+    ghost use Rattle.ados_shell.specs.Turns.{course_of, here};
+
+    /// Opens what a redirection names, as the shell and the shared parts stand.
+    pub fn open(&self, scene: &Scene, output: Option<&Redirection>) -> Result<Opened, FsFault>
+        ensures { IsOpened (course_of scene.now self.now).shared result (opening (course_of scene.now self.now) (option_copied output.entry)) }
+    {
+        match output {
+            None => Ok(Opened::Nothing),
+            Some(output) => {
+                let busy = open_outputs(scene.alloc, scene.shells)?;
+                Opened::by(scene.alloc, self.current(scene), &busy, self.directory(), output)
+            }
+        }
+    }
+
+    /// Puts a command's output where it goes: to its own target, where it has one, else where that of the newest
+    /// frame goes; what the command answers then.
+    pub fn put(
+        &mut self,
+        scene: &Scene,
+        target: Option<&Target>,
+        output: Octets,
+        codes: Codes,
+    ) -> Result<Codes, NoMemory>
+        ensures { IfOk result (λ answered. IsPut scene.now self.old self.new answered
+            (put (sink_or (option_copied target.entry) (here self.old).sink) output codes (course_of scene.now self.old))) }
+    {
+        match target {
+            Some(target) => self.put_to(scene, target, output, codes),
+            None => match self.frames.output()? {
+                Some(target) => self.put_to(scene, &target, output, codes),
+                None => {
+                    push_output(&mut self.printed, output)?;
+                    Ok(codes)
+                }
+            },
+        }
+    }
+
+    fn put_to(
+        &mut self,
+        scene: &Scene,
+        target: &Target,
+        output: Octets,
+        codes: Codes,
+    ) -> Result<Codes, NoMemory>
+        ensures { IfOk result (λ answered. IsPut scene.now self.old self.new answered
+            (put (To target.now) output codes (course_of scene.now self.old))) }
+    {
+        match target {
+            Target::Nil => Ok(codes),
+            Target::At(place) => self.put_at(scene, place, output.as_bytes(), codes),
+        }
+    }
+
+    fn put_at(
+        &mut self,
+        scene: &Scene,
+        place: &Place,
+        output: &[u8],
+        codes: Codes,
+    ) -> Result<Codes, NoMemory>
+        ensures { IfOk result (λ answered. IsPut scene.now self.old self.new answered
+            (put (To (At place.now)) output.now codes (course_of scene.now self.old))) }
+    {
+        if output.is_empty() {
+            return Ok(codes);
+        }
+        let current = self.current(scene);
+        match current.ram.put_open(place, output) {
+            Err(FsFault::NoMemory) => Err(NoMemory),
+            Err(FsFault::Refused(fault)) => Ok(Codes::failed(fault)),
+            Ok(ram) => {
+                self.shared = Some(current.with_files(ram)?);
+                Ok(codes)
+            }
+        }
+    }
+}

@@ -1,0 +1,128 @@
+// What a command does: its output is opened, its row is worked, and what it made is moved in.
+ghost use Rattle.std.specs.Prelude.{◌≡◌, ◌&&◌, not, IfOk, OnOk};
+ghost use Rattle.std.specs.Option.{option_copied};
+ghost use Rattle.ados_find.specs.Effects.{effect_of};
+ghost use Rattle.ados_machine.specs.Commands.{action_of};
+ghost use Rattle.ados_flow.specs.Actions.{Does, acting};
+ghost use Rattle.ados_machine.specs.Lines.{action_deed, action_in, command_deed, has_none, view_of, work_deed};
+
+use crate::outputs::Opened;
+use crate::scenes::Scene;
+use crate::seen::in_use;
+use crate::turns::Turn;
+use ados_find::{Outcome, ShellView, Target};
+use ados_flow::Action;
+use ados_line::Line;
+use ados_machine::Builtin;
+use ados_ram::{Busy, FsFault};
+use ados_text::{NoMemory, Text};
+
+impl Turn<'_> {
+    ghost use Rattle.ados_shell.specs.Turns.{Settles, course_of, here, parts_of};
+    ghost use Rattle.ados_shell.specs.Views.{Serves, seen};
+
+    /// Opens a command's output, and lets it do its work.
+    pub fn begin(&mut self, scene: &Scene, builtin: Builtin, line: &Line) -> Result<(), NoMemory>
+        ensures { OnOk result (Settles scene.now self.old self.new
+            (command_deed builtin line.now (here self.old) (course_of scene.now self.old))) }
+    {
+        match self.open(scene, line.output.as_ref()) {
+            Err(FsFault::NoMemory) => Err(NoMemory),
+            Err(FsFault::Refused(fault)) => self.refuse(&line.command, fault),
+            Ok(Opened::Nothing) => self.work(scene, builtin, line, None),
+            Ok(Opened::Nil) => self.work(scene, builtin, line, Some(Target::Nil)),
+            Ok(Opened::File(new, place)) => {
+                self.shared = Some(new);
+                self.work(scene, builtin, line, Some(Target::At(place)))
+            }
+        }
+    }
+
+    /// Does the work of a command whose output was opened.
+    fn work(
+        &mut self,
+        scene: &Scene,
+        builtin: Builtin,
+        line: &Line,
+        target: Option<Target>,
+    ) -> Result<(), NoMemory>
+        ensures { OnOk result (Settles scene.now self.old self.new
+            (work_deed builtin line.now target (here self.old) (course_of scene.now self.old))) }
+    {
+        let simple = self.frames.is_free() && target.is_none();
+        match self.action(scene, builtin, line, simple)? {
+            Action::Does(outcome) => self.apply(scene, &line.command, target.as_ref(), outcome),
+            Action::Quits(codes) => self.answer(line.command.as_bytes(), codes, true),
+            Action::Calls(script) => self.call(scene.alloc, &line.command, target, script),
+        }
+    }
+
+    /// What a command does, as the shell and the shared parts stand.
+    fn action(
+        &self,
+        scene: &Scene,
+        builtin: Builtin,
+        line: &Line,
+        simple: bool,
+    ) -> Result<Action, NoMemory>
+        ensures { IfOk result (λ action. acting (course_of scene.now self.now).shared action
+            ≡ action_of builtin simple (course_of scene.now self.now).shared (view_of (course_of scene.now self.now)) line.now.args) }
+    {
+        let view = self.view_for(scene, builtin)?;
+        let shared = self.current(scene);
+        scene
+            .commands
+            .perform(scene.alloc, builtin, simple, shared, &view, &line.args)
+    }
+
+    /// What a command reads of the shell, and of the others. What is in use is gathered only for the commands
+    /// that work on files or flow: no other reads it.
+    #[tactic(auto, using(crate::proofs::ViewLemmas::any_serves))]
+    fn view_for(&self, scene: &Scene, builtin: Builtin) -> Result<ShellView, NoMemory>
+        ensures { IfOk result (λ view. Serves builtin view (view_of (course_of scene.now self.now))) }
+    {
+        match builtin {
+            Builtin::Files(_) | Builtin::Flow(_) => {
+                let assigns = &self.current(scene).assigns;
+                self.view(in_use(scene.alloc, scene.shells, assigns)?)
+            }
+            Builtin::Env(_) => self.view(Busy::none(scene.alloc)),
+        }
+    }
+
+    fn view(&self, busy: Busy) -> Result<ShellView, NoMemory>
+        ensures { IfOk result (λ view. view ≡ seen (parts_of self.now) busy) }
+    {
+        Ok(ShellView {
+            limit: self.limit,
+            codes: self.codes,
+            directory: self.directory().copy()?,
+            busy,
+        })
+    }
+
+    /// What a command made is moved in, its output is put, and it answers.
+    fn apply(
+        &mut self,
+        scene: &Scene,
+        word: &Text,
+        target: Option<&Target>,
+        outcome: Outcome,
+    ) -> Result<(), NoMemory>
+        ensures { OnOk result (Settles scene.now self.old self.new
+            (action_deed word.now (option_copied target.entry) (Does (effect_of (course_of scene.now self.old).shared outcome))
+            (here self.old) (course_of scene.now self.old))) }
+    {
+        let Outcome {
+            shared,
+            limit,
+            codes,
+            output,
+            directory,
+            renamed,
+        } = outcome;
+        self.affect(limit, directory, shared, renamed);
+        let answered = self.put(scene, target, output, codes)?;
+        self.answer(word.as_bytes(), answered, false)
+    }
+}

@@ -1,0 +1,29 @@
+// What a turn sees, and what it may take.
+
+use crate::commands::Commands;
+use crate::shells::Shell;
+use ados_find::Shared;
+use ados_text::Text;
+use std::alloc::Global;
+
+/// What a turn of a shell sees beside the shell, and does not change.
+#[derive(Drop)]
+pub struct Scene<'a> {
+    /// Where memory comes from.
+    pub alloc: Global,
+    /// The commands' templates.
+    pub commands: &'a Commands,
+    /// All shells by their numbers, the first at place 0: of them a turn knows what is seen of them.
+    pub shells: &'a [Option<Shell>; 20],
+    /// What all shells share.
+    pub shared: &'a Shared,
+}
+
+/// The input of a shell: the first of the lines that wait for it, and whether no further one will come.
+#[derive(Drop)]
+pub struct Input<'a> {
+    /// The first line that waits.
+    pub line: Option<&'a Text>,
+    /// No further line will come.
+    pub is_ended: bool,
+}

@@ -1,0 +1,76 @@
+// The typed lines that wait for shell 1.
+ghost use Rattle.std.specs.Prelude.{◌≡◌};
+ghost use Rattle.std.specs.Option.{option_copied};
+ghost use Rattle.ados_machine.specs.World.{has_input, input_of};
+ghost use Rattle.ados_machine.specs.Step.{typed, end_of_input};
+ghost use Rattle.ados_machine.specs.Runs.{IsAnswer, world_after};
+ghost use Rattle.ados_shell.specs.Turnings.{IsFirst};
+
+use crate::worlds::World;
+use ados_machine::{Event, Out, Refusal};
+use ados_shell::Input;
+use ados_text::{LINE_BYTES, Text};
+
+const QUEUE_LINES: usize = 256;
+
+impl World {
+    /// A line joins the queue.
+    pub(crate) fn type_line(&mut self, line: &Text) -> Result<Out, Refusal>
+        ensures answer { IsAnswer (Event.Typed line.now) result (typed self.old line.now) }
+        ensures world { self.new ≡ world_after self.old result (typed self.old line.now) }
+    {
+        if self.input_ended {
+            return Err(Refusal::NotReady);
+        }
+        if self.queue.len() >= QUEUE_LINES {
+            return Err(Refusal::QueueFull);
+        }
+        if line.as_bytes().len() > LINE_BYTES {
+            return Err(Refusal::LineTooLong);
+        }
+        let Ok(line) = line.copy() else {
+            return Err(Refusal::NoMemory);
+        };
+        match self.queue.push_back(line) {
+            Ok(()) => Ok(Out::giving(Vec::new(self.alloc), Vec::new(self.alloc))),
+            Err(_) => Err(Refusal::NoMemory),
+        }
+    }
+
+    /// No further line will be typed.
+    pub(crate) fn end_input(&mut self) -> Result<Out, Refusal>
+        ensures answer { IsAnswer Event.EndOfInput result (end_of_input self.old) }
+        ensures world { self.new ≡ world_after self.old result (end_of_input self.old) }
+    {
+        if self.input_ended {
+            return Err(Refusal::NotReady);
+        }
+        self.input_ended = true;
+        Ok(Out::giving(Vec::new(self.alloc), Vec::new(self.alloc)))
+    }
+
+    /// The input of the shell of this number: shell 1 reads the console, and that of a background shell is at its end.
+    pub(crate) fn input(&self, number: u8) -> Input<'_>
+        ensures line { IsFirst (option_copied result.line) (input_of self.now number).queue }
+        ensures is_ended { result.is_ended ≡ (input_of self.now number).is_ended }
+    {
+        if number == 1 {
+            Input {
+                line: self.queue.front(),
+                is_ended: self.input_ended,
+            }
+        } else {
+            Input {
+                line: None,
+                is_ended: true,
+            }
+        }
+    }
+
+    /// A line waits for the shell of this number, or its input has ended.
+    pub(crate) fn has_input(&self, number: u8) -> bool
+        ensures { result ≡ has_input (input_of self.now number) }
+    {
+        number != 1 || !self.queue.is_empty() || self.input_ended
+    }
+}
