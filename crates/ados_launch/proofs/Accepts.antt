@@ -1,14 +1,19 @@
 -- What is due is accepted.
-use Rattle.std.proofs.Common.{◌≡◌, ℕ, zero, suc, ◌≤◌, ◌∷◌, List, [], Option, Some, None, true, false, not, ◌&&◌, ◌||◌, refl, ap, is_some, length, slice_get, ◌==◌, arith}
+use Rattle.std.proofs.Common.{◌≡◌, ℕ, zero, suc, ◌≤◌, ◌∷◌, List, [], Option, Some, None, true, false, not, ◌&&◌, ◌||◌, refl, ap, is_some, length, slice_get, nat_lt, arith, Bool}
 use Rattle.std.proofs.lemmas.Bool.{and_parts}
 use Rattle.std.proofs.lemmas.Grind.{common_steps}
 use Rattle.std.specs.List.{list_any}
-use Rattle.ados_machine.specs.World.{WorldState, shell_at, has_frame, can_take, can_turn, is_ready, wants_line, is_over, has_input, flatten}
-use Rattle.ados_machine.specs.Frames.{FrameState, ShellState}
-use Rattle.ados_machine.specs.Step.{step_of, turned, turn_by, ready_turn, answered_prompt, waiting, console_turn}
-use Rattle.ados_machine.specs.declared.phases.Asking.{Asking as Question}
+use Rattle.ados_find.specs.declared.codes.Codes.{Codes}
+use Rattle.ados_flow.specs.Frames.{FrameState}
+use Rattle.ados_machine.specs.World.{WorldState, shell_at, has_frame, can_take, can_turn, is_ready, wants_line, is_over, has_input, input_of, flatten}
+use Rattle.ados_machine.specs.Shells.{ShellState}
+use Rattle.ados_machine.specs.Course.{Course}
+use Rattle.ados_machine.specs.Deeds.{Deed}
+use Rattle.ados_machine.specs.Turning.{Input, Turning, Refuses, Ends, Takes, turning, console_turning, ready_turning, input_turning}
+use Rattle.ados_machine.specs.Step.{step_of, turned, applied, start}
 use Rattle.ados_machine.specs.declared.phases.Phase.{Phase}
-use Rattle.ados_machine.specs.declared.phases.Phase.TheVariants.{Ready, Asking}
+use Rattle.ados_machine.specs.declared.phases.Phase.TheVariants.{Ready, Waiting}
+use Rattle.ados_machine.specs.declared.phases.Wait.TheVariants.{ForAnswer}
 use Rattle.ados_machine.specs.declared.events.Event.TheVariants.{Typed, EndOfInput, Turn}
 use Rattle.ados_launch.specs.Schedule.{is_accepted, is_due}
 
@@ -26,57 +31,71 @@ runs-on w (suc k) e = ap not (any_some w.shells k e)
 runs-where_wanted : (w : WorldState) → wants_line w ≡ true → is_over w ≡ false
 runs-where_wanted w e = runs-on w 1 (and_parts (is_some (shell_at w 1)) (not (is_ready w 1)) e).0
 
-phase-wants : (w : WorldState) (frames : List FrameState) (phase : Phase) → not (can_take w 1 frames phase) ≡ true → has_input w ≡ false
-phase-wants w frames Ready e = grind (arith, common_steps)
-phase-wants w frames (Asking question) e = grind (arith, common_steps)
+phase-wants : (input : Input) (frames : List FrameState) (phase : Phase) → not (can_take input frames phase) ≡ true → has_input input ≡ false
+phase-wants input frames Ready e = grind (arith, common_steps)
+phase-wants input frames (Waiting (ForAnswer asking)) e = grind (arith, common_steps)
 
 -- a shell that could take something wants no line
-nothing-to-take : (w : WorldState) (found : Option ShellState) → (is_some found && not (can_turn w 1 found)) ≡ true → has_input w ≡ false
-nothing-to-take w None e = cc
-nothing-to-take w (Some shell) e = phase-wants w shell.frames shell.phase e
+nothing-to-take : (input : Input) (found : Option ShellState) → (is_some found && not (can_turn input found)) ≡ true → has_input input ≡ false
+nothing-to-take input None e = cc
+nothing-to-take input (Some shell) e = phase-wants input shell.frames shell.phase e
 
 -- where a line is wanted the input's end is accepted
 pub end-accepted : (w : WorldState) → wants_line w ≡ true → is_accepted (step_of w EndOfInput) ≡ true
 end-accepted w e =
     let left : is_over w ≡ false = runs-where_wanted w e in
-    let none : has_input w ≡ false = nothing-to-take w (shell_at w 1) e in
+    let none : (nat_lt 0 (length w.queue) || w.input_ended) ≡ false = nothing-to-take (input_of w 1) (shell_at w 1) e in
     grind (arith, common_steps)
 
 -- where a line is wanted one of at most 512 bytes is accepted
 pub line-accepted : (w : WorldState) (line : List ℕ) → wants_line w ≡ true → length line ≤ 512 → is_accepted (step_of w (Typed line)) ≡ true
 line-accepted w line e h =
     let left : is_over w ≡ false = runs-where_wanted w e in
-    let none : has_input w ≡ false = nothing-to-take w (shell_at w 1) e in
+    let none : (nat_lt 0 (length w.queue) || w.input_ended) ≡ false = nothing-to-take (input_of w 1) (shell_at w 1) e in
     grind (arith, common_steps)
 
-console-accepted : (w : WorldState) (shell : ShellState) (queue : List (List ℕ)) → is_accepted (console_turn w shell queue) ≡ true
-console-accepted w shell [] = refl
-console-accepted w shell (line ∷ rest) = refl
+-- an event of a shell is not refused
+abbrev is_taken : Turning → Bool
+is_taken (Refuses why) = false
+is_taken Ends = true
+is_taken (Takes queue turned) = true
 
-ready-accepted : (w : WorldState) (k : ℕ) (shell : ShellState) (frames : List FrameState) → (has_frame frames || ((k == 1) && has_input w)) ≡ true → is_accepted (ready_turn w k shell frames) ≡ true
-ready-accepted w k shell (frame ∷ frames) e = refl
-ready-accepted w k shell [] e = rw e (console-accepted w shell w.queue)
+applied-accepted : (w : WorldState) (k : ℕ) (codes : Codes) (t : Turning) → is_taken t ≡ true → is_accepted (applied w k codes t) ≡ true
+applied-accepted w k codes (Refuses why) e = e
+applied-accepted w k codes Ends e = refl
+applied-accepted w k codes (Takes queue turned) e = refl
 
-prompt-accepted : (w : WorldState) (k : ℕ) (shell : ShellState) (question : Question) (queue : List (List ℕ)) → is_accepted (answered_prompt w k shell question queue) ≡ true
-prompt-accepted w k shell question [] = refl
-prompt-accepted w k shell question (line ∷ rest) = refl
+console-taken : (queue : List (List ℕ)) (is_ended : Bool) (course : Course) → (nat_lt 0 (length queue) || is_ended) ≡ true → is_taken (console_turning queue is_ended course) ≡ true
+console-taken [] true course e = refl
+console-taken [] false course e = e
+console-taken (line ∷ rest) is_ended course e = refl
 
-turn_by-accepted : (w : WorldState) (k : ℕ) (shell : ShellState) (phase : Phase) → can_take w k shell.frames phase ≡ true → is_accepted (turn_by w k shell phase) ≡ true
-turn_by-accepted w k shell Ready e = ready-accepted w k shell shell.frames e
-turn_by-accepted w k shell (Asking question) e = rw e (prompt-accepted w k shell question (waiting w k))
+ready-taken : (input : Input) (frames : List FrameState) (course : Course) → (has_frame frames || has_input input) ≡ true → is_taken (ready_turning input frames course) ≡ true
+ready-taken input [] course e = console-taken input.queue input.is_ended course e
+ready-taken input (frame ∷ frames) course e = refl
 
-turned-accepted : (w : WorldState) (k : ℕ) (found : Option ShellState) → can_turn w k found ≡ true → is_accepted (turned w k found) ≡ true
+input-taken : (queue : List (List ℕ)) (is_ended : Bool) (frames : List FrameState) (by_line : List ℕ → Deed) (by_end : Deed) → (nat_lt 0 (length queue) || is_ended) ≡ true
+    → is_taken (input_turning queue is_ended frames by_line by_end) ≡ true
+input-taken [] true frames by_line by_end e = refl
+input-taken [] false frames by_line by_end e = e
+input-taken (line ∷ rest) is_ended frames by_line by_end e = refl
+
+turning-taken : (input : Input) (frames : List FrameState) (course : Course) (phase : Phase) → can_take input frames phase ≡ true → is_taken (turning input frames course phase) ≡ true
+turning-taken input frames course Ready e = ready-taken input frames course e
+turning-taken input frames course (Waiting (ForAnswer asking)) e = input-taken input.queue input.is_ended frames _ _ e
+
+turned-accepted : (w : WorldState) (k : ℕ) (found : Option ShellState) → can_turn (input_of w k) found ≡ true → is_accepted (turned w k found) ≡ true
 turned-accepted w k None e = cc
-turned-accepted w k (Some shell) e = turn_by-accepted w k shell shell.phase e
+turned-accepted w k (Some shell) e = applied-accepted w k shell.parts.codes _ (turning-taken (input_of w k) shell.frames (start w shell.parts) shell.phase e)
 
-runs-where_ready : (w : WorldState) (k : ℕ) (found : Option ShellState) → can_turn w k found ≡ true → is_some found ≡ true
-runs-where_ready w k None e = cc
-runs-where_ready w k (Some shell) e = refl
+runs-where_ready : (input : Input) (found : Option ShellState) → can_turn input found ≡ true → is_some found ≡ true
+runs-where_ready input None e = cc
+runs-where_ready input (Some shell) e = refl
 
 -- a turn of a shell that is ready is accepted
 pub turn-accepted : (w : WorldState) (k : ℕ) → is_ready w k ≡ true → is_accepted (step_of w (Turn k)) ≡ true
 turn-accepted w k e =
-    let left : is_over w ≡ false = runs-on w k (runs-where_ready w k (shell_at w k) e) in
+    let left : is_over w ≡ false = runs-on w k (runs-where_ready (input_of w k) (shell_at w k) e) in
     rw left (turned-accepted w k (shell_at w k) e)
 
 -- the turn of a shell whose place is due is accepted

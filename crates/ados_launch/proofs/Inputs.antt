@@ -1,65 +1,90 @@
 -- What an event makes of the input: shell 1 ends only where it has ended.
-use Rattle.std.proofs.Common.{◌≡◌, ℕ, ◌∷◌, List, [], Option, Some, None, true, not, ◌&&◌, ◌||◌, refl, is_some, slice_get, ◌⊎◌, inl, inr, ◌==◌, arith, Ok}
-use Rattle.std.proofs.lemmas.Bool.{cases_Bool, and_parts}
+use Rattle.std.proofs.Common.{◌≡◌, ◌≢◌, ℕ, zero, suc, ◌-◌, ◌∷◌, List, [], Option, Some, None, Ok, true, false, not, ◌&&◌, refl, ap, sym, ◌∙◌, is_some, slice_get, slice_set, ◌⊎◌, inl, inr, arith, Bool}
+use Rattle.std.proofs.lemmas.Bool.{cases_Bool, and_parts, true≢false}
 use Rattle.std.proofs.lemmas.Grind.{common_steps}
-use Rattle.ados_machine.specs.World.{WorldState, shell_at, is_ready, wants_line, is_over, has_input, flatten}
-use Rattle.ados_machine.specs.Frames.{FrameState, ShellState, Turned}
-use Rattle.ados_machine.specs.Shell.{turn_of, resumed}
-use Rattle.ados_machine.specs.Step.{step_of, start, settled, turned, turn_by, ready_turn, answered_prompt, waiting, console_turn, script_turned, replied}
-use Rattle.ados_machine.specs.declared.phases.Asking.{Asking as Question}
-use Rattle.ados_machine.specs.declared.phases.Phase.{Phase}
-use Rattle.ados_machine.specs.declared.phases.Phase.TheVariants.{Ready, Asking}
+use Rattle.ados_find.specs.declared.codes.Codes.{Codes}
+use Rattle.ados_find.specs.declared.outcomes.Renamed.{Renamed}
+use Rattle.ados_flow.specs.Frames.{FrameState}
+use Rattle.ados_machine.specs.World.{WorldState, shell_at, is_ready, wants_line, is_over, input_of, flatten}
+use Rattle.ados_machine.specs.Shells.{ShellState}
+use Rattle.ados_machine.specs.Course.{Course}
+use Rattle.ados_machine.specs.Carrying.{carried_shells}
+use Rattle.ados_machine.specs.Deeds.{Deed}
+use Rattle.ados_machine.specs.Turning.{Input, Turning, Refuses, Ends, Takes, turning, console_turning, ready_turning, input_turning}
+use Rattle.ados_machine.specs.Step.{step_of, turned, applied, start, moved_in, replied}
+use Rattle.ados_machine.specs.Runs.{world_after}
 use Rattle.ados_machine.specs.declared.answers.Answer.{Answer as Reply}
 use Rattle.ados_machine.specs.declared.outs.Out.{Out}
+use Rattle.ados_machine.specs.declared.phases.Phase.{Phase}
+use Rattle.ados_machine.specs.declared.phases.Phase.TheVariants.{Ready, Waiting}
+use Rattle.ados_machine.specs.declared.phases.Wait.TheVariants.{ForAnswer}
 use Rattle.ados_machine.specs.declared.events.Event.TheVariants.{Typed, Turn, Answer}
-use Rattle.ados_machine.proofs.Settled.{settled_stays}
-use Rattle.ados_machine.specs.Runs.{world_after}
 use Rattle.ados_launch.specs.Schedule.{takes_input}
+
+first-carried : (moved : Option Renamed) (shells : List (Option ShellState)) → is_some (flatten (slice_get shells 0)) ≡ true → is_some (flatten (slice_get (carried_shells moved shells) 0)) ≡ true
+first-carried None shells e = e
+first-carried (Some moved) [] e = e
+first-carried (Some moved) (None ∷ shells) e = e
+first-carried (Some moved) (Some shell ∷ shells) e = refl
+
+first-set : (shells : List (Option ShellState)) (i : ℕ) (shell : ShellState) → is_some (flatten (slice_get shells 0)) ≡ true → is_some (flatten (slice_get (slice_set shells i (Some shell)) 0)) ≡ true
+first-set [] i shell e = cc
+first-set (found ∷ shells) zero shell e = refl
+first-set (found ∷ shells) (suc i) shell e = e
+
+first-unset : (shells : List (Option ShellState)) (i : ℕ) → i ≢ 0 → flatten (slice_get (slice_set shells i None) 0) ≡ flatten (slice_get shells 0)
+first-unset [] i some = refl
+first-unset (found ∷ shells) zero some = absurd (some refl)
+first-unset (found ∷ shells) (suc i) some = refl
 
 -- a typed line leaves the shells and the input's end as they are
 pub typed-takes : (w : WorldState) (out : Out) (line : List ℕ) → takes_input w ≡ true → takes_input (world_after w (Ok out) (step_of w (Typed line))) ≡ true
 typed-takes w out line e = grind (arith, common_steps)
 
-turned_stays : (w : WorldState) (k : ℕ) (t : Turned) → takes_input w ≡ true
-    → (is_some (flatten (slice_get (settled w.shells k t.shell t.course.renamed) 0)) && not w.input_ended) ≡ true
-turned_stays w k t e = settled_stays w.input_ended w.shells k t.shell t.course.renamed e
+console-ends : (queue : List (List ℕ)) (is_ended : Bool) (course : Course) → console_turning queue is_ended course ≡ Ends → is_ended ≡ true
+console-ends [] true course e = refl
+console-ends [] false course e = cc
+console-ends (line ∷ rest) is_ended course e = cc
 
--- shell 1 takes the first line that waits, and ends only where there is none and the input has ended
-console-takes : (w : WorldState) (out : Out) (shell : ShellState) (queue : List (List ℕ)) → takes_input w ≡ true → w.queue ≡ queue → has_input w ≡ true → takes_input (world_after w (Ok out) (console_turn w shell queue)) ≡ true
-console-takes w out shell [] e q h = absurd (grind (arith, common_steps))
-console-takes w out shell (line ∷ rest) e q h = turned_stays w 1 (turn_of line shell (start w)) e
+ready-ends : (input : Input) (frames : List FrameState) (course : Course) → ready_turning input frames course ≡ Ends → input.is_ended ≡ true
+ready-ends input [] course e = console-ends input.queue input.is_ended course e
+ready-ends input (frame ∷ frames) course e = cc
 
-ready-takes : (w : WorldState) (out : Out) (k : ℕ) (shell : ShellState) (frames : List FrameState) → takes_input w ≡ true → takes_input (world_after w (Ok out) (ready_turn w k shell frames)) ≡ true
-ready-takes w out k shell (frame ∷ frames) e =
-    turned_stays w k (script_turned shell frame frames (start w) (slice_get frame.lines frame.position)) e
-ready-takes w out k shell [] e =
-    elim (cases_Bool ((k == 1) && has_input w)) [
-      | inl some ↦ rw some (console-takes w out shell w.queue e refl (and_parts (k == 1) (has_input w) some).1)
-      | inr none ↦ rw none e
-    ]
+input-ends : (queue : List (List ℕ)) (is_ended : Bool) (frames : List FrameState) (by_line : List ℕ → Deed) (by_end : Deed) → input_turning queue is_ended frames by_line by_end ≡ Ends → is_ended ≡ true
+input-ends [] true frames by_line by_end e = refl
+input-ends [] false frames by_line by_end e = cc
+input-ends (line ∷ rest) is_ended frames by_line by_end e = cc
 
-prompt-takes : (w : WorldState) (out : Out) (k : ℕ) (shell : ShellState) (question : Question) (queue : List (List ℕ)) → takes_input w ≡ true → takes_input (world_after w (Ok out) (answered_prompt w k shell question queue)) ≡ true
-prompt-takes w out k shell question [] e = turned_stays w k (resumed [] question shell (start w)) e
-prompt-takes w out k shell question (line ∷ rest) e = turned_stays w k (resumed line question shell (start w)) e
+-- a shell ends only at the end of its input
+turning-ends : (input : Input) (frames : List FrameState) (course : Course) (phase : Phase) → turning input frames course phase ≡ Ends → input.is_ended ≡ true
+turning-ends input frames course Ready e = ready-ends input frames course e
+turning-ends input frames course (Waiting (ForAnswer asking)) e = input-ends input.queue input.is_ended frames _ _ e
 
-turn_by-takes : (w : WorldState) (out : Out) (k : ℕ) (shell : ShellState) (phase : Phase) → takes_input w ≡ true → takes_input (world_after w (Ok out) (turn_by w k shell phase)) ≡ true
-turn_by-takes w out k shell Ready e = ready-takes w out k shell shell.frames e
-turn_by-takes w out k shell (Asking question) e =
-    elim (cases_Bool (not (k == 1) || has_input w)) [
-      | inl some ↦ rw some (prompt-takes w out k shell question (waiting w k) e)
-      | inr none ↦ rw none e
-    ]
+applied-takes : (w : WorldState) (out : Out) (k : ℕ) (codes : Codes) (t : Turning) → (t ≡ Ends → k ≢ 1) → k ≢ 0 → takes_input w ≡ true → takes_input (world_after w (Ok out) (applied w k codes t)) ≡ true
+applied-takes w out k codes (Refuses why) ends some e = e
+applied-takes w out k codes Ends ends some e = rw (first-unset w.shells (k - 1) (omega (arith, some, ends refl))) e
+applied-takes w out k codes (Takes queue turned) ends some e =
+    let parts = and_parts (is_some (shell_at w 1)) (not w.input_ended) e in
+    rw (first-set (carried_shells (moved_in w turned) w.shells) (k - 1) _ (first-carried (moved_in w turned) w.shells parts.0), parts.1) refl
 
-turned-takes : (w : WorldState) (out : Out) (k : ℕ) (found : Option ShellState) → takes_input w ≡ true → takes_input (world_after w (Ok out) (turned w k found)) ≡ true
-turned-takes w out k None e = e
-turned-takes w out k (Some shell) e = turn_by-takes w out k shell shell.phase e
+turned-takes : (w : WorldState) (out : Out) (k : ℕ) (found : Option ShellState) → shell_at w k ≡ found → takes_input w ≡ true → takes_input (world_after w (Ok out) (turned w k found)) ≡ true
+turned-takes w out k None at e = e
+turned-takes w out k (Some shell) at e =
+    let unended : not w.input_ended ≡ true = (and_parts (is_some (shell_at w 1)) (not w.input_ended) e).1 in
+    applied-takes w out k shell.parts.codes _
+    (λ ends one.
+        let ended : (input_of w k).is_ended ≡ true = turning-ends (input_of w k) shell.frames (start w shell.parts) shell.phase ends in
+        let first : w.input_ended ≡ true = rw one at ended in
+        true≢false (sym unended ∙ ap not first))
+    (λ none. let nothing : None ≡ Some shell = rw none at at in cc)
+    e
 
 -- a turn leaves the input as it is, and shell 1 ends only where it has ended
 pub turn-takes : (w : WorldState) (out : Out) (k : ℕ) → takes_input w ≡ true → takes_input (world_after w (Ok out) (step_of w (Turn k))) ≡ true
 turn-takes w out k e =
     elim (cases_Bool (is_over w)) [
       | inl over ↦ rw over e
-      | inr running ↦ rw running (turned-takes w out k (shell_at w k) e)
+      | inr running ↦ rw running (turned-takes w out k (shell_at w k) refl e)
     ]
 
 -- no shell waits for an answer yet
@@ -81,3 +106,4 @@ takes-due w e =
       | inl ready ↦ inr ready
       | inr unready ↦ inl (rw (unready, (and_parts (is_some (shell_at w 1)) (not w.input_ended) e).0) refl)
     ]
+

@@ -8,4 +8,4 @@ pub mod Sessions
 pub mod Inputs
 pub mod Accepts
 pub mod ReaderEnd
-pub mod Alone
+pub mod Over

@@ -1,6 +1,6 @@
 -- The order in which events come, in rounds of places: at place 0 a line is read as long as one is wanted, and
 -- at place k, from 1 to 20, shell k takes a turn if it is ready when its place comes.
-use Rattle.std.specs.Prelude.{◌≡◌, ◌≢◌, ℕ, zero, suc, ◌+◌, ◌-◌, ◌≤◌, List, [], ◌∷◌, ◌++◌, Option, Some, None, is_some, Bool, true, false, not, ◌&&◌}
+use Rattle.std.specs.Prelude.{◌≡◌, ℕ, zero, suc, ◌+◌, ◌-◌, ◌≤◌, List, [], ◌∷◌, ◌++◌, Option, Some, None, is_some, Bool, true, false, not, ◌&&◌}
 use Rattle.std.specs.List.{find, range_with_len}
 use Rattle.ados_machine.specs.declared.events.Event.{Event}
 use Rattle.ados_machine.specs.declared.events.Event.TheVariants.{Typed, EndOfInput, Turn, Answer}
@@ -69,6 +69,6 @@ is_accepted (Refused why) = false
 abbrev pub takes_input : WorldState → Bool
 takes_input w = is_some (shell_at w 1) && not w.input_ended
 
--- no shell but shell 1 runs
-abbrev pub IsAlone : WorldState → Type 0
-IsAlone w = (k : ℕ) → k ≢ 1 → shell_at w k ≡ None
+-- no shell runs
+abbrev pub NoneRuns : WorldState → Type 0
+NoneRuns w = (k : ℕ) → k ≤ 20 → shell_at w k ≡ None

@@ -1,10 +1,10 @@
 // A world driven by a reader's lines.
 ghost use Rattle.std.specs.Prelude.{◌≡◌, ◌⊎◌, ◌<◌, ◌≤◌, ◌^◌, ◌-◌, ◌+◌, ℕ, true, List, [], length, take, Some, IfOk, OnOk, IsErrOf};
 ghost use Rattle.std.specs.Io.KnownBytes.{Appends};
-ghost use Rattle.ados_machine.specs.World.{codes_at, is_over};
+ghost use Rattle.ados_machine.specs.World.{codes_at};
 ghost use Rattle.ados_launch.specs.Faults.{one_more};
 ghost use Rattle.ados_launch.specs.Lines.{Known, kind_of};
-ghost use Rattle.ados_launch.specs.Schedule.{IsAlone, IsIdle, IsReading, IsRunning, takes_input};
+ghost use Rattle.ados_launch.specs.Schedule.{IsIdle, IsReading, IsRunning, NoneRuns, takes_input};
 ghost use Rattle.ados_launch.specs.Session.{Session, Stands, StandsCut, IsReadAhead};
 ghost use Rattle.ados_launch.specs.Taken.{Taken, written_for, left_after};
 
@@ -84,8 +84,8 @@ pub fn drive_lines<S: Source, K: Sink>(
         Stands world.old (S.left reader.old) end.events world.new (K.contents writer.old) (K.contents writer.new)) }
     // Nothing is due in the world that is left.
     ensures idle { OnOk result (IsIdle world.new) }
-    // No shell is left, where only shell 1 ran before.
-    ensures over { OnOk result (IsAlone world.old → is_over world.new ≡ true) }
+    // No shell is left.
+    ensures over { OnOk result (NoneRuns world.new) }
     ensures within { IfOk result (λ end. end.events ≤ turns) }
     ensures code { IfOk result (λ end. end.code ≡ (codes_at world.new 1).code) }
     ensures result2 { IfOk result (λ end. end.result2 ≡ (codes_at world.new 1).result2) }

@@ -1,7 +1,7 @@
 use Rattle.std.proofs.Common.{rules, IsErrOf, ◌≡◌, ◌+◌, subst, ◌∙◌, arith}
 use Rattle.ados_launch.proofs.Places.{due_below, due_is, idle, behind_in_round, running}
 use Rattle.ados_launch.proofs.Sessions.{driven-more, driven-cut, stands, written-whole, written-cut, why-read, reading}
-use Rattle.ados_launch.proofs.Alone.{none-left}
+use Rattle.ados_launch.proofs.Over.{none-left}
 use Rattle.ados_launch.proofs.ReaderEnd.{reader-ended}
 use Rattle.ados_launch.specs.declared.faults.DriveFault.TheVariants.{Read}
 use Rattle.ados_launch.specs.Schedule.{IsRunning}
@@ -82,8 +82,7 @@ returns-in_default-clause-idle g c = idle c.loop-events.place c.loop-events.worl
 
 pub returns-in_default-clause-over : goal.returns-in_default-clause-over
 returns-in_default-clause-over g c =
-    let d = c.loop-events.invariant.driven in
-    none-left c.args.world.now d.taken c.loop-events.world d.session.run (idle c.loop-events.place c.loop-events.world c.in_default.ensures)
+    none-left c.loop-events.world (idle c.loop-events.place c.loop-events.world c.in_default.ensures)
 
 pub returns-in_default-clause-reader_ended : goal.returns-in_default-clause-reader_ended
 returns-in_default-clause-reader_ended g c bytes e =
@@ -127,8 +126,7 @@ returns-clause-idle g c = idle c.loop-events.place c.loop-events.world c.in-None
 
 pub returns-clause-over : goal.returns-clause-over
 returns-clause-over g c =
-    let d = c.loop-events.invariant.driven in
-    none-left c.args.world.now d.taken c.loop-events.world d.session.run (idle c.loop-events.place c.loop-events.world c.in-None.ensures)
+    none-left c.loop-events.world (idle c.loop-events.place c.loop-events.world c.in-None.ensures)
 
 pub returns-clause-reader_ended : goal.returns-clause-reader_ended
 returns-clause-reader_ended g c bytes e =
