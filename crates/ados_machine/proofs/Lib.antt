@@ -1,8 +1,9 @@
 pub mod RunLemmas
 pub mod Follows
 pub mod Turns
+pub mod Turnings
+pub mod Shells
 pub mod Moves
 pub mod Sane
 pub mod Traces
 pub mod Ends
-pub mod Settled

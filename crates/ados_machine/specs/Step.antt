@@ -1,103 +1,82 @@
 -- The step: what an event makes of a world.
-use Rattle.std.specs.Prelude.{ℕ, ◌+◌, List, [], ◌∷◌, ◌++◌, length, true, not, ◌&&◌, ◌||◌, nat_lt, ◌==◌, ◌-◌, Option, Some, None, slice_get, slice_set, map, if◌then◌else◌}
+use Rattle.std.specs.Prelude.{ℕ, List, [], ◌∷◌, ◌++◌, length, true, nat_lt, ◌==◌, ◌-◌, Option, Some, None, slice_set, if◌then◌else◌}
+use Rattle.ados_find.specs.declared.codes.Codes.{Codes}
+use Rattle.ados_find.specs.declared.outcomes.Renamed.{Renamed}
 use Rattle.ados_machine.specs.declared.events.Event.{Event}
 use Rattle.ados_machine.specs.declared.events.Event.TheVariants.{Typed, EndOfInput, Turn, Answer}
 use Rattle.ados_machine.specs.declared.outs.Out.{Out}
 use Rattle.ados_machine.specs.declared.outs.EndReport.{EndReport}
 use Rattle.ados_machine.specs.declared.refusals.Refusal.{Refusal}
 use Rattle.ados_machine.specs.declared.refusals.Refusal.TheVariants.{Over, NoSuchShell, NotReady, WrongAnswer, QueueFull, LineTooLong}
-use Rattle.ados_ram.specs.Place.{carried}
-use Rattle.ados_find.specs.declared.outcomes.Renamed.{Renamed}
-use Rattle.ados_machine.specs.declared.phases.Asking.{Asking as Question}
-use Rattle.ados_machine.specs.declared.phases.Phase.{Phase}
-use Rattle.ados_machine.specs.declared.phases.Phase.TheVariants.{Ready, Asking}
-use Rattle.ados_machine.specs.Frames.{Item, FrameState, ShellState, Course, Turned, passed_by, reports_of}
-use Rattle.ados_machine.specs.Shell.{quietly, turn_of, resumed}
-use Rattle.ados_machine.specs.World.{WorldState, shell_at, is_over, has_input, directories_of}
+use Rattle.ados_machine.specs.Items.{Item, reports_of}
+use Rattle.ados_machine.specs.Shells.{Parts, ShellState}
+use Rattle.ados_machine.specs.Course.{Course}
+use Rattle.ados_machine.specs.Carrying.{moved_by, carried_shells, carried_by}
+use Rattle.ados_machine.specs.Settle.{Turned}
+use Rattle.ados_machine.specs.Turning.{Turning, Refuses, Ends, Takes, turning}
+use Rattle.ados_machine.specs.World.{WorldState, shell_at, is_over, seen_in, input_of}
 
 -- what an event is answered: the first refusal that holds, or the world behind it, what it gives, and what
--- the trace of its shell gets
+-- the trace gets: items with their shells
 pub data Response : Type 0 where
   Refused : Refusal → Response
-  Accepted : (world : WorldState) (out : Out) (log : List Item) → Response
+  Accepted : (world : WorldState) (out : Out) (items : List (ℕ × Item)) → Response
 
 -- what an event gives that printed these bytes, and at which these scripts ended
 abbrev pub giving : List ℕ → List EndReport → Out
 giving bytes reports = record { bytes = bytes; request = None; reports = reports }
 
--- with this shell, or none, at this number
-abbrev pub with_shell : WorldState → ℕ → Option ShellState → WorldState
-with_shell w k shell = record w { shells = slice_set w.shells (k - 1) shell }
+-- the items of one shell, with its number
+abbrev pub of_shell : ℕ → List Item → List (ℕ × Item)
+of_shell k [] = []
+of_shell k (item ∷ log) = (k, item) ∷ of_shell k log
 
--- the current directory of a shell moves with what was renamed
-abbrev pub carried_shell : Renamed → ShellState → ShellState
-carried_shell renamed shell = record shell { directory = carried renamed.from renamed.to shell.directory }
+-- the shell that an event leaves
+abbrev pub shell_of_turn : Turned → ShellState
+shell_of_turn turned = record { frames = turned.frames; phase = turned.phase; parts = turned.course.parts }
 
-abbrev pub carried_place : Renamed → Option ShellState → Option ShellState
-carried_place renamed None = None
-carried_place renamed (Some shell) = Some (carried_shell renamed shell)
+-- the shells behind an event of one of them
+abbrev pub shells_behind : List (Option ShellState) → ℕ → Option Renamed → Turned → List (Option ShellState)
+shells_behind shells k moved turned = slice_set (carried_shells moved shells) (k - 1) (Some (carried_by moved (shell_of_turn turned)))
 
--- the current directories of all shells move with what was renamed
-abbrev pub carried_shells : Renamed → List (Option ShellState) → List (Option ShellState)
-carried_shells renamed shells = map (carried_place renamed) shells
+-- what an event moved in a world
+abbrev pub moved_in : WorldState → Turned → Option Renamed
+moved_in w turned = moved_by w.shared turned.course.shared turned.course.renamed
 
--- the shells with this one at its number, once something was renamed, or nothing
-abbrev pub settled : List (Option ShellState) → ℕ → ShellState → Option Renamed → List (Option ShellState)
-settled shells k shell None = slice_set shells (k - 1) (Some shell)
-settled shells k shell (Some renamed) = slice_set (carried_shells renamed shells) (k - 1) (Some (carried_shell renamed shell))
+-- the lines that wait behind an event of a shell: shell 1 alone takes of them
+abbrev pub queue_behind : ℕ → List (List ℕ) → List (List ℕ) → List (List ℕ)
+queue_behind k queue now = if k == 1 then now else queue
 
--- the shell of this number took a line
-abbrev pub took : WorldState → ℕ → Turned → Response
-took w k turned =
-    Accepted (record w { shells = settled w.shells k turned.shell turned.course.renamed; shared = turned.course.shared })
-    (giving turned.course.printed (reports_of k turned.log)) turned.log
+-- the shell of this number took a turn, which leaves these lines to wait
+abbrev pub took : WorldState → ℕ → List (List ℕ) → Turned → Response
+took w k queue turned =
+    Accepted (record w {
+      shells = shells_behind w.shells k (moved_in w turned) turned;
+      queue = queue_behind k w.queue queue;
+      shared = turned.course.shared;
+    })
+    (giving turned.course.printed (reports_of k turned.log))
+    (of_shell k turned.log)
 
--- a turn begins: nothing is done yet
-abbrev pub start : WorldState → Course
-start w = quietly w.shared (directories_of w)
+-- the shell of this number ended; its codes stay
+abbrev pub shell_ended : WorldState → ℕ → Codes → Response
+shell_ended w k codes =
+    Accepted (record w { shells = slice_set w.shells (k - 1) None; ended = slice_set w.ended (k - 1) codes }) (giving [] []) []
 
--- shell 1 ended; its codes stay
-abbrev pub shell_ended : WorldState → ShellState → Response
-shell_ended w shell =
-    Accepted (record (with_shell w 1 None) { ended = slice_set w.ended 0 shell.codes }) (giving [] []) []
+-- an event of a shell begins: nothing is done yet
+abbrev pub start : WorldState → Parts → Course
+start w parts = record { parts = parts; shared = w.shared; seen = seen_in w.shells; printed = []; renamed = None }
 
--- the shell moves on in its script
-abbrev pub moved : ShellState → FrameState → List FrameState → ShellState
-moved shell frame frames = record shell { frames = record frame { position = frame.position + 1 } ∷ frames }
-
--- a turn that takes the next line of the newest script; one without a line ends
-abbrev pub script_turned : ShellState → FrameState → List FrameState → Course → Option (List ℕ) → Turned
-script_turned shell frame frames course None = passed_by shell (frame ∷ frames) course
-script_turned shell frame frames course (Some line) = turn_of line (moved shell frame frames) course
-
--- shell 1 takes the first line that waits, and ends where there is none
-abbrev pub console_turn : WorldState → ShellState → List (List ℕ) → Response
-console_turn w shell [] = shell_ended w shell
-console_turn w shell (line ∷ rest) = took (record w { queue = rest }) 1 (turn_of line shell (start w))
-
--- a turn of a shell that is ready: a line of its newest frame, else, for shell 1, one that was typed
-abbrev pub ready_turn : WorldState → ℕ → ShellState → List FrameState → Response
-ready_turn w k shell (frame ∷ frames) = took w k (script_turned shell frame frames (start w) (slice_get frame.lines frame.position))
-ready_turn w k shell [] = if (k == 1) && has_input w then console_turn w shell w.queue else Refused NotReady
-
--- a prompt is answered by the first line that waits, and by an empty one at the end of input
-abbrev pub answered_prompt : WorldState → ℕ → ShellState → Question → List (List ℕ) → Response
-answered_prompt w k shell question [] = took w k (resumed [] question shell (start w))
-answered_prompt w k shell question (line ∷ rest) = took (record w { queue = rest }) k (resumed line question shell (start w))
-
--- the lines that a shell may take of its input: a background shell's is at its end
-abbrev pub waiting : WorldState → ℕ → List (List ℕ)
-waiting w k = if k == 1 then w.queue else []
-
-abbrev pub turn_by : WorldState → ℕ → ShellState → Phase → Response
-turn_by w k shell Ready = ready_turn w k shell shell.frames
-turn_by w k shell (Asking question) =
-    if not (k == 1) || has_input w then answered_prompt w k shell question (waiting w k) else Refused NotReady
+-- what an event of a shell, whose codes are these, makes of the world
+abbrev pub applied : WorldState → ℕ → Codes → Turning → Response
+applied w k codes (Refuses why) = Refused why
+applied w k codes Ends = shell_ended w k codes
+applied w k codes (Takes queue turned) = took w k queue turned
 
 -- a turn of the shell of this number, if it runs
 abbrev pub turned : WorldState → ℕ → Option ShellState → Response
 turned w k None = Refused NoSuchShell
-turned w k (Some shell) = turn_by w k shell shell.phase
+turned w k (Some shell) = applied w k shell.parts.codes (turning (input_of w k) shell.frames (start w shell.parts) shell.phase)
 
 -- an answer for the shell of this number, if it runs: no shell waits for one yet
 abbrev pub replied : Option ShellState → Response
@@ -112,6 +91,7 @@ typed w line =
     (if nat_lt 512 (length line) then Refused LineTooLong else
     Accepted (record w { queue = w.queue ++ line ∷ [] }) (giving [] []) []))
 
+-- no further line will be typed
 abbrev pub end_of_input : WorldState → Response
 end_of_input w = if w.input_ended then Refused NotReady else Accepted (record w { input_ended = true }) (giving [] []) []
 
@@ -122,5 +102,6 @@ happened w EndOfInput = end_of_input w
 happened w (Turn k) = turned w k (shell_at w k)
 happened w (Answer k answer) = replied (shell_at w k)
 
+-- an event; where no shell is left, each is refused
 abbrev pub step_of : WorldState → Event → Response
 step_of w event = if is_over w then Refused Over else happened w event

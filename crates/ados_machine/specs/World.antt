@@ -1,15 +1,19 @@
 -- What a world holds, and what it shows.
-use Rattle.std.specs.Prelude.{ℕ, zero, suc, List, [], ◌∷◌, length, map, Bool, true, false, not, ◌&&◌, ◌||◌, nat_lt, ◌==◌, Option, Some, None, is_some, unwrap_or, slice_get}
+use Rattle.std.specs.Prelude.{ℕ, zero, suc, List, [], ◌∷◌, length, map, Bool, true, false, not, ◌&&◌, ◌||◌, nat_lt, ◌==◌, Option, Some, None, is_some, unwrap_or, option_map, slice_get, if◌then◌else◌}
 use Rattle.std.proofs.Math.ListN.{replicate}
 use Rattle.std.specs.List.{list_any}
 use Rattle.ados_find.specs.declared.codes.Codes.{Codes}
-use Rattle.ados_machine.specs.declared.requests.Request.{Request}
 use Rattle.ados_find.specs.Codes.{went_well}
 use Rattle.ados_find.specs.Shared.{SharedState, first_shared}
+use Rattle.ados_machine.specs.declared.requests.Request.{Request}
 use Rattle.ados_machine.specs.declared.phases.Phase.{Phase}
-use Rattle.ados_machine.specs.declared.phases.Phase.TheVariants.{Ready, Asking}
-use Rattle.ados_machine.specs.Frames.{FrameState, ShellState, fresh_shell}
+use Rattle.ados_machine.specs.declared.phases.Phase.TheVariants.{Ready, Waiting}
+use Rattle.ados_machine.specs.declared.phases.Wait.TheVariants.{ForAnswer}
+use Rattle.ados_flow.specs.Frames.{FrameState}
+use Rattle.ados_machine.specs.Shells.{ShellState, Seen, fresh_shell, seen_of}
+use Rattle.ados_machine.specs.Turning.{Input}
 
+-- all that runs, and what it shares
 pub record WorldState : Type 0 where
   -- the shells that run, by number from 1 to 20
   pub shells : List (Option ShellState)
@@ -49,28 +53,35 @@ shell_at w k = flatten (numbered w.shells k)
 abbrev pub is_over : WorldState → Bool
 is_over w = not (list_any is_some w.shells)
 
--- a line waits, or the input has ended
-abbrev pub has_input : WorldState → Bool
-has_input w = nat_lt 0 (length w.queue) || w.input_ended
+-- what is seen of each number's shell
+abbrev pub seen_in : List (Option ShellState) → List (Option Seen)
+seen_in shells = map (option_map seen_of) shells
 
--- the shell runs a script
+-- the input of a shell: shell 1 reads the console, and that of a background shell is at its end
+abbrev pub input_of : WorldState → ℕ → Input
+input_of w k = if k == 1 then record { queue = w.queue; is_ended = w.input_ended } else record { queue = []; is_ended = true }
+
+-- a line waits, or the input has ended
+abbrev pub has_input : Input → Bool
+has_input input = nat_lt 0 (length input.queue) || input.is_ended
+
+-- the shell runs a frame
 abbrev pub has_frame : List FrameState → Bool
 has_frame [] = false
 has_frame (frame ∷ frames) = true
 
--- something is there to take: a line of its newest frame, or, for shell 1, one that was typed or the input's
--- end; the answer to a prompt is such a line too, and a background shell's input is at its end
-abbrev pub can_take : WorldState → ℕ → List FrameState → Phase → Bool
-can_take w k frames Ready = has_frame frames || ((k == 1) && has_input w)
-can_take w k frames (Asking question) = not (k == 1) || has_input w
+-- something is there to take: a line of its newest frame, or input
+abbrev pub can_take : Input → List FrameState → Phase → Bool
+can_take input frames Ready = has_frame frames || has_input input
+can_take input frames (Waiting (ForAnswer asking)) = has_input input
 
-abbrev pub can_turn : WorldState → ℕ → Option ShellState → Bool
-can_turn w k None = false
-can_turn w k (Some shell) = can_take w k shell.frames shell.phase
+abbrev pub can_turn : Input → Option ShellState → Bool
+can_turn input None = false
+can_turn input (Some shell) = can_take input shell.frames shell.phase
 
 -- a shell can take a turn
 abbrev pub is_ready : WorldState → ℕ → Bool
-is_ready w k = can_turn w k (shell_at w k)
+is_ready w k = can_turn (input_of w k) (shell_at w k)
 
 -- a line is wanted: shell 1 runs and has nothing to take
 abbrev pub wants_line : WorldState → Bool
@@ -81,26 +92,17 @@ abbrev pub ended_at : WorldState → ℕ → Codes
 ended_at w k = unwrap_or (numbered w.ended k) went_well
 
 abbrev pub shell_codes : Option ShellState → Codes → Codes
-shell_codes (Some shell) ended = shell.codes
+shell_codes (Some shell) ended = shell.parts.codes
 shell_codes None ended = ended
 
 -- the last codes of a number: its shell's, else those that its last shell left
 abbrev pub codes_at : WorldState → ℕ → Codes
 codes_at w k = shell_codes (shell_at w k) (ended_at w k)
 
--- the current directories of the shells that run, in order of their numbers
-abbrev pub directories_in : List (Option ShellState) → List (List (List ℕ))
-directories_in [] = []
-directories_in (None ∷ shells) = directories_in shells
-directories_in (Some shell ∷ shells) = shell.directory ∷ directories_in shells
-
-abbrev pub directories_of : WorldState → List (List (List ℕ))
-directories_of w = directories_in w.shells
-
 -- which numbers have a shell
 abbrev pub running : WorldState → List Bool
 running w = map is_some w.shells
 
--- what a shell asked a launcher for, and waits for; no shell starts a program yet
+-- what a shell asked a launcher for, and waits for; no phase asks for anything yet
 abbrev pub pending_of : WorldState → ℕ → Option Request
 pending_of w k = None

@@ -4,6 +4,7 @@ ghost use Rattle.ados_machine.specs.Laws.{
   ScriptsEndWhereTheRuleSays,
   EventsKeepWorldsSane,
   ReportsAreTheEnds,
+  EachFrameEndsOnce,
 };
 ghost use Rattle.ados_machine.specs.Limits.{IsSane};
 ghost use Rattle.ados_machine.specs.World.{fresh_world};
@@ -25,4 +26,10 @@ pub fn no_script_runs_on_behind_a_failure()
 /// The reports of every run are the ends of its scripts, one each and in order.
 pub fn each_end_is_reported_once()
     ensures { ReportsAreTheEnds }
+{}
+
+/// In every run of a world in which no script runs on behind a failure, the frames of each shell go through its trace:
+/// a script ends once, by the name under which it began, and only where it is the newest that is there.
+pub fn each_frame_ends_once()
+    ensures { EachFrameEndsOnce }
 {}

@@ -7,27 +7,22 @@
 
 mod answers;
 mod builtins;
-mod called;
 mod events;
 mod laws;
 mod outs;
 mod phases;
-mod records;
 mod refusals;
 mod requests;
-mod targets;
 
-pub use ados_find::Codes;
+pub use ados_find::{Codes, Target};
+pub use ados_flow::{Called, Record};
 pub use answers::Answer;
 pub use builtins::Builtin;
-pub use called::Called;
 pub use events::Event;
 pub use laws::{
-    each_end_is_reported_once, no_script_runs_on_behind_a_failure, scripts_end_where_the_rule_says,
+    each_end_is_reported_once, each_frame_ends_once, no_script_runs_on_behind_a_failure, scripts_end_where_the_rule_says,
 };
 pub use outs::{EndReport, Out, Reports};
-pub use phases::{Asking, Phase};
-pub use records::Record;
+pub use phases::{Asking, Phase, Wait};
 pub use refusals::Refusal;
 pub use requests::{Job, Request};
-pub use targets::Target;

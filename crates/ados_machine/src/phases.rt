@@ -1,13 +1,20 @@
 use crate::builtins::Builtin;
 use ados_line::Line;
 
-/// What a shell waits for.
+/// What a shell does next.
 #[derive(Drop)]
 pub enum Phase {
     /// It takes the next line of its newest frame, or of the console.
     Ready,
-    /// A command asked for its arguments: the next line of the console stands for them.
-    Asking(Asking),
+    /// It waits.
+    Waiting(Wait),
+}
+
+/// What a shell waits for.
+#[derive(Drop)]
+pub enum Wait {
+    /// A line of the console, which stands for a command's arguments.
+    ForAnswer(Asking),
 }
 
 /// A command that asked for its arguments.

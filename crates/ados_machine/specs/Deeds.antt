@@ -1,0 +1,38 @@
+-- Deeds: what a line comes to, its frames aside.
+use Rattle.std.specs.Prelude.{ℕ, List, Bool, false, Option, codes}
+use Rattle.ados_text.specs.declared.codes.Result2.{Result2}
+use Rattle.ados_find.specs.declared.codes.Codes.{Codes}
+use Rattle.ados_find.specs.Codes.{failed}
+use Rattle.ados_machine.specs.declared.phases.Wait.{Wait}
+use Rattle.ados_find.specs.declared.targets.Target.{Target}
+use Rattle.ados_flow.specs.declared.called.Called.{Called}
+use Rattle.ados_machine.specs.Course.{Course}
+use Rattle.ados_machine.specs.Sinks.{Sink}
+
+-- all that a line knows of frames: where its output goes, and whether it stands in a script
+pub record Here : Type 0 where
+  pub sink : Sink
+  pub in_script : Bool
+
+-- What a line, or the answer to a prompt, comes to: nothing was there to answer; a command answered, and may quit its
+-- script; a script is called, with its output; or the shell waits. Each hands the event's course on.
+pub data Deed : Type 0 where
+  Passes : (course : Course) → Deed
+  Answers : (word : List ℕ) (codes : Codes) (quits : Bool) (course : Course) → Deed
+  Calls : (word : List ℕ) (output : Option Target) (script : Called) (course : Course) → Deed
+  Waits : (wait : Wait) (course : Course) → Deed
+
+-- a command was refused
+abbrev pub refused : List ℕ → Result2 → Course → Deed
+refused word fault course = Answers word (failed fault) false course
+
+-- a line was at fault
+abbrev pub line_fault : Result2 → Course → Deed
+line_fault fault course = refused (codes "Shell") fault course
+
+-- what a deed hands on
+abbrev pub course_of : Deed → Course
+course_of (Passes course) = course
+course_of (Answers word codes quits course) = course
+course_of (Calls word output script course) = course
+course_of (Waits wait course) = course

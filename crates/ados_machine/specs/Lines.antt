@@ -1,0 +1,112 @@
+-- What a line of a shell comes to.
+use Rattle.std.specs.Prelude.{ℕ, List, Bool, false, true, not, ◌&&◌, if◌then◌else◌, Option, Some, None, Result, Ok, Err, unwrap_or}
+use Rattle.ados_text.specs.declared.codes.Result2.{Result2}
+use Rattle.ados_text.specs.declared.codes.TheConstants.Result2.{OBJECT_NOT_FOUND}
+use Rattle.ados_line.specs.declared.faults.LineFault.{LineFault}
+use Rattle.ados_line.specs.Faults.{result2_of}
+use Rattle.ados_line.specs.declared.lines.Line.{Line}
+use Rattle.ados_line.specs.declared.lines.Expanded.{Expanded}
+use Rattle.ados_line.specs.declared.lines.Expanded.TheVariants.{Nothing, Ready}
+use Rattle.ados_line.specs.Cut.{expanded_of}
+use Rattle.ados_ram.specs.InUse.{InUse}
+use Rattle.ados_assign.specs.InUse.{busy_of}
+use Rattle.ados_find.specs.Codes.{erred}
+use Rattle.ados_find.specs.Effects.{Effect}
+use Rattle.ados_find.specs.Views.{View}
+use Rattle.ados_machine.specs.declared.builtins.Builtin.{Builtin}
+use Rattle.ados_machine.specs.declared.phases.Asking.{Asking}
+use Rattle.ados_machine.specs.declared.phases.Wait.TheVariants.{ForAnswer}
+use Rattle.ados_find.specs.declared.targets.Target.{Target}
+use Rattle.ados_flow.specs.Actions.{Action}
+use Rattle.ados_flow.specs.Actions as flow
+use Rattle.ados_machine.specs.Commands.{builtin_of, action_of}
+use Rattle.ados_machine.specs.Sinks.{sink_or}
+use Rattle.ados_machine.specs.Course.{Course, printing, directories_of, outputs_of, Put, put}
+use Rattle.ados_machine.specs.Opening.{Opened, opening}
+use Rattle.ados_machine.specs.Prompts.{with_args, asks, prompt, input_line}
+use Rattle.ados_machine.specs.Deeds.{Here, Deed, Passes, Answers, Calls, Waits, refused, line_fault}
+
+-- what is in use: what the shells that run keep, and the directories of assigns
+abbrev pub busy_in : Course → InUse
+busy_in course = busy_of (directories_of course.seen) (outputs_of course.seen) course.shared.assigns
+
+-- what commands read of their shell, and of the others
+abbrev pub view_of : Course → View
+view_of course = record {
+  limit = course.parts.limit;
+  codes = course.parts.codes;
+  directory = course.parts.directory;
+  busy = busy_in course;
+}
+
+-- what a command's effect leaves of the course: the shell's fail limit, its directory where it has a new one, the
+-- shared parts, and what was renamed
+abbrev pub with_effect : Effect → Course → Course
+with_effect effect course = record course {
+  parts = record course.parts { limit = effect.limit; directory = unwrap_or effect.directory course.parts.directory };
+  shared = effect.shared;
+  renamed = effect.renamed;
+}
+
+-- a command that put something out answers
+abbrev pub put_deed : List ℕ → Put → Deed
+put_deed word done = Answers word done.codes false done.course
+
+-- what a command did, whose output leads there
+abbrev pub action_deed : List ℕ → Option Target → Action → Here → Course → Deed
+action_deed word target (flow.Does effect) here course =
+    put_deed word (put (sink_or target here.sink) effect.output effect.codes (with_effect effect course))
+action_deed word target (flow.Quits codes) here course = Answers word codes true course
+action_deed word target (flow.Calls script) here course = Calls word target script course
+
+-- the line names no output
+abbrev pub has_none : Option Target → Bool
+has_none None = true
+has_none (Some target) = false
+
+-- what a command does whose output leads there; Execute calls a script only outside scripts, and where the line names no output
+abbrev pub action_in : Builtin → Line → Option Target → Here → Course → Action
+action_in builtin line target here course =
+    action_of builtin (not here.in_script && has_none target) course.shared (view_of course) line.args
+
+-- a command whose output leads there does its work
+abbrev pub work_deed : Builtin → Line → Option Target → Here → Course → Deed
+work_deed builtin line target here course = action_deed line.command target (action_in builtin line target here course) here course
+
+abbrev pub opened_deed : Builtin → Line → Here → Course → Result Opened Result2 → Deed
+opened_deed builtin line here course (Err fault) = refused line.command fault course
+opened_deed builtin line here course (Ok opened) = work_deed builtin line opened.target here (record course { shared = opened.shared })
+
+-- a command whose arguments are there: its output is opened, and it does its work
+abbrev pub command_deed : Builtin → Line → Here → Course → Deed
+command_deed builtin line here course = opened_deed builtin line here course (opening course line.output)
+
+-- the prompt is printed, and the input's line stands for the arguments; without an input the shell waits for one
+abbrev pub prompt_deed : Builtin → Line → Here → Course → Option (List ℕ) → Deed
+prompt_deed builtin line here course None = Waits (ForAnswer (record { builtin = builtin; line = line })) (printing (prompt builtin) course)
+prompt_deed builtin line here course (Some args) = command_deed builtin (with_args line args) here (printing (prompt builtin) course)
+
+-- a command whose input, if it has one, was read
+abbrev pub input_deed : Builtin → Line → Here → Course → Result (Option (List ℕ)) Result2 → Deed
+input_deed builtin line here course (Err fault) = refused line.command fault course
+input_deed builtin line here course (Ok args) =
+    if asks line.args then prompt_deed builtin line here course args else command_deed builtin line here course
+
+-- what the search found for the line's command; what is not known reads and opens nothing
+abbrev pub found_deed : Option Builtin → Line → Here → Course → Deed
+found_deed None line here course = Answers line.command (erred OBJECT_NOT_FOUND) false course
+found_deed (Some builtin) line here course = input_deed builtin line here course (input_line course line.input)
+
+-- what an expanded line comes to
+abbrev pub expanded_deed : Result Expanded LineFault → Here → Course → Deed
+expanded_deed (Err fault) here course = line_fault (result2_of fault) course
+expanded_deed (Ok Nothing) here course = Passes course
+expanded_deed (Ok (Ready line)) here course = found_deed (builtin_of line.command) line here course
+
+-- what a raw line comes to
+abbrev pub line_deed : List ℕ → Here → Course → Deed
+line_deed raw here course = expanded_deed (expanded_of raw) here course
+
+-- what the answer to a prompt comes to: it stands for the arguments as it is
+abbrev pub answer_deed : List ℕ → Asking → Here → Course → Deed
+answer_deed raw asking here course = command_deed asking.builtin (with_args asking.line raw) here course

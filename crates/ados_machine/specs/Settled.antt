@@ -1,0 +1,71 @@
+-- The code rule: what an answer, or a line without one, is to the frames of its shell.
+use Rattle.std.specs.Prelude.{ℕ, suc, List, [], ◌∷◌, ◌++◌, length, Bool, false, if◌then◌else◌}
+use Rattle.ados_text.specs.declared.codes.Code.{Code}
+use Rattle.ados_text.specs.declared.codes.Result2.{Result2}
+use Rattle.ados_find.specs.declared.codes.Codes.{Codes}
+use Rattle.ados_machine.specs.declared.phases.Phase.{Phase}
+use Rattle.ados_machine.specs.declared.phases.Phase.TheVariants.{Ready}
+use Rattle.ados_machine.specs.CodeRule.{fault_line, failed_line}
+use Rattle.ados_flow.specs.Frames.{FrameState, is_over, is_ended, maker, limit_behind, last_codes, answered_frame}
+use Rattle.ados_machine.specs.Items.{Item, noted, end_of}
+use Rattle.ados_machine.specs.Shells.{Parts}
+
+-- what the code rule changes beside frames: the shell's parts, and what is printed
+pub record Said : Type 0 where
+  pub parts : Parts
+  pub printed : List ℕ
+
+-- what the code rule leaves
+pub record Settled : Type 0 where
+  pub frames : List FrameState
+  pub phase : Phase
+  pub said : Said
+  pub log : List Item
+
+-- the same with these items before its trace
+abbrev pub behind : List Item → Settled → Settled
+behind items settled = record settled { log = items ++ settled.log }
+
+-- nothing more happens
+abbrev pub rests : List FrameState → Phase → Said → Settled
+rests frames phase said = record { frames = frames; phase = phase; said = said; log = [] }
+
+-- the text of a command's fault is printed
+abbrev pub faulted : List ℕ → Result2 → Said → Said
+faulted word fault said = record said { printed = said.printed ++ fault_line word fault }
+
+-- a command answered: the shell has its codes, and that it failed is printed where its code reaches the limit
+abbrev pub told : List ℕ → Codes → Said → Said
+told word answered said = record {
+  parts = record said.parts { codes = answered };
+  printed = said.printed ++ failed_line word answered.code said.parts.limit;
+}
+
+-- the limit that stood comes back
+abbrev pub with_limit : Code → Said → Said
+with_limit limit said = record said { parts = record said.parts { limit = limit } }
+
+-- a command of the newest frame has answered: where the frame ends, its end is the answer of the command that made
+-- it, and so on down
+abbrev pub finish : List ℕ → Codes → Bool → List FrameState → Said → Settled
+finish word answered quits [] said =
+    behind (noted [] answered said.parts.limit ∷ []) (rests [] Ready (told word answered said))
+finish word answered quits (frame ∷ frames) said =
+    if is_ended quits answered said.parts.limit frame
+    then behind (noted (frame ∷ frames) answered said.parts.limit ∷ end_of (suc (length frames)) (answered_frame frame frames answered said.parts.limit) ∷ [])
+    (finish (maker frame.kind) answered false frames (with_limit (limit_behind frames frame.limit) (told word answered said)))
+    else behind (noted (frame ∷ frames) answered said.parts.limit ∷ [])
+    (rests (answered_frame frame frames answered said.parts.limit ∷ frames) Ready (told word answered said))
+
+-- no command was there to answer: the newest frame ends where no line is left
+abbrev pub passed : List FrameState → Said → Settled
+passed [] said = rests [] Ready said
+passed (frame ∷ frames) said =
+    if is_over frame
+    then behind (end_of (suc (length frames)) frame ∷ [])
+    (finish (maker frame.kind) (last_codes frame.last) false frames (with_limit (limit_behind frames frame.limit) said))
+    else rests (frame ∷ frames) Ready said
+
+-- a command answered: the text of its fault is printed, and what follows is the code rule
+abbrev pub finished : List ℕ → Codes → Bool → List FrameState → Said → Settled
+finished word codes quits frames said = finish word codes quits frames (faulted word codes.result2 said)

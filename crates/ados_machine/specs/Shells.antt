@@ -1,0 +1,38 @@
+-- A shell, and what the others see of it.
+use Rattle.std.specs.Prelude.{ℕ, List, []}
+use Rattle.ados_text.specs.declared.codes.Code.{Code}
+use Rattle.ados_find.specs.declared.codes.Codes.{Codes}
+use Rattle.ados_find.specs.Codes.{went_well}
+use Rattle.ados_machine.specs.declared.phases.Phase.{Phase}
+use Rattle.ados_machine.specs.declared.phases.Phase.TheVariants.{Ready}
+use Rattle.ados_flow.specs.Frames.{FrameState, first_limit}
+use Rattle.ados_machine.specs.Sinks.{outputs_in}
+
+-- a shell's parts beside its frames and its phase
+pub record Parts : Type 0 where
+  pub directory : List (List ℕ)
+  pub limit : Code
+  pub codes : Codes
+
+-- a shell; the newest frame is the first
+pub record ShellState : Type 0 where
+  pub frames : List FrameState
+  pub phase : Phase
+  pub parts : Parts
+
+-- a shell begins with these parts, in a directory
+abbrev pub fresh_parts : List (List ℕ) → Parts
+fresh_parts directory = record { directory = directory; limit = first_limit; codes = went_well }
+
+-- the first shell begins in the root
+abbrev pub fresh_shell : ShellState
+fresh_shell = record { frames = []; phase = Ready; parts = fresh_parts [] }
+
+-- what others see of a shell: its current directory and its open outputs
+pub record Seen : Type 0 where
+  pub directory : List (List ℕ)
+  pub outputs : List (List (List ℕ))
+
+-- what is seen of a shell
+abbrev pub seen_of : ShellState → Seen
+seen_of shell = record { directory = shell.parts.directory; outputs = outputs_in shell.frames }
