@@ -73,9 +73,9 @@ turned-takes w out k (Some shell) at e =
     let unended : not w.input_ended ≡ true = (and_parts (is_some (shell_at w 1)) (not w.input_ended) e).1 in
     applied-takes w out k shell.parts.codes _
     (λ ends one.
-        let ended : (input_of w k).is_ended ≡ true = turning-ends (input_of w k) shell.frames (start w shell.parts) shell.phase ends in
-        let first : w.input_ended ≡ true = rw one at ended in
-        true≢false (sym unended ∙ ap not first))
+    let ended : (input_of w k).is_ended ≡ true = turning-ends (input_of w k) shell.frames (start w shell.parts) shell.phase ends in
+    let first : w.input_ended ≡ true = rw one at ended in
+    true≢false (sym unended ∙ ap not first))
     (λ none. let nothing : None ≡ Some shell = rw none at at in cc)
     e
 
@@ -106,4 +106,3 @@ takes-due w e =
       | inl ready ↦ inr ready
       | inr unready ↦ inl (rw (unready, (and_parts (is_some (shell_at w 1)) (not w.input_ended) e).0) refl)
     ]
-

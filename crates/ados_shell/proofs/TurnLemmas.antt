@@ -81,7 +81,6 @@ goes-same scene before mid after t t' n s f r e g = record {
       ∙ ap (λ x. before.reports.items ++ reports_of before.number x.log) e;
 }
 
-
 then-is : {X : Type 0} (b : Bool) (x y : X) → b ≡ true → (if b then x else y) ≡ x
 then-is b x y e = ap (λ t. if t then x else y) e
 

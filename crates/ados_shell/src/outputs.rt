@@ -73,7 +73,13 @@ impl Turn<'_> {
             None => Ok(Opened::Nothing),
             Some(output) => {
                 let busy = open_outputs(scene.alloc, scene.shells)?;
-                Opened::by(scene.alloc, self.current(scene), &busy, self.directory(), output)
+                Opened::by(
+                    scene.alloc,
+                    self.current(scene),
+                    &busy,
+                    self.directory(),
+                    output,
+                )
             }
         }
     }

@@ -76,12 +76,7 @@ impl Turn<'_> {
     }
 
     /// Takes the answer to a prompt: it stands for the arguments as it is.
-    pub fn resume(
-        &mut self,
-        scene: &Scene,
-        asking: &Asking,
-        answer: &Text,
-    ) -> Result<(), NoMemory>
+    pub fn resume(&mut self, scene: &Scene, asking: &Asking, answer: &Text) -> Result<(), NoMemory>
         ensures { OnOk result (Settles scene.now self.old self.new
             (answer_deed answer.now asking.now (here self.old) (course_of scene.now self.old))) }
     {

@@ -85,12 +85,13 @@ goes w k shell scene draft machine.Ends here s t = absurd t
 goes w k shell scene draft (machine.Takes rest turned) here s t =
     let d : IsDrafted k shell w.shared draft turned = subst (λ x. IsDrafted k shell x draft turned) s t.1 in
     let items = of_shell k turned.log in
-    let given = giving turned.course.printed (reports_of k turned.log) in
-    (items,
-    ap (λ q. Accepted (record w { shells = shells_behind w.shells k (moved_of w turned) turned; queue = q; shared = turned.course.shared }) given items)
-    (ap (queue_behind k w.queue) t.0 ∙ queue-stays w k)
-    ∙ ap (λ x. Accepted x given items) (sym (taken-is w k shell draft turned here d))
-    ∙ ap (λ g. Accepted (taken k draft w) g items) (sym (gives w k shell draft turned d)))
+    let given = giving turned.course.printed (reports_of k turned.log) in (
+      items,
+      ap (λ q. Accepted (record w { shells = shells_behind w.shells k (moved_of w turned) turned; queue = q; shared = turned.course.shared }) given items)
+          (ap (queue_behind k w.queue) t.0 ∙ queue-stays w k)
+          ∙ ap (λ x. Accepted x given items) (sym (taken-is w k shell draft turned here d))
+          ∙ ap (λ g. Accepted (taken k draft w) g items) (sym (gives w k shell draft turned d)),
+    )
 
 -- a turn that took the first line of its input
 pub takes : (w : WorldState) (k : ℕ) (shell : ShellState) (scene : Scene) (draft : Draft) (turning : machine.Turning)
@@ -104,12 +105,13 @@ takes w k shell scene draft (machine.Takes rest turned) here s t =
     let d : IsDrafted k shell w.shared draft turned = subst (λ x. IsDrafted k shell x draft turned) s t.1 in
     let items = of_shell k turned.log in
     let given = giving turned.course.printed (reports_of k turned.log) in
-    let queue = queue_behind k w.queue (drop 1 w.queue) in
-    (items,
-    ap (λ q. Accepted (record w { shells = shells_behind w.shells k (moved_of w turned) turned; queue = q; shared = turned.course.shared }) given items)
-    (ap (queue_behind k w.queue) t.0 ∙ queue-next w k)
-    ∙ ap (λ x. Accepted (record x { queue = queue }) given items) (sym (taken-is w k shell draft turned here d))
-    ∙ ap (λ g. Accepted (record (taken k draft w) { queue = queue }) g items) (sym (gives w k shell draft turned d)))
+    let queue = queue_behind k w.queue (drop 1 w.queue) in (
+      items,
+      ap (λ q. Accepted (record w { shells = shells_behind w.shells k (moved_of w turned) turned; queue = q; shared = turned.course.shared }) given items)
+          (ap (queue_behind k w.queue) t.0 ∙ queue-next w k)
+          ∙ ap (λ x. Accepted (record x { queue = queue }) given items) (sym (taken-is w k shell draft turned here d))
+          ∙ ap (λ g. Accepted (record (taken k draft w) { queue = queue }) g items) (sym (gives w k shell draft turned d)),
+    )
 
 -- a turn at which the shell ended
 pub ends : (w : WorldState) (k : ℕ) (shell : ShellState) (scene : Scene) (turning : machine.Turning)

@@ -13,10 +13,10 @@ returns c =
     let fresh = c.new-turn.result in
     let IsDrafted : Turn → Type 0 = λ t. IsDraftOf t c.draft.result in
     elim c.match-next_line.branch [
-      in-None+in_ok-pass-in-None w ↦
+      | in-None+in_ok-pass-in-None w ↦
           script-passed c.args.scene.now c.args.number shell fresh w.pass.new.self c.draft.result shell.frames refl (sym w.in-None.ensures.line)
           c.new-turn.ensures (w.in_ok-pass-in-None.ensures c.args.scene.now) (subst IsDrafted w.turn-is c.draft.ensures)
-    | in-Some+in_ok-move_on-in-Some+in_ok-obey-in-Some w ↦
+      | in-Some+in_ok-move_on-in-Some+in_ok-obey-in-Some w ↦
           (let mid : Turn = record fresh { frames = w.move_on.new.self } in
           let IsMoved : List FrameState → Type 0 = λ frames. IsMovedOn fresh.frames mid.frames frames in
           script-goes c.args.scene.now c.args.number shell fresh mid w.obey.new.self c.draft.result w.in-Some.line.now shell.frames
