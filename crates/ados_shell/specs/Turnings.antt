@@ -28,7 +28,7 @@ IsTurning number shell scene queue Ends machine.Ends = Unit {0}
 IsTurning number shell scene queue (Goes draft) (machine.Takes rest turned) =
     (rest ≡ queue) × IsDrafted number shell scene.shared.now draft turned
 IsTurning number shell scene queue (Takes draft) (machine.Takes rest turned) =
-    (rest ≡ drop 1 queue) × IsDrafted number shell scene.shared.now draft turned
+    (line : List ℕ) × (queue ≡ line ∷ rest) × IsDrafted number shell scene.shared.now draft turned
 IsTurning number shell scene queue _ _ = ⊥
 
 -- the turn of a shell that takes of this input, whatever lines wait behind the first
@@ -62,25 +62,26 @@ IsScriptDrafted number shell scene draft [] = Unit {0}
 IsScriptDrafted number shell scene draft (frame ∷ frames) =
     IsDrafted number shell scene.shared.now draft (machine.frame_turned frame frames (start_of scene shell) (slice_get frame.lines frame.position))
 
--- the machine takes a turn
-abbrev pub IsAccepted : machine.Turning → Type 0
-IsAccepted (machine.Refuses why) = ⊥
-IsAccepted turning = Unit {0}
+-- the machine goes on, for which memory may be wanting: a refusal and a shell's end take none
+abbrev pub MayWantMemory : machine.Turning → Type 0
+MayWantMemory (machine.Refuses why) = ⊥
+MayWantMemory machine.Ends = ⊥
+MayWantMemory (machine.Takes rest turned) = Unit {0}
 
--- the machine takes a turn of a shell with this input, whatever lines wait behind the first
+-- the machine goes on at a turn of a shell with this input, whatever lines wait behind the first
 abbrev pub TakesTurn : Scene → ShellState → Input → Type 0
 TakesTurn scene shell input =
     (queue : List (List ℕ)) → IsFirst (option_copied input.line) queue →
-    IsAccepted (machine.turning (record { queue = queue; is_ended = input.is_ended }) shell.frames (start_of scene shell) shell.phase)
+    MayWantMemory (machine.turning (record { queue = queue; is_ended = input.is_ended }) shell.frames (start_of scene shell) shell.phase)
 
 -- the same of a shell that waits for the answer to a prompt
 abbrev pub TakesAnswer : Scene → ShellState → Asking → Input → Type 0
 TakesAnswer scene shell asking input =
     (queue : List (List ℕ)) → IsFirst (option_copied input.line) queue →
-    IsAccepted (machine.turning (record { queue = queue; is_ended = input.is_ended }) shell.frames (start_of scene shell) (Waiting (ForAnswer asking)))
+    MayWantMemory (machine.turning (record { queue = queue; is_ended = input.is_ended }) shell.frames (start_of scene shell) (Waiting (ForAnswer asking)))
 
 -- the same of a shell that is ready and runs no frame
 abbrev pub TakesConsole : Scene → ShellState → Input → Type 0
 TakesConsole scene shell input =
     (queue : List (List ℕ)) → IsFirst (option_copied input.line) queue →
-    IsAccepted (machine.console_turning queue input.is_ended (start_of scene shell))
+    MayWantMemory (machine.console_turning queue input.is_ended (start_of scene shell))

@@ -35,7 +35,8 @@ impl Shell {
     /// is ready takes the next line of its newest frame; without a frame it takes a line of its input, and ends at the
     /// end of that.
     ///
-    /// `NoMemory` where there is none for what the turn makes, and only where the shell has something to take.
+    /// `NoMemory` where there is none for what the turn makes, and only where the shell has something to
+    /// take: its end takes none.
     pub fn turn(&self, number: u8, scene: &Scene, input: &Input) -> Result<Turning, NoMemory>
         ensures turn { IfOk result (λ turn. GivesTurning number scene.now self.now input.now turn) }
         ensures memory { OnErr result (TakesTurn scene.now self.now input.now) }

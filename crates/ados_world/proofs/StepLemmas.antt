@@ -26,7 +26,7 @@ use Rattle.ados_shell.specs.declared.drafts.ShellDraft.{ShellDraft}
 use Rattle.ados_shell.specs.declared.scenes.Scene.{Scene}
 use Rattle.ados_shell.specs.declared.turnings.Turning.TheVariants as turn
 use Rattle.ados_shell.specs.Drafts.{IsDrafted, behind}
-use Rattle.ados_shell.specs.Turnings.{IsAccepted, IsTurning}
+use Rattle.ados_shell.specs.Turnings.{IsTurning, MayWantMemory}
 use Rattle.ados_shell.specs.Turns.{start_of}
 use Rattle.ados_world.specs.Steps.{ended_world, shells_by, taken}
 
@@ -102,13 +102,13 @@ pub takes : (w : WorldState) (k : ℕ) (shell : ShellState) (scene : Scene) (dra
 takes w k shell scene draft (machine.Refuses why) here s t = absurd t
 takes w k shell scene draft machine.Ends here s t = absurd t
 takes w k shell scene draft (machine.Takes rest turned) here s t =
-    let d : IsDrafted k shell w.shared draft turned = subst (λ x. IsDrafted k shell x draft turned) s t.1 in
+    let d : IsDrafted k shell w.shared draft turned = subst (λ x. IsDrafted k shell x draft turned) s t.2 in
     let items = of_shell k turned.log in
     let given = giving turned.course.printed (reports_of k turned.log) in
     let queue = queue_behind k w.queue (drop 1 w.queue) in (
       items,
       ap (λ q. Accepted (record w { shells = shells_behind w.shells k (moved_of w turned) turned; queue = q; shared = turned.course.shared }) given items)
-          (ap (queue_behind k w.queue) t.0 ∙ queue-next w k)
+          (ap (λ q. queue_behind k w.queue (drop 1 q)) (sym t.1) ∙ queue-next w k)
           ∙ ap (λ x. Accepted (record x { queue = queue }) given items) (sym (taken-is w k shell draft turned here d))
           ∙ ap (λ g. Accepted (record (taken k draft w) { queue = queue }) g items) (sym (gives w k shell draft turned d)),
     )
@@ -122,10 +122,10 @@ ends w k shell scene machine.Ends t = ([], refl)
 ends w k shell scene (machine.Takes rest turned) t = absurd t
 
 -- a turn that was accepted may want memory
-pub wants : (w : WorldState) (k : ℕ) (codes : Codes) (turning : machine.Turning) → IsAccepted turning
+pub wants : (w : WorldState) (k : ℕ) (codes : Codes) (turning : machine.Turning) → MayWantMemory turning
     → IsAnswer (event.Turn k) (Err NoMemory) (applied w k codes turning)
 wants w k codes (machine.Refuses why) t = absurd t
-wants w k codes machine.Ends t = tt
+wants w k codes machine.Ends t = absurd t
 wants w k codes (machine.Takes rest turned) t = tt
 
 -- the shell of a number, once all were carried
