@@ -15,7 +15,7 @@ use Rattle.ados_line.specs.declared.signs.Sign.TheVariants.{Input, Output, Appen
 use Rattle.ados_line.specs.declared.cuts.Cut.{Cut}
 use Rattle.ados_line.specs.declared.lines.Expanded.{Expanded}
 use Rattle.ados_line.specs.Signs.{begins, is_both, sign_at, width_of}
-use Rattle.ados_line.specs.Cut.{with_piece, with_blanks, with_name, named, is_taken, redirected, by_sign, cut_word, cut_item, cut_from, cut_of, nothing_read, came_to, expanded_by, expanded_of, IsExpanded}
+use Rattle.ados_line.specs.Cut.{with_piece, with_blanks, with_name, named, is_taken, redirected, by_sign, cut_word, cut_item, cut_from, cut_of, nothing_read, came_to, line_limit, expanded_by, expanded_of, IsExpanded}
 use Rattle.ados_line.specs.Comment.{without_comment}
 use Rattle.ados_line.specs.Pieces.{Piece, Blank, Kept, Redirected, sign_bytes, written, EndsAt, IsPieceAt, Stand, kept, command_of, args_of, inputs, outputs, IsInPieces}
 
@@ -367,7 +367,7 @@ by-cut raw (Err fault) h found e = cc
 expanded-parts : (raw : List ℕ) (found : Expanded) → expanded_of raw ≡ Ok found → IsInPieces raw found
 expanded-parts raw found =
     let P : Result Expanded LineFault → Type 0 = λ r. r ≡ Ok found → IsInPieces raw found in
-    cond_both (nat_lt 512 (length raw)) (Err LineTooLong) _ P (λ _ e. cc) (λ _ e. by-cut raw _ refl found e)
+    cond_both (nat_lt line_limit (length raw)) (Err LineTooLong) _ P (λ _ e. cc) (λ _ e. by-cut raw _ refl found e)
 
 -- what a line came to, if it was cut
 pub in_pieces : (result : Result Expanded LineFault) (raw : List ℕ) → IsExpanded result raw → IfOk result (IsInPieces raw)

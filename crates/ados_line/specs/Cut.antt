@@ -94,9 +94,13 @@ abbrev pub expanded_by : Result Cut LineFault → Result Expanded LineFault
 expanded_by (Ok read) = Ok (came_to read.command read)
 expanded_by (Err fault) = Err fault
 
+-- a line has at most so many bytes
+abbrev pub line_limit : ℕ
+line_limit = 512
+
 -- What a raw line comes to: it has at most 512 bytes, its comment is dropped, and the rest is cut.
 abbrev pub expanded_of : Text → Result Expanded LineFault
-expanded_of raw = if nat_lt 512 (length raw) then Err LineTooLong else expanded_by (cut_of (without_comment raw))
+expanded_of raw = if nat_lt line_limit (length raw) then Err LineTooLong else expanded_by (cut_of (without_comment raw))
 
 -- The answer is the definition's, or memory was wanting.
 abbrev pub IsExpanded : Result Expanded LineFault → Text → Type 0

@@ -1,5 +1,8 @@
 -- The reports of a run are the ends of scripts in its trace.
-use Rattle.std.proofs.Common.{◌≡◌, ℕ, List, [], ◌∷◌, ◌++◌, Option, Some, None, Result, Ok, Err, length, refl, ap, inl, inr, nat_lt}
+use Rattle.std.proofs.Common.{◌≡◌, ℕ, List, [], ◌∷◌, ◌++◌, Option, Some, None, Result, Ok, Err, length, refl, ap, inl, inr}
+use Rattle.std.specs.Prelude.{nat_le, nat_lt}
+use Rattle.ados_line.specs.Cut.{line_limit}
+use Rattle.ados_machine.specs.Step.{queue_limit}
 use Rattle.std.proofs.lemmas.Bool.{cases_Bool}
 use Rattle.ados_find.specs.declared.codes.Codes.{Codes}
 use Rattle.ados_machine.specs.declared.events.Event.{Event}
@@ -53,9 +56,9 @@ typed-reports : (w : WorldState) (line : List ℕ) → Reports (typed w line)
 typed-reports w line =
     elim (cases_Bool w.input_ended) [
       | inl e ↦ rw e tt
-      | inr e ↦ rw e (elim (cases_Bool (nat_lt 255 (length w.queue))) [
+      | inr e ↦ rw e (elim (cases_Bool (nat_le queue_limit (length w.queue))) [
         | inl f ↦ rw f tt
-        | inr f ↦ rw f (elim (cases_Bool (nat_lt 512 (length line))) [
+        | inr f ↦ rw f (elim (cases_Bool (nat_lt line_limit (length line))) [
           | inl g ↦ rw g tt
           | inr g ↦ rw g refl
         ])

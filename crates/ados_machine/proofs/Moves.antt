@@ -1,5 +1,8 @@
 -- A step moves each shell's frames by what its own trace gets.
-use Rattle.std.proofs.Common.{◌≡◌, ◌∙◌, sym, ℕ, ◌-◌, List, [], Option, Some, None, Result, Ok, Err, length, refl, ap, inl, inr, nat_lt}
+use Rattle.std.proofs.Common.{◌≡◌, ◌∙◌, sym, ℕ, ◌-◌, List, [], Option, Some, None, Result, Ok, Err, length, refl, ap, inl, inr}
+use Rattle.std.specs.Prelude.{nat_le, nat_lt}
+use Rattle.ados_line.specs.Cut.{line_limit}
+use Rattle.ados_machine.specs.Step.{queue_limit}
 use Rattle.std.specs.List.{slice_set}
 use Rattle.std.proofs.lemmas.Bool.{cases_eq, cases_Bool}
 use Rattle.ados_find.specs.declared.codes.Codes.{Codes}
@@ -112,9 +115,9 @@ typed-leads : (w : WorldState) (line : List ℕ) → AllSane w.shells → Leads 
 typed-leads w line sane =
     elim (cases_Bool w.input_ended) [
       | inl e ↦ rw e tt
-      | inr e ↦ rw e (elim (cases_Bool (nat_lt 255 (length w.queue))) [
+      | inr e ↦ rw e (elim (cases_Bool (nat_le queue_limit (length w.queue))) [
         | inl f ↦ rw f tt
-        | inr f ↦ rw f (elim (cases_Bool (nat_lt 512 (length line))) [
+        | inr f ↦ rw f (elim (cases_Bool (nat_lt line_limit (length line))) [
           | inl g ↦ rw g tt
           | inr g ↦ rw g (λ j. stays w.shells j sane)
         ])

@@ -1,5 +1,6 @@
 -- The step: what an event makes of a world.
-use Rattle.std.specs.Prelude.{ℕ, List, [], ◌∷◌, ◌++◌, length, true, nat_lt, ◌==◌, ◌-◌, Option, Some, None, slice_set, if◌then◌else◌}
+use Rattle.std.specs.Prelude.{ℕ, List, [], ◌∷◌, ◌++◌, length, true, nat_le, nat_lt, ◌==◌, ◌-◌, Option, Some, None, slice_set, if◌then◌else◌}
+use Rattle.ados_line.specs.Cut.{line_limit}
 use Rattle.ados_find.specs.declared.codes.Codes.{Codes}
 use Rattle.ados_find.specs.declared.outcomes.Renamed.{Renamed}
 use Rattle.ados_machine.specs.declared.events.Event.{Event}
@@ -83,12 +84,16 @@ abbrev pub replied : Option ShellState → Response
 replied None = Refused NoSuchShell
 replied (Some shell) = Refused WrongAnswer
 
+-- so many typed lines wait at most
+abbrev pub queue_limit : ℕ
+queue_limit = 256
+
 -- a line joins the queue
 abbrev pub typed : WorldState → List ℕ → Response
 typed w line =
     if w.input_ended then Refused NotReady else
-    (if nat_lt 255 (length w.queue) then Refused QueueFull else
-    (if nat_lt 512 (length line) then Refused LineTooLong else
+    (if nat_le queue_limit (length w.queue) then Refused QueueFull else
+    (if nat_lt line_limit (length line) then Refused LineTooLong else
     Accepted (record w { queue = w.queue ++ line ∷ [] }) (giving [] []) []))
 
 -- no further line will be typed
