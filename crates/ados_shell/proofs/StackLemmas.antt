@@ -1,5 +1,5 @@
 -- The frames of a shell, as a turn changes them.
-use Rattle.std.proofs.Common.{◌≡◌, ◌∙◌, ◌++◌, ◌+◌, ◌∷◌, [], List, ℕ, ◌<◌, suc, Bool, true, length, reverse, ap, subst, sym, refl}
+use Rattle.std.proofs.Common.{◌≡◌, ◌∙◌, ◌++◌, ◌+◌, ◌∷◌, [], List, ◌<◌, suc, true, length, reverse, ap, subst, sym, refl, arith}
 use Rattle.std.specs.Prelude.{if◌then◌else◌}
 use Rattle.std.proofs.Math.Nat.{not-suc-le-zero}
 use Rattle.std.proofs.lemmas.List.{length-append, length-reverse}
@@ -8,7 +8,7 @@ use Rattle.ados_flow.specs.declared.kinds.Kind.{Kind}
 use Rattle.ados_flow.specs.declared.kinds.Kind.TheVariants.{Script}
 use Rattle.ados_flow.specs.Frames.{FrameState, first_limit, is_script, limit_behind, limit_for, scripts_in}
 use Rattle.ados_machine.specs.Settle.{is_in_script}
-use Rattle.ados_machine.specs.Sinks.{Sink, Console, sink_in, sink_or}
+use Rattle.ados_machine.specs.Sinks.{Console, sink_in, sink_or}
 use Rattle.ados_shell.specs.Stacks.{sink_above}
 
 script-kind : (kind : Kind) → is_script kind ≡ true
@@ -21,10 +21,10 @@ some-script : (frames : List FrameState) → 0 < length frames → is_in_script 
 some-script [] h = absurd (not-suc-le-zero h)
 some-script (frame ∷ frames) h = in-script frame frames
 
-pub not-free : (own lent : List FrameState) → 0 < length own + length lent → is_in_script (reverse own ++ reverse lent) ≡ true
-not-free own lent h =
-    some-script (reverse own ++ reverse lent)
-    (subst (λ n. 0 < n) (sym (length-append (reverse own) (reverse lent) ∙ ap (λ n. n + length (reverse lent)) (length-reverse own) ∙ ap (λ n. length own + n) (length-reverse lent))) h)
+pub not-free : (own below : List FrameState) → 0 < length own → is_in_script (reverse own ++ below) ≡ true
+not-free own below h =
+    some-script (reverse own ++ below)
+    (subst (λ n. 0 < n) (sym (length-append (reverse own) below ∙ ap (λ n. n + length below) (length-reverse own))) (omega (arith, h)))
 
 -- the limit of its beginning comes back at a script's end where a script is left
 pub limit-is : (frames : List FrameState) (limit : Code) → limit_behind frames limit ≡ (if is_in_script frames then limit else first_limit)

@@ -1,25 +1,35 @@
--- What a turn changes, ready to be moved in.
-use Rattle.std.specs.Prelude.{◌≡◌, ℕ, ◌++◌, List, length, option_map, reverse, take, unwrap_or}
+-- What a turn has changed so far, by the machine's definitions.
+use Rattle.std.specs.Prelude.{◌≡◌, ℕ, [], ◌∷◌, ◌++◌, List, Option, None, option_map, unwrap_or}
+use Rattle.ados_text.specs.declared.codes.Code.{Code}
+use Rattle.ados_find.specs.declared.codes.Codes.{Codes}
+use Rattle.ados_find.specs.declared.outcomes.Renamed.{Renamed}
 use Rattle.ados_find.specs.Shared.{SharedState, version}
-use Rattle.ados_flow.specs.Frames.{FrameState}
+use Rattle.ados_machine.specs.declared.outs.Out.{Out}
+use Rattle.ados_machine.specs.declared.phases.Phase.{Phase}
+use Rattle.ados_flow.specs.Frames.{FrameState, limit_behind}
 use Rattle.ados_machine.specs.Items.{reports_of}
-use Rattle.ados_machine.specs.Shells.{ShellState}
-use Rattle.ados_machine.specs.Settle.{Turned}
-use Rattle.ados_machine.specs.Step.{shell_of_turn}
+use Rattle.ados_machine.specs.Shells.{Parts, ShellState}
+use Rattle.ados_machine.specs.Course.{Course}
+use Rattle.ados_machine.specs.Deeds.{Here, Deed}
+use Rattle.ados_machine.specs.Settled.{Settled}
+use Rattle.ados_machine.specs.Settle.{Turned, by_rule, here_of, settle}
+use Rattle.ados_machine.specs.Step.{giving, shell_of_turn}
+use Rattle.ados_machine.specs.World.{seen_in}
+use Rattle.ados_shell.specs.declared.scenes.Scene.{Scene}
 use Rattle.ados_shell.specs.declared.drafts.Draft.{Draft}
 use Rattle.ados_shell.specs.declared.drafts.ShellDraft.{ShellDraft}
-use Rattle.ados_shell.specs.declared.turns.Turn.{Turn}
+use Rattle.ados_shell.specs.Reports.{report_of}
 use Rattle.ados_shell.specs.Shells.{phase_of}
+use Rattle.ados_shell.specs.Stacks.{frames_in}
 
--- so many of the oldest frames, the newest first
-abbrev pub oldest : ℕ → List FrameState → List FrameState
-oldest n frames = reverse (take n (reverse frames))
+abbrev pub phase_in : ShellDraft → Phase
+phase_in draft = phase_of (option_map (λ w. w.value) draft.waits)
 
 -- the shell behind what a turn makes of it
 abbrev pub behind : ShellDraft → ShellState → ShellState
 behind draft shell = record {
-  frames = reverse draft.frames.items ++ oldest draft.kept shell.frames;
-  phase = phase_of (option_map (λ w. w.value) draft.waits);
+  frames = frames_in shell draft.frames;
+  phase = phase_in draft;
   parts = record {
     directory = unwrap_or draft.directory shell.parts.directory;
     limit = draft.limit;
@@ -27,23 +37,108 @@ behind draft shell = record {
   };
 }
 
--- the draft holds what a turn of a shell leaves
-pub record IsDrafted (number : ℕ) (shell : ShellState) (old : SharedState) (draft : Draft) (turned : Turned) : Type 0 where
-  pub shell_is : behind draft.shell shell ≡ shell_of_turn turned
-  pub shared_is : version old draft.shared ≡ turned.course.shared
+-- what an event gives that a draft holds
+abbrev pub out_of : Draft → Out
+out_of draft = giving draft.printed.items draft.reports.items
+
+abbrev pub frames_of : Scene → Draft → List FrameState
+frames_of scene draft = frames_in scene.shell.now draft.shell.frames
+
+-- where the next line of the newest frame stands
+abbrev pub here : Scene → Draft → Here
+here scene draft = here_of (frames_of scene draft)
+
+-- the shell's parts as they stand
+abbrev pub parts_of : Scene → Draft → Parts
+parts_of scene draft = (behind draft.shell scene.shell.now).parts
+
+-- a turn of the scene's shell begins: nothing is done yet
+abbrev pub start_of : Scene → Course
+start_of scene = record {
+  parts = scene.shell.now.parts;
+  shared = scene.shared.now;
+  seen = seen_in scene.shells.now;
+  printed = [];
+  renamed = None;
+}
+
+-- what a turn holds that the code rule does not change
+pub record Held : Type 0 where
+  pub directory : Option (List (List ℕ))
+  pub shared : Option SharedState
+  pub renamed : Option Renamed
+
+abbrev pub held_of : Draft → Held
+held_of draft = record {
+  directory = draft.shell.directory;
+  shared = draft.shared;
+  renamed = option_map (λ r. r.value) draft.renamed;
+}
+
+abbrev pub course_by : Scene → Held → Code → Codes → List ℕ → Course
+course_by scene held limit codes printed = record {
+  parts = record { directory = unwrap_or held.directory scene.shell.now.parts.directory; limit = limit; codes = codes };
+  shared = version scene.shared.now held.shared;
+  seen = seen_in scene.shells.now;
+  printed = printed;
+  renamed = held.renamed;
+}
+
+-- what a turn hands on that sees this
+abbrev pub course_of : Scene → Draft → Course
+course_of scene draft = course_by scene (held_of draft) draft.shell.limit draft.shell.codes draft.printed.items
+
+-- nothing is changed yet of a shell
+pub record IsUnchanged (shell : ShellState) (draft : ShellDraft) : Type 0 where
+  pub frames_are : frames_in shell draft.frames ≡ shell.frames
+  pub parts_are : (behind draft shell).parts ≡ shell.parts
+
+pub record IsFresh (shell : ShellState) (draft : Draft) : Type 0 where
+  pub shell_is : IsUnchanged shell draft.shell
+  pub shared_is : draft.shared ≡ None
+  pub renamed_is : option_map (λ r. r.value) draft.renamed ≡ None
+  pub printed_is : draft.printed.items ≡ []
+  pub reports_are : draft.reports.items ≡ []
+
+-- a turn went on by what a definition leaves
+pub record GoesOn (scene : Scene) (before after : Draft) (turned : Turned) : Type 0 where
+  pub frames : frames_of scene after ≡ turned.frames
+  pub phase : phase_in after.shell ≡ turned.phase
+  pub course : course_of scene after ≡ turned.course
+  pub reports : after.reports.items ≡ before.reports.items ++ reports_of scene.number turned.log
+
+-- a turn went on by a deed
+abbrev pub Settles : Scene → Draft → Draft → Deed → Type 0
+Settles scene before after deed = GoesOn scene before after (settle deed (frames_of scene before))
+
+-- a turn went on by what the code rule leaves
+abbrev pub IsRuled : Scene → Draft → Draft → Settled → Type 0
+IsRuled scene before after settled = GoesOn scene before after (by_rule (course_of scene before) settled)
+
+-- the draft holds what a turn of the scene's shell leaves
+pub record IsDrafted (scene : Scene) (draft : Draft) (turned : Turned) : Type 0 where
+  pub shell_is : behind draft.shell scene.shell.now ≡ shell_of_turn turned
+  pub shared_is : version scene.shared.now draft.shared ≡ turned.course.shared
   pub renamed_is : option_map (λ r. r.value) draft.renamed ≡ turned.course.renamed
   pub printed_is : draft.printed.items ≡ turned.course.printed
-  pub reports_are : draft.reports.items ≡ reports_of number turned.log
+  pub reports_are : draft.reports.items ≡ reports_of scene.number turned.log
 
--- the draft holds what a turn has changed
-pub record IsDraftOf (turn : Turn) (draft : Draft) : Type 0 where
-  pub kept_are : draft.shell.kept ≡ length turn.frames.lent.now
-  pub frames_are : draft.shell.frames.items ≡ turn.frames.own.items
-  pub waits_is : draft.shell.waits ≡ turn.waits
-  pub limit_is : draft.shell.limit ≡ turn.limit
-  pub codes_are : draft.shell.codes ≡ turn.codes
-  pub directory_is : draft.shell.directory ≡ turn.directory
-  pub shared_is : draft.shared ≡ turn.shared
-  pub renamed_is : draft.renamed ≡ turn.renamed
-  pub printed_is : draft.printed.items ≡ turn.printed.items
-  pub reports_are : draft.reports.items ≡ turn.reports.items
+-- the end of a frame was reported, and its limit restored
+pub record IsEnded (scene : Scene) (before after : Draft) (frame : FrameState) : Type 0 where
+  pub frames : after.shell.frames ≡ before.shell.frames
+  pub held : held_of after ≡ held_of before
+  pub limit : after.shell.limit ≡ limit_behind (frames_of scene before) frame.limit
+  pub codes : after.shell.codes ≡ before.shell.codes
+  pub printed : after.printed.items ≡ before.printed.items
+  pub reports : after.reports.items ≡ before.reports.items ++ report_of scene.number frame ∷ []
+
+-- what a command made was moved in
+pub record HoldsEffect (before after : Draft) (limit : Code) (directory : Option (List (List ℕ))) (shared : Option SharedState) (renamed : Option Renamed) : Type 0 where
+  pub frames : after.shell.frames ≡ before.shell.frames
+  pub limit_is : after.shell.limit ≡ limit
+  pub codes : after.shell.codes ≡ before.shell.codes
+  pub directory_is : (old : List (List ℕ)) → unwrap_or after.shell.directory old ≡ unwrap_or directory (unwrap_or before.shell.directory old)
+  pub shared_is : (old : SharedState) → version old after.shared ≡ version (version old before.shared) shared
+  pub renamed_is : option_map (λ r. r.value) after.renamed ≡ renamed
+  pub printed : after.printed.items ≡ before.printed.items
+  pub reports : after.reports.items ≡ before.reports.items

@@ -1,7 +1,6 @@
 pub mod Shells
 pub mod Reports
 pub mod Stacks
-pub mod Turns
 pub mod Drafts
 pub mod Outputs
 pub mod Turnings

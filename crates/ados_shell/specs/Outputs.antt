@@ -11,8 +11,8 @@ use Rattle.ados_machine.specs.Opening as line
 use Rattle.ados_shell.specs.declared.outputs.Opened.{Opened}
 use Rattle.ados_shell.specs.declared.outputs.Opened.TheVariants.{Nothing, Nil, File}
 use Rattle.ados_shell.specs.declared.scenes.Scene.{Scene}
-use Rattle.ados_shell.specs.declared.turns.Turn.{Turn}
-use Rattle.ados_shell.specs.Turns.{course_of}
+use Rattle.ados_shell.specs.declared.drafts.Draft.{Draft}
+use Rattle.ados_shell.specs.Drafts.{course_of}
 
 -- an output was opened: a file, with the shared parts behind that, or another, for which nothing changes
 abbrev pub IsOpened : SharedState → Result Opened FsFault → Result line.Opened Result2 → Type 0
@@ -24,10 +24,8 @@ IsOpened shared (Err NoMemory) opened = Unit {0}
 IsOpened shared _ _ = ⊥
 
 -- a turn after output was put, and what the command answers then
-pub record IsPut (scene : Scene) (before after : Turn) (codes : Codes) (done : course.Put) : Type 0 where
-  pub number : after.number ≡ before.number
-  pub shell : after.shell.now ≡ before.shell.now
-  pub frames : after.frames ≡ before.frames
+pub record IsPut (scene : Scene) (before after : Draft) (codes : Codes) (done : course.Put) : Type 0 where
+  pub frames : after.shell.frames ≡ before.shell.frames
   pub codes_are : codes ≡ done.codes
   pub course : course_of scene after ≡ done.course
   pub reports : after.reports.items ≡ before.reports.items

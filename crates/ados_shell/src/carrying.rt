@@ -1,5 +1,5 @@
 // Carrying: a shell's current directory moves with an object that was moved.
-ghost use Rattle.std.specs.Prelude.{◌≡◌, IfOk, Some, option_map};
+ghost use Rattle.std.specs.Prelude.{◌≡◌, IfOk, OnOk, option_map};
 ghost use Rattle.std.specs.Option.{option_copied};
 ghost use Rattle.ados_machine.specs.Carrying.{carried_shell};
 
@@ -30,17 +30,16 @@ impl Shell {
 impl ShellDraft {
     ghost use Rattle.ados_shell.specs.Drafts.{behind};
 
-    /// The same draft of a shell, for the shell with its current directory carried by what was moved.
-    pub fn carried(self, shell: &Shell, moved: &Renamed) -> Result<ShellDraft, NoMemory>
-        ensures { IfOk result (λ draft. behind draft (carried_shell moved.now shell.now) ≡ carried_shell moved.now (behind self shell.now)) }
+    /// From now on the draft is one for the shell with its current directory carried by what was moved.
+    pub fn carry(&mut self, shell: &Shell, moved: &Renamed) -> Result<(), NoMemory>
+        ensures { OnOk result (behind self.new (carried_shell moved.now shell.now) ≡ carried_shell moved.now (behind self.old shell.now)) }
     {
-        let mut draft = self;
-        let directory = match &draft.directory {
-            None => shell.directory().carried(&moved.from, &moved.to)?,
-            Some(directory) => directory.carried(&moved.from, &moved.to)?,
+        let directory = match &self.directory {
+            None => shell.directory(),
+            Some(directory) => directory,
         };
-        draft.directory = Some(directory);
-        Ok(draft)
+        self.directory = Some(directory.carried(&moved.from, &moved.to)?);
+        Ok(())
     }
 }
 

@@ -1,21 +1,27 @@
-// What a turn changes, ready to be moved in.
-ghost use Rattle.std.specs.Prelude.{◌≡◌, OnErr, OnOk};
+// What a turn has changed so far, ready to be moved in.
+ghost use Rattle.std.specs.Prelude.{◌≡◌, [], OnErr, OnOk, option_map};
+ghost use Rattle.ados_find.specs.Shared.{version};
+ghost use Rattle.ados_machine.specs.Step.{giving};
 
+use crate::scenes::Scene;
 use crate::shells::Shell;
+use crate::stacks::Stack;
 use ados_find::{Codes, Renamed, Shared};
-use ados_flow::Frame;
-use ados_machine::{EndReport, Wait};
+use ados_flow::FIRST_LIMIT;
+use ados_machine::{EndReport, Out, Wait};
 use ados_ram::Place;
 use ados_text::{Code, NoMemory};
+use std::alloc::Global;
 
-/// What a turn changes, ready to be moved in.
+/// What a turn has changed so far, and nothing else. One draft serves for one turn after another, so that its buffers
+/// live on.
 #[derive(Drop)]
 pub struct Draft {
-    /// What it makes of its shell.
+    /// What the turn makes of its shell.
     pub shell: ShellDraft,
     /// The shared parts, where they are new ones.
     pub shared: Option<Shared>,
-    /// The object that it renamed, by which the current directories of all shells are carried.
+    /// The object that was renamed, by which the current directories of all shells are carried.
     pub renamed: Option<Box<Renamed>>,
     /// What is printed on the console.
     pub printed: Vec<u8>,
@@ -25,10 +31,8 @@ pub struct Draft {
 
 /// What a turn makes of its shell. What it did not change it does not hold.
 pub struct ShellDraft {
-    /// So many of the oldest frames stay as they are.
-    pub kept: usize,
-    /// The frames above them, the oldest first.
-    pub frames: Vec<Frame>,
+    /// The frames.
+    pub frames: Stack,
     /// What the shell waits for, where it is not ready.
     pub waits: Option<Box<Wait>>,
     /// The fail limit.
@@ -43,7 +47,6 @@ pub struct ShellDraft {
 impl Drop for ShellDraft {
     fn drop(self) {
         let ShellDraft {
-            kept: _kept,
             frames: _frames,
             waits: _waits,
             limit: _limit,
@@ -53,35 +56,135 @@ impl Drop for ShellDraft {
     }
 }
 
+impl Draft {
+    ghost use Rattle.ados_shell.specs.Drafts.{HoldsEffect, IsFresh, out_of, parts_of};
+
+    /// A draft in which nothing is changed yet.
+    pub fn new(alloc: Global) -> Draft
+        ensures { out_of result ≡ giving [] [] }
+    {
+        Draft {
+            shell: ShellDraft {
+                frames: Stack::new(alloc),
+                waits: None,
+                limit: FIRST_LIMIT,
+                codes: Codes::NONE,
+                directory: None,
+            },
+            shared: None,
+            renamed: None,
+            printed: Vec::new(alloc),
+            reports: Vec::new(alloc),
+        }
+    }
+
+    /// A turn of a shell begins: nothing is changed yet.
+    pub fn begin_turn(&mut self, shell: &Shell)
+        ensures { IsFresh shell.now self.new }
+    {
+        self.shell.begin_turn(shell);
+        self.shared = None;
+        self.renamed = None;
+        self.printed.clear();
+        self.reports.clear();
+    }
+
+    /// Nothing is printed, and no script ended.
+    pub fn give_nothing(&mut self)
+        ensures { out_of self.new ≡ giving [] [] }
+    {
+        self.printed.clear();
+        self.reports.clear();
+    }
+
+    /// What the event gives that printed this, and at which these scripts ended.
+    pub fn into_out(self) -> Out
+        ensures { result ≡ out_of self }
+    {
+        let Draft {
+            shell: _,
+            shared: _,
+            renamed: _,
+            printed,
+            reports,
+        } = self;
+        Out::giving(printed, reports)
+    }
+
+    /// The current directory as it stands.
+    pub fn directory<'b>(&'b self, scene: &'b Scene) -> &'b Place
+        ensures { result.now ≡ (parts_of scene.now self.now).directory }
+    {
+        match &self.shell.directory {
+            None => scene.shell.directory(),
+            Some(directory) => directory,
+        }
+    }
+
+    /// The shared parts as they stand.
+    pub fn current<'b>(&'b self, scene: &'b Scene) -> &'b Shared
+        ensures { result.now ≡ version scene.now.shared.now self.now.shared }
+    {
+        match &self.shared {
+            None => scene.shared,
+            Some(new) => new,
+        }
+    }
+
+    /// What a command made is moved in: the fail limit, a new directory and new shared parts, where there are any, and
+    /// what was renamed.
+    pub fn affect(
+        &mut self,
+        limit: Code,
+        directory: Option<Place>,
+        shared: Option<Shared>,
+        renamed: Option<Box<Renamed>>,
+    )
+        ensures { HoldsEffect self.old self.new limit directory shared (option_map (λ r. r.value) renamed) }
+    {
+        self.shell.limit = limit;
+        if let Some(directory) = directory {
+            self.shell.directory = Some(directory);
+        }
+        if let Some(shared) = shared {
+            self.shared = Some(shared);
+        }
+        self.renamed = renamed;
+    }
+}
+
 impl ShellDraft {
-    ghost use Rattle.ados_shell.specs.Drafts.{behind};
+    ghost use Rattle.ados_shell.specs.Drafts.{IsUnchanged, behind};
+
+    /// A turn of a shell begins: nothing is changed yet.
+    fn begin_turn(&mut self, shell: &Shell)
+        ensures { IsUnchanged shell.now self.new }
+    {
+        self.frames.keep_all(shell);
+        self.waits = None;
+        self.limit = shell.limit;
+        self.codes = shell.codes;
+        self.directory = None;
+    }
 
     /// Moves in what a turn makes of its shell.
     ///
     /// `NoMemory` where there is no room for the frames; the shell is then as it was.
-    pub fn move_in(self, shell: &mut Shell) -> Result<(), NoMemory>
-        ensures ok { OnOk result (shell.new ≡ behind self shell.old) }
+    pub fn move_in(&mut self, shell: &mut Shell) -> Result<(), NoMemory>
+        ensures ok { OnOk result (shell.new ≡ behind self.old shell.old) }
         ensures err { OnErr result (shell.new ≡ shell.old) }
     {
-        let ShellDraft {
-            kept,
-            mut frames,
-            waits,
-            limit,
-            codes,
-            directory,
-        } = self;
-        shell.frames.reserve(frames.len())?;
-        shell.frames.truncate(kept);
-        let Ok(()) = shell.frames.append(&mut frames) else {
+        let Stack { kept, own } = &mut self.frames;
+        shell.frames.reserve(own.len())?;
+        shell.frames.truncate(*kept);
+        let Ok(()) = shell.frames.append(own) else {
             unreachable!();
         };
-        shell.waits = waits;
-        shell.limit = limit;
-        shell.codes = codes;
-        match directory {
-            None => {}
-            Some(directory) => shell.directory = directory,
+        shell.waits = self.waits.take();
+        shell.limit = self.limit;
+        shell.codes = self.codes;
+        if let Some(directory) = self.directory.take() {
+            shell.directory = directory;
         }
         Ok(())
     }

@@ -1,5 +1,5 @@
 #![tactic(auto)]
-//! One shell: its frames, what it waits for and its parts; and a turn of it, which gives a draft of what it changes.
+//! One shell: its frames, what it waits for and its parts; and a turn of it, which fills a draft with what it changes.
 
 mod carrying;
 mod code_rule;
@@ -16,7 +16,6 @@ mod seen;
 mod shells;
 mod stacks;
 mod turnings;
-mod turns;
 
 pub use commands::Commands;
 pub use drafts::{Draft, ShellDraft};

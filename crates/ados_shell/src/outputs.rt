@@ -7,9 +7,9 @@ ghost use Rattle.ados_machine.specs.Sinks.{To, sink_or};
 ghost use Rattle.ados_find.specs.declared.targets.Target.TheVariants.{At};
 
 use crate::console::push_output;
+use crate::drafts::Draft;
 use crate::scenes::Scene;
 use crate::seen::open_outputs;
-use crate::turns::Turn;
 use ados_find::{Codes, Shared, Target, target_of};
 use ados_line::Redirection;
 use ados_ram::{Busy, FsFault, Place};
@@ -61,9 +61,9 @@ impl Opened {
     }
 }
 
-impl Turn<'_> {
+impl Draft {
     ghost use Rattle.ados_shell.specs.Outputs.{IsOpened, IsPut};
-    ghost use Rattle.ados_shell.specs.Turns.{course_of, here};
+    ghost use Rattle.ados_shell.specs.Drafts.{course_of, here};
 
     /// Opens what a redirection names, as the shell and the shared parts stand.
     pub fn open(&self, scene: &Scene, output: Option<&Redirection>) -> Result<Opened, FsFault>
@@ -77,7 +77,7 @@ impl Turn<'_> {
                     scene.alloc,
                     self.current(scene),
                     &busy,
-                    self.directory(),
+                    self.directory(scene),
                     output,
                 )
             }
@@ -94,11 +94,11 @@ impl Turn<'_> {
         codes: Codes,
     ) -> Result<Codes, NoMemory>
         ensures { IfOk result (λ answered. IsPut scene.now self.old self.new answered
-            (put (sink_or (option_copied target.entry) (here self.old).sink) output codes (course_of scene.now self.old))) }
+            (put (sink_or (option_copied target.entry) (here scene.now self.old).sink) output codes (course_of scene.now self.old))) }
     {
         match target {
             Some(target) => self.put_to(scene, target, output, codes),
-            None => match self.frames.output()? {
+            None => match self.shell.frames.output(scene.shell)? {
                 Some(target) => self.put_to(scene, &target, output, codes),
                 None => {
                     push_output(&mut self.printed, output)?;

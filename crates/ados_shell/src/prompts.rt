@@ -5,27 +5,27 @@ ghost use Rattle.ados_machine.specs.Lines.{answer_deed, input_deed, prompt_deed}
 ghost use Rattle.ados_machine.specs.Prompts.{input_line, prompt};
 ghost use Rattle.ados_ram.specs.FileOperations.{Gives};
 
+use crate::drafts::Draft;
 use crate::inputs::{asks, input_line};
 use crate::scenes::Scene;
 use crate::seen::open_outputs;
-use crate::turns::Turn;
 use ados_line::Line;
 use ados_machine::{Asking, Builtin, Wait};
 use ados_ram::FsFault;
 use ados_text::{NoMemory, Text};
 
-impl Turn<'_> {
-    ghost use Rattle.ados_shell.specs.Turns.{Settles, course_of, here};
+impl Draft {
+    ghost use Rattle.ados_shell.specs.Drafts.{Settles, course_of, here};
 
     /// Reads the input of a command, if it has one, and asks for its arguments where they are `?`.
     pub fn prepare(&mut self, scene: &Scene, builtin: Builtin, line: &Line) -> Result<(), NoMemory>
         ensures { OnOk result (Settles scene.now self.old self.new
-            (input_deed builtin line.now (here self.old) (course_of scene.now self.old)
+            (input_deed builtin line.now (here scene.now self.old) (course_of scene.now self.old)
             (input_line (course_of scene.now self.old) line.now.input))) }
     {
         match self.input(scene, line.input.as_ref()) {
             Err(FsFault::NoMemory) => Err(NoMemory),
-            Err(FsFault::Refused(fault)) => self.refuse(&line.command, fault),
+            Err(FsFault::Refused(fault)) => self.refuse(scene, &line.command, fault),
             Ok(answer) => {
                 if asks(&line.args) {
                     self.ask(scene, builtin, line, answer)
@@ -45,7 +45,7 @@ impl Turn<'_> {
             Some(name) => {
                 let busy = open_outputs(scene.alloc, scene.shells)?;
                 let shared = self.current(scene);
-                input_line(scene.alloc, shared, &busy, self.directory(), name)
+                input_line(scene.alloc, shared, &busy, self.directory(scene), name)
             }
         }
     }
@@ -59,7 +59,7 @@ impl Turn<'_> {
         answer: Option<Text>,
     ) -> Result<(), NoMemory>
         ensures { OnOk result (Settles scene.now self.old self.new
-            (prompt_deed builtin line.now (here self.old) (course_of scene.now self.old) answer)) }
+            (prompt_deed builtin line.now (here scene.now self.old) (course_of scene.now self.old) answer)) }
     {
         push_prompt(&mut self.printed, builtin)?;
         match answer {
@@ -68,7 +68,7 @@ impl Turn<'_> {
                     builtin,
                     line: line.copy()?,
                 };
-                self.waits = Some(Box::new(scene.alloc, Wait::ForAnswer(asking))?);
+                self.shell.waits = Some(Box::new(scene.alloc, Wait::ForAnswer(asking))?);
                 Ok(())
             }
             Some(args) => self.begin(scene, builtin, &line.with_args(args)?),
@@ -78,7 +78,7 @@ impl Turn<'_> {
     /// Takes the answer to a prompt: it stands for the arguments as it is.
     pub fn resume(&mut self, scene: &Scene, asking: &Asking, answer: &Text) -> Result<(), NoMemory>
         ensures { OnOk result (Settles scene.now self.old self.new
-            (answer_deed answer.now asking.now (here self.old) (course_of scene.now self.old))) }
+            (answer_deed answer.now asking.now (here scene.now self.old) (course_of scene.now self.old))) }
     {
         let line = asking.line.with_args(answer.copy()?)?;
         self.begin(scene, asking.builtin, &line)

@@ -6,10 +6,10 @@ ghost use Rattle.ados_machine.specs.Commands.{action_of};
 ghost use Rattle.ados_flow.specs.Actions.{Does, acting};
 ghost use Rattle.ados_machine.specs.Lines.{action_deed, action_in, command_deed, has_none, view_of, work_deed};
 
+use crate::drafts::Draft;
 use crate::outputs::Opened;
 use crate::scenes::Scene;
 use crate::seen::in_use;
-use crate::turns::Turn;
 use ados_find::{Outcome, ShellView, Target};
 use ados_flow::Action;
 use ados_line::Line;
@@ -17,18 +17,18 @@ use ados_machine::Builtin;
 use ados_ram::{Busy, FsFault};
 use ados_text::{NoMemory, Text};
 
-impl Turn<'_> {
-    ghost use Rattle.ados_shell.specs.Turns.{Settles, course_of, here, parts_of};
+impl Draft {
+    ghost use Rattle.ados_shell.specs.Drafts.{Settles, course_of, here, parts_of};
     ghost use Rattle.ados_shell.specs.Views.{Serves, seen};
 
     /// Opens a command's output, and lets it do its work.
     pub fn begin(&mut self, scene: &Scene, builtin: Builtin, line: &Line) -> Result<(), NoMemory>
         ensures { OnOk result (Settles scene.now self.old self.new
-            (command_deed builtin line.now (here self.old) (course_of scene.now self.old))) }
+            (command_deed builtin line.now (here scene.now self.old) (course_of scene.now self.old))) }
     {
         match self.open(scene, line.output.as_ref()) {
             Err(FsFault::NoMemory) => Err(NoMemory),
-            Err(FsFault::Refused(fault)) => self.refuse(&line.command, fault),
+            Err(FsFault::Refused(fault)) => self.refuse(scene, &line.command, fault),
             Ok(Opened::Nothing) => self.work(scene, builtin, line, None),
             Ok(Opened::Nil) => self.work(scene, builtin, line, Some(Target::Nil)),
             Ok(Opened::File(new, place)) => {
@@ -47,13 +47,13 @@ impl Turn<'_> {
         target: Option<Target>,
     ) -> Result<(), NoMemory>
         ensures { OnOk result (Settles scene.now self.old self.new
-            (work_deed builtin line.now target (here self.old) (course_of scene.now self.old))) }
+            (work_deed builtin line.now target (here scene.now self.old) (course_of scene.now self.old))) }
     {
-        let simple = self.frames.is_free() && target.is_none();
+        let simple = self.shell.frames.is_free(scene.shell) && target.is_none();
         match self.action(scene, builtin, line, simple)? {
             Action::Does(outcome) => self.apply(scene, &line.command, target.as_ref(), outcome),
-            Action::Quits(codes) => self.answer(line.command.as_bytes(), codes, true),
-            Action::Calls(script) => self.call(scene.alloc, &line.command, target, script),
+            Action::Quits(codes) => self.answer(scene, line.command.as_bytes(), codes, true),
+            Action::Calls(script) => self.call(scene, &line.command, target, script),
         }
     }
 
@@ -84,19 +84,19 @@ impl Turn<'_> {
         match builtin {
             Builtin::Files(_) | Builtin::Flow(_) => {
                 let assigns = &self.current(scene).assigns;
-                self.view(in_use(scene.alloc, scene.shells, assigns)?)
+                self.view(scene, in_use(scene.alloc, scene.shells, assigns)?)
             }
-            Builtin::Env(_) => self.view(Busy::none(scene.alloc)),
+            Builtin::Env(_) => self.view(scene, Busy::none(scene.alloc)),
         }
     }
 
-    fn view(&self, busy: Busy) -> Result<ShellView, NoMemory>
-        ensures { IfOk result (λ view. view ≡ seen (parts_of self.now) busy) }
+    fn view(&self, scene: &Scene, busy: Busy) -> Result<ShellView, NoMemory>
+        ensures { IfOk result (λ view. view ≡ seen (parts_of scene.now self.now) busy) }
     {
         Ok(ShellView {
-            limit: self.limit,
-            codes: self.codes,
-            directory: self.directory().copy()?,
+            limit: self.shell.limit,
+            codes: self.shell.codes,
+            directory: self.directory(scene).copy()?,
             busy,
         })
     }
@@ -111,7 +111,7 @@ impl Turn<'_> {
     ) -> Result<(), NoMemory>
         ensures { OnOk result (Settles scene.now self.old self.new
             (action_deed word.now (option_copied target.entry) (Does (effect_of (course_of scene.now self.old).shared outcome))
-            (here self.old) (course_of scene.now self.old))) }
+            (here scene.now self.old) (course_of scene.now self.old))) }
     {
         let Outcome {
             shared,
@@ -123,6 +123,6 @@ impl Turn<'_> {
         } = outcome;
         self.affect(limit, directory, shared, renamed);
         let answered = self.put(scene, target, output, codes)?;
-        self.answer(word.as_bytes(), answered, false)
+        self.answer(scene, word.as_bytes(), answered, false)
     }
 }

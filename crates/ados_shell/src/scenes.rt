@@ -6,13 +6,17 @@ use ados_find::Shared;
 use ados_text::Text;
 use std::alloc::Global;
 
-/// What a turn of a shell sees beside the shell, and does not change.
+/// What a turn of a shell sees, and does not change.
 #[derive(Drop)]
 pub struct Scene<'a> {
     /// Where memory comes from.
     pub alloc: Global,
     /// The commands' templates.
     pub commands: &'a Commands,
+    /// The number of the shell whose turn it is.
+    pub number: u8,
+    /// That shell, as it was.
+    pub shell: &'a Shell,
     /// All shells by their numbers, the first at place 0: of them a turn knows what is seen of them.
     pub shells: &'a [Option<Shell>; 20],
     /// What all shells share.

@@ -1,59 +1,75 @@
 // The frames of a shell, as a turn changes them.
-ghost use Rattle.std.specs.Prelude.{◌≡◌, ◌∷◌, [], not, reverse, IfOk, OnOk};
+ghost use Rattle.std.specs.Prelude.{◌≡◌, ◌∷◌, ◌++◌, [], List, not, reverse, IfOk, OnOk};
 ghost use Rattle.std.specs.Option.{option_copied};
-ghost use Rattle.ados_flow.specs.Frames.{limit_behind};
+ghost use Rattle.ados_flow.specs.Frames.{FrameState, limit_behind};
+ghost use Rattle.ados_machine.specs.Shells.{ShellState};
 ghost use Rattle.ados_machine.specs.Sinks.{sink_in};
 ghost use Rattle.ados_shell.specs.Stacks.{sink_of, sink_above};
 
+use crate::shells::Shell;
 use ados_find::Target;
 use ados_flow::{FIRST_LIMIT, Frame};
 use ados_text::{Code, NoMemory};
 use std::alloc::Global;
 
-/// The frames of a shell, as a turn changes them: those that it left as they are are lent by the shell, and those
-/// above them are its own.
+/// The frames of a shell, as a turn changes them: so many of the oldest stay as they are in the shell, and those above
+/// them are new.
 #[derive(Drop)]
-pub struct Stack<'a> {
-    /// The frames that are as they were, the oldest first.
-    pub lent: &'a [Frame],
+pub struct Stack {
+    /// So many of the shell's oldest frames stay as they are.
+    pub kept: usize,
     /// The frames above them, the oldest first.
     pub own: Vec<Frame>,
 }
 
-impl<'a> Stack<'a> {
+impl Stack {
     ghost use Rattle.ados_machine.specs.Settle.{is_in_script};
-    ghost use Rattle.ados_shell.specs.Stacks.{frames_in, HasRoom, IsMovedOn, IsPopped, IsPushed};
+    ghost use Rattle.ados_shell.specs.Stacks.{frames_in, oldest, HasRoom, IsMovedOn, IsPopped};
 
-    /// These frames, in which nothing is changed yet.
-    pub fn of(alloc: Global, frames: &'a [Frame]) -> Stack<'a>
-        ensures lent { result.lent.now ≡ frames.now }
-        ensures own { result.own.items ≡ [] }
-    {
+    /// No frame.
+    pub fn new(alloc: Global) -> Stack {
         Stack {
-            lent: frames,
+            kept: 0,
             own: Vec::new(alloc),
         }
     }
 
-    /// No script runs.
-    pub fn is_free(&self) -> bool
-        ensures { result ≡ not (is_in_script (frames_in self.now)) }
+    /// The frames of the shell stay as they are.
+    pub fn keep_all(&mut self, shell: &Shell)
+        ensures { frames_in shell.now self.new ≡ shell.now.frames }
     {
-        self.own.is_empty() && self.lent.is_empty()
+        self.kept = shell.frames.len();
+        self.own.clear();
+    }
+
+    /// The frames of the shell that stay as they are, the oldest first.
+    fn lent<'a>(&self, shell: &'a Shell) -> &'a [Frame]
+        ensures lent { reverse result.now ≡ oldest self.now.kept shell.now.frames }
+        ensures front { (above : List FrameState) × reverse shell.now.frames ≡ result.now ++ above }
+    {
+        let frames = shell.frames.as_slice();
+        &frames[..self.kept.min(frames.len())]
+    }
+
+    /// No script runs.
+    pub fn is_free(&self, shell: &Shell) -> bool
+        ensures { result ≡ not (is_in_script (frames_in shell.now self.now)) }
+    {
+        self.own.is_empty() && self.lent(shell).is_empty()
     }
 
     /// Takes the newest frame off.
-    pub fn pop(&mut self) -> Result<Option<Frame>, NoMemory>
-        ensures { IfOk result (λ frame. IsPopped self.old self.new frame) }
+    pub fn pop(&mut self, shell: &Shell) -> Result<Option<Frame>, NoMemory>
+        ensures { IfOk result (λ frame. IsPopped shell.now self.old self.new frame) }
     {
         if let Some(frame) = self.own.pop() {
             return Ok(Some(frame));
         }
-        match self.lent.split_last() {
+        match self.lent(shell).split_last() {
             None => Ok(None),
             Some((frame, below)) => {
                 let frame = frame.share()?;
-                self.lent = below;
+                self.kept = below.len();
                 Ok(Some(frame))
             }
         }
@@ -61,18 +77,18 @@ impl<'a> Stack<'a> {
 
     /// Puts a frame on.
     pub fn push(&mut self, frame: Frame) -> Result<(), NoMemory>
-        ensures { OnOk result (IsPushed self.old self.new frame) }
+        ensures { OnOk result ((shell : ShellState) → frames_in shell self.new ≡ frame ∷ frames_in shell self.old) }
     {
         self.own.push(frame)?;
         Ok(())
     }
 
     /// The line of the newest frame is taken.
-    pub fn move_on(&mut self) -> Result<(), NoMemory>
-        requires { HasRoom (frames_in self.old) }
-        ensures { OnOk result (IsMovedOn self.old self.new (frames_in self.old)) }
+    pub fn move_on(&mut self, shell: &Shell) -> Result<(), NoMemory>
+        requires { HasRoom (frames_in shell.now self.old) }
+        ensures { OnOk result (IsMovedOn shell.now self.new (frames_in shell.now self.old)) }
     {
-        match self.pop()? {
+        match self.pop(shell)? {
             None => Ok(()),
             Some(mut frame) => {
                 frame.move_on();
@@ -83,17 +99,21 @@ impl<'a> Stack<'a> {
 
     /// The limit behind the end of a script above these frames that began at a limit: it comes back, and it is the
     /// first one where no script is left.
-    pub fn limit_behind(&self, limit: Code) -> Code
-        ensures { result ≡ limit_behind (frames_in self.now) limit }
+    pub fn limit_behind(&self, shell: &Shell, limit: Code) -> Code
+        ensures { result ≡ limit_behind (frames_in shell.now self.now) limit }
     {
-        if self.is_free() { FIRST_LIMIT } else { limit }
+        if self.is_free(shell) {
+            FIRST_LIMIT
+        } else {
+            limit
+        }
     }
 
     /// A copy of where the output of the newest frame's commands goes; `None` for the console.
-    pub fn output(&self) -> Result<Option<Target>, NoMemory>
-        ensures { IfOk result (λ target. sink_of target ≡ sink_in (frames_in self.now)) }
+    pub fn output(&self, shell: &Shell) -> Result<Option<Target>, NoMemory>
+        ensures { IfOk result (λ target. sink_of target ≡ sink_in (frames_in shell.now self.now)) }
     {
-        match output_above(self.own.as_slice(), output_above(self.lent, None)) {
+        match output_above(self.own.as_slice(), output_above(self.lent(shell), None)) {
             None => Ok(None),
             Some(target) => Ok(Some(copy(target)?)),
         }

@@ -1,35 +1,36 @@
 // A turn of a shell.
-ghost use Rattle.std.specs.Prelude.{◌≡◌, [], IfOk, OnErr, OnSome};
+ghost use Rattle.std.specs.Prelude.{◌≡◌, [], IfOk, OnErr, OnOk, OnSome};
 ghost use Rattle.std.specs.Option.{option_copied};
 ghost use Rattle.ados_machine.specs.Lines.{answer_deed, line_deed};
 ghost use Rattle.ados_machine.specs.Settle.{here_of, settle};
-ghost use Rattle.ados_shell.specs.Drafts.{IsDrafted};
-ghost use Rattle.ados_shell.specs.Turns.{start_of};
-ghost use Rattle.ados_shell.specs.Turnings.{GivesAnswer, GivesConsole, GivesTurning, IsScriptDrafted, TakesAnswer, TakesConsole, TakesTurn, next_of};
 ghost use Rattle.ados_shell.specs.Stacks.{HasRoom};
+ghost use Rattle.ados_shell.specs.Turnings.{next_of};
 
 use crate::drafts::Draft;
 use crate::scenes::{Input, Scene};
 use crate::shells::Shell;
-use crate::turns::Turn;
 use ados_machine::{Asking, Wait};
 use ados_text::{NoMemory, Text};
 
 /// What a turn of a shell comes to.
-#[derive(Drop)]
+#[derive(Clone, Copy)]
 pub enum Turning {
     /// The shell has nothing to take.
     NotReady,
     /// It ends: it runs no frame, and no line will come.
     Ends,
-    /// It went on without a line of its input, and changes this.
-    Goes(Draft),
-    /// It took the first line that waited, and changes this.
-    Takes(Draft),
+    /// It went on without a line of its input.
+    Goes,
+    /// It took the first line that waited.
+    Takes,
 }
 
-impl Shell {
-    /// A turn of the shell of this number; it changes nothing, and gives a draft of what is to be changed.
+impl Draft {
+    ghost use Rattle.ados_shell.specs.Drafts.{IsDrafted, start_of};
+    ghost use Rattle.ados_shell.specs.Turnings.{GivesAnswer, GivesConsole, GivesTurning, IsScriptDrafted, TakesAnswer, TakesConsole, TakesTurn};
+
+    /// A turn of the scene's shell: where it goes on, the draft is filled with what is to be changed. Nothing else is
+    /// changed, and what the draft held before is forgotten.
     ///
     /// A shell that waits for the answer to a prompt takes a line of its input, and at its end an empty one. One that
     /// is ready takes the next line of its newest frame; without a frame it takes a line of its input, and ends at the
@@ -37,101 +38,99 @@ impl Shell {
     ///
     /// `NoMemory` where there is none for what the turn makes, and only where the shell has something to
     /// take: its end takes none.
-    pub fn turn(&self, number: u8, scene: &Scene, input: &Input) -> Result<Turning, NoMemory>
-        ensures turn { IfOk result (λ turn. GivesTurning number scene.now self.now input.now turn) }
-        ensures memory { OnErr result (TakesTurn scene.now self.now input.now) }
+    pub fn turn(&mut self, scene: &Scene, input: &Input) -> Result<Turning, NoMemory>
+        ensures turn { IfOk result (λ turn. GivesTurning scene.now input.now turn self.new) }
+        ensures memory { OnErr result (TakesTurn scene.now input.now) }
     {
-        match &self.waits {
+        let shell = scene.shell;
+        match &shell.waits {
             Some(wait) => match &**wait {
-                Wait::ForAnswer(asking) => self.answer(number, scene, asking, input),
+                Wait::ForAnswer(asking) => self.answer_turn(scene, asking, input),
             },
             None => {
-                if self.frames.is_empty() {
-                    self.console_turn(number, scene, input)
+                if shell.frames.is_empty() {
+                    self.console_turn(scene, input)
                 } else {
-                    Ok(Turning::Goes(self.script_turn(number, scene)?))
+                    self.script_turn(scene)?;
+                    Ok(Turning::Goes)
                 }
             }
         }
     }
-}
 
-impl Shell {
     /// A turn of a shell that waits for the answer to a prompt.
-    fn answer(
-        &self,
-        number: u8,
+    fn answer_turn(
+        &mut self,
         scene: &Scene,
         asking: &Asking,
         input: &Input,
     ) -> Result<Turning, NoMemory>
-        ensures turn { IfOk result (λ turn. GivesAnswer number scene.now self.now asking.now input.now turn) }
-        ensures memory { OnErr result (TakesAnswer scene.now self.now asking.now input.now) }
+        ensures turn { IfOk result (λ turn. GivesAnswer scene.now asking.now input.now turn self.new) }
+        ensures memory { OnErr result (TakesAnswer scene.now asking.now input.now) }
     {
         match input.line {
-            Some(line) => Ok(Turning::Takes(self.answered(number, scene, asking, line)?)),
+            Some(line) => {
+                self.take_answer(scene, asking, line)?;
+                Ok(Turning::Takes)
+            }
             None if !input.is_ended => Ok(Turning::NotReady),
             None => {
-                let empty = Text::new(scene.alloc);
-                Ok(Turning::Goes(self.answered(number, scene, asking, &empty)?))
+                self.take_answer(scene, asking, &Text::new(scene.alloc))?;
+                Ok(Turning::Goes)
             }
         }
     }
 
     /// The answer to a prompt is taken: the line stands for the arguments as it is.
-    fn answered(
-        &self,
-        number: u8,
-        scene: &Scene,
-        asking: &Asking,
-        line: &Text,
-    ) -> Result<Draft, NoMemory>
-        ensures { IfOk result (λ draft. IsDrafted number self.now scene.now.shared.now draft
-            (settle (answer_deed line.now asking.now (here_of self.now.frames) (start_of scene.now self.now)) self.now.frames)) }
+    fn take_answer(&mut self, scene: &Scene, asking: &Asking, line: &Text) -> Result<(), NoMemory>
+        ensures { OnOk result (IsDrafted scene.now self.new
+            (settle (answer_deed line.now asking.now (here_of scene.now.shell.now.frames) (start_of scene.now)) scene.now.shell.now.frames)) }
     {
-        let mut turn = Turn::new(scene.alloc, number, self);
-        turn.resume(scene, asking, line)?;
-        Ok(turn.draft())
+        self.begin_turn(scene.shell);
+        self.resume(scene, asking, line)
     }
 
     /// A turn of a shell that is ready and runs no frame.
-    fn console_turn(&self, number: u8, scene: &Scene, input: &Input) -> Result<Turning, NoMemory>
-        requires { self.now.frames ≡ [] }
-        ensures turn { IfOk result (λ turn. GivesConsole number scene.now self.now input.now turn) }
-        ensures memory { OnErr result (TakesConsole scene.now self.now input.now) }
+    fn console_turn(&mut self, scene: &Scene, input: &Input) -> Result<Turning, NoMemory>
+        requires { scene.now.shell.now.frames ≡ [] }
+        ensures turn { IfOk result (λ turn. GivesConsole scene.now input.now turn self.new) }
+        ensures memory { OnErr result (TakesConsole scene.now input.now) }
     {
         match input.line {
-            Some(line) => Ok(Turning::Takes(self.typed(number, scene, line)?)),
+            Some(line) => {
+                self.take_typed(scene, line)?;
+                Ok(Turning::Takes)
+            }
             None if !input.is_ended => Ok(Turning::NotReady),
             None => Ok(Turning::Ends),
         }
     }
 
     /// A typed line is taken.
-    fn typed(&self, number: u8, scene: &Scene, line: &Text) -> Result<Draft, NoMemory>
-        ensures { IfOk result (λ draft. IsDrafted number self.now scene.now.shared.now draft
-            (settle (line_deed line.now (here_of self.now.frames) (start_of scene.now self.now)) self.now.frames)) }
+    fn take_typed(&mut self, scene: &Scene, line: &Text) -> Result<(), NoMemory>
+        ensures { OnOk result (IsDrafted scene.now self.new
+            (settle (line_deed line.now (here_of scene.now.shell.now.frames) (start_of scene.now)) scene.now.shell.now.frames)) }
     {
-        let mut turn = Turn::new(scene.alloc, number, self);
-        turn.obey(scene, line)?;
-        Ok(turn.draft())
+        self.begin_turn(scene.shell);
+        self.obey(scene, line)
     }
 
     /// The next line of the newest frame is taken; a frame without one ends.
-    fn script_turn(&self, number: u8, scene: &Scene) -> Result<Draft, NoMemory>
-        ensures { IfOk result (λ draft. IsScriptDrafted number self.now scene.now draft self.now.frames) }
+    fn script_turn(&mut self, scene: &Scene) -> Result<(), NoMemory>
+        ensures { OnOk result (IsScriptDrafted scene.now self.new scene.now.shell.now.frames) }
     {
-        let mut turn = Turn::new(scene.alloc, number, self);
-        match self.next_line() {
-            None => turn.pass()?,
+        self.begin_turn(scene.shell);
+        match scene.shell.next_line() {
+            None => self.pass(scene),
             Some(line) => {
-                turn.frames.move_on()?;
-                turn.obey(scene, line)?;
+                self.shell.frames.move_on(scene.shell)?;
+                self.obey(scene, line)
             }
         }
-        Ok(turn.draft())
     }
+}
 
+impl Shell {
     /// The next line of the newest frame; `None` where none is left.
     fn next_line(&self) -> Option<&Text>
         ensures line { option_copied result ≡ next_of self.now.frames }

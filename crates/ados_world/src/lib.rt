@@ -11,6 +11,7 @@ mod steps;
 mod worlds;
 
 pub use ados_machine::{Answer, Codes, EndReport, Event, Job, Out, Refusal, Reports, Request};
+pub use ados_shell::Draft;
 pub use hosts::{HostEntry, NewFault};
 pub use runs::{Outs, Run};
 pub use worlds::World;

@@ -1,23 +1,37 @@
 // The typed lines that wait for shell 1.
-ghost use Rattle.std.specs.Prelude.{◌≡◌};
+ghost use Rattle.std.specs.Prelude.{◌≡◌, [], ◌∷◌, ◌++◌, IfErr, OnErr, OnOk};
 ghost use Rattle.std.specs.Option.{option_copied};
 ghost use Rattle.ados_machine.specs.World.{has_input, input_of};
-ghost use Rattle.ados_machine.specs.Step.{typed, end_of_input};
+ghost use Rattle.ados_machine.specs.Step.{Accepted, Refused, typed, end_of_input, giving};
 ghost use Rattle.ados_machine.specs.Runs.{IsAnswer, world_after};
+ghost use Rattle.ados_machine.specs.declared.refusals.Refusal.TheVariants.{NoMemory};
 ghost use Rattle.ados_shell.specs.Turnings.{IsFirst};
+ghost use Rattle.ados_world.specs.Steps.{answering, with_line};
 
 use crate::worlds::World;
-use ados_machine::{Event, Out, Refusal};
+use ados_machine::{Event, Refusal};
 use ados_shell::Input;
 use ados_text::{LINE_BYTES, Text};
 
 const QUEUE_LINES: usize = 256;
 
 impl World {
-    /// A line joins the queue.
-    pub(crate) fn type_line(&mut self, line: &Text) -> Result<Out, Refusal>
-        ensures answer { IsAnswer (Event.Typed line.now) result (typed self.old line.now) }
-        ensures world { self.new ≡ world_after self.old result (typed self.old line.now) }
+    /// A copy of a line joins the queue.
+    pub(crate) fn queue_copy(&mut self, line: &Text) -> Result<(), Refusal>
+        ensures answer { IsAnswer (Event.Typed line.now) (answering (giving [] []) result) (typed self.old line.now) }
+        ensures world { self.new ≡ world_after self.old (answering (giving [] []) result) (typed self.old line.now) }
+    {
+        self.admit(line)?;
+        match line.copy() {
+            Ok(line) => self.queue_line(line),
+            Err(_) => Err(Refusal::NoMemory),
+        }
+    }
+
+    /// A line may join the queue, but for want of memory.
+    pub(crate) fn admit(&self, line: &Text) -> Result<(), Refusal>
+        ensures ok { OnOk result (typed self.now line.now ≡ Accepted (with_line line.now self.now) (giving [] []) []) }
+        ensures err { IfErr result (λ why. typed self.now line.now ≡ Refused why) }
     {
         if self.input_ended {
             return Err(Refusal::NotReady);
@@ -28,25 +42,31 @@ impl World {
         if line.as_bytes().len() > LINE_BYTES {
             return Err(Refusal::LineTooLong);
         }
-        let Ok(line) = line.copy() else {
-            return Err(Refusal::NoMemory);
-        };
+        Ok(())
+    }
+
+    /// A line joins the queue.
+    pub(crate) fn queue_line(&mut self, line: Text) -> Result<(), Refusal>
+        ensures ok { OnOk result (self.new ≡ with_line line self.old) }
+        ensures err { IfErr result (λ why. why ≡ NoMemory) }
+        ensures unchanged { OnErr result (self.new ≡ self.old) }
+    {
         match self.queue.push_back(line) {
-            Ok(()) => Ok(Out::giving(Vec::new(self.alloc), Vec::new(self.alloc))),
+            Ok(()) => Ok(()),
             Err(_) => Err(Refusal::NoMemory),
         }
     }
 
     /// No further line will be typed.
-    pub(crate) fn end_input(&mut self) -> Result<Out, Refusal>
-        ensures answer { IsAnswer Event.EndOfInput result (end_of_input self.old) }
-        ensures world { self.new ≡ world_after self.old result (end_of_input self.old) }
+    pub(crate) fn end_input(&mut self) -> Result<(), Refusal>
+        ensures answer { IsAnswer Event.EndOfInput (answering (giving [] []) result) (end_of_input self.old) }
+        ensures world { self.new ≡ world_after self.old (answering (giving [] []) result) (end_of_input self.old) }
     {
         if self.input_ended {
             return Err(Refusal::NotReady);
         }
         self.input_ended = true;
-        Ok(Out::giving(Vec::new(self.alloc), Vec::new(self.alloc)))
+        Ok(())
     }
 
     /// The input of the shell of this number: shell 1 reads the console, and that of a background shell is at its end.

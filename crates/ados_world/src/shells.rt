@@ -58,10 +58,10 @@ pub fn find_shell(shells: &[Option<Shell>; 20], number: u8) -> Option<&Shell>
 pub fn move_in(
     shells: &mut [Option<Shell>; 20],
     number: u8,
-    draft: ShellDraft,
+    draft: &mut ShellDraft,
 ) -> Result<(), NoMemory>
     requires { IsShellNumber number }
-    ensures ok { OnOk result (shells.new ≡ moved_in number draft shells.old) }
+    ensures ok { OnOk result (shells.new ≡ moved_in number draft.old shells.old) }
     ensures err { OnErr result (shells.new ≡ shells.old) }
 {
     match &mut shells[number as usize - 1] {
@@ -74,18 +74,18 @@ pub fn move_in(
 pub fn carry_in(
     shells: &mut [Option<Shell>; 20],
     number: u8,
-    draft: ShellDraft,
+    draft: &mut ShellDraft,
     moved: &Renamed,
 ) -> Result<(), NoMemory>
     requires number { IsShellNumber number }
     requires runs { is_some (flatten (numbered shells.old number)) ≡ true }
-    ensures ok { OnOk result (shells.new ≡ carried_in number moved.now draft shells.old) }
+    ensures ok { OnOk result (shells.new ≡ carried_in number moved.now draft.old shells.old) }
     ensures err { OnErr result (shells.new ≡ shells.old) }
 {
     let Some(shell) = find_shell(shells, number) else {
         return Ok(());
     };
-    let draft = draft.carried(shell, moved)?;
+    draft.carry(shell, moved)?;
     let mut carried = carried_places(shells, moved)?;
     move_in(&mut carried, number, draft)?;
     *shells = carried;

@@ -138,14 +138,18 @@ impl World {
         &self.shared.assigns
     }
 
-    /// What a turn of a shell sees.
-    pub(crate) fn scene(&self) -> Scene<'_>
+    /// What a turn of the shell of a number sees.
+    pub(crate) fn scene<'a>(&'a self, number: u8, shell: &'a Shell) -> Scene<'a>
+        ensures number { result.number ≡ number }
+        ensures shell { result.shell.now ≡ shell.now }
         ensures shells { result.shells.now ≡ self.now.shells }
         ensures shared { result.shared.now ≡ self.now.shared }
     {
         Scene {
             alloc: self.alloc,
             commands: &self.commands,
+            number,
+            shell,
             shells: &self.shells,
             shared: &self.shared,
         }

@@ -1,17 +1,18 @@
-use Rattle.std.proofs.Common.{◌≡◌, List, ℕ, false, subst}
+use Rattle.std.proofs.Common.{List, ℕ, false, subst}
 use Rattle.std.proofs.lemmas.Result.{on_ok_weaker}
 use Rattle.ados_find.specs.declared.codes.Codes.{Codes}
 use Rattle.ados_machine.specs.Deeds.{Answers}
-use Rattle.ados_shell.specs.Turns.{Settles, course_of}
-use Rattle.ados_shell.proofs.turns.Turn.refuse.Goals as goal
+use Rattle.ados_shell.specs.Drafts.{Settles, course_of}
+use Rattle.ados_shell.proofs.drafts.Draft.refuse.Goals as goal
 
 pub returns : goal.returns
 returns c =
     on_ok_weaker c.answer.result
-    (λ g scene.
+    (λ g.
+    let scene = c.args.scene.now in
     let before = c.args.self.now in
     let after = c.answer.new.self in
     let P : List ℕ → Type 0 = λ w. Settles scene before after (Answers w c.failed.result false (course_of scene before)) in
     let Q : Codes → Type 0 = λ k. Settles scene before after (Answers c.args.word.now k false (course_of scene before)) in
-    subst Q c.failed.ensures (subst P c.as_bytes.ensures.value (g scene)))
+    subst Q c.failed.ensures (subst P c.as_bytes.ensures.value g))
     c.answer.ensures
