@@ -29,6 +29,17 @@ void *malloc(size_t size) {
     return is_refused() ? NULL : next(size);
 }
 
+void *calloc(size_t count, size_t size) {
+    static void *(*next)(size_t, size_t);
+    static int is_sought;
+    if (!next) {
+        if (is_sought) return NULL; /* dlsym asks for memory itself, and can do without */
+        is_sought = 1;
+        next = dlsym(RTLD_NEXT, "calloc");
+    }
+    return is_refused() ? NULL : next(count, size);
+}
+
 void *realloc(void *at, size_t size) {
     static void *(*next)(void *, size_t);
     if (!next) next = dlsym(RTLD_NEXT, "realloc");
@@ -39,4 +50,10 @@ void *aligned_alloc(size_t alignment, size_t size) {
     static void *(*next)(size_t, size_t);
     if (!next) next = dlsym(RTLD_NEXT, "aligned_alloc");
     return is_refused() ? NULL : next(alignment, size);
+}
+
+int posix_memalign(void **at, size_t alignment, size_t size) {
+    static int (*next)(void **, size_t, size_t);
+    if (!next) next = dlsym(RTLD_NEXT, "posix_memalign");
+    return is_refused() ? ENOMEM : next(at, alignment, size);
 }
