@@ -25,7 +25,7 @@ abbrev pub back : List Entry → Code → Code
 back stack limit = limit_for (count stack) limit
 
 -- a stack goes through a trace to another one: only a frame that runs on answers, and behind an end the command that made it
--- answers, at the limit that came back
+-- answers with its codes, at the limit that came back
 abbrev pub Follows : List Entry → List Item → List Entry → Type 0
 Follows stack [] final = final ≡ stack
 Follows stack (Began d kind limit ∷ log) final = (d ≡ suc (length stack)) × Follows (opened kind limit ∷ stack) log final
@@ -34,7 +34,7 @@ Follows (top ∷ below) (Answered d entry ∷ log) final =
     (d ≡ suc (length below)) × RunsEntry top × Follows (with_last top entry ∷ below) log final
 Follows [] (Ended d kind line codes early ∷ log) final = ⊥
 Follows (top ∷ below) (Ended d kind line codes early ∷ log) final =
-    IsEndOf top (length below) d kind line codes early × GoesOnAt (back below top.limit) log × Follows below log final
+    IsEndOf top (length below) d kind line codes early × GoesOnAt (back below top.limit) codes log × Follows below log final
 
 -- its moves alone
 pub goes-through : (stack : List Entry) (log : List Item) (final : List Entry) → Follows stack log final → GoesThrough stack log final
@@ -45,11 +45,11 @@ goes-through (top ∷ below) (Answered d entry ∷ log) final h = (h.0, goes-thr
 goes-through [] (Ended d kind line codes early ∷ log) final h = absurd h
 goes-through (top ∷ below) (Ended d kind line codes early ∷ log) final h = (h.0, goes-through below log final h.2)
 
-goes_on-append : (limit : Code) (log more : List Item) → GoesOnAt limit log → GoesOnAt limit (log ++ more)
-goes_on-append limit [] more h = absurd h
-goes_on-append limit (Began d kind l ∷ log) more h = absurd h
-goes_on-append limit (Answered d entry ∷ log) more h = h
-goes_on-append limit (Ended d kind line codes early ∷ log) more h = absurd h
+goes_on-append : (limit : Code) (answer : Codes) (log more : List Item) → GoesOnAt limit answer log → GoesOnAt limit answer (log ++ more)
+goes_on-append limit answer [] more h = absurd h
+goes_on-append limit answer (Began d kind l ∷ log) more h = absurd h
+goes_on-append limit answer (Answered d entry ∷ log) more h = h
+goes_on-append limit answer (Ended d kind line codes early ∷ log) more h = absurd h
 
 -- one trace behind another
 pub Follows-append : (stack : List Entry) (log more : List Item) (mid final : List Entry) →
@@ -62,7 +62,7 @@ Follows-append (top ∷ below) (Answered d entry ∷ log) more mid final h g =
     (h.0, h.1, Follows-append (with_last top entry ∷ below) log more mid final h.2 g)
 Follows-append [] (Ended d kind line codes early ∷ log) more mid final h g = absurd h
 Follows-append (top ∷ below) (Ended d kind line codes early ∷ log) more mid final h g =
-    (h.0, goes_on-append (back below top.limit) log more h.1, Follows-append below log more mid final h.2 g)
+    (h.0, goes_on-append (back below top.limit) codes log more h.1, Follows-append below log more mid final h.2 g)
 
 above_runs : (above : List Entry) (top : Entry) (below : List Entry) → AllByRecursion RunsEntry (above ++ top ∷ below) → RunsEntry top
 above_runs [] top below h = h.0
@@ -81,7 +81,7 @@ answers_more (Script name command) limit (Some before) entry entries end h g = (
 
 -- a frame that ends
 ends : (kind : Kind) (back : Code) (limit : Code) (last : Option Record) (below d : ℕ) (now : Kind) (line : ℕ) (codes : Codes) (early : Bool) (log : List Item) →
-    IsEndOf (record { kind = kind; limit = limit; last = last }) below d now line codes early → GoesOnAt back log →
+    IsEndOf (record { kind = kind; limit = limit; last = last }) below d now line codes early → GoesOnAt back codes log →
     ObeysLimit kind back (kept last ++ []) (Some (record { kind = now; line = line; codes = codes; early = early; further = log }))
 ends (Script name command) back limit None below d now line codes early log end goes =
     (tt, (record { kind_is = end.kind_is; line_is = end.line_is; codes_are = end.codes_are; early_is = end.early_is }, goes))

@@ -39,12 +39,12 @@ pub record GoesBy (start : List Entry) (settled : Settled) : Type 0 where
 
 -- the first item of an answer is its record
 finish-back : (word : List ℕ) (answer : Codes) (quits : Bool) (frames : List FrameState) (said : Said) →
-    GoesOnAt said.parts.limit (finish word answer quits frames said).log
-finish-back word answer quits [] said = refl
+    GoesOnAt said.parts.limit answer (finish word answer quits frames said).log
+finish-back word answer quits [] said = (refl, refl)
 finish-back word answer quits (frame ∷ frames) said =
     elim (cases_Bool (is_ended quits answer said.parts.limit frame)) [
-      | inl e ↦ rw e refl
-      | inr e ↦ rw e refl
+      | inl e ↦ rw e (refl, refl)
+      | inr e ↦ rw e (refl, refl)
     ]
 
 -- an answer that does not end its frame is below the limit, in a script
