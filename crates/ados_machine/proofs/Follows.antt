@@ -10,59 +10,88 @@ use Rattle.ados_flow.specs.declared.records.Record.{Record}
 use Rattle.ados_flow.specs.Frames.{is_script, limit_for}
 use Rattle.ados_machine.specs.Items.{Item, Began, Answered, Ended}
 use Rattle.ados_machine.specs.Limits.{records_at, end_at, End, GoesOnAt, ObeysLimit, kept, scripts_behind, RunsOn}
-use Rattle.ados_machine.specs.Stacks.{Entry, opened, with_last, IsEndOf, GoesThrough}
+use Rattle.ados_machine.specs.Stacks.{Entry, opened, with_last, IsEndOf, scripts_on, Standing, Leaves, GoesThrough, ShellGoes}
 
 abbrev pub RunsEntry : Entry → Type 0
 RunsEntry entry = RunsOn entry.kind entry.last
 
--- how many of the stack are scripts
-abbrev pub count : List Entry → ℕ
-count [] = 0
-count (entry ∷ stack) = if is_script entry.kind then suc (count stack) else count stack
-
 -- the limit behind an entry's end, above this stack
 abbrev pub back : List Entry → Code → Code
-back stack limit = limit_for (count stack) limit
+back stack limit = limit_for (scripts_on stack) limit
 
--- a stack goes through a trace to another one: only a frame that runs on answers, and behind an end the command that made it
--- answers, at the limit that came back
-abbrev pub Follows : List Entry → List Item → List Entry → Type 0
-Follows stack [] final = final ≡ stack
-Follows stack (Began d kind limit ∷ log) final = (d ≡ suc (length stack)) × Follows (opened kind limit ∷ stack) log final
-Follows [] (Answered d entry ∷ log) final = (d ≡ 0) × Follows [] log final
-Follows (top ∷ below) (Answered d entry ∷ log) final =
-    (d ≡ suc (length below)) × RunsEntry top × Follows (with_last top entry ∷ below) log final
-Follows [] (Ended d kind line codes early ∷ log) final = ⊥
-Follows (top ∷ below) (Ended d kind line codes early ∷ log) final =
-    IsEndOf top (length below) d kind line codes early × GoesOnAt (back below top.limit) log × Follows below log final
+-- a limit, codes and a stack go through a trace to what is left: only a frame that runs on answers, and behind an end the
+-- command that made it answers with its codes, at the limit that came back
+abbrev pub Follows : Code → Codes → List Entry → List Item → Option Standing → Type 0
+Follows limit codes stack [] left = Leaves (record { stack = stack; limit = limit; codes = codes }) left
+Follows limit codes stack (Began d kind first ∷ log) left =
+    (d ≡ suc (length stack)) × (first ≡ limit) × Follows limit codes (opened kind first ∷ stack) log left
+Follows limit codes [] (Answered d entry ∷ log) left = (d ≡ 0) × Follows entry.limit entry.codes [] log left
+Follows limit codes (top ∷ below) (Answered d entry ∷ log) left =
+    (d ≡ suc (length below)) × RunsEntry top × Follows entry.limit entry.codes (with_last top entry ∷ below) log left
+Follows limit codes [] (Ended d kind line answer early ∷ log) left = ⊥
+Follows limit codes (top ∷ below) (Ended d kind line answer early ∷ log) left =
+    IsEndOf top (length below) d kind line answer early × GoesOnAt (back below top.limit) answer log
+    × Follows (back below top.limit) answer below log left
+
+-- the same of a shell
+abbrev pub ShellFollows : Option Standing → List Item → Option Standing → Type 0
+ShellFollows None log left = (log ≡ []) × (left ≡ None)
+ShellFollows (Some stands) log left = Follows stands.limit stands.codes stands.stack log left
 
 -- its moves alone
-pub goes-through : (stack : List Entry) (log : List Item) (final : List Entry) → Follows stack log final → GoesThrough stack log final
-goes-through stack [] final h = h
-goes-through stack (Began d kind limit ∷ log) final h = (h.0, goes-through (opened kind limit ∷ stack) log final h.1)
-goes-through [] (Answered d entry ∷ log) final h = (h.0, goes-through [] log final h.1)
-goes-through (top ∷ below) (Answered d entry ∷ log) final h = (h.0, goes-through (with_last top entry ∷ below) log final h.2)
-goes-through [] (Ended d kind line codes early ∷ log) final h = absurd h
-goes-through (top ∷ below) (Ended d kind line codes early ∷ log) final h = (h.0, goes-through below log final h.2)
+goes-through : (limit : Code) (codes : Codes) (stack : List Entry) (log : List Item) (left : Option Standing) →
+    Follows limit codes stack log left → GoesThrough limit codes stack log left
+goes-through limit codes stack [] left h = h
+goes-through limit codes stack (Began d kind first ∷ log) left h = (h.0, h.1, goes-through limit codes (opened kind first ∷ stack) log left h.2)
+goes-through limit codes [] (Answered d entry ∷ log) left h = (h.0, goes-through entry.limit entry.codes [] log left h.1)
+goes-through limit codes (top ∷ below) (Answered d entry ∷ log) left h =
+    (h.0, goes-through entry.limit entry.codes (with_last top entry ∷ below) log left h.2)
+goes-through limit codes [] (Ended d kind line answer early ∷ log) left h = absurd h
+goes-through limit codes (top ∷ below) (Ended d kind line answer early ∷ log) left h =
+    (h.0, goes-through (back below top.limit) answer below log left h.2)
 
-goes_on-append : (limit : Code) (log more : List Item) → GoesOnAt limit log → GoesOnAt limit (log ++ more)
-goes_on-append limit [] more h = absurd h
-goes_on-append limit (Began d kind l ∷ log) more h = absurd h
-goes_on-append limit (Answered d entry ∷ log) more h = h
-goes_on-append limit (Ended d kind line codes early ∷ log) more h = absurd h
+pub shell-goes : (stands : Option Standing) (log : List Item) (left : Option Standing) → ShellFollows stands log left → ShellGoes stands log left
+shell-goes None log left h = h
+shell-goes (Some stands) log left h = goes-through stands.limit stands.codes stands.stack log left h
+
+goes_on-append : (limit : Code) (answer : Codes) (log more : List Item) → GoesOnAt limit answer log → GoesOnAt limit answer (log ++ more)
+goes_on-append limit answer [] more h = absurd h
+goes_on-append limit answer (Began d kind l ∷ log) more h = absurd h
+goes_on-append limit answer (Answered d entry ∷ log) more h = h
+goes_on-append limit answer (Ended d kind line codes early ∷ log) more h = absurd h
 
 -- one trace behind another
-pub Follows-append : (stack : List Entry) (log more : List Item) (mid final : List Entry) →
-    Follows stack log mid → Follows mid more final → Follows stack (log ++ more) final
-Follows-append stack [] more mid final h g = rw h at g
-Follows-append stack (Began d kind limit ∷ log) more mid final h g =
-    (h.0, Follows-append (opened kind limit ∷ stack) log more mid final h.1 g)
-Follows-append [] (Answered d entry ∷ log) more mid final h g = (h.0, Follows-append [] log more mid final h.1 g)
-Follows-append (top ∷ below) (Answered d entry ∷ log) more mid final h g =
-    (h.0, h.1, Follows-append (with_last top entry ∷ below) log more mid final h.2 g)
-Follows-append [] (Ended d kind line codes early ∷ log) more mid final h g = absurd h
-Follows-append (top ∷ below) (Ended d kind line codes early ∷ log) more mid final h g =
-    (h.0, goes_on-append (back below top.limit) log more h.1, Follows-append below log more mid final h.2 g)
+behind_none : (limit : Code) (codes : Codes) (stack : List Entry) (more : List Item) (mid left : Option Standing) →
+    Leaves (record { stack = stack; limit = limit; codes = codes }) mid → ShellFollows mid more left → Follows limit codes stack more left
+behind_none limit codes stack more None left h g = rw (g.0, g.1) h
+behind_none limit codes stack more (Some mid) left h g = rw h at g
+
+Follows-append : (limit : Code) (codes : Codes) (stack : List Entry) (log more : List Item) (mid left : Option Standing) →
+    Follows limit codes stack log mid → ShellFollows mid more left → Follows limit codes stack (log ++ more) left
+Follows-append limit codes stack [] more mid left h g = behind_none limit codes stack more mid left h g
+Follows-append limit codes stack (Began d kind first ∷ log) more mid left h g =
+    (h.0, h.1, Follows-append limit codes (opened kind first ∷ stack) log more mid left h.2 g)
+Follows-append limit codes [] (Answered d entry ∷ log) more mid left h g =
+    (h.0, Follows-append entry.limit entry.codes [] log more mid left h.1 g)
+Follows-append limit codes (top ∷ below) (Answered d entry ∷ log) more mid left h g =
+    (h.0, h.1, Follows-append entry.limit entry.codes (with_last top entry ∷ below) log more mid left h.2 g)
+Follows-append limit codes [] (Ended d kind line answer early ∷ log) more mid left h g = absurd h
+Follows-append limit codes (top ∷ below) (Ended d kind line answer early ∷ log) more mid left h g =
+    (h.0, goes_on-append (back below top.limit) answer log more h.1, Follows-append (back below top.limit) answer below log more mid left h.2 g)
+
+pub ShellFollows-append : (stands : Option Standing) (log more : List Item) (mid left : Option Standing) →
+    ShellFollows stands log mid → ShellFollows mid more left → ShellFollows stands (log ++ more) left
+ShellFollows-append None log more mid left h g = rw (h.0) (rw h.1 at g)
+ShellFollows-append (Some stands) log more mid left h g = Follows-append stands.limit stands.codes stands.stack log more mid left h g
+
+-- the frames of what is left run on
+abbrev pub LeftRuns : Option Standing → Type 0
+LeftRuns None = Unit {0}
+LeftRuns (Some left) = AllByRecursion RunsEntry left.stack
+
+left_runs : (stands : Standing) (left : Option Standing) → Leaves stands left → LeftRuns left → AllByRecursion RunsEntry stands.stack
+left_runs stands None h runs = rw h tt
+left_runs stands (Some left) h runs = rw h at runs
 
 above_runs : (above : List Entry) (top : Entry) (below : List Entry) → AllByRecursion RunsEntry (above ++ top ∷ below) → RunsEntry top
 above_runs [] top below h = h.0
@@ -81,7 +110,7 @@ answers_more (Script name command) limit (Some before) entry entries end h g = (
 
 -- a frame that ends
 ends : (kind : Kind) (back : Code) (limit : Code) (last : Option Record) (below d : ℕ) (now : Kind) (line : ℕ) (codes : Codes) (early : Bool) (log : List Item) →
-    IsEndOf (record { kind = kind; limit = limit; last = last }) below d now line codes early → GoesOnAt back log →
+    IsEndOf (record { kind = kind; limit = limit; last = last }) below d now line codes early → GoesOnAt back codes log →
     ObeysLimit kind back (kept last ++ []) (Some (record { kind = now; line = line; codes = codes; early = early; further = log }))
 ends (Script name command) back limit None below d now line codes early log end goes =
     (tt, (record { kind_is = end.kind_is; line_is = end.line_is; codes_are = end.codes_are; early_is = end.early_is }, goes))
@@ -93,42 +122,46 @@ other_depth : (d : ℕ) (above : List Entry) (top : Entry) (below : List Entry) 
 other_depth d above top below h = ne_eqb d (suc (length below)) (λ e. omega (arith, length-append above (top ∷ below)))
 
 -- each entry of the stack obeys, from its last record on
-pub obeys : (log : List Item) (above : List Entry) (top : Entry) (below final : List Entry) →
-    Follows (above ++ top ∷ below) log final → AllByRecursion RunsEntry final →
+pub obeys : (log : List Item) (limit : Code) (codes : Codes) (above : List Entry) (top : Entry) (below : List Entry) (left : Option Standing) →
+    Follows limit codes (above ++ top ∷ below) log left → LeftRuns left →
     ObeysLimit top.kind (back below top.limit) (kept top.last ++ records_at (suc (length below)) log) (end_at (suc (length below)) log)
-obeys [] above top below final h runs = still top.kind (back below top.limit) top.last (above_runs above top below (rw h at runs))
-obeys (Began d kind limit ∷ log) above top below final h runs = obeys log (opened kind limit ∷ above) top below final h.1 runs
-obeys (Answered d entry ∷ log) [] top below final h runs =
+obeys [] limit codes above top below left h runs =
+    still top.kind (back below top.limit) top.last
+    (above_runs above top below (left_runs (record { stack = above ++ top ∷ below; limit = limit; codes = codes }) left h runs))
+obeys (Began d kind first ∷ log) limit codes above top below left h runs = obeys log limit codes (opened kind first ∷ above) top below left h.2 runs
+obeys (Answered d entry ∷ log) limit codes [] top below left h runs =
     rw (eq-eqb d (suc (length below)) h.0)
     (answers_more top.kind (back below top.limit) top.last entry (records_at (suc (length below)) log) (end_at (suc (length below)) log) h.1
-    (obeys log [] (with_last top entry) below final h.2 runs))
-obeys (Answered d entry ∷ log) (a ∷ above) top below final h runs =
-    rw (other_depth d above top below h.0) (obeys log (with_last a entry ∷ above) top below final h.2 runs)
-obeys (Ended d kind line codes early ∷ log) [] top below final h runs =
+    (obeys log entry.limit entry.codes [] (with_last top entry) below left h.2 runs))
+obeys (Answered d entry ∷ log) limit codes (a ∷ above) top below left h runs =
+    rw (other_depth d above top below h.0) (obeys log entry.limit entry.codes (with_last a entry ∷ above) top below left h.2 runs)
+obeys (Ended d kind line answer early ∷ log) limit codes [] top below left h runs =
     rw (eq-eqb d (suc (length below)) h.0.depth_is)
-    (ends top.kind (back below top.limit) top.limit top.last (length below) d kind line codes early log h.0 h.1)
-obeys (Ended d kind line codes early ∷ log) (a ∷ above) top below final h runs =
-    rw (other_depth d above top below h.0.depth_is) (obeys log above top below final h.2 runs)
+    (ends top.kind (back below top.limit) top.limit top.last (length below) d kind line answer early log h.0 h.1)
+obeys (Ended d kind line answer early ∷ log) limit codes (a ∷ above) top below left h runs =
+    rw (other_depth d above top below h.0.depth_is) (obeys log (back (above ++ top ∷ below) a.limit) answer above top below left h.2 runs)
 
 -- where an entry ends
-count-below : (kind : Kind) (top : Entry) (below : List Entry) → kind ≡ top.kind →
-    (if is_script kind then count (top ∷ below) - 1 else count (top ∷ below)) ≡ count below
-count-below kind top below same =
+scripts-below : (kind : Kind) (top : Entry) (below : List Entry) → kind ≡ top.kind →
+    (if is_script kind then scripts_on (top ∷ below) - 1 else scripts_on (top ∷ below)) ≡ scripts_on below
+scripts-below kind top below same =
     elim (cases_Bool (is_script top.kind)) [
       | inl e ↦ rw (same, e) (omega arith)
       | inr e ↦ rw (same, e) refl
     ]
 
 -- a frame that begins in the trace obeys from there on
-pub obeys_begun : (before after : List Item) (depth : ℕ) (kind : Kind) (limit : Code) (stack final : List Entry) →
-    Follows stack (before ++ Began depth kind limit ∷ after) final → AllByRecursion RunsEntry final →
-    ObeysLimit kind (limit_for (scripts_behind (count stack) before) limit) (records_at depth after) (end_at depth after)
-obeys_begun [] after depth kind limit stack final h runs =
-    rw h.0 (obeys after [] (opened kind limit) stack final h.1 runs)
-obeys_begun (Began d k l ∷ before) after depth kind limit stack final h runs = obeys_begun before after depth kind limit (opened k l ∷ stack) final h.1 runs
-obeys_begun (Answered d entry ∷ before) after depth kind limit [] final h runs = obeys_begun before after depth kind limit [] final h.1 runs
-obeys_begun (Answered d entry ∷ before) after depth kind limit (top ∷ below) final h runs =
-    obeys_begun before after depth kind limit (with_last top entry ∷ below) final h.2 runs
-obeys_begun (Ended d k line codes early ∷ before) after depth kind limit [] final h runs = absurd h
-obeys_begun (Ended d k line codes early ∷ before) after depth kind limit (top ∷ below) final h runs =
-    rw (count-below k top below h.0.kind_is) (obeys_begun before after depth kind limit below final h.2 runs)
+pub obeys_begun : (before after : List Item) (depth : ℕ) (kind : Kind) (first limit : Code) (codes : Codes) (stack : List Entry) (left : Option Standing) →
+    Follows limit codes stack (before ++ Began depth kind first ∷ after) left → LeftRuns left →
+    ObeysLimit kind (limit_for (scripts_behind (scripts_on stack) before) first) (records_at depth after) (end_at depth after)
+obeys_begun [] after depth kind first limit codes stack left h runs =
+    rw h.0 (obeys after limit codes [] (opened kind first) stack left h.2 runs)
+obeys_begun (Began d k l ∷ before) after depth kind first limit codes stack left h runs =
+    obeys_begun before after depth kind first limit codes (opened k l ∷ stack) left h.2 runs
+obeys_begun (Answered d entry ∷ before) after depth kind first limit codes [] left h runs =
+    obeys_begun before after depth kind first entry.limit entry.codes [] left h.1 runs
+obeys_begun (Answered d entry ∷ before) after depth kind first limit codes (top ∷ below) left h runs =
+    obeys_begun before after depth kind first entry.limit entry.codes (with_last top entry ∷ below) left h.2 runs
+obeys_begun (Ended d k line answer early ∷ before) after depth kind first limit codes [] left h runs = absurd h
+obeys_begun (Ended d k line answer early ∷ before) after depth kind first limit codes (top ∷ below) left h runs =
+    rw (scripts-below k top below h.0.kind_is) (obeys_begun before after depth kind first (back below top.limit) answer below left h.2 runs)

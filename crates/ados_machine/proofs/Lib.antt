@@ -1,5 +1,6 @@
 pub mod RunLemmas
 pub mod Follows
+pub mod Keeps
 pub mod Turns
 pub mod Turnings
 pub mod Shells

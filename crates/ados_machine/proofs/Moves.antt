@@ -1,6 +1,6 @@
 -- A step moves each shell's frames by what its own trace gets.
 use Rattle.std.proofs.Common.{◌≡◌, ◌∙◌, sym, ℕ, ◌-◌, List, [], Option, Some, None, Result, Ok, Err, length, refl, ap, inl, inr}
-use Rattle.std.specs.Prelude.{nat_le, nat_lt}
+use Rattle.std.specs.Prelude.{nat_le, nat_lt, option_map}
 use Rattle.ados_line.specs.Cut.{line_limit}
 use Rattle.ados_machine.specs.Step.{queue_limit}
 use Rattle.std.specs.List.{slice_set}
@@ -22,61 +22,72 @@ use Rattle.ados_machine.specs.Step.{Response, Refused, Accepted, of_shell, shell
 use Rattle.ados_machine.specs.Runs.{world_after}
 use Rattle.ados_machine.specs.Trace.{items_after, own, frames_in}
 use Rattle.ados_machine.specs.Limits.{AllRunOn}
-use Rattle.ados_machine.specs.Stacks.{stack_of}
-use Rattle.ados_machine.proofs.Follows.{Follows}
+use Rattle.ados_machine.specs.Stacks.{stack_of, Standing, standing_of}
+use Rattle.ados_machine.proofs.Follows.{ShellFollows}
 use Rattle.ados_machine.proofs.Turns.{Goes}
 use Rattle.ados_machine.proofs.Turnings.{TurningGoes, turning-goes}
-use Rattle.ados_machine.proofs.Shells.{found, own-of_shell_same, own-of_shell_other, found-set_same, found-set_other, runs_pos, found-carried, carried-frames, carried-runs}
+use Rattle.ados_machine.proofs.Shells.{found, own-of_shell_same, own-of_shell_other, found-set_same, found-set_other, runs_pos, found-carried, carried_found, carried-frames, carried-runs}
 
 -- the frames of a number among shells
 abbrev pub frames_at : ℕ → List (Option ShellState) → List FrameState
 frames_at k shells = frames_in (found shells k)
 
--- a number's frames go by these items from shells to shells
+-- how the shell of a number stands among shells, if it runs
+abbrev pub stands_at : ℕ → List (Option ShellState) → Option Standing
+stands_at k shells = option_map standing_of (found shells k)
+
+-- a number's shell goes by these items from shells to shells
 pub record Moves (k : ℕ) (old : List (Option ShellState)) (log : List Item) (new : List (Option ShellState)) : Type 0 where
-  pub follows : Follows (stack_of (frames_at k old)) log (stack_of (frames_at k new))
+  pub follows : ShellFollows (stands_at k old) log (stands_at k new)
   pub runs : AllRunOn (frames_at k new)
 
 abbrev pub AllSane : List (Option ShellState) → Type 0
 AllSane shells = (k : ℕ) → AllRunOn (frames_at k shells)
 
-stays : (shells : List (Option ShellState)) (k : ℕ) → AllSane shells → Moves k shells [] shells
-stays shells k sane = record { follows = refl; runs = sane k }
+pub stays-follows : (stands : Option Standing) → ShellFollows stands [] stands
+stays-follows None = (refl, refl)
+stays-follows (Some stands) = refl
 
--- where the frames are the same
-same-moves : (k : ℕ) (old new : List (Option ShellState)) → AllSane old → frames_at k new ≡ frames_at k old → Moves k old [] new
-same-moves k old new sane e = record { follows = ap stack_of e; runs = rw e (sane k) }
+carried_by-stands : (renamed : Option Renamed) (shell : ShellState) → standing_of (carried_by renamed shell) ≡ standing_of shell
+carried_by-stands None shell = refl
+carried_by-stands (Some renamed) shell = refl
 
 carried_by-frames : (renamed : Option Renamed) (shell : ShellState) → (carried_by renamed shell).frames ≡ shell.frames
 carried_by-frames None shell = refl
 carried_by-frames (Some renamed) shell = refl
 
+carried-stands : (renamed : Option Renamed) (o : Option ShellState) → option_map standing_of (carried_found renamed o) ≡ option_map standing_of o
+carried-stands None o = refl
+carried-stands (Some renamed) None = refl
+carried-stands (Some renamed) (Some shell) = refl
+
 -- its current directory aside, a shell stays
-carried-moves : (renamed : Option Renamed) (k : ℕ) (old : List (Option ShellState)) (log : List Item) (new : List (Option ShellState)) →
-    Moves k (carried_shells renamed old) log new → Moves k old log new
-carried-moves renamed k old log new moves = record {
-  follows = rw (ap frames_in (found-carried renamed old k), carried-frames renamed (found old k)) at moves.follows;
-  runs = moves.runs;
+carried-moves : (renamed : Option Renamed) (k : ℕ) (old new : List (Option ShellState)) → AllSane old →
+    found new k ≡ carried_found renamed (found old k) → Moves k old [] new
+carried-moves renamed k old new sane e = record {
+  follows = rw (e, carried-stands renamed (found old k)) (stays-follows (stands_at k old));
+  runs = rw (e, carried-frames renamed (found old k)) (sane k);
 }
 
-carried-sane : (renamed : Option Renamed) (shells : List (Option ShellState)) → AllSane shells → AllSane (carried_shells renamed shells)
-carried-sane renamed shells sane = λ k. rw (found-carried renamed shells k, carried-frames renamed (found shells k)) (sane k)
+stays : (shells : List (Option ShellState)) (k : ℕ) → AllSane shells → Moves k shells [] shells
+stays shells k sane = carried-moves None k shells shells sane refl
 
 -- a turn moves its shell, and the others stay
 turn-moves : (shells : List (Option ShellState)) (k : ℕ) (shell : ShellState) (moved : Option Renamed) (t : Turned) (j : ℕ) → AllSane shells →
-    found shells k ≡ Some shell → Goes (stack_of shell.frames) t → Moves j shells (own j (of_shell k t.log)) (shells_behind shells k moved t)
+    found shells k ≡ Some shell → Goes shell.parts shell.frames t → Moves j shells (own j (of_shell k t.log)) (shells_behind shells k moved t)
 turn-moves shells k shell moved t j sane is goes =
     let carried = carried_shells moved shells in
-    let after = Some (carried_by moved (shell_of_turn t)) in
+    let now = carried_by moved (shell_of_turn t) in
     let there = found-carried moved shells k ∙ carried-runs moved (found shells k) shell is in
     elim (cases_eq j k) [
       | inl same ↦ rw (same, own-of_shell_same k t.log)
-          (let frames = ap frames_in (found-set_same carried k (carried_by moved shell) after there) ∙ carried_by-frames moved (shell_of_turn t) in
-          record { follows = rw (is, frames) goes.follows; runs = rw frames goes.runs })
+          (let set = found-set_same carried k (carried_by moved shell) (Some now) there in
+          let stands = ap (option_map standing_of) set ∙ ap Some (carried_by-stands moved (shell_of_turn t)) in
+          let frames = ap frames_in set ∙ carried_by-frames moved (shell_of_turn t) in
+          record { follows = rw (ap (option_map standing_of) is, stands) goes.follows; runs = rw frames goes.runs })
       | inr differ ↦ rw (own-of_shell_other j k t.log (λ e. differ (sym e)))
-          (carried-moves moved j shells [] (shells_behind shells k moved t)
-          (same-moves j carried (shells_behind shells k moved t) (carried-sane moved shells sane)
-          (ap frames_in (found-set_other carried k after j differ (runs_pos shells k shell is)))))
+          (carried-moves moved j shells (shells_behind shells k moved t) sane
+          (found-set_other carried k (Some now) j differ (runs_pos shells k shell is) ∙ found-carried moved shells j))
     ]
 
 -- an accepted event moves each shell
@@ -89,14 +100,15 @@ ended-moves : (shells : List (Option ShellState)) (k : ℕ) (shell : ShellState)
     shell.frames ≡ [] → Moves j shells [] (slice_set shells (k - 1) None)
 ended-moves shells k shell j sane is none =
     elim (cases_eq j k) [
-      | inl same ↦ rw same (same-moves k shells (slice_set shells (k - 1) None) sane
-          (ap frames_in (found-set_same shells k shell None is) ∙ sym (ap frames_in is ∙ none)))
-      | inr differ ↦ same-moves j shells (slice_set shells (k - 1) None) sane
-          (ap frames_in (found-set_other shells k None j differ (runs_pos shells k shell is)))
+      | inl same ↦ rw same
+          (let gone = found-set_same shells k shell None is in
+          record { follows = rw (ap (option_map standing_of) is, ap (option_map standing_of) gone) (ap stack_of none); runs = rw gone tt })
+      | inr differ ↦ carried-moves None j shells (slice_set shells (k - 1) None) sane
+          (found-set_other shells k None j differ (runs_pos shells k shell is))
     ]
 
 applied-leads : (w : WorldState) (k : ℕ) (shell : ShellState) (codes : Codes) (turning : Turning) → AllSane w.shells →
-    shell_at w k ≡ Some shell → TurningGoes shell.frames turning → Leads w (applied w k codes turning)
+    shell_at w k ≡ Some shell → TurningGoes shell.parts shell.frames turning → Leads w (applied w k codes turning)
 applied-leads w k shell codes (Refuses why) sane is goes = tt
 applied-leads w k shell codes Ends sane is goes = λ j. ended-moves w.shells k shell j sane is goes
 applied-leads w k shell codes (Takes queue t) sane is goes = λ j. turn-moves w.shells k shell (moved_in w t) t j sane is goes

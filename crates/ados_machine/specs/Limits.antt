@@ -62,18 +62,18 @@ last_of [] = None
 last_of (entry ∷ []) = Some entry
 last_of (entry ∷ next ∷ entries) = last_of (next ∷ entries)
 
--- the next item is a record, which stands at this limit
-abbrev pub GoesOnAt : Code → List Item → Type 0
-GoesOnAt limit (Answered depth entry ∷ log) = entry.limit ≡ limit
-GoesOnAt limit _ = ⊥
+-- the next item is a record, which has these codes and stands at this limit
+abbrev pub GoesOnAt : Code → Codes → List Item → Type 0
+GoesOnAt limit codes (Answered depth entry ∷ log) = (entry.limit ≡ limit) × (entry.codes ≡ codes)
+GoesOnAt limit codes _ = ⊥
 
 -- A script's records before the last are below their limits, and so is the last one of a script that still runs. A script
 -- that ended has the line and the codes of its last record, and is early exactly where that one reaches its limit; behind
--- its end the command that called it answers, at the limit that the end brings back.
+-- its end the command that called it answers with these codes, at the limit that the end brings back.
 abbrev pub ObeysLimit : Kind → Code → List Record → Option End → Type 0
 ObeysLimit (Script name command) limit records end =
     BelowLimits records end × IfSome end (λ e.
-    EndsAs (Script name command) (last_line (last_of records)) (last_codes (last_of records)) (is_at_limit (last_of records)) e × GoesOnAt limit e.further)
+    EndsAs (Script name command) (last_line (last_of records)) (last_codes (last_of records)) (is_at_limit (last_of records)) e × GoesOnAt limit e.codes e.further)
 
 -- a frame's last record, as a list
 abbrev pub kept : Option Record → List Record

@@ -1,0 +1,77 @@
+-- A line that no command answers keeps its shell's parts.
+use Rattle.std.proofs.Common.{◌≡◌, ℕ, List, Option, Some, None, Result, Ok, Err, refl, inl, inr}
+use Rattle.std.proofs.lemmas.Bool.{cases_Bool}
+use Rattle.ados_text.specs.declared.codes.Result2.{Result2}
+use Rattle.ados_line.specs.declared.faults.LineFault.{LineFault}
+use Rattle.ados_line.specs.declared.lines.Line.{Line}
+use Rattle.ados_line.specs.declared.lines.Expanded.{Expanded}
+use Rattle.ados_line.specs.declared.lines.Expanded.TheVariants.{Nothing, Ready}
+use Rattle.ados_line.specs.Cut.{expanded_of}
+use Rattle.ados_find.specs.declared.targets.Target.{Target}
+use Rattle.ados_flow.specs.Actions.{Action}
+use Rattle.ados_flow.specs.Actions as flow
+use Rattle.ados_machine.specs.declared.builtins.Builtin.{Builtin}
+use Rattle.ados_machine.specs.declared.phases.Asking.{Asking}
+use Rattle.ados_machine.specs.Commands.{builtin_of}
+use Rattle.ados_machine.specs.Shells.{Parts}
+use Rattle.ados_machine.specs.Course.{Course, printing}
+use Rattle.ados_machine.specs.Opening.{Opened, opening}
+use Rattle.ados_machine.specs.Prompts.{with_args, asks, prompt, input_line}
+use Rattle.ados_machine.specs.Deeds.{Here, Deed, Passes, Answers, Calls, Waits}
+use Rattle.ados_machine.specs.Lines.{action_in, action_deed, opened_deed, command_deed, prompt_deed, input_deed, found_deed, expanded_deed, line_deed, answer_deed}
+
+-- where no command answers, these parts stand on
+abbrev pub KeepsParts : Parts → Deed → Type 0
+KeepsParts parts (Passes course) = course.parts ≡ parts
+KeepsParts parts (Answers word codes quits course) = Unit {0}
+KeepsParts parts (Calls word output script course) = course.parts ≡ parts
+KeepsParts parts (Waits wait course) = course.parts ≡ parts
+
+action-keeps : (word : List ℕ) (target : Option Target) (action : Action) (here : Here) (course : Course) →
+    KeepsParts course.parts (action_deed word target action here course)
+action-keeps word target (flow.Does effect) here course = tt
+action-keeps word target (flow.Quits codes) here course = tt
+action-keeps word target (flow.Calls script) here course = refl
+
+opened-keeps : (builtin : Builtin) (line : Line) (here : Here) (course : Course) (opened : Result Opened Result2) →
+    KeepsParts course.parts (opened_deed builtin line here course opened)
+opened-keeps builtin line here course (Err fault) = tt
+opened-keeps builtin line here course (Ok opened) =
+    let further : Course = record course { shared = opened.shared } in
+    action-keeps line.command opened.target (action_in builtin line opened.target here further) here further
+
+command-keeps : (builtin : Builtin) (line : Line) (here : Here) (course : Course) →
+    KeepsParts course.parts (command_deed builtin line here course)
+command-keeps builtin line here course = opened-keeps builtin line here course (opening course line.output)
+
+prompt-keeps : (builtin : Builtin) (line : Line) (here : Here) (course : Course) (args : Option (List ℕ)) →
+    KeepsParts course.parts (prompt_deed builtin line here course args)
+prompt-keeps builtin line here course None = refl
+prompt-keeps builtin line here course (Some args) = command-keeps builtin (with_args line args) here (printing (prompt builtin) course)
+
+input-keeps : (builtin : Builtin) (line : Line) (here : Here) (course : Course) (read : Result (Option (List ℕ)) Result2) →
+    KeepsParts course.parts (input_deed builtin line here course read)
+input-keeps builtin line here course (Err fault) = tt
+input-keeps builtin line here course (Ok args) =
+    elim (cases_Bool (asks line.args)) [
+      | inl e ↦ rw e (prompt-keeps builtin line here course args)
+      | inr e ↦ rw e (command-keeps builtin line here course)
+    ]
+
+found-keeps : (builtin : Option Builtin) (line : Line) (here : Here) (course : Course) →
+    KeepsParts course.parts (found_deed builtin line here course)
+found-keeps None line here course = tt
+found-keeps (Some builtin) line here course = input-keeps builtin line here course (input_line course line.input)
+
+expanded-keeps : (expanded : Result Expanded LineFault) (here : Here) (course : Course) →
+    KeepsParts course.parts (expanded_deed expanded here course)
+expanded-keeps (Err fault) here course = tt
+expanded-keeps (Ok Nothing) here course = refl
+expanded-keeps (Ok (Ready line)) here course = found-keeps (builtin_of line.command) line here course
+
+pub line-keeps : (raw : List ℕ) (here : Here) (course : Course) → KeepsParts course.parts (line_deed raw here course)
+line-keeps raw here course = expanded-keeps (expanded_of raw) here course
+
+pub answer-keeps : (raw : List ℕ) (asking : Asking) (here : Here) (course : Course) →
+    KeepsParts course.parts (answer_deed raw asking here course)
+answer-keeps raw asking here course = command-keeps asking.builtin (with_args asking.line raw) here course
