@@ -1,5 +1,5 @@
 -- What an event that was taken is in a session.
-use Rattle.std.proofs.Common.{◌≡◌, ℕ, List, Option, Some, Result, Ok, Err, IfOk, refl, ap, sym, ◌∙◌}
+use Rattle.std.proofs.Common.{◌≡◌, ℕ, List, Option, Some, Result, Ok, Err, OnOk, refl, ap, sym, ◌∙◌}
 use Rattle.ados_machine.specs.declared.events.Event.{Event}
 use Rattle.ados_machine.specs.declared.outs.Out.{Out}
 use Rattle.ados_machine.specs.World.{WorldState}
@@ -13,13 +13,13 @@ use Rattle.ados_launch.specs.Schedule.{place_of_event}
 use Rattle.ados_launch.specs.Session.{TakesAt}
 
 -- an event that was accepted
-pub took-event : {E : Type 0} (w now : WorldState) (left rest : Option (List ℕ)) (place : ℕ) (event : Event) (result : Result Out E)
-    → IfOk result (λ out. IsAnswer event (Ok out) (step_of w event)) → IfOk result (λ out. now ≡ world_after w (Ok out) (step_of w event)) → place_of_event event ≡ place
-    → ((out : Out) → Known left (λ bytes. IsNext bytes (Given event out) × (rest ≡ Some (left_behind bytes (Given event out)))))
-    → IfOk result (λ out. TakesAt w left place now rest out.bytes)
-took-event w now left rest place event (Ok out) answer world at lines =
-    record { item = Given event out; place_is = at; accepted = answer; world_is = world; lines = lines out; bytes_are = refl }
-took-event w now left rest place event (Err fault) answer world at lines = tt
+pub took-event : {X E : Type 0} (w now : WorldState) (left rest : Option (List ℕ)) (place : ℕ) (event : Event) (out : Out) (result : Result X E)
+    → OnOk result (IsAnswer event (Ok out) (step_of w event)) → OnOk result (now ≡ world_after w (Ok out) (step_of w event)) → place_of_event event ≡ place
+    → Known left (λ bytes. IsNext bytes (Given event out) × (rest ≡ Some (left_behind bytes (Given event out))))
+    → OnOk result (TakesAt w left place now rest out.bytes)
+took-event w now left rest place event out (Ok done) answer world at lines =
+    record { item = Given event out; place_is = at; accepted = answer; world_is = world; lines = lines; bytes_are = refl }
+took-event w now left rest place event out (Err fault) answer world at lines = tt
 
 pub next-end : (bytes : List ℕ) (kind : LineKind) (kept : List ℕ) (now : Option (List ℕ)) → TakesLine bytes kind kept now → kind ≡ End → (kind_of bytes ≡ End) × (now ≡ Some (rest_of bytes))
 next-end bytes kind kept now t e = (sym t.kind_is ∙ e, t.now_is (λ k. cc))

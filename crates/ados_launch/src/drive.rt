@@ -16,7 +16,7 @@ use crate::schedule::{behind, due};
 use crate::written::write_whole;
 use crate::{Sink, Source};
 use ados_text::{Code, Result2};
-use ados_world::World;
+use ados_world::{Draft, World};
 use std::alloc::Global;
 
 /// How a run ended.
@@ -127,13 +127,14 @@ pub fn drive_lines<S: Source, K: Sink>(
 {
     let mut held = ReadAhead::new();
     let mut line = Vec::new(alloc);
+    let mut draft = Draft::new(alloc);
     let mut place = 0u8;
     for events in 0..turns {
         let Some(next) = due(world, place) else {
             return Ok(End::of(world, events));
         };
-        let out = take_event(alloc, world, next, &mut held, reader, &mut line)?;
-        write_whole(writer, out.bytes.as_bytes())?;
+        take_event(alloc, world, next, &mut held, reader, &mut line, &mut draft)?;
+        write_whole(writer, draft.printed.as_slice())?;
         place = behind(next);
     }
     match due(world, place) {

@@ -1,7 +1,8 @@
 // Taking the event that is due.
-ghost use Rattle.std.specs.Prelude.{◌≡◌, ◌⊎◌, ◌<◌, ◌^◌, ◌-◌, ◌+◌, true, length, IfOk, OnOk, OnErr, IsErrOf, Ok, Err};
-ghost use Rattle.ados_machine.specs.Step.{step_of};
+ghost use Rattle.std.specs.Prelude.{◌≡◌, ◌⊎◌, ◌<◌, ◌^◌, ◌-◌, ◌+◌, [], true, length, OnOk, OnErr, IsErrOf, Ok, Err};
+ghost use Rattle.ados_machine.specs.Step.{giving, step_of};
 ghost use Rattle.ados_machine.specs.Runs.{IsAnswer, world_after};
+ghost use Rattle.ados_shell.specs.Drafts.{out_of};
 ghost use Rattle.ados_launch.specs.Lines.{ahead, Known, kind_of};
 ghost use Rattle.ados_launch.specs.Schedule.{is_due, is_accepted};
 ghost use Rattle.ados_launch.specs.Session.{TakesAt};
@@ -11,12 +12,13 @@ use crate::faults::DriveFault;
 use crate::lines::{LineKind, next_line};
 use crate::read_ahead::ReadAhead;
 use ados_text::Text;
-use ados_world::{Event, Out, Refusal, World};
+use ados_world::{Draft, Event, Refusal, World};
 use std::alloc::Global;
 
 const LONG_LINE_TEXT: &[u8] = b"Line too long\n";
 
-// Takes the event that is due at this place: the next line, or the turn of a shell.
+// Takes the event that is due at this place: the next line, or the turn of a shell. The draft holds then what is to
+// be written.
 pub fn take_event<S: Source>(
     alloc: Global,
     world: &mut World,
@@ -24,11 +26,12 @@ pub fn take_event<S: Source>(
     held: &mut ReadAhead,
     reader: &mut S,
     line: &mut Vec<u8>,
-) -> Result<Out, DriveFault>
+    draft: &mut Draft,
+) -> Result<(), DriveFault>
     requires reader { S.faults reader.old < 2 ^ 64 - 1 }
     requires due { is_due world.old place ≡ true }
-    ensures took { IfOk result (λ out.
-        TakesAt world.old (ahead held.old (S.left reader.old)) place world.new (ahead held.new (S.left reader.new)) out.bytes) }
+    ensures took { OnOk result
+        (TakesAt world.old (ahead held.old (S.left reader.old)) place world.new (ahead held.new (S.left reader.new)) draft.new.printed.items) }
     ensures few { OnOk result (length held.old < 4096 → length held.new < 4096) }
     ensures honest { OnOk result (S.faults reader.new ≡ S.faults reader.old) }
     ensures err { OnErr result (world.new ≡ world.old) }
@@ -39,9 +42,9 @@ pub fn take_event<S: Source>(
     ensures no_turns { IsErrOf result DriveFault.Turns → ⊥ }
 {
     if place == 0 {
-        take_line(alloc, world, held, reader, line)
+        take_line(alloc, world, held, reader, line, draft)
     } else {
-        give(world, &Event::Turn(place))
+        give(world, &Event::Turn(place), draft)
     }
 }
 
@@ -53,11 +56,12 @@ fn take_line<S: Source>(
     held: &mut ReadAhead,
     reader: &mut S,
     line: &mut Vec<u8>,
-) -> Result<Out, DriveFault>
+    draft: &mut Draft,
+) -> Result<(), DriveFault>
     requires reader { S.faults reader.old < 2 ^ 64 - 1 }
     requires due { is_due world.old 0 ≡ true }
-    ensures took { IfOk result (λ out.
-        TakesAt world.old (ahead held.old (S.left reader.old)) 0 world.new (ahead held.new (S.left reader.new)) out.bytes) }
+    ensures took { OnOk result
+        (TakesAt world.old (ahead held.old (S.left reader.old)) 0 world.new (ahead held.new (S.left reader.new)) draft.new.printed.items) }
     ensures few { OnOk result (length held.old < 4096 → length held.new < 4096) }
     ensures honest { OnOk result (S.faults reader.new ≡ S.faults reader.old) }
     ensures err { OnErr result (world.new ≡ world.old) }
@@ -67,29 +71,46 @@ fn take_line<S: Source>(
     ensures never_turns { IsErrOf result DriveFault.Turns → ⊥ }
 {
     match next_line(held, reader, line)? {
-        LineKind::End => give(world, &Event::EndOfInput),
+        LineKind::End => give(world, &Event::EndOfInput, draft),
         LineKind::Short => {
             let text = Text::from_bytes(alloc, line.as_slice())?;
-            give(world, &Event::Typed(text))
+            draft.give_nothing();
+            give_line(world, text)
         }
         LineKind::Long => {
-            let text = LONG_LINE_TEXT.to_vec(alloc)?;
-            Ok(Out::giving(text, Vec::new(alloc)))
+            draft.give_nothing();
+            draft.printed.extend_from_slice(LONG_LINE_TEXT)?;
+            Ok(())
         }
         LineKind::Overlong => Err(DriveFault::Read),
     }
 }
 
 // Gives the world an event that it accepts, unless memory is wanting.
-fn give(world: &mut World, event: &Event) -> Result<Out, DriveFault>
+fn give(world: &mut World, event: &Event, draft: &mut Draft) -> Result<(), DriveFault>
     requires { is_accepted (step_of world.old event.now) ≡ true }
-    ensures answer { IfOk result (λ out. IsAnswer event.now (Ok out) (step_of world.old event.now)) }
-    ensures world { IfOk result (λ out. world.new ≡ world_after world.old (Ok out) (step_of world.old event.now)) }
+    ensures answer { OnOk result (IsAnswer event.now (Ok (out_of draft.new)) (step_of world.old event.now)) }
+    ensures world { OnOk result (world.new ≡ world_after world.old (Ok (out_of draft.new)) (step_of world.old event.now)) }
     ensures memory { OnErr result (result ≡ Err DriveFault.Memory) }
     ensures err { OnErr result (world.new ≡ world.old) }
 {
-    match world.step(event) {
-        Ok(out) => Ok(out),
+    match world.step_into(event, draft) {
+        Ok(()) => Ok(()),
+        Err(Refusal::NoMemory) => Err(DriveFault::Memory),
+        Err(_) => unreachable!(),
+    }
+}
+
+// Gives the world a line that it accepts, unless memory is wanting.
+fn give_line(world: &mut World, line: Text) -> Result<(), DriveFault>
+    requires { is_accepted (step_of world.old (Event.Typed line)) ≡ true }
+    ensures answer { OnOk result (IsAnswer (Event.Typed line) (Ok (giving [] [])) (step_of world.old (Event.Typed line))) }
+    ensures world { OnOk result (world.new ≡ world_after world.old (Ok (giving [] [])) (step_of world.old (Event.Typed line))) }
+    ensures memory { OnErr result (result ≡ Err DriveFault.Memory) }
+    ensures err { OnErr result (world.new ≡ world.old) }
+{
+    match world.type_line(line) {
+        Ok(()) => Ok(()),
         Err(Refusal::NoMemory) => Err(DriveFault::Memory),
         Err(_) => unreachable!(),
     }

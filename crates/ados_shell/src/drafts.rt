@@ -15,7 +15,6 @@ use std::alloc::Global;
 
 /// What a turn has changed so far, and nothing else. One draft serves for one turn after another, so that its buffers
 /// live on.
-#[derive(Drop)]
 pub struct Draft {
     /// What the turn makes of its shell.
     pub shell: ShellDraft,
@@ -44,6 +43,18 @@ pub struct ShellDraft {
 }
 
 // Written out, so that for whoever drops a draft it is one step, and not one for each of its parts.
+impl Drop for Draft {
+    fn drop(self) {
+        let Draft {
+            shell: _shell,
+            shared: _shared,
+            renamed: _renamed,
+            printed: _printed,
+            reports: _reports,
+        } = self;
+    }
+}
+
 impl Drop for ShellDraft {
     fn drop(self) {
         let ShellDraft {
