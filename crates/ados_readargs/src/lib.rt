@@ -2,6 +2,7 @@
 //! Templates, and what a line gives to their options.
 
 mod args;
+mod buffers;
 mod checks;
 mod errors;
 mod fill;
