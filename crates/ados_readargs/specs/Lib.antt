@@ -6,6 +6,7 @@ pub mod Readings
 pub mod Meanings
 pub mod Shares
 pub mod Args
+pub mod Slots
 pub mod Checks
 pub mod Phrases
 pub mod Template

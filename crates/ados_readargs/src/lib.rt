@@ -10,6 +10,7 @@ mod meanings;
 mod options;
 mod readings;
 mod shares;
+mod slots;
 mod template;
 mod words;
 

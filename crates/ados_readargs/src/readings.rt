@@ -37,8 +37,8 @@ impl Reading {
         }
     }
 
-    // What it gives to the option at a place.
-    fn given_to(self, place: usize) -> Option<Item>
+    /// What it gives to the option at a place.
+    pub fn given_to(self, place: usize) -> Option<Item>
         ensures { result ≡ given_to place self }
     {
         match self {
