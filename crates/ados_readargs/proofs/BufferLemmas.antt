@@ -1,13 +1,11 @@
 -- texts in a buffer stay as they are when more is put behind them
-use Rattle.std.proofs.Common.{ℕ, suc, ◌≡◌, ◌≤◌, ◌<◌, ◌+◌, ◌-◌, List, [], ◌∷◌, ◌++◌, Some, None, map, length, take, drop, get_or, slice_get, refl, ap, sym, ◌∙◌, arith}
+use Rattle.std.proofs.Common.{ℕ, suc, ◌≡◌, ◌≤◌, ◌+◌, ◌-◌, List, [], ◌∷◌, ◌++◌, length, take, drop, refl, ap, ◌∙◌, arith}
 use Rattle.std.specs.List.{All}
 use Rattle.std.proofs.lemmas.List.{take-append-le, drop-append-le, length-drop, map-append, take_all}
-use Rattle.std.proofs.lemmas.List.Elements.{All-append}
 use Rattle.std.proofs.Math.Seq.{drop-append_seam}
 use Rattle.ados_items.specs.Items.{bytes_between}
-use Rattle.ados_text.specs.Text.{IsText}
 use Rattle.ados_readargs.specs.declared.buffers.Span.{Span}
-use Rattle.ados_readargs.specs.Buffers.{text_in, texts_in, LiesIn, AreLaid}
+use Rattle.ados_readargs.specs.Buffers.{text_in, texts_in, LiesIn}
 
 between-append : (bytes more : List ℕ) (from to : ℕ) → from ≤ to → to ≤ length bytes → bytes_between (bytes ++ more) from to ≡ bytes_between bytes from to
 between-append bytes more from to a b =

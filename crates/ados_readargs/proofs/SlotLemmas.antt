@@ -1,5 +1,5 @@
 -- what options were given stays as it is when more texts are put behind its own
-use Rattle.std.proofs.Common.{ℕ, suc, ◌≡◌, ◌≤◌, ◌<◌, ◌+◌, ◌-◌, ◌==◌, List, [], ◌∷◌, ◌++◌, Bool, true, false, map, length, take, drop, get_or, slice_get, Some, if◌then◌else◌, refl, ap, sym, ◌∙◌, arith}
+use Rattle.std.proofs.Common.{ℕ, suc, ◌≡◌, ◌≤◌, ◌+◌, ◌-◌, ◌==◌, List, [], ◌∷◌, ◌++◌, Bool, true, false, map, length, take, drop, get_or, slice_get, Some, if◌then◌else◌, refl, ap, ◌∙◌, arith}
 use Rattle.std.specs.List.{All}
 use Rattle.std.specs.Option.{option_map}
 use Rattle.std.proofs.lemmas.List.{take-append-le, drop-append-le, length-drop, map-append, take_all, get_or_append_left, get_or_past, length-map, length-take}
@@ -9,7 +9,6 @@ use Rattle.std.proofs.Math.Seq.{drop-append_seam, get_or-append_seam}
 use Rattle.ados_text.specs.Text.{Text}
 use Rattle.ados_items.specs.Items.{value_of}
 use Rattle.ados_items.specs.declared.items.Item.{Item}
-use Rattle.ados_readargs.specs.declared.args.Arg.{Arg}
 use Rattle.ados_readargs.specs.declared.args.Arg.TheVariants as arg
 use Rattle.ados_readargs.specs.declared.slots.Slot.{Slot}
 use Rattle.ados_readargs.specs.declared.slots.Slot.TheVariants.{Absent, On, One, Many}

@@ -1,16 +1,18 @@
-ghost use Rattle.std.specs.Prelude.{◌≡◌, ◌++◌, ◌≤◌, [], ◌∷◌, length, map, get_or, slice_get, OnOk, IfSome};
+ghost use Rattle.std.specs.Prelude.{◌≡◌, ◌++◌, ◌≤◌, [], ◌∷◌, length, map, get_or, slice_get, IfOk, OnOk, IfSome};
 ghost use Rattle.std.specs.Option.{option_map};
 ghost use Rattle.ados_text.specs.Text.{IsText};
 ghost use Rattle.ados_items.specs.Items.{value_of};
-ghost use Rattle.ados_readargs.specs.Args.{is_on, on_where, text_at, texts_at, value_arg};
+ghost use Rattle.ados_readargs.specs.Args.{is_on, on_where, or_absent, text_at, texts_at, value_arg};
+ghost use Rattle.ados_readargs.specs.Checks.{is_absent};
 ghost use Rattle.ados_readargs.specs.Readings.{given_items};
 ghost use Rattle.ados_readargs.specs.Slots.{slot_of, switch_slot};
 
+use crate::args::Arg;
 use crate::buffers::Buffer;
 use crate::options::Qualifiers;
 use crate::readings::Reading;
 use ados_items::Item;
-use ados_text::NoMemory;
+use ados_text::{NoMemory, Text, Texts};
 use std::alloc::Global;
 use std::marker::Model;
 
@@ -129,6 +131,53 @@ impl Slots {
         }
     }
 
+    /// Whether the option at a place was given nothing; so it is past the last.
+    pub fn is_absent(&self, place: usize) -> bool
+        ensures { result ≡ is_absent (or_absent (slice_get self.now place)) }
+    {
+        match slot_at(self.slots.as_slice(), place) {
+            Some(Slot::Absent) => true,
+            Some(Slot::On) => false,
+            Some(Slot::One(_)) => false,
+            Some(Slot::Many { .. }) => false,
+            None => true,
+        }
+    }
+
+    /// The argument of the option at a place, with texts of its own; `None` past the last.
+    pub fn arg(&self, alloc: Global, place: usize) -> Result<Option<Arg>, NoMemory>
+        ensures { IfOk result (λ arg. arg ≡ slice_get self.now place) }
+    {
+        match slot_at(self.slots.as_slice(), place) {
+            Some(Slot::Absent) => Ok(Some(Arg::Absent)),
+            Some(Slot::On) => Ok(Some(Arg::On)),
+            Some(Slot::One(text)) => Ok(Some(Arg::One(ascii_text(alloc, self.texts.get(text))?))),
+            Some(Slot::Many { .. }) => Ok(Some(Arg::Many(self.made_texts(alloc, place)?))),
+            None => Ok(None),
+        }
+    }
+
+    /// The text of the option without `/M` at a place, in a value of its own.
+    pub fn made_text(&self, alloc: Global, place: usize) -> Result<Option<Text>, NoMemory>
+        ensures { IfOk result (λ text. text ≡ text_at self.now place) }
+    {
+        match self.text(place) {
+            None => Ok(None),
+            Some(text) => Ok(Some(ascii_text(alloc, text)?)),
+        }
+    }
+
+    /// The texts of the option at a place, in order, in values of their own.
+    pub fn made_texts(&self, alloc: Global, place: usize) -> Result<Texts, NoMemory>
+        ensures { IfOk result (λ texts. texts ≡ texts_at self.now place) }
+    {
+        let mut texts = Texts::new(alloc);
+        for number in 0..self.texts_len(place) {
+            texts.push(ascii_text(alloc, self.text_of(place, number))?)?;
+        }
+        Ok(texts)
+    }
+
     /// Adds a switch or toggle, on or not; at `NoMemory` nothing is known of what is there.
     pub fn push_switch(&mut self, on: bool) -> Result<(), NoMemory>
         ensures { OnOk result (self.new ≡ self.old ++ on_where on ∷ []) }
@@ -156,6 +205,16 @@ impl Slots {
         self.slots.push(slot_of(q.many, from, to))?;
         Ok(())
     }
+}
+
+// The text of ASCII bytes.
+fn ascii_text(alloc: Global, bytes: &[u8]) -> Result<Text, NoMemory>
+    requires { IsText bytes.now }
+    ensures { IfOk result (λ text. text ≡ bytes.now) }
+{
+    let mut text = Text::new(alloc);
+    text.push_bytes(bytes)?;
+    Ok(text)
 }
 
 // The slot at a place.

@@ -1,4 +1,4 @@
-use Rattle.std.proofs.Common.{rules, ◌≡◌, ◌∙◌, ◌++◌, ◌+◌, ap, length, arith, length-append}
+use Rattle.std.proofs.Common.{rules, ◌≡◌, ◌∙◌, ap, length, length-append}
 use Rattle.ados_items.specs.Items.{value_of}
 use Rattle.ados_readargs.proofs.BufferLemmas.{one-more}
 use Rattle.ados_readargs.proofs.buffers.Buffer.push.Goals as goal

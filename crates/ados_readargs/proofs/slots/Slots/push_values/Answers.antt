@@ -1,4 +1,4 @@
-use Rattle.std.proofs.Common.{rules, ◌≡◌, ◌∙◌, ◌++◌, ◌+◌, ap, sym, map, length, arith, append_assoc, length-append}
+use Rattle.std.proofs.Common.{◌≡◌, ◌∙◌, ◌++◌, ◌+◌, ap, sym, map, length, append_assoc, length-append}
 use Rattle.std.proofs.lemmas.List.{map-append, length-map}
 use Rattle.ados_items.specs.Items.{value_of}
 use Rattle.ados_readargs.specs.Readings.{given_items}

@@ -1,4 +1,4 @@
-use Rattle.std.proofs.Common.{sym, rules, arith, ◌∙◌, ap, get_or, slice_get, Some, []}
+use Rattle.std.proofs.Common.{sym, ◌∙◌, ap, get_or, slice_get, Some, []}
 use Rattle.ados_readargs.specs.Args.{texts_at}
 use Rattle.ados_readargs.proofs.SlotLemmas.{text-past}
 use Rattle.ados_readargs.proofs.slots.Slots.text_of.Goals as goal
