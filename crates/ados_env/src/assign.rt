@@ -24,9 +24,11 @@ pub fn assign(
 ) -> Result<Outcome, NoMemory>
     ensures { IfOk result (λ outcome. effect_of shared.now outcome ≡ assign_row shared.now view.now args.now) }
 {
-    let name = args.text(0);
+    let name = args.made_text(alloc, 0)?;
+    let name = name.as_ref();
+    let target = args.made_text(alloc, 1)?;
     let exists = args.is_on(2);
-    match args.text(1) {
+    match target.as_ref() {
         Some(_) if exists => {
             let codes = Codes::failed(Result2::TOO_MANY_ARGUMENTS);
             Ok(Outcome::answering(alloc, view.limit, codes))

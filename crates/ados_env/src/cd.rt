@@ -19,11 +19,11 @@ pub fn cd(
 ) -> Result<Outcome, NoMemory>
     ensures { IfOk result (λ outcome. effect_of shared.now outcome ≡ cd_row shared.now view.now args.now) }
 {
-    let Some(text) = args.text(0) else {
+    let Some(text) = args.made_text(alloc, 0)? else {
         let line = path_line(alloc, &shared.ram, &view.directory)?;
         return Ok(Outcome::putting(view.limit, line));
     };
-    match directory_of(alloc, shared, view, text) {
+    match directory_of(alloc, shared, view, &text) {
         Err(refusal) => Ok(Outcome::answering(alloc, view.limit, refusal.codes()?)),
         Ok(place) => Ok(moved_to(alloc, view, place)),
     }

@@ -1,12 +1,12 @@
 ghost use Rattle.std.specs.Prelude.{◌≡◌, IfOk};
-ghost use Rattle.std.specs.Option.{option_copied};
+ghost use Rattle.std.specs.Option.{option_map};
 ghost use Rattle.ados_find.specs.Effects.{DoesTo};
 ghost use Rattle.ados_env.specs.Eval.{in_range, value_by, evaluated, value_line, eval_row};
 
 use crate::operators::Operator;
 use ados_find::{Codes, Outcome, ShellView};
 use ados_readargs::Args;
-use ados_text::{Code, NoMemory, Result2, Text, number_in, push_number};
+use ados_text::{Code, NoMemory, Result2, number_in, push_number};
 use std::alloc::Global;
 
 /// Eval puts out a value.
@@ -33,28 +33,23 @@ fn value_line(alloc: Global, limit: Code, value: Result<i32, Result2>) -> Result
 
 /// The value of VALUE1, OP and VALUE2.
 fn evaluated(
-    first: Option<&Text>,
-    operator: Option<&Text>,
-    second: Option<&Text>,
+    first: Option<&[u8]>,
+    operator: Option<&[u8]>,
+    second: Option<&[u8]>,
 ) -> Result<i32, Result2>
-    ensures { result ≡ evaluated (option_copied first.entry) (option_copied operator.entry) (option_copied second.entry) }
+    ensures { result ≡ evaluated (option_map (λ t. t.now) first.entry) (option_map (λ t. t.now) operator.entry) (option_map (λ t. t.now) second.entry) }
 {
     let Some(first) = first else {
         return Err(Result2::ARGUMENT_MISSING);
     };
-    let first = number_in(first.as_bytes());
+    let first = number_in(first);
     let Some(operator) = operator else {
         return first.ok_or(Result2::BAD_NUMBER);
     };
     let Some(second) = second else {
         return Err(Result2::ARGUMENT_MISSING);
     };
-    value_by(
-        first,
-        Operator::named(operator),
-        number_in(second.as_bytes()),
-    )
-    .ok_or(Result2::BAD_NUMBER)
+    value_by(first, Operator::named(operator), number_in(second)).ok_or(Result2::BAD_NUMBER)
 }
 
 /// The value of two operands and an operator, where there are such.

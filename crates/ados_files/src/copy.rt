@@ -31,10 +31,11 @@ pub fn copy_files(
     ensures { IfOk result (λ outcome. effect_of shared.now outcome ≡ copy_row shared.now view.now args.now) }
 {
     let missing = Codes::failed(Result2::ARGUMENT_MISSING);
-    let Some(to) = args.text(1) else {
+    let Some(to) = args.made_text(alloc, 1)? else {
         return Ok(Outcome::answering(alloc, view.limit, missing));
     };
-    let texts = args.texts(0);
+    let texts = args.made_texts(alloc, 0)?;
+    let texts = texts.as_slice();
     if texts.is_empty() {
         return Ok(Outcome::answering(alloc, view.limit, missing));
     }
@@ -47,7 +48,7 @@ pub fn copy_files(
                 quiet: args.is_on(3),
                 found,
             };
-            copied_to(alloc, shared, &copy, to)
+            copied_to(alloc, shared, &copy, &to)
         }
     }
 }

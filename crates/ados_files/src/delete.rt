@@ -25,7 +25,8 @@ pub fn delete(
         all: args.is_on(1),
         quiet: args.is_on(2),
     };
-    done_with_named(alloc, shared, view, &act, args.texts(0))
+    let texts = args.made_texts(alloc, 0)?;
+    done_with_named(alloc, shared, view, &act, texts.as_slice())
 }
 
 /// The deleting of an object, with ALL behind what is below it.

@@ -23,7 +23,8 @@ pub fn show_directory(
 ) -> Result<Outcome, NoMemory>
     ensures { IfOk result (λ outcome. effect_of shared.now outcome ≡ dir_row shared.now view.now args.now) }
 {
-    match directory_given(alloc, shared, view, args.text(0)) {
+    let directory = args.made_text(alloc, 0)?;
+    match directory_given(alloc, shared, view, directory.as_ref()) {
         Err(refusal) => Ok(Outcome::answering(alloc, view.limit, refusal.codes()?)),
         Ok(place) => dir_at(alloc, shared, view, args.is_on(1), args.is_on(2), &place),
     }

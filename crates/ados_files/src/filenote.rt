@@ -19,9 +19,10 @@ pub fn filenote(
 ) -> Result<Outcome, NoMemory>
     ensures { IfOk result (λ outcome. effect_of shared.now outcome ≡ filenote_row shared.now view.now args.now) }
 {
-    match args.text(1) {
-        None => noted(alloc, shared, view, &Text::new(alloc), args.texts(0)),
-        Some(comment) => noted(alloc, shared, view, comment, args.texts(0)),
+    let texts = args.made_texts(alloc, 0)?;
+    match args.made_text(alloc, 1)? {
+        None => noted(alloc, shared, view, &Text::new(alloc), texts.as_slice()),
+        Some(comment) => noted(alloc, shared, view, &comment, texts.as_slice()),
     }
 }
 

@@ -21,15 +21,16 @@ pub fn join_files(
 ) -> Result<Outcome, NoMemory>
     ensures { IfOk result (λ outcome. effect_of shared.now outcome ≡ join_row shared.now view.now args.now) }
 {
-    let Some(to) = args.text(1) else {
+    let Some(to) = args.made_text(alloc, 1)? else {
         let codes = Codes::failed(Result2::ARGUMENT_MISSING);
         return Ok(Outcome::answering(alloc, view.limit, codes));
     };
+    let texts = args.made_texts(alloc, 0)?;
     let act = Joining {
         view,
-        texts: args.texts(0),
+        texts: texts.as_slice(),
     };
-    done_with(alloc, shared, view, &act, slice::from_ref(to))
+    done_with(alloc, shared, view, &act, slice::from_ref(&to))
 }
 
 /// The joining of files to one.

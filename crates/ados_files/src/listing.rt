@@ -38,7 +38,8 @@ pub fn list(
 ) -> Result<Outcome, NoMemory>
     ensures { IfOk result (λ outcome. effect_of shared.now outcome ≡ list_row shared.now view.now args.now) }
 {
-    match pattern_given(alloc, args.text(1)) {
+    let pattern = args.made_text(alloc, 1)?;
+    match pattern_given(alloc, pattern.as_ref()) {
         Err(refusal) => Ok(Outcome::answering(alloc, view.limit, refusal.codes()?)),
         Ok(pattern) => {
             let shape = Shape {
@@ -47,7 +48,8 @@ pub fn list(
                 files: args.is_on(3),
                 dirs: args.is_on(4),
             };
-            list_texts(alloc, shared, view, &shape, args.texts(0))
+            let texts = args.made_texts(alloc, 0)?;
+            list_texts(alloc, shared, view, &shape, texts.as_slice())
         }
     }
 }

@@ -19,7 +19,8 @@ pub fn make_dir(
 ) -> Result<Outcome, NoMemory>
     ensures { IfOk result (λ outcome. effect_of shared.now outcome ≡ make_dir_row shared.now view.now args.now) }
 {
-    let texts = args.texts(0);
+    let texts = args.made_texts(alloc, 0)?;
+    let texts = texts.as_slice();
     if texts.is_empty() {
         let codes = Codes::failed(Result2::ARGUMENT_MISSING);
         return Ok(Outcome::answering(alloc, view.limit, codes));

@@ -1,5 +1,5 @@
 ghost use Rattle.std.specs.Prelude.{◌≡◌, IfOk, OnOk};
-ghost use Rattle.std.specs.Option.{option_copied};
+ghost use Rattle.std.specs.Option.{option_copied, option_map};
 ghost use Rattle.ados_find.specs.Done.{done_of};
 ghost use Rattle.ados_find.specs.Effects.{effect_of};
 
@@ -39,7 +39,8 @@ pub fn protect(
     ensures { IfOk result (λ outcome. effect_of shared.now outcome ≡ protect_row shared.now view.now args.now) }
 {
     let change = change_of(text_or_empty(args.text(1)), args.is_on(2), args.is_on(3));
-    protected_by(alloc, shared, view, change, args.texts(0))
+    let texts = args.made_texts(alloc, 0)?;
+    protected_by(alloc, shared, view, change, texts.as_slice())
 }
 
 fn protected_by(
@@ -58,12 +59,12 @@ fn protected_by(
 }
 
 // The text that is given, and else the empty one.
-fn text_or_empty(text: Option<&Text>) -> &[u8]
-    ensures { result.now ≡ text_or_empty (option_copied text.entry) }
+fn text_or_empty(text: Option<&[u8]>) -> &[u8]
+    ensures { result.now ≡ text_or_empty (option_map (λ t. t.now) text.entry) }
 {
     match text {
         None => &[],
-        Some(text) => text.as_bytes(),
+        Some(text) => text,
     }
 }
 

@@ -25,15 +25,15 @@ pub fn rename_object(
 ) -> Result<Outcome, NoMemory>
     ensures { IfOk result (λ outcome. effect_of shared.now outcome ≡ rename_row shared.now view.now args.now) }
 {
-    let Some(from) = args.text(0) else {
+    let Some(from) = args.made_text(alloc, 0)? else {
         return Ok(missing(alloc, view));
     };
-    let Some(to) = args.text(1) else {
+    let Some(to) = args.made_text(alloc, 1)? else {
         return Ok(missing(alloc, view));
     };
-    match place_of(alloc, shared, &view.directory, from) {
+    match place_of(alloc, shared, &view.directory, &from) {
         Err(refusal) => Ok(Outcome::answering(alloc, view.limit, refusal.codes()?)),
-        Ok(from) => renamed_at(alloc, shared, view, &from, to),
+        Ok(from) => renamed_at(alloc, shared, view, &from, &to),
     }
 }
 

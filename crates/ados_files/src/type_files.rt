@@ -19,7 +19,8 @@ pub fn type_files(
 ) -> Result<Outcome, NoMemory>
     ensures { IfOk result (λ outcome. effect_of shared.now outcome ≡ type_row shared.now view.now args.now) }
 {
-    done_with_named(alloc, shared, view, &Typing { view }, args.texts(0))
+    let texts = args.made_texts(alloc, 0)?;
+    done_with_named(alloc, shared, view, &Typing { view }, texts.as_slice())
 }
 
 /// The putting out of one file.

@@ -27,9 +27,9 @@ pub fn execute(
     if !simple {
         return Ok(Action::answering(alloc, view.limit, Codes::failed(Result2::NOT_IMPLEMENTED)));
     }
-    match args.text(0) {
+    match args.made_text(alloc, 0)? {
         None => Ok(Action::answering(alloc, view.limit, Codes::failed(Result2::ARGUMENT_MISSING))),
-        Some(word) => call(alloc, shared, view, word),
+        Some(word) => call(alloc, shared, view, &word),
     }
 }
 

@@ -1,5 +1,5 @@
 -- what the words of a line were read as is what its phrases say
-use Rattle.std.proofs.Common.{ℕ, ◌≡◌, ◌⊎◌, ◌∙◌, ◌+◌, ◌-◌, ◌<◌, ◌≤◌, ◌==◌, nat_lt, List, [], ◌∷◌, ◌++◌, Bool, true, false, ◌&&◌, ◌||◌, not, Option, Some, None, Result, Ok, Err, IfOk, length, drop, get_or, refl, ap, sym, subst, arith, append_assoc, append-nil, inl, inr}
+use Rattle.std.proofs.Common.{ℕ, ◌≡◌, ◌⊎◌, ◌∙◌, ◌+◌, ◌-◌, ◌<◌, ◌≤◌, ◌==◌, nat_lt, List, [], ◌∷◌, ◌++◌, Bool, true, false, ◌&&◌, ◌||◌, not, Option, Some, None, Result, Ok, Err, IfOk, OnOk, length, drop, get_or, refl, ap, sym, subst, arith, append_assoc, append-nil, inl, inr}
 use Rattle.std.proofs.lemmas.Grind.{common_steps}
 use Rattle.std.specs.List.{flat_map, position, position_or_len}
 use Rattle.std.specs.Prelude.{slice_index}
@@ -395,7 +395,7 @@ by-read options line (Ok readings) args e given taken =
 by-read options line (Err fault) args e given taken = cc
 
 -- what a line gives to options, its phrases say
-pub filled : (result : Result (List Arg) ArgFault) (options : List TemplateOption) (line : List ℕ) → IfOk result (λ args. args_for options line ≡ Ok args)
-    → IfOk result (λ _. LosesNoWord options line) → IfOk result (λ args. IsFilled options line args)
-filled (Ok args) options line e taken = by-read options line _ args refl e taken
-filled (Err fault) options line e taken = tt
+pub filled : {T : Type 0} (result : Result T ArgFault) (args : List Arg) (options : List TemplateOption) (line : List ℕ) → OnOk result (args_for options line ≡ Ok args)
+    → OnOk result (LosesNoWord options line) → OnOk result (IsFilled options line args)
+filled (Ok value) args options line e taken = by-read options line _ args refl e taken
+filled (Err fault) args options line e taken = tt

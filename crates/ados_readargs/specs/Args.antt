@@ -28,9 +28,13 @@ abbrev pub one_of : Bytes → List Item → Arg
 one_of line [] = Absent
 one_of line (item ∷ items) = One (value_of line item)
 
+-- a switch or toggle that was named so often is on
+abbrev pub is_named : Qualifiers → ℕ → Bool
+is_named q named = if q.switch then nat_lt 0 named else named % 2 == 1
+
 -- the argument of a switch or toggle that was named so often
 abbrev pub named_arg : Qualifiers → ℕ → Arg
-named_arg q named = on_where (if q.switch then nat_lt 0 named else named % 2 == 1)
+named_arg q named = on_where (is_named q named)
 
 -- the argument of an option that takes values and holds the items
 abbrev pub value_arg : Qualifiers → Bytes → List Item → Arg
@@ -75,6 +79,11 @@ text_in (Many texts) = None
 abbrev pub texts_or_none : Option Arg → List Text
 texts_or_none None = []
 texts_or_none (Some arg) = texts_in arg
+
+-- an argument; `Absent` where there is none
+abbrev pub or_absent : Option Arg → Arg
+or_absent None = Absent
+or_absent (Some arg) = arg
 
 -- the option at a place is on
 abbrev pub is_on : List Arg → ℕ → Bool

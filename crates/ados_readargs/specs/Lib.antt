@@ -1,10 +1,12 @@
 pub mod Faults
 pub mod Options
+pub mod Buffers
 pub mod Words
 pub mod Readings
 pub mod Meanings
 pub mod Shares
 pub mod Args
+pub mod Slots
 pub mod Checks
 pub mod Phrases
 pub mod Template

@@ -13,6 +13,14 @@ has_name name option = list_any (λ own. is_same own name) option.names
 abbrev pub is_rest : TemplateOption → Bool
 is_rest option = option.qualifiers.rest
 
+-- the option has /A
+abbrev pub is_required : TemplateOption → Bool
+is_required option = option.qualifiers.required
+
+-- the option has /N
+abbrev pub takes_number : TemplateOption → Bool
+takes_number option = option.qualifiers.number
+
 -- no qualifier
 abbrev pub unqualified : Qualifiers
 unqualified = record { required = false; keyword = false; switch = false; toggle = false; number = false; many = false; rest = false }

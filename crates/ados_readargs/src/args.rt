@@ -1,12 +1,18 @@
-ghost use Rattle.std.specs.Prelude.{◌≡◌, ◌<◌, length, map, slice_get, IfOk};
-ghost use Rattle.std.specs.Option.{option_copied};
-ghost use Rattle.ados_items.specs.Items.{value_of};
-ghost use Rattle.ados_readargs.specs.Args.{on_where, many_of, one_of, named_arg, value_arg, arg_at, args_of, is_on, text_at, texts_at, number_at};
+ghost use Rattle.std.specs.Prelude.{◌≡◌, [], Ok, false, length, get_or, slice_get, IfOk, IfErr, IfSome, OnOk};
+ghost use Rattle.std.specs.Option.{option_map};
+ghost use Rattle.ados_text.specs.Text.{IsText};
+ghost use Rattle.ados_readargs.specs.Args.{is_on, text_at, texts_at, number_at};
+ghost use Rattle.ados_readargs.specs.Checks.{has_bad};
+ghost use Rattle.ados_readargs.specs.Faults.{IsFaultOf};
+ghost use Rattle.ados_readargs.specs.Fill.{args_for, LosesNoWord};
+ghost use Rattle.ados_readargs.specs.Phrases.{IsFilled};
 
-use crate::options::{Qualifiers, TemplateOption};
-use crate::readings::{Readings, is_filled, named_count};
-use crate::shares::{held_items, share};
-use ados_items::{Item, value};
+use crate::errors::ArgFault;
+use crate::fill::args_read;
+use crate::meanings::read;
+use crate::option_list::OptionList;
+use crate::readings::Readings;
+use crate::slots::Slots;
 use ados_text::{NoMemory, Text, Texts, number_in};
 use std::alloc::Global;
 use std::marker::Model;
@@ -25,9 +31,14 @@ pub enum Arg {
 }
 
 /// What a line gives to each option of a template, in the order of the options.
+///
+/// The texts lie in a buffer that is kept from line to line, and are lent as bytes; `made_text` and
+/// `made_texts` make such as outlive the line.
 #[derive(Drop)]
 pub struct Args {
-    items: Vec<Arg>,
+    slots: Slots,
+    // Room for what the words of a line are read as; between two lines it says nothing.
+    readings: Readings,
 }
 
 impl Model for Args {
@@ -36,57 +47,63 @@ impl Model for Args {
 
     ghost Value = { List Arg };
 
-    ghost view = { λ a. a.items.items };
+    ghost view = { λ a. a.slots };
 }
 
 impl Args {
-    /// The arguments of a vector, taken over without memory.
-    pub fn from_vec(items: Vec<Arg>) -> Args
-        ensures { result ≡ items.items }
+    /// No argument, for lines to be filled in.
+    pub fn new(alloc: Global) -> Args
+        ensures { result ≡ [] }
     {
-        Args { items }
+        Args {
+            slots: Slots::new(alloc),
+            readings: Readings::new(alloc),
+        }
     }
 
     /// How many there are: one for each option.
     pub fn len(&self) -> usize
         ensures { result ≡ length self.now }
     {
-        self.items.len()
+        self.slots.len()
     }
 
-    /// The argument of the option at a place, counted from 0; `None` past the last.
-    pub fn get(&self, place: usize) -> Option<&Arg>
-        ensures { option_copied result ≡ slice_get self.now place }
+    /// The argument of the option at a place, counted from 0, with texts of its own; `None` past the
+    /// last. `NoMemory` only where a growth was refused.
+    pub fn get(&self, alloc: Global, place: usize) -> Result<Option<Arg>, NoMemory>
+        ensures { IfOk result (λ arg. arg ≡ slice_get self.now place) }
     {
-        self.items.get(place)
+        self.slots.arg(alloc, place)
     }
 
     /// The switch or toggle at a place is on.
     pub fn is_on(&self, place: usize) -> bool
         ensures { result ≡ is_on self.now place }
     {
-        matches!(self.get(place), Some(Arg::On))
+        self.slots.is_on(place)
     }
 
     /// The text of the option without `/M` at a place; `None` where it was given none.
-    pub fn text(&self, place: usize) -> Option<&Text>
-        ensures { option_copied result ≡ text_at self.now place }
+    pub fn text(&self, place: usize) -> Option<&[u8]>
+        ensures value { option_map (λ t. t.now) result ≡ text_at self.now place }
+        ensures ascii { IfSome result (λ t. IsText t.now) }
     {
-        match self.get(place) {
-            Some(Arg::One(text)) => Some(text),
-            _ => None,
-        }
+        self.slots.text(place)
     }
 
-    /// The texts of the option at a place, in order; none where it was given none.
-    pub fn texts(&self, place: usize) -> &[Text]
-        ensures { result.now ≡ texts_at self.now place }
+    /// How many texts the option at a place was given.
+    pub fn texts_len(&self, place: usize) -> usize
+        ensures { result ≡ length (texts_at self.now place) }
     {
-        match self.get(place) {
-            Some(Arg::One(text)) => std::slice::from_ref(text),
-            Some(Arg::Many(texts)) => texts.as_slice(),
-            _ => &[],
-        }
+        self.slots.texts_len(place)
+    }
+
+    /// The text with a number, from 0, of the option at a place; the empty text past its last.
+    pub fn text_of(&self, place: usize, number: usize) -> &[u8]
+        ensures value { result.now ≡ get_or (texts_at self.now place) number [] }
+        ensures ascii { IsText result.now }
+    {
+        self.slots.text_of(place, number)
     }
 
     /// The number of the option without `/M` at a place; `None` where it was given none, or where
@@ -94,104 +111,35 @@ impl Args {
     pub fn number(&self, place: usize) -> Option<i32>
         ensures { result ≡ number_at self.now place }
     {
-        number_in(self.text(place)?.as_bytes())
+        number_in(self.text(place)?)
     }
-}
 
-fn on_where(on: bool) -> Arg
-    ensures { result ≡ on_where on }
-{
-    if on { Arg::On } else { Arg::Absent }
-}
-
-fn texts_of(alloc: Global, line: &[u8], items: &[Item]) -> Result<Texts, NoMemory>
-    ensures { IfOk result (λ texts. texts ≡ map (value_of line.now) items.now) }
-{
-    let mut texts = Texts::new(alloc);
-    for item in items {
-        texts.push(value(alloc, line, item)?)?;
+    /// The text of the option without `/M` at a place, for a value that outlives the line; `None`
+    /// where it was given none. `NoMemory` only where a growth was refused.
+    pub fn made_text(&self, alloc: Global, place: usize) -> Result<Option<Text>, NoMemory>
+        ensures { IfOk result (λ text. text ≡ text_at self.now place) }
+    {
+        self.slots.made_text(alloc, place)
     }
-    Ok(texts)
-}
 
-// The texts of the items, for an option with /M.
-fn many_of(alloc: Global, line: &[u8], items: &[Item]) -> Result<Arg, NoMemory>
-    ensures { IfOk result (λ arg. arg ≡ many_of line.now items.now) }
-{
-    if items.is_empty() {
-        return Ok(Arg::Absent);
+    /// The texts of the option at a place, in order, for values that outlive the line; none where it
+    /// was given none. `NoMemory` only where a growth was refused.
+    pub fn made_texts(&self, alloc: Global, place: usize) -> Result<Texts, NoMemory>
+        ensures { IfOk result (λ texts. texts ≡ texts_at self.now place) }
+    {
+        self.slots.made_texts(alloc, place)
     }
-    Ok(Arg::Many(texts_of(alloc, line, items)?))
-}
 
-// The text of the first item, for an option without /M.
-fn one_of(alloc: Global, line: &[u8], items: &[Item]) -> Result<Arg, NoMemory>
-    ensures { IfOk result (λ arg. arg ≡ one_of line.now items.now) }
-{
-    match items {
-        [] => Ok(Arg::Absent),
-        [item, ..] => Ok(Arg::One(value(alloc, line, item)?)),
+    /// What a line gives to the options, in place of what is there. At a fault nothing is known of
+    /// what is there.
+    pub fn refill(&mut self, options: &OptionList, line: &[u8]) -> Result<(), ArgFault>
+        ensures ok { OnOk result (args_for options.now line.now ≡ Ok self.new) }
+        ensures numbers { OnOk result (has_bad options.now self.new ≡ false) }
+        ensures taken { OnOk result (LosesNoWord options.now line.now) }
+        ensures said { OnOk result (IsFilled options.now line.now self.new) }
+        ensures fault { IfErr result (λ e. IsFaultOf (args_for options.now line.now) e) }
+    {
+        read(options, line, &mut self.readings)?;
+        args_read(options, line, &self.readings, &mut self.slots)
     }
-}
-
-// The argument of a switch or toggle that was named so often.
-fn named_arg(q: Qualifiers, named: usize) -> Arg
-    ensures { result ≡ named_arg q named }
-{
-    on_where(if q.switch { named > 0 } else { named % 2 == 1 })
-}
-
-// The argument of an option that takes values and holds the items.
-fn value_arg(alloc: Global, q: Qualifiers, line: &[u8], items: &[Item]) -> Result<Arg, NoMemory>
-    ensures { IfOk result (λ arg. arg ≡ value_arg q line.now items.now) }
-{
-    if q.many {
-        many_of(alloc, line, items)
-    } else {
-        one_of(alloc, line, items)
-    }
-}
-
-#[tactic(auto, unfolding(crate::specs::Args::arg_at))]
-fn arg_at(
-    alloc: Global,
-    options: &[TemplateOption],
-    line: &[u8],
-    readings: &Readings,
-    place: usize,
-    q: Qualifiers,
-) -> Result<Arg, NoMemory>
-    requires { place < length options.now }
-    ensures { IfOk result (λ arg. arg ≡ arg_at options.now line.now readings.now place q) }
-{
-    let given = readings.given.as_slice();
-    if !q.takes_value() {
-        return Ok(named_arg(q, named_count(given, place)));
-    }
-    if is_filled(given, place) {
-        let items = held_items(alloc, options, readings, place)?;
-        value_arg(alloc, q, line, items.as_slice())
-    } else {
-        // it holds no more than its plain words, which are copied into no vector
-        let items = share(options, readings, place);
-        value_arg(alloc, q, line, items)
-    }
-}
-
-/// The arguments of the options, by what the words of the line were read as.
-pub fn args_of(
-    alloc: Global,
-    options: &[TemplateOption],
-    line: &[u8],
-    readings: &Readings,
-) -> Result<Vec<Arg>, NoMemory>
-    ensures args { IfOk result (λ args. args.items ≡ args_of options.now line.now readings.now) }
-    ensures len { IfOk result (λ args. length args.items ≡ length options.now) }
-{
-    let mut args = Vec::with_capacity(alloc, options.len())?;
-    for place in 0..options.len() {
-        let q = options[place].qualifiers;
-        args.push(arg_at(alloc, options, line, readings, place, q)?)?;
-    }
-    Ok(args)
 }

@@ -1,72 +1,80 @@
-ghost use Rattle.std.specs.Prelude.{◌≡◌, length};
+ghost use Rattle.std.specs.Prelude.{◌≡◌, length, slice_get};
 ghost use Rattle.std.specs.List.{list_any};
-ghost use Rattle.ados_readargs.specs.Checks.{is_absent, is_lacking, lacks, is_bad_text, has_bad_number, is_bad, has_bad};
+ghost use Rattle.ados_readargs.specs.Args.{or_absent, texts_at};
+ghost use Rattle.ados_readargs.specs.Checks.{is_lacking, lacks, is_bad_text, is_bad, has_bad};
 
-use crate::args::Arg;
+use crate::option_list::OptionList;
 use crate::options::TemplateOption;
-use ados_text::{Text, number_in};
-
-fn is_absent(arg: &Arg) -> bool
-    ensures { result ≡ is_absent arg.now }
-{
-    matches!(arg, Arg::Absent)
-}
-
-fn is_lacking(option: &TemplateOption, arg: &Arg) -> bool
-    ensures { result ≡ is_lacking option.now arg.now }
-{
-    option.qualifiers.required && is_absent(arg)
-}
+use crate::slots::Slots;
+use ados_text::number_in;
 
 /// Whether an option with `/A` has no argument.
-pub fn lacks(options: &[TemplateOption], args: &[Arg]) -> bool
+#[tactic(auto, using(crate::proofs::OptionLemmas::none_lacks))]
+pub fn lacks(options: &OptionList, args: &Slots) -> bool
+    requires { length args.now ≡ length options.now }
+    ensures { result ≡ lacks options.now args.now }
+{
+    options.with_required() && one_lacks(options.as_slice(), args)
+}
+
+fn is_lacking(option: &TemplateOption, args: &Slots, place: usize) -> bool
+    ensures { result ≡ is_lacking option.now (or_absent (slice_get args.now place)) }
+{
+    option.qualifiers.required && args.is_absent(place)
+}
+
+fn one_lacks(options: &[TemplateOption], args: &Slots) -> bool
     requires { length args.now ≡ length options.now }
     ensures { result ≡ lacks options.now args.now }
 {
     for place in 0..options.len() {
-        if is_lacking(&options[place], &args[place]) {
+        if is_lacking(&options[place], args, place) {
             return true;
         }
     }
     false
 }
 
-fn is_bad_text(text: &Text) -> bool
+fn is_bad_text(text: &[u8]) -> bool
     ensures { result ≡ is_bad_text text.now }
 {
-    number_in(text.as_bytes()).is_none()
+    number_in(text).is_none()
 }
 
-fn has_bad_text(texts: &[Text]) -> bool
-    ensures { result ≡ list_any is_bad_text texts.now }
+// Whether a text of the option at a place is no number.
+fn has_bad_text(args: &Slots, place: usize) -> bool
+    ensures { result ≡ list_any is_bad_text (texts_at args.now place) }
 {
-    texts.iter().any(is_bad_text)
-}
-
-fn has_bad_number(arg: &Arg) -> bool
-    ensures { result ≡ has_bad_number arg.now }
-{
-    match arg {
-        Arg::Absent => false,
-        Arg::On => false,
-        Arg::One(text) => is_bad_text(text),
-        Arg::Many(texts) => has_bad_text(texts.as_slice()),
+    for number in 0..args.texts_len(place) {
+        if is_bad_text(args.text_of(place, number)) {
+            return true;
+        }
     }
-}
-
-fn is_bad(option: &TemplateOption, arg: &Arg) -> bool
-    ensures { result ≡ is_bad option.now arg.now }
-{
-    option.qualifiers.number && has_bad_number(arg)
+    false
 }
 
 /// Whether an option with `/N` has a text that is no number.
-pub fn has_bad(options: &[TemplateOption], args: &[Arg]) -> bool
+#[tactic(auto, using(crate::proofs::OptionLemmas::none_bad))]
+pub fn has_bad(options: &OptionList, args: &Slots) -> bool
+    requires { length args.now ≡ length options.now }
+    ensures { result ≡ has_bad options.now args.now }
+{
+    options.with_number() && one_is_bad(options.as_slice(), args)
+}
+
+#[tactic(auto, using(crate::proofs::CheckLemmas::bad_text))]
+fn is_bad(option: &TemplateOption, args: &Slots, place: usize) -> bool
+    ensures { result ≡ is_bad option.now (or_absent (slice_get args.now place)) }
+{
+    option.qualifiers.number && has_bad_text(args, place)
+}
+
+fn one_is_bad(options: &[TemplateOption], args: &Slots) -> bool
     requires { length args.now ≡ length options.now }
     ensures { result ≡ has_bad options.now args.now }
 {
     for place in 0..options.len() {
-        if is_bad(&options[place], &args[place]) {
+        if is_bad(&options[place], args, place) {
             return true;
         }
     }

@@ -2,13 +2,17 @@
 //! Templates, and what a line gives to their options.
 
 mod args;
+mod buffers;
 mod checks;
 mod errors;
 mod fill;
+mod laying;
 mod meanings;
+mod option_list;
 mod options;
 mod readings;
 mod shares;
+mod slots;
 mod template;
 mod words;
 

@@ -1,19 +1,17 @@
-ghost use Rattle.std.specs.Prelude.{◌≡◌, Ok, IfOk, IfErr, position};
-ghost use Rattle.std.specs.List.{list_any};
+ghost use Rattle.std.specs.Prelude.{◌≡◌, Ok, IfErr, OnOk, position};
 ghost use Rattle.ados_items.specs.Items.{bytes_between};
 ghost use Rattle.ados_readargs.specs.Faults.{IsFaultOf};
 ghost use Rattle.ados_readargs.specs.Words.{line_words_of};
 ghost use Rattle.ados_readargs.specs.Meanings.{is_keyword, keyword_of, trimmed_from, is_full, given_meaning, value_behind, switch_meaning, keyword_meaning, plain_meaning, word_meaning, value_meaning, next_meaning, rest_of, free_meaning, meaning_of, read_end, read_from, read_of, quotes_first};
-ghost use Rattle.ados_readargs.specs.Options.{is_rest};
-ghost use Rattle.ados_readargs.specs.Readings.{nothing_read};
+ghost use Rattle.ados_readargs.specs.Readings.{Readings, nothing_read};
 ghost use Rattle.ados_readargs.specs.declared.meanings.Pending.TheVariants.{Free};
 
 use crate::errors::ArgFault;
-use crate::options::{Qualifiers, TemplateOption, has_rest, qualifiers_at};
+use crate::option_list::OptionList;
+use crate::options::{Qualifiers, TemplateOption, qualifiers_at};
 use crate::readings::{Reading, Readings, first_vacant, is_filled};
 use crate::words::{LineWord, is_unclosed, word_at};
 use ados_items::Item;
-use std::alloc::Global;
 
 /// Whether an option waits for its value.
 #[derive(Clone, Copy)]
@@ -249,57 +247,61 @@ fn free_meaning(
 }
 
 fn meaning_of(
-    options: &[TemplateOption],
-    with_rest: bool,
+    options: &OptionList,
     line: &[u8],
     given: &[Reading],
     pending: Pending,
     word: LineWord,
 ) -> Meaning
-    requires { with_rest ≡ list_any is_rest options.now }
     ensures { result ≡ meaning_of options.now line.now given.now pending word }
 {
+    let items = options.as_slice();
     match pending {
         Pending::Free => {
-            let vacant = if with_rest {
-                first_vacant(options, given)
+            let vacant = if options.with_rest() {
+                first_vacant(items, given)
             } else {
                 None
             };
-            free_meaning(options, line, given, word, vacant)
+            free_meaning(items, line, given, word, vacant)
         }
         Pending::Value { option, equal } => {
-            let full = is_full(qualifiers_at(options, option), is_filled(given, option));
+            let full = is_full(qualifiers_at(items, option), is_filled(given, option));
             value_meaning(full, option, equal, word)
         }
     }
 }
 
-// The readings where no word is left.
-fn read_end(readings: Readings, pending: Pending) -> Result<Readings, ArgFault>
-    ensures ok { IfOk result (λ left. read_end readings pending ≡ Ok left) }
-    ensures fault { IfErr result (λ e. IsFaultOf (read_end readings pending) e) }
+// What it says that no word is left.
+fn read_end(pending: Pending) -> Result<(), ArgFault>
+    ensures ok { OnOk result ((readings : Readings) → read_end readings pending ≡ Ok readings) }
+    ensures fault { IfErr result (λ e. (readings : Readings) → IsFaultOf (read_end readings pending) e) }
 {
     match pending {
-        Pending::Free => Ok(readings),
+        Pending::Free => Ok(()),
         Pending::Value { .. } => Err(ArgFault::ValueMissing),
     }
 }
 
-fn read_words(alloc: Global, options: &[TemplateOption], line: &[u8]) -> Result<Readings, ArgFault>
-    ensures ok { IfOk result (λ readings. read_from options.now line.now nothing_read Free (line_words_of line.now) ≡ Ok readings) }
+// What the words of a line say, in place of what is there, with the faults as they come.
+fn read_words(
+    options: &OptionList,
+    line: &[u8],
+    given: &mut Vec<Reading>,
+    plain: &mut Vec<Item>,
+) -> Result<(), ArgFault>
+    ensures ok { OnOk result (read_from options.now line.now nothing_read Free (line_words_of line.now) ≡ Ok (record { given = given.new.items; plain = plain.new.items })) }
     ensures fault { IfErr result (λ e. IsFaultOf (read_from options.now line.now nothing_read Free (line_words_of line.now)) e) }
 {
-    let with_rest = has_rest(options);
-    let mut given = Vec::new(alloc);
-    let mut plain = Vec::new(alloc);
+    given.clear();
+    plain.clear();
     let mut pending = Pending::Free;
     let mut place = 0;
     for step in 0..line.len() + 1 {
         let Some((word, behind)) = word_at(line, place) else {
-            return read_end(Readings { given, plain }, pending);
+            return read_end(pending);
         };
-        match meaning_of(options, with_rest, line, given.as_slice(), pending, word) {
+        match meaning_of(options, line, given.as_slice(), pending, word) {
             Meaning::Read(reading) => {
                 given.push(reading)?;
                 pending = Pending::Free;
@@ -311,13 +313,13 @@ fn read_words(alloc: Global, options: &[TemplateOption], line: &[u8]) -> Result<
             Meaning::Wait { option, equal } => pending = Pending::Value { option, equal },
             Meaning::Stop(reading) => {
                 given.push(reading)?;
-                return Ok(Readings { given, plain });
+                return Ok(());
             }
             Meaning::Refuse(fault) => return Err(fault),
         }
         place = behind;
     }
-    read_end(Readings { given, plain }, pending)
+    read_end(pending)
 }
 
 fn quotes_first(unclosed: bool, fault: ArgFault) -> ArgFault
@@ -330,16 +332,16 @@ fn quotes_first(unclosed: bool, fault: ArgFault) -> ArgFault
     }
 }
 
-/// What the words of a line say, from left to right.
+/// What the words of a line say, from left to right, in place of what is there.
 ///
 /// `Unmatched` comes before `TooMany`, wherever the open quote stands; `ValueMissing` where a
-/// keyword is the last word.
-pub fn read(alloc: Global, options: &[TemplateOption], line: &[u8]) -> Result<Readings, ArgFault>
-    ensures ok { IfOk result (λ readings. read_of options.now line.now (line_words_of line.now) ≡ Ok readings) }
+/// keyword is the last word. At a fault nothing is known of what is there.
+pub fn read(options: &OptionList, line: &[u8], readings: &mut Readings) -> Result<(), ArgFault>
+    ensures ok { OnOk result (read_of options.now line.now (line_words_of line.now) ≡ Ok readings.new) }
     ensures fault { IfErr result (λ e. IsFaultOf (read_of options.now line.now (line_words_of line.now)) e) }
 {
-    match read_words(alloc, options, line) {
-        Ok(readings) => Ok(readings),
+    match read_words(options, line, &mut readings.given, &mut readings.plain) {
+        Ok(()) => Ok(()),
         Err(fault) => Err(quotes_first(is_unclosed(line), fault)),
     }
 }

@@ -1,9 +1,8 @@
-ghost use Rattle.std.specs.Prelude.{◌≡◌, IfOk};
-ghost use Rattle.ados_readargs.specs.Readings.{fills, is_filled, is_vacant, first_vacant, given_to, given_items, names, named_count};
+ghost use Rattle.std.specs.Prelude.{◌≡◌};
+ghost use Rattle.ados_readargs.specs.Readings.{fills, is_filled, is_vacant, first_vacant, given_to, names, named_count, nothing_read};
 
 use crate::options::{Qualifiers, TemplateOption};
 use ados_items::Item;
-use ados_text::NoMemory;
 use std::alloc::Global;
 use std::marker::Model;
 
@@ -37,8 +36,8 @@ impl Reading {
         }
     }
 
-    // What it gives to the option at a place.
-    fn given_to(self, place: usize) -> Option<Item>
+    /// What it gives to the option at a place.
+    pub fn given_to(self, place: usize) -> Option<Item>
         ensures { result ≡ given_to place self }
     {
         match self {
@@ -63,6 +62,18 @@ impl Model for Readings {
     ghost Value = { Readings };
 
     ghost view = { λ r. record { given = r.given.items; plain = r.plain.items } };
+}
+
+impl Readings {
+    /// Nothing is read yet.
+    pub fn new(alloc: Global) -> Readings
+        ensures { result ≡ nothing_read }
+    {
+        Readings {
+            given: Vec::new(alloc),
+            plain: Vec::new(alloc),
+        }
+    }
 }
 
 /// Whether one of the readings fills the option at a place.
@@ -96,16 +107,4 @@ pub fn named_count(given: &[Reading], place: usize) -> usize
     ensures { result ≡ named_count place given.now }
 {
     given.iter().filter(|reading| reading.names(place)).count()
-}
-
-/// What the option at a place is given, in order.
-pub fn given_items(alloc: Global, given: &[Reading], place: usize) -> Result<Vec<Item>, NoMemory>
-    ensures { IfOk result (λ items. items.items ≡ given_items place given.now) }
-{
-    Ok(
-        given
-            .iter()
-            .filter_map(|reading| reading.given_to(place))
-            .collect(alloc)?,
-    )
 }

@@ -1,11 +1,10 @@
-ghost use Rattle.std.specs.Prelude.{◌≡◌, ◌≤◌, ◌<◌, true, false, take, drop, length, IfOk, IfSome};
-ghost use Rattle.ados_readargs.specs.Shares.{vacant_count, is_middle, middle_of, front_share, middle_share, back_share, share_by, is_left, held_items, TakesAll};
+ghost use Rattle.std.specs.Prelude.{◌≡◌, ◌≤◌, ◌<◌, true, false, take, drop, length};
+ghost use Rattle.ados_readargs.specs.Shares.{vacant_count, middle_of, front_share, middle_share, back_share, share_by, is_left, TakesAll};
 
+use crate::option_list::OptionList;
 use crate::options::{TemplateOption, qualifiers_at};
-use crate::readings::{Reading, Readings, given_items, is_vacant};
+use crate::readings::{Reading, Readings, is_vacant};
 use ados_items::Item;
-use ados_text::NoMemory;
-use std::alloc::Global;
 
 // How many options from a place on are vacant, and have /A where that is needed.
 fn vacant_count(needed: bool, from: usize, options: &[TemplateOption], given: &[Reading]) -> usize
@@ -20,21 +19,6 @@ fn vacant_count(needed: bool, from: usize, options: &[TemplateOption], given: &[
         }
     }
     count
-}
-
-// Whether the option is plain and has /M.
-fn is_middle(option: &TemplateOption) -> bool
-    ensures { result ≡ is_middle option.now }
-{
-    option.qualifiers.is_plain() && option.qualifiers.many
-}
-
-// The place of the plain /M.
-fn middle_of(options: &[TemplateOption]) -> Option<usize>
-    ensures value { result ≡ middle_of options.now }
-    ensures within { IfSome result (λ middle. middle < length options.now) }
-{
-    options.iter().position(is_middle)
 }
 
 // So many of the items from a place on, or as many as there are.
@@ -111,48 +95,34 @@ fn back_share<'a>(
 }
 
 /// The plain words that the option at a place takes.
-pub fn share<'a>(options: &[TemplateOption], readings: &'a Readings, place: usize) -> &'a [Item]
+pub fn share<'a>(options: &OptionList, readings: &'a Readings, place: usize) -> &'a [Item]
     requires { place < length options.now }
     ensures { result.now ≡ share_by (middle_of options.now) options.now readings.now place }
 {
-    match middle_of(options) {
-        None => front_share(options, readings, place),
+    let items = options.as_slice();
+    match options.middle() {
+        None => front_share(items, readings, place),
         Some(middle) => {
             if place < middle {
-                front_share(options, readings, place)
+                front_share(items, readings, place)
             } else if place == middle {
-                middle_share(options, readings, middle)
+                middle_share(items, readings, middle)
             } else {
-                back_share(options, readings, middle, place)
+                back_share(items, readings, middle, place)
             }
         }
     }
 }
 
 /// Whether a plain word is left over; otherwise each is taken by one option, in order.
-pub fn is_left(options: &[TemplateOption], readings: &Readings) -> bool
+pub fn is_left(options: &OptionList, readings: &Readings) -> bool
     ensures value { result ≡ is_left options.now readings.now }
     ensures taken { result ≡ false → TakesAll options.now readings.now }
 {
     let given = readings.given.as_slice();
     let plain = readings.plain.as_slice();
-    match middle_of(options) {
-        None => vacant_count(false, 0, options, given) < plain.len(),
+    match options.middle() {
+        None => vacant_count(false, 0, options.as_slice(), given) < plain.len(),
         Some(_) => false,
     }
-}
-
-/// What the option at a place holds: what keywords give it, and behind that its plain words.
-pub fn held_items(
-    alloc: Global,
-    options: &[TemplateOption],
-    readings: &Readings,
-    place: usize,
-) -> Result<Vec<Item>, NoMemory>
-    requires { place < length options.now }
-    ensures { IfOk result (λ items. items.items ≡ held_items options.now readings.now place) }
-{
-    let mut items = given_items(alloc, readings.given.as_slice(), place)?;
-    items.extend_from_slice(share(options, readings, place))?;
-    Ok(items)
 }

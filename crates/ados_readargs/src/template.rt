@@ -1,4 +1,4 @@
-ghost use Rattle.std.specs.Prelude.{◌≡◌, [], Ok, Some, None, false, map, IfOk, IfErr};
+ghost use Rattle.std.specs.Prelude.{◌≡◌, [], Ok, Some, None, false, map, IfOk, IfErr, OnOk};
 ghost use Rattle.std.specs.List.{slice_split, list_any, count_by};
 ghost use Rattle.ados_text.specs.Text.{to_ascii, is_same};
 ghost use Rattle.ados_readargs.specs.Options.{has_name, unqualified};
@@ -10,7 +10,7 @@ ghost use Rattle.ados_readargs.specs.Template.{IsTemplate, with_letter, with_pie
 
 use crate::args::Args;
 use crate::errors::ArgFault;
-use crate::fill::fill_options;
+use crate::option_list::OptionList;
 use crate::options::{Qualifiers, TemplateOption, has_rest, same_name};
 use ados_text::{NoMemory, Text, Texts, fold};
 use std::alloc::{AllocError, Global};
@@ -20,7 +20,7 @@ use std::marker::Model;
 #[derive(Drop)]
 pub struct Template {
     text: Text,
-    options: Vec<TemplateOption>,
+    options: OptionList,
 }
 
 impl Model for Template {
@@ -31,7 +31,7 @@ impl Model for Template {
 
     ghost view = { λ t. t.text };
 
-    ghost invariant = { λ t. template_of t.text ≡ Some t.options.items };
+    ghost invariant = { λ t. template_of t.text ≡ Some t.options };
 }
 
 impl Template {
@@ -48,7 +48,7 @@ impl Template {
         let options = parse_options(alloc, text.as_bytes())?;
         Ok(Template {
             text: text.copy()?,
-            options,
+            options: OptionList::new(options),
         })
     }
 
@@ -85,7 +85,21 @@ impl Template {
         ensures said { IfOk result (λ args. IsFilled (options_of self.now) line.now args) }
         ensures fault { IfErr result (λ e. IsFaultOf (fill_of self.now line.now) e) }
     {
-        fill_options(alloc, self.options.as_slice(), line)
+        let mut args = Args::new(alloc);
+        self.fill_into(line, &mut args)?;
+        Ok(args)
+    }
+
+    /// The same in lent arguments, in place of what is there: they keep the room that they have. At a
+    /// fault nothing is known of what is there.
+    pub fn fill_into(&self, line: &[u8], args: &mut Args) -> Result<(), ArgFault>
+        ensures ok { OnOk result (fill_of self.now line.now ≡ Ok args.new) }
+        ensures numbers { OnOk result (has_bad (options_of self.now) args.new ≡ false) }
+        ensures taken { OnOk result (LosesNoWord (options_of self.now) line.now) }
+        ensures said { OnOk result (IsFilled (options_of self.now) line.now args.new) }
+        ensures fault { IfErr result (λ e. IsFaultOf (fill_of self.now line.now) e) }
+    {
+        args.refill(&self.options, line)
     }
 }
 

@@ -37,8 +37,8 @@ fn show(out: &mut Vec<u8>, arg: &Arg) -> Result<(), NoMemory> {
 fn shown(alloc: Global, args: &Args) -> Result<Vec<u8>, NoMemory> {
     let mut out = Vec::new(alloc);
     for place in 0..args.len() {
-        if let Some(arg) = args.get(place) {
-            show(&mut out, arg)?;
+        if let Some(arg) = args.get(alloc, place)? {
+            show(&mut out, &arg)?;
         }
     }
     Ok(out)

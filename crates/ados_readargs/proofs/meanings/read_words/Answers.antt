@@ -1,4 +1,5 @@
-use Rattle.std.proofs.Common.{◌≡◌, suc, ◌-◌, ◌∙◌, Ok, length, arith, ap, sym, subst, IfOk, IfErr}
+use Rattle.std.proofs.Common.{suc, ◌-◌, ◌∙◌, Ok, length, arith, ap, sym, subst}
+use Rattle.std.proofs.lemmas.Result.{on_ok_weaker, IfErr-weaker}
 use Rattle.ados_readargs.specs.Faults.{IsFaultOf}
 use Rattle.ados_readargs.specs.Meanings.{meaning_of, read_from}
 use Rattle.ados_readargs.specs.Words.{words_from}
@@ -13,14 +14,14 @@ returns-in_default-clause-ok c =
     let n = length c.args.line.now - c.loop-step.step in
     let end = read-none _ c.args.options.now c.args.line.now (record { given = c.loop-step.given.items; plain = c.loop-step.plain.items }) c.loop-step.pending n c.loop-step.place
     (sym c.in_default.is ∙ c.word_at.ensures) (c.loop-step.invariant (suc n) (omega arith)) in
-    subst (λ whole. IfOk c.read_end.result (λ left. whole ≡ Ok left)) (sym end) c.read_end.ensures.ok
+    on_ok_weaker c.read_end.result (λ e. end ∙ e (record { given = c.loop-step.given.items; plain = c.loop-step.plain.items })) c.read_end.ensures.ok
 
 pub returns-in_default-clause-fault : goal.returns-in_default-clause-fault
 returns-in_default-clause-fault c =
     let n = length c.args.line.now - c.loop-step.step in
     let end = read-none _ c.args.options.now c.args.line.now (record { given = c.loop-step.given.items; plain = c.loop-step.plain.items }) c.loop-step.pending n c.loop-step.place
     (sym c.in_default.is ∙ c.word_at.ensures) (c.loop-step.invariant (suc n) (omega arith)) in
-    subst (λ whole. IfErr c.read_end.result (λ e. IsFaultOf whole e)) (sym end) c.read_end.ensures.fault
+    IfErr-weaker c.read_end.result _ _ (λ e f. subst (λ whole. IsFaultOf whole e) (sym end) (f (record { given = c.loop-step.given.items; plain = c.loop-step.plain.items }))) c.read_end.ensures.fault
 
 pub returns-in-Stop-clause-ok : goal.returns-in-Stop-clause-ok
 returns-in-Stop-clause-ok c =
@@ -57,7 +58,7 @@ loop-step-preserved c =
     ]
 
 pub returns-clause-ok : goal.returns-clause-ok
-returns-clause-ok c = subst (λ whole. IfOk c.read_end-2.result (λ left. whole ≡ Ok left)) (sym (c.loop-step.invariant 0 (omega arith))) c.read_end-2.ensures.ok
+returns-clause-ok c = on_ok_weaker c.read_end-2.result (λ e. c.loop-step.invariant 0 (omega arith) ∙ e (record { given = c.loop-step.given.items; plain = c.loop-step.plain.items })) c.read_end-2.ensures.ok
 
 pub returns-clause-fault : goal.returns-clause-fault
-returns-clause-fault c = subst (λ whole. IfErr c.read_end-2.result (λ e. IsFaultOf whole e)) (sym (c.loop-step.invariant 0 (omega arith))) c.read_end-2.ensures.fault
+returns-clause-fault c = IfErr-weaker c.read_end-2.result _ _ (λ e f. subst (λ whole. IsFaultOf whole e) (sym (c.loop-step.invariant 0 (omega arith))) (f (record { given = c.loop-step.given.items; plain = c.loop-step.plain.items }))) c.read_end-2.ensures.fault

@@ -9,6 +9,7 @@ returns-in-None-clause-taken c =
     ap (λ r. nat_lt (vacant_count false 0 c.args.options.now r.given) (length r.plain)) (sym c.readings.view_is)
     ∙ ap (λ given. nat_lt (vacant_count false 0 c.args.options.now given) (length c.readings.inside.plain.items)) (sym c.as_slice-given.ensures.value)
     ∙ ap (λ plain. nat_lt (vacant_count false 0 c.args.options.now c.as_slice-given.result.now) (length plain)) (sym c.as_slice-plain.ensures.value)
+    ∙ ap (λ options. nat_lt (vacant_count false 0 options c.as_slice-given.result.now) (length c.as_slice-plain.result.now)) (sym c.as_slice.ensures)
     ∙ ap (λ n. nat_lt n (length c.as_slice-plain.result.now)) (sym c.vacant_count.ensures.value) ∙ h in
     ap (λ m. shares_to m (length c.args.options.now) c.args.options.now c.args.readings.now) (sym c.in-None.ensures.value)
     ∙ takes_all-none c.args.options.now c.args.readings.now few

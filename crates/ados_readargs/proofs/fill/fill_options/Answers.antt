@@ -1,6 +1,0 @@
-use Rattle.std.proofs.Common.{rules}
-use Rattle.ados_readargs.proofs.PhraseLemmas.{filled}
-use Rattle.ados_readargs.proofs.fill.fill_options.Goals as goal
-
-pub returns-clause-said : goal.returns-clause-said
-returns-clause-said c = filled c.args_read.result c.args.options.now c.args.line.now (search rules) (search rules)

@@ -1,0 +1,114 @@
+ghost use Rattle.std.specs.Prelude.{◌≡◌, ◌<◌, length, position, IfSome};
+ghost use Rattle.std.specs.List.{list_any};
+ghost use Rattle.ados_readargs.specs.Options.{is_required, is_rest, takes_number};
+ghost use Rattle.ados_readargs.specs.Shares.{is_middle, middle_of};
+
+use crate::options::{TemplateOption, has_rest};
+use std::marker::Model;
+
+/// The options of a template, with what is asked of them for each line, found once.
+#[derive(Drop)]
+pub struct OptionList {
+    items: Vec<TemplateOption>,
+    with_rest: bool,
+    with_required: bool,
+    with_number: bool,
+    middle: Option<usize>,
+}
+
+impl Model for OptionList {
+    ghost use Rattle.std.specs.Prelude.{◌≡◌, List};
+    ghost use Rattle.std.specs.List.{list_any};
+    ghost use Rattle.ados_readargs.specs.Options.{is_required, is_rest, takes_number};
+    ghost use Rattle.ados_readargs.specs.Shares.{middle_of};
+    ghost use Rattle.ados_readargs.specs.declared.options.TemplateOption.{TemplateOption};
+
+    ghost Value = { List TemplateOption };
+
+    ghost view = { λ o. o.items.items };
+
+    ghost invariant = { λ o. (o.with_rest ≡ list_any is_rest o.items.items) × (o.with_required ≡ list_any is_required o.items.items)
+        × (o.with_number ≡ list_any takes_number o.items.items) × (o.middle ≡ middle_of o.items.items) };
+}
+
+impl OptionList {
+    /// The options of a vector, taken over without memory.
+    pub fn new(items: Vec<TemplateOption>) -> OptionList
+        ensures { result ≡ items.items }
+    {
+        let with_rest = has_rest(items.as_slice());
+        let with_number = has_number(items.as_slice());
+        let with_required = has_required(items.as_slice());
+        let middle = middle_of(items.as_slice());
+        OptionList {
+            items,
+            with_rest,
+            with_required,
+            with_number,
+            middle,
+        }
+    }
+
+    /// All options, in order.
+    pub fn as_slice(&self) -> &[TemplateOption]
+        ensures { result.now ≡ self.now }
+    {
+        self.items.as_slice()
+    }
+
+    /// Whether one has `/F`.
+    pub fn with_rest(&self) -> bool
+        ensures { result ≡ list_any is_rest self.now }
+    {
+        self.with_rest
+    }
+
+    /// Whether one has `/A`.
+    pub fn with_required(&self) -> bool
+        ensures { result ≡ list_any is_required self.now }
+    {
+        self.with_required
+    }
+
+    /// Whether one has `/N`.
+    pub fn with_number(&self) -> bool
+        ensures { result ≡ list_any takes_number self.now }
+    {
+        self.with_number
+    }
+
+    /// The place of the plain `/M`.
+    #[tactic(auto, using(crate::proofs::OptionLemmas::middle_within))]
+    pub fn middle(&self) -> Option<usize>
+        ensures value { result ≡ middle_of self.now }
+        ensures within { IfSome result (λ middle. middle < length self.now) }
+    {
+        self.middle
+    }
+}
+
+fn has_required(options: &[TemplateOption]) -> bool
+    ensures { result ≡ list_any is_required options.now }
+{
+    options.iter().any(|option| option.qualifiers.required)
+}
+
+fn has_number(options: &[TemplateOption]) -> bool
+    ensures { result ≡ list_any takes_number options.now }
+{
+    options.iter().any(|option| option.qualifiers.number)
+}
+
+// Whether the option is plain and has /M.
+fn is_middle(option: &TemplateOption) -> bool
+    ensures { result ≡ is_middle option.now }
+{
+    option.qualifiers.is_plain() && option.qualifiers.many
+}
+
+// The place of the plain /M.
+fn middle_of(options: &[TemplateOption]) -> Option<usize>
+    ensures { result ≡ middle_of options.now }
+{
+    options.iter().position(is_middle)
+}

@@ -1,0 +1,273 @@
+ghost use Rattle.std.specs.Prelude.{◌≡◌, ◌++◌, ◌≤◌, [], ◌∷◌, length, map, get_or, slice_get, IfOk, OnOk, IfSome};
+ghost use Rattle.std.specs.Option.{option_map};
+ghost use Rattle.ados_text.specs.Text.{IsText};
+ghost use Rattle.ados_items.specs.Items.{value_of};
+ghost use Rattle.ados_readargs.specs.Args.{is_on, on_where, or_absent, text_at, texts_at, value_arg};
+ghost use Rattle.ados_readargs.specs.Checks.{is_absent};
+ghost use Rattle.ados_readargs.specs.Readings.{given_items};
+ghost use Rattle.ados_readargs.specs.Slots.{slot_of, switch_slot};
+
+use crate::args::Arg;
+use crate::buffers::Buffer;
+use crate::options::Qualifiers;
+use crate::readings::Reading;
+use ados_items::Item;
+use ados_text::{NoMemory, Text, Texts};
+use std::alloc::Global;
+use std::marker::Model;
+
+/// What an option was given; its texts by their places among those of all options.
+#[derive(Clone, Copy)]
+pub enum Slot {
+    /// Nothing; an `/M` without a value, too.
+    Absent,
+    /// A switch or toggle that is on.
+    On,
+    /// The text at a place.
+    One(usize),
+    /// The texts from one place up to another, one at least.
+    Many { from: usize, to: usize },
+}
+
+/// What a line gives to each option of a template, in the order of the options, in buffers that are
+/// kept from line to line.
+#[derive(Drop)]
+pub struct Slots {
+    texts: Buffer,
+    slots: Vec<Slot>,
+}
+
+impl Model for Slots {
+    ghost use Rattle.std.specs.Prelude.{List, length};
+    ghost use Rattle.std.specs.List.{All};
+    ghost use Rattle.ados_readargs.specs.Slots.{HoldsIn, args_in};
+    ghost use Rattle.ados_readargs.specs.declared.args.Arg.{Arg};
+
+    ghost Value = { List Arg };
+
+    ghost view = { λ s. args_in s.texts s.slots.items };
+
+    ghost invariant = { λ s. All (HoldsIn (length s.texts)) s.slots.items };
+}
+
+impl Slots {
+    /// No option.
+    pub fn new(alloc: Global) -> Slots
+        ensures { result ≡ [] }
+    {
+        Slots {
+            texts: Buffer::new(alloc),
+            slots: Vec::new(alloc),
+        }
+    }
+
+    /// Takes all out, and keeps the room.
+    pub fn clear(&mut self)
+        ensures { self.new ≡ [] }
+    {
+        self.slots.clear();
+        self.texts.clear();
+    }
+
+    /// How many options there are.
+    pub fn len(&self) -> usize
+        ensures { result ≡ length self.now }
+    {
+        self.slots.len()
+    }
+
+    /// The switch or toggle at a place is on.
+    pub fn is_on(&self, place: usize) -> bool
+        ensures { result ≡ is_on self.now place }
+    {
+        matches!(slot_at(self.slots.as_slice(), place), Some(Slot::On))
+    }
+
+    /// The text of the option without `/M` at a place; `None` where it was given none.
+    pub fn text(&self, place: usize) -> Option<&[u8]>
+        ensures value { option_map (λ t. t.now) result ≡ text_at self.now place }
+        ensures ascii { IfSome result (λ t. IsText t.now) }
+    {
+        match slot_at(self.slots.as_slice(), place) {
+            Some(Slot::One(text)) => Some(self.texts.get(text)),
+            _ => None,
+        }
+    }
+
+    /// How many texts the option at a place was given.
+    pub fn texts_len(&self, place: usize) -> usize
+        ensures { result ≡ length (texts_at self.now place) }
+    {
+        match slot_at(self.slots.as_slice(), place) {
+            Some(Slot::One(_)) => 1,
+            Some(Slot::Many { from, to }) => to - from,
+            _ => 0,
+        }
+    }
+
+    /// The text with a number, from 0, of the option at a place; the empty text past its last.
+    pub fn text_of(&self, place: usize, number: usize) -> &[u8]
+        ensures value { result.now ≡ get_or (texts_at self.now place) number [] }
+        ensures ascii { IsText result.now }
+    {
+        match slot_at(self.slots.as_slice(), place) {
+            Some(Slot::One(text)) => {
+                if number == 0 {
+                    self.texts.get(text)
+                } else {
+                    &[]
+                }
+            }
+            Some(Slot::Many { from, to }) => {
+                if number < to - from {
+                    self.texts.get(from + number)
+                } else {
+                    &[]
+                }
+            }
+            Some(Slot::Absent) => &[],
+            Some(Slot::On) => &[],
+            None => &[],
+        }
+    }
+
+    /// Whether the option at a place was given nothing; so it is past the last.
+    pub fn is_absent(&self, place: usize) -> bool
+        ensures { result ≡ is_absent (or_absent (slice_get self.now place)) }
+    {
+        match slot_at(self.slots.as_slice(), place) {
+            Some(Slot::Absent) => true,
+            Some(Slot::On) => false,
+            Some(Slot::One(_)) => false,
+            Some(Slot::Many { .. }) => false,
+            None => true,
+        }
+    }
+
+    /// The argument of the option at a place, with texts of its own; `None` past the last.
+    pub fn arg(&self, alloc: Global, place: usize) -> Result<Option<Arg>, NoMemory>
+        ensures { IfOk result (λ arg. arg ≡ slice_get self.now place) }
+    {
+        match slot_at(self.slots.as_slice(), place) {
+            Some(Slot::Absent) => Ok(Some(Arg::Absent)),
+            Some(Slot::On) => Ok(Some(Arg::On)),
+            Some(Slot::One(text)) => Ok(Some(Arg::One(ascii_text(alloc, self.texts.get(text))?))),
+            Some(Slot::Many { .. }) => Ok(Some(Arg::Many(self.made_texts(alloc, place)?))),
+            None => Ok(None),
+        }
+    }
+
+    /// The text of the option without `/M` at a place, in a value of its own.
+    pub fn made_text(&self, alloc: Global, place: usize) -> Result<Option<Text>, NoMemory>
+        ensures { IfOk result (λ text. text ≡ text_at self.now place) }
+    {
+        match self.text(place) {
+            None => Ok(None),
+            Some(text) => Ok(Some(ascii_text(alloc, text)?)),
+        }
+    }
+
+    /// The texts of the option at a place, in order, in values of their own.
+    pub fn made_texts(&self, alloc: Global, place: usize) -> Result<Texts, NoMemory>
+        ensures { IfOk result (λ texts. texts ≡ texts_at self.now place) }
+    {
+        let mut texts = Texts::new(alloc);
+        for number in 0..self.texts_len(place) {
+            texts.push(ascii_text(alloc, self.text_of(place, number))?)?;
+        }
+        Ok(texts)
+    }
+
+    /// Adds a switch or toggle, on or not; at `NoMemory` nothing is known of what is there.
+    pub fn push_switch(&mut self, on: bool) -> Result<(), NoMemory>
+        ensures { OnOk result (self.new ≡ self.old ++ on_where on ∷ []) }
+    {
+        self.slots.push(switch_slot(on))?;
+        Ok(())
+    }
+
+    /// Adds an option that takes values: what readings give to the option at a place, and behind that
+    /// its plain words. At `NoMemory` nothing is known of what is there.
+    pub fn push_values(
+        &mut self,
+        q: Qualifiers,
+        line: &[u8],
+        given: &[Reading],
+        place: usize,
+        plain: &[Item],
+    ) -> Result<(), NoMemory>
+        ensures { OnOk result (self.new ≡ self.old ++ value_arg q line.now (given_items place given.now ++ plain.now) ∷ []) }
+    {
+        let from = self.texts.len();
+        push_given(&mut self.texts, line, given, place)?;
+        push_items(&mut self.texts, line, plain)?;
+        let to = self.texts.len();
+        self.slots.push(slot_of(q.many, from, to))?;
+        Ok(())
+    }
+}
+
+// The text of ASCII bytes.
+fn ascii_text(alloc: Global, bytes: &[u8]) -> Result<Text, NoMemory>
+    requires { IsText bytes.now }
+    ensures { IfOk result (λ text. text ≡ bytes.now) }
+{
+    let mut text = Text::new(alloc);
+    text.push_bytes(bytes)?;
+    Ok(text)
+}
+
+// The slot at a place.
+fn slot_at(slots: &[Slot], place: usize) -> Option<Slot>
+    ensures { result ≡ slice_get slots.now place }
+{
+    slots.get(place).copied()
+}
+
+// The slot of an option, with `/M` or without, that holds the texts from one place up to another.
+fn slot_of(many: bool, from: usize, to: usize) -> Slot
+    ensures { result ≡ slot_of many from to }
+{
+    if from == to {
+        Slot::Absent
+    } else if many {
+        Slot::Many { from, to }
+    } else {
+        Slot::One(from)
+    }
+}
+
+fn switch_slot(on: bool) -> Slot
+    ensures { result ≡ switch_slot on }
+{
+    if on { Slot::On } else { Slot::Absent }
+}
+
+// Adds the texts of what readings give to the option at a place.
+fn push_given(
+    texts: &mut Buffer,
+    line: &[u8],
+    given: &[Reading],
+    place: usize,
+) -> Result<(), NoMemory>
+    ensures ok { OnOk result (texts.new ≡ texts.old ++ map (value_of line.now) (given_items place given.now)) }
+    ensures grown { length texts.old ≤ length texts.new }
+{
+    for reading in given {
+        if let Some(item) = reading.given_to(place) {
+            texts.push(line, &item)?;
+        }
+    }
+    Ok(())
+}
+
+// Adds the texts of items.
+fn push_items(texts: &mut Buffer, line: &[u8], items: &[Item]) -> Result<(), NoMemory>
+    ensures ok { OnOk result (texts.new ≡ texts.old ++ map (value_of line.now) items.now) }
+    ensures grown { length texts.old ≤ length texts.new }
+{
+    for item in items {
+        texts.push(line, item)?;
+    }
+    Ok(())
+}
