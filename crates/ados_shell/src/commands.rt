@@ -47,8 +47,8 @@ impl Commands {
         &self.templates[builtin.place()]
     }
 
-    /// What a command does with the text of its arguments; `simple` says that it stands in no script
-    /// and that its output is not redirected.
+    /// What a command does with the text of its arguments, which are filled into those that are lent; `simple` says
+    /// that it stands in no script and that its output is not redirected.
     #[tactic(auto, unfolding(ados_machine::specs::Commands::action_of))]
     pub fn perform(
         &self,
@@ -57,12 +57,13 @@ impl Commands {
         simple: bool,
         shared: &Shared,
         view: &ShellView,
-        args: &Text,
+        text: &Text,
+        args: &mut Args,
     ) -> Result<Action, NoMemory>
-        ensures { IfOk result (λ action. acting shared.now action ≡ action_of builtin simple shared.now view.now args.now) }
+        ensures { IfOk result (λ action. acting shared.now action ≡ action_of builtin simple shared.now view.now text.now) }
     {
-        match self.template(builtin).fill(alloc, args.as_bytes()) {
-            Ok(args) => row(alloc, builtin, simple, shared, view, &args),
+        match self.template(builtin).fill_into(text.as_bytes(), args) {
+            Ok(()) => row(alloc, builtin, simple, shared, view, args),
             Err(fault) => Ok(Action::answering(alloc, view.limit, Codes::failed(fault.result2()?))),
         }
     }

@@ -10,6 +10,7 @@ use ados_find::{Codes, Renamed, Shared};
 use ados_flow::FIRST_LIMIT;
 use ados_machine::{EndReport, Out, Wait};
 use ados_ram::Place;
+use ados_readargs::Args;
 use ados_text::{Code, NoMemory};
 use std::alloc::Global;
 
@@ -26,6 +27,8 @@ pub struct Draft {
     pub printed: Vec<u8>,
     /// The scripts that ended, innermost first.
     pub reports: Vec<EndReport>,
+    /// Room for the arguments of the line at work; between two lines it says nothing.
+    pub args: Args,
 }
 
 /// What a turn makes of its shell. What it did not change it does not hold.
@@ -51,6 +54,7 @@ impl Drop for Draft {
             renamed: _renamed,
             printed: _printed,
             reports: _reports,
+            args: _args,
         } = self;
     }
 }
@@ -86,6 +90,7 @@ impl Draft {
             renamed: None,
             printed: Vec::new(alloc),
             reports: Vec::new(alloc),
+            args: Args::new(alloc),
         }
     }
 
@@ -118,6 +123,7 @@ impl Draft {
             renamed: _,
             printed,
             reports,
+            args: _,
         } = self;
         Out::giving(printed, reports)
     }

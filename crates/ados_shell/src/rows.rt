@@ -57,22 +57,33 @@ impl Draft {
         }
     }
 
-    /// What a command does, as the shell and the shared parts stand.
+    /// What a command does, as the shell and the shared parts stand. Of the draft only the room for arguments changes.
     fn action(
-        &self,
+        &mut self,
         scene: &Scene,
         builtin: Builtin,
         line: &Line,
         simple: bool,
     ) -> Result<Action, NoMemory>
-        ensures { IfOk result (λ action. acting (course_of scene.now self.now).shared action
-            ≡ action_of builtin simple (course_of scene.now self.now).shared (view_of (course_of scene.now self.now)) line.now.args) }
+        ensures action { IfOk result (λ action. acting (course_of scene.now self.old).shared action
+            ≡ action_of builtin simple (course_of scene.now self.old).shared (view_of (course_of scene.now self.old)) line.now.args) }
+        ensures same { self.new ≡ record self.old { args = self.new.args } }
     {
         let view = self.view_for(scene, builtin)?;
-        let shared = self.current(scene);
-        scene
-            .commands
-            .perform(scene.alloc, builtin, simple, shared, &view, &line.args)
+        let shared = match &self.shared {
+            None => scene.shared,
+            Some(new) => new,
+        };
+        let args = &mut self.args;
+        scene.commands.perform(
+            scene.alloc,
+            builtin,
+            simple,
+            shared,
+            &view,
+            &line.args,
+            args,
+        )
     }
 
     /// What a command reads of the shell, and of the others. What is in use is gathered only for the commands
