@@ -25,39 +25,39 @@ assign_line files a = a.name ++ codes ": " ++ text_of files a ++ 10 ∷ []
 
 -- the lines of all assigns, in the order of their names
 abbrev pub all_told : SharedState → View → Effect
-all_told shared view = putting shared view.limit (flat_map (assign_line shared.files) (map.values shared.assigns))
+all_told shared view = putting shared (flat_map (assign_line shared.files) (map.values shared.assigns))
 
 -- EXISTS tells the assign of a name; where there is none it warns
 abbrev pub told : SharedState → View → Option Assign → Effect
-told shared view None = answering shared view.limit (record { code = WARN; result2 = NONE })
-told shared view (Some a) = putting shared view.limit (assign_line shared.files a)
+told shared view None = answering shared (record { code = WARN; result2 = NONE })
+told shared view (Some a) = putting shared (assign_line shared.files a)
 
 abbrev pub told_named : SharedState → View → Result (List ℕ) Codes → Effect
-told_named shared view (Err codes) = answering shared view.limit codes
+told_named shared view (Err codes) = answering shared codes
 told_named shared view (Ok name) = told shared view (map.get shared.assigns (folded name))
 
 -- other assigns, and nothing is put out
 abbrev pub reassigned : SharedState → View → AssignMap → Effect
-reassigned shared view assigns = answering (with_assigns shared assigns) view.limit went_well
+reassigned shared view assigns = answering (with_assigns shared assigns) went_well
 
 -- a name alone is removed, where there is an assign of the name
 abbrev pub removed : SharedState → View → List ℕ → Option Assign → Effect
-removed shared view name None = answering shared view.limit (erred OBJECT_NOT_FOUND)
+removed shared view name None = answering shared (erred OBJECT_NOT_FOUND)
 removed shared view name (Some a) = reassigned shared view (map.remove shared.assigns (folded name))
 
 abbrev pub removed_named : SharedState → View → Result (List ℕ) Codes → Effect
-removed_named shared view (Err codes) = answering shared view.limit codes
+removed_named shared view (Err codes) = answering shared codes
 removed_named shared view (Ok name) = removed shared view name (map.get shared.assigns (folded name))
 
 -- TARGET, which is a directory, is bound to a name: the name is judged first
 abbrev pub bound_to : SharedState → View → Result (List ℕ) Codes → Result (List (List ℕ)) Codes → Effect
-bound_to shared view (Err codes) place = answering shared view.limit codes
-bound_to shared view (Ok name) (Err codes) = answering shared view.limit codes
+bound_to shared view (Err codes) place = answering shared codes
+bound_to shared view (Ok name) (Err codes) = answering shared codes
 bound_to shared view (Ok name) (Ok place) = reassigned shared view (set_of shared.assigns name (Directory place))
 
 -- without NAME, TARGET is a fault, and else all assigns are told
 abbrev pub assigned_to : SharedState → View → Option (List ℕ) → List ℕ → Effect
-assigned_to shared view None target = answering shared view.limit (failed ARGUMENT_MISSING)
+assigned_to shared view None target = answering shared (failed ARGUMENT_MISSING)
 assigned_to shared view (Some text) target = bound_to shared view (name_of text) (directory_of shared view target)
 
 abbrev pub listed : SharedState → View → Option (List ℕ) → Effect
@@ -70,7 +70,7 @@ unassigned shared view (Some text) = removed_named shared view (name_of text)
 
 -- by NAME, TARGET and EXISTS; EXISTS takes no TARGET
 abbrev pub assigned : SharedState → View → Option (List ℕ) → Option (List ℕ) → Bool → Effect
-assigned shared view name (Some target) true = answering shared view.limit (failed TOO_MANY_ARGUMENTS)
+assigned shared view name (Some target) true = answering shared (failed TOO_MANY_ARGUMENTS)
 assigned shared view name (Some target) false = assigned_to shared view name target
 assigned shared view name None true = listed shared view name
 assigned shared view name None false = unassigned shared view name

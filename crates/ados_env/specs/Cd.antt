@@ -12,12 +12,12 @@ use Rattle.ados_env.specs.Directories.{directory_of}
 
 -- a directory that was found is the current one from now on
 abbrev pub moved_to : SharedState → View → Result (List (List ℕ)) Codes → Effect
-moved_to shared view (Err codes) = answering shared view.limit codes
-moved_to shared view (Ok place) = record (answering shared view.limit went_well) { directory = Some place }
+moved_to shared view (Err codes) = answering shared codes
+moved_to shared view (Ok place) = record (answering shared went_well) { directory = Some place }
 
 -- without DIR it tells the full path of the current directory
 abbrev pub moved : SharedState → View → Option (List ℕ) → Effect
-moved shared view None = putting shared view.limit (full_path shared.files view.directory ++ 10 ∷ [])
+moved shared view None = putting shared (full_path shared.files view.parts.directory ++ 10 ∷ [])
 moved shared view (Some text) = moved_to shared view (directory_of shared view text)
 
 abbrev pub cd_row : SharedState → View → List Arg → Effect

@@ -24,4 +24,4 @@ directory_at files (Ok place) = as_directory place (map.get files (key_of place)
 
 -- the directory that a text names
 abbrev pub directory_of : SharedState → View → List ℕ → Result (List (List ℕ)) Codes
-directory_of shared view text = directory_at shared.files (place_of shared view.directory text)
+directory_of shared view text = directory_at shared.files (place_of shared view.parts.directory text)

@@ -12,4 +12,4 @@ abbrev pub echoed : List (List ℕ) → Bool → List ℕ
 echoed words noline = join_with_byte 32 words ++ (if noline then [] else 10 ∷ [])
 
 abbrev pub echo_row : SharedState → View → List Arg → Effect
-echo_row shared view args = putting shared view.limit (echoed (texts_at args 0) (is_on args 1))
+echo_row shared view args = putting shared (echoed (texts_at args 0) (is_on args 1))

@@ -44,4 +44,4 @@ value_line shared limit (Err fault) = answering shared limit (failed fault)
 value_line shared limit (Ok value) = putting shared limit (signed_decimal value ++ 10 ∷ [])
 
 abbrev pub eval_row : SharedState → View → List Arg → Effect
-eval_row shared view args = value_line shared view.limit (evaluated (text_at args 0) (text_at args 1) (text_at args 2))
+eval_row shared view args = value_line shared (evaluated (text_at args 0) (text_at args 1) (text_at args 2))

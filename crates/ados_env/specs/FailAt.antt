@@ -21,4 +21,4 @@ limited shared limit (Some number) =
     if int_le (pos 0) number then answering shared (record { 0 = number }) went_well else answering shared limit (failed BAD_NUMBER)
 
 abbrev pub fail_at_row : SharedState → View → List Arg → Effect
-fail_at_row shared view args = limited shared view.limit (number_at args 0)
+fail_at_row shared view args = limited shared (number_at args 0)

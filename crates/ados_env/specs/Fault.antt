@@ -26,4 +26,4 @@ text_line text = option_map_or fault_line (number_of text) []
 
 -- a line for each number
 abbrev pub fault_row : SharedState → View → List Arg → Effect
-fault_row shared view args = putting shared view.limit (flat_map text_line (texts_at args 0))
+fault_row shared view args = putting shared (flat_map text_line (texts_at args 0))

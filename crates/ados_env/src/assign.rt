@@ -31,7 +31,7 @@ pub fn assign(
     match target.as_ref() {
         Some(_) if exists => {
             let codes = Codes::failed(Result2::TOO_MANY_ARGUMENTS);
-            Ok(Outcome::answering(alloc, view.limit, codes))
+            Ok(Outcome::answering(alloc, codes))
         }
         Some(target) => assigned_to(alloc, shared, view, name, target),
         None if exists => listed(alloc, shared, view, name),
@@ -51,10 +51,10 @@ fn assigned_to(
 {
     let Some(text) = name else {
         let codes = Codes::failed(Result2::ARGUMENT_MISSING);
-        return Ok(Outcome::answering(alloc, view.limit, codes));
+        return Ok(Outcome::answering(alloc, codes));
     };
     match name_of(text) {
-        Err(refusal) => Ok(Outcome::answering(alloc, view.limit, refusal.codes()?)),
+        Err(refusal) => Ok(Outcome::answering(alloc, refusal.codes()?)),
         Ok(name) => bound_to(alloc, shared, view, name, target),
     }
 }
@@ -69,7 +69,7 @@ fn bound_to(
     ensures { IfOk result (λ outcome. effect_of shared.now outcome ≡ bound_to shared.now view.now (Ok name) (directory_of shared.now view.now target.now)) }
 {
     match directory_of(alloc, shared, view, target) {
-        Err(refusal) => Ok(Outcome::answering(alloc, view.limit, refusal.codes()?)),
+        Err(refusal) => Ok(Outcome::answering(alloc, refusal.codes()?)),
         Ok(place) => {
             let assigns = shared.assigns.set(name, Binding::Directory(place))?;
             reassigned(alloc, shared, view, assigns)
@@ -87,7 +87,7 @@ fn reassigned(
     ensures { IfOk result (λ outcome. effect_of shared.now outcome ≡ reassigned shared.now view.now assigns) }
 {
     let new = shared.with_assigns(assigns)?;
-    Ok(Outcome::answering(alloc, view.limit, Codes::NONE).with_shared(new))
+    Ok(Outcome::answering(alloc, Codes::NONE).with_shared(new))
 }
 
 // Takes NAME away; without it tells all assigns.
@@ -103,7 +103,7 @@ fn unassigned(
         return all_told(alloc, shared, view);
     };
     match name_of(text) {
-        Err(refusal) => Ok(Outcome::answering(alloc, view.limit, refusal.codes()?)),
+        Err(refusal) => Ok(Outcome::answering(alloc, refusal.codes()?)),
         Ok(name) => removed_named(alloc, shared, view, &name),
     }
 }
@@ -120,7 +120,7 @@ fn removed_named(
         Err(AssignFault::NoMemory) => Err(NoMemory),
         Err(AssignFault::NotFound) => {
             let codes = Codes::erred(Result2::OBJECT_NOT_FOUND);
-            Ok(Outcome::answering(alloc, view.limit, codes))
+            Ok(Outcome::answering(alloc, codes))
         }
         Ok(assigns) => reassigned(alloc, shared, view, assigns),
     }
@@ -139,7 +139,7 @@ fn listed(
         return all_told(alloc, shared, view);
     };
     match name_of(text) {
-        Err(refusal) => Ok(Outcome::answering(alloc, view.limit, refusal.codes()?)),
+        Err(refusal) => Ok(Outcome::answering(alloc, refusal.codes()?)),
         Ok(name) => told(alloc, shared, view, shared.assigns.get(&name)),
     }
 }
@@ -154,11 +154,11 @@ fn told(
     ensures { IfOk result (λ outcome. effect_of shared.now outcome ≡ told shared.now view.now (option_copied there.entry)) }
 {
     let Some(assign) = there else {
-        return Ok(Outcome::answering(alloc, view.limit, WARNING));
+        return Ok(Outcome::answering(alloc, WARNING));
     };
     let mut output = Vec::new(alloc);
     push_line(&mut output, &shared.ram, assign)?;
-    Ok(Outcome::putting(view.limit, output))
+    Ok(Outcome::putting(output))
 }
 
 // There is no assign of the name that is asked for.
@@ -173,7 +173,7 @@ fn all_told(alloc: Global, shared: &Shared, view: &ShellView) -> Result<Outcome,
 {
     let mut output = Vec::new(alloc);
     push_lines(&mut output, &shared.ram, shared.assigns.list())?;
-    Ok(Outcome::putting(view.limit, output))
+    Ok(Outcome::putting(output))
 }
 
 fn push_lines(output: &mut Vec<u8>, ram: &Ram, assigns: &[Assign]) -> Result<(), NoMemory>

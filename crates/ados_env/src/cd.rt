@@ -20,11 +20,11 @@ pub fn cd(
     ensures { IfOk result (λ outcome. effect_of shared.now outcome ≡ cd_row shared.now view.now args.now) }
 {
     let Some(text) = args.made_text(alloc, 0)? else {
-        let line = path_line(alloc, &shared.ram, &view.directory)?;
-        return Ok(Outcome::putting(view.limit, line));
+        let line = path_line(alloc, &shared.ram, view.directory)?;
+        return Ok(Outcome::putting(line));
     };
     match directory_of(alloc, shared, view, &text) {
-        Err(refusal) => Ok(Outcome::answering(alloc, view.limit, refusal.codes()?)),
+        Err(refusal) => Ok(Outcome::answering(alloc, refusal.codes()?)),
         Ok(place) => Ok(moved_to(alloc, view, place)),
     }
 }
@@ -33,7 +33,7 @@ pub fn cd(
 fn moved_to(alloc: Global, view: &ShellView, place: Place) -> Outcome
     ensures { DoesTo result (λ shared. moved_to shared view.now (Ok place)) }
 {
-    Outcome::answering(alloc, view.limit, Codes::NONE).with_directory(place)
+    Outcome::answering(alloc, Codes::NONE).with_directory(place)
 }
 
 // The line of a full path.

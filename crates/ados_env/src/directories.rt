@@ -19,7 +19,7 @@ pub fn directory_of(
 ) -> Result<Place, Refusal>
     ensures { Gives result (directory_of shared.now view.now text.now) }
 {
-    let place = place_of(alloc, shared, &view.directory, text)?;
+    let place = place_of(alloc, shared, view.directory, text)?;
     as_directory(shared.ram.look(&place), place)
 }
 

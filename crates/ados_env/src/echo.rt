@@ -17,7 +17,7 @@ pub fn echo(alloc: Global, view: &ShellView, args: &Args) -> Result<Outcome, NoM
     ensures { IfOk result (λ outcome. DoesTo outcome (λ shared. echo_row shared view.now args.now)) }
 {
     let output = echoed(alloc, args)?;
-    Ok(Outcome::putting(view.limit, output))
+    Ok(Outcome::putting(output))
 }
 
 fn echoed(alloc: Global, args: &Args) -> Result<Vec<u8>, NoMemory>

@@ -14,7 +14,7 @@ pub fn eval(alloc: Global, view: &ShellView, args: &Args) -> Result<Outcome, NoM
     ensures { IfOk result (λ outcome. DoesTo outcome (λ shared. eval_row shared view.now args.now)) }
 {
     let value = evaluated(args.text(0), args.text(1), args.text(2));
-    value_line(alloc, view.limit, value)
+    value_line(alloc, value)
 }
 
 fn value_line(alloc: Global, limit: Code, value: Result<i32, Result2>) -> Result<Outcome, NoMemory>

@@ -12,8 +12,8 @@ pub fn fail_at(alloc: Global, view: &ShellView, args: &Args) -> Result<Outcome, 
     ensures { IfOk result (λ outcome. DoesTo outcome (λ shared. fail_at_row shared view.now args.now)) }
 {
     match args.number(0) {
-        None => Ok(Outcome::putting(view.limit, limit_line(alloc, view.limit)?)),
-        Some(number) => Ok(limited(alloc, view.limit, number)),
+        None => Ok(Outcome::putting(limit_line(alloc, view.limit)?)),
+        Some(number) => Ok(limited(alloc, number)),
     }
 }
 

@@ -15,7 +15,7 @@ pub fn fault(alloc: Global, view: &ShellView, args: &Args) -> Result<Outcome, No
 {
     let mut output = Vec::new(alloc);
     push_faults(&mut output, args)?;
-    Ok(Outcome::putting(view.limit, output))
+    Ok(Outcome::putting(output))
 }
 
 fn push_faults(output: &mut Vec<u8>, args: &Args) -> Result<(), NoMemory>

@@ -110,12 +110,12 @@ to-stays shared view all quiet found (Ok to) = found-stays view all quiet found 
 
 from-stays : (shared : SharedState) (view : View) (all quiet : Bool) (found : Result FoundPlaces Codes) (to : List ℕ) → OthersStay (is_under_path shared view (Some to)) shared.files (copied_from shared view all quiet found to).shared.files
 from-stays shared view all quiet (Err codes) to = λ key out. refl
-from-stays shared view all quiet (Ok found) to = to-stays shared view all quiet found (place_of shared view.directory to)
+from-stays shared view all quiet (Ok found) to = to-stays shared view all quiet found (place_of shared view.parts.directory to)
 
 texts-stay : (shared : SharedState) (view : View) (all quiet : Bool) (texts : List (List ℕ)) (to : Option (List ℕ)) → OthersStay (is_under_path shared view to) shared.files (copied_texts shared view all quiet texts to).shared.files
 texts-stay shared view all quiet texts None = λ key out. refl
 texts-stay shared view all quiet [] (Some to) = λ key out. refl
-texts-stay shared view all quiet (text ∷ texts) (Some to) = from-stays shared view all quiet (sources_of shared view.directory (text ∷ texts)) to
+texts-stay shared view all quiet (text ∷ texts) (Some to) = from-stays shared view all quiet (sources_of shared view.parts.directory (text ∷ texts)) to
 
 pub copy-stays : (shared : SharedState) (view : View) (args : List Arg) → OthersStay (copy_may_change shared view args) shared.files (copy_row shared view args).shared.files
 copy-stays shared view args = texts-stay shared view (is_on args 2) (is_on args 3) (texts_at args 0) (text_at args 1)

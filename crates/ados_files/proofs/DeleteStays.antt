@@ -107,12 +107,12 @@ texts-stay shared view all quiet done (text ∷ texts) part =
     let targets_now = is_under_names shared view (text ∷ texts) in
     let next = at_names (delete_place view all quiet) view done text in
     let last = each (at_names (delete_place view all quiet) view) next texts in
-    let s = found-shrinks view all quiet done (named done.shared view.directory text) in
+    let s = found-shrinks view all quiet done (named done.shared view.parts.directory text) in
     let rest = texts-stay shared view all quiet next texts (part-then shared done.shared next.shared part s.part) in
     kept-unless (stay-kept targets_now) done.stopped done last
     ((stay-kept targets_now).joined done.shared next.shared last.shared
-    (λ key out. s.stay key (false_of _ (λ h. clash (sym (neither (is_under_found (named shared view.directory text) key) (is_under_names shared view texts key) out).0 ∙ named-part done.shared shared part view.directory text key h))))
-    (λ key out. rest key (neither (is_under_found (named shared view.directory text) key) (is_under_names shared view texts key) out).1))
+    (λ key out. s.stay key (false_of _ (λ h. clash (sym (neither (is_under_found (named shared view.parts.directory text) key) (is_under_names shared view texts key) out).0 ∙ named-part done.shared shared part view.parts.directory text key h))))
+    (λ key out. rest key (neither (is_under_found (named shared view.parts.directory text) key) (is_under_names shared view texts key) out).1))
 
 pub delete-stays : (shared : SharedState) (view : View) (args : List Arg) → OthersStay (delete_may_change shared view args) shared.files (delete_row shared view args).shared.files
 delete-stays shared view args = texts-stay shared view (is_on args 1) (is_on args 2) (fresh shared) (texts_at args 0) (whole shared)

@@ -50,7 +50,7 @@ at-stays shared view (Ok from) (Ok to) = from-stays shared view from (map.get sh
 texts-stay : (shared : SharedState) (view : View) (from to : Option (List ℕ)) → OthersStay (λ key. is_under_path shared view from key || is_under_path shared view to key) shared.files (renamed_texts shared view from to).shared.files
 texts-stay shared view None to = λ key out. refl
 texts-stay shared view (Some from) None = λ key out. refl
-texts-stay shared view (Some from) (Some to) = at-stays shared view (place_of shared view.directory from) (place_of shared view.directory to)
+texts-stay shared view (Some from) (Some to) = at-stays shared view (place_of shared view.parts.directory from) (place_of shared view.parts.directory to)
 
 pub rename-row-stays : (shared : SharedState) (view : View) (args : List Arg) → OthersStay (rename_may_change shared view args) shared.files (rename_row shared view args).shared.files
 rename-row-stays shared view args = texts-stay shared view (text_at args 0) (text_at args 1)

@@ -28,7 +28,7 @@ at_place act done (Ok place) = act done place
 
 -- with the place to which a path leads, in the files as they then are
 abbrev pub at_path : (Done → List (List ℕ) → Done) → View → Done → List ℕ → Done
-at_path act view done text = at_place act done (place_of done.shared view.directory text)
+at_path act view done text = at_place act done (place_of done.shared view.parts.directory text)
 
 -- with each of the objects that are there, or it stops
 abbrev pub at_places : (Done → List (List ℕ) → Done) → Done → Result FoundPlaces Codes → Done
@@ -37,4 +37,4 @@ at_places act done (Ok found) = each act done found.places
 
 -- with each of the objects that an argument names, in the files as they then are
 abbrev pub at_names : (Done → List (List ℕ) → Done) → View → Done → List ℕ → Done
-at_names act view done text = at_places act done (named done.shared view.directory text)
+at_names act view done text = at_places act done (named done.shared view.parts.directory text)

@@ -106,18 +106,18 @@ copy_found view all quiet found done to =
 
 -- the sources first, then TO
 abbrev pub copied_to : SharedState → View → Bool → Bool → FoundPlaces → Result (List (List ℕ)) Codes → Effect
-copied_to shared view all quiet found (Err codes) = answering shared view.limit codes
-copied_to shared view all quiet found (Ok to) = ended view.limit (copy_found view all quiet found (fresh shared) to)
+copied_to shared view all quiet found (Err codes) = answering shared codes
+copied_to shared view all quiet found (Ok to) = ended (copy_found view all quiet found (fresh shared) to)
 
 abbrev pub copied_from : SharedState → View → Bool → Bool → Result FoundPlaces Codes → List ℕ → Effect
-copied_from shared view all quiet (Err codes) to = answering shared view.limit codes
-copied_from shared view all quiet (Ok found) to = copied_to shared view all quiet found (place_of shared view.directory to)
+copied_from shared view all quiet (Err codes) to = answering shared codes
+copied_from shared view all quiet (Ok found) to = copied_to shared view all quiet found (place_of shared view.parts.directory to)
 
 -- without FROM an argument is missing; the template does not let TO be
 abbrev pub copied_texts : SharedState → View → Bool → Bool → List (List ℕ) → Option (List ℕ) → Effect
-copied_texts shared view all quiet texts None = answering shared view.limit (failed ARGUMENT_MISSING)
-copied_texts shared view all quiet [] (Some to) = answering shared view.limit (failed ARGUMENT_MISSING)
-copied_texts shared view all quiet (text ∷ texts) (Some to) = copied_from shared view all quiet (sources_of shared view.directory (text ∷ texts)) to
+copied_texts shared view all quiet texts None = answering shared (failed ARGUMENT_MISSING)
+copied_texts shared view all quiet [] (Some to) = answering shared (failed ARGUMENT_MISSING)
+copied_texts shared view all quiet (text ∷ texts) (Some to) = copied_from shared view all quiet (sources_of shared view.parts.directory (text ∷ texts)) to
 
 abbrev pub copy_row : SharedState → View → List Arg → Effect
 copy_row shared view args = copied_texts shared view (is_on args 2) (is_on args 3) (texts_at args 0) (text_at args 1)

@@ -37,4 +37,4 @@ delete_place view all quiet done place = each (delete_one view quiet) done (targ
 
 abbrev pub delete_row : SharedState → View → List Arg → Effect
 delete_row shared view args =
-    ended view.limit (each (at_names (delete_place view (is_on args 1) (is_on args 2)) view) (fresh shared) (texts_at args 0))
+    ended (each (at_names (delete_place view (is_on args 1) (is_on args 2)) view) (fresh shared) (texts_at args 0))

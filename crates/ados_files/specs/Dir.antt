@@ -40,20 +40,20 @@ abbrev pub dir_text : Bool → Bool → Files → List (List (List ℕ)) → Lis
 dir_text dirs files ram places = directories_text (keeps dirs files) ram places ++ files_text (keeps files dirs) ram places
 
 abbrev pub dir_unless : Option Result2 → SharedState → View → List ℕ → Effect
-dir_unless None shared view text = putting shared view.limit text
-dir_unless (Some fault) shared view text = answering shared view.limit (erred fault)
+dir_unless None shared view text = putting shared text
+dir_unless (Some fault) shared view text = answering shared (erred fault)
 
 -- a directory that a path leads to
 abbrev pub dir_at : SharedState → View → Bool → Bool → Result (List (List ℕ)) Codes → Effect
-dir_at shared view dirs files (Err codes) = answering shared view.limit codes
+dir_at shared view dirs files (Err codes) = answering shared codes
 dir_at shared view dirs files (Ok place) =
     dir_unless (list_fault (map.get shared.files (key_of place))) shared view
     (dir_text dirs files shared.files (children (key_of place) (map.entries shared.files)))
 
 -- without DIR the current directory
 abbrev pub directory_given : SharedState → View → Option (List ℕ) → Result (List (List ℕ)) Codes
-directory_given shared view None = Ok view.directory
-directory_given shared view (Some text) = place_of shared view.directory text
+directory_given shared view None = Ok view.parts.directory
+directory_given shared view (Some text) = place_of shared view.parts.directory text
 
 abbrev pub dir_row : SharedState → View → List Arg → Effect
 dir_row shared view args = dir_at shared view (is_on args 1) (is_on args 2) (directory_given shared view (text_at args 0))

@@ -19,7 +19,7 @@ note_one comment done place =
 
 -- without COMMENT the comment is cleared
 abbrev pub noted : SharedState → View → List ℕ → List (List ℕ) → Effect
-noted shared view comment texts = ended view.limit (each (at_names (note_one comment) view) (fresh shared) texts)
+noted shared view comment texts = ended (each (at_names (note_one comment) view) (fresh shared) texts)
 
 abbrev pub filenote_row : SharedState → View → List Arg → Effect
 filenote_row shared view args = noted shared view (text_or_empty (text_at args 1)) (texts_at args 0)

@@ -34,8 +34,8 @@ joined_to view texts done to = written_to view to (each (at_path (type_one view)
 
 -- the template does not let TO be missing
 abbrev pub joined : SharedState → View → List (List ℕ) → Option (List ℕ) → Effect
-joined shared view texts None = answering shared view.limit (failed ARGUMENT_MISSING)
-joined shared view texts (Some to) = ended view.limit (joined_to view texts (fresh shared) to)
+joined shared view texts None = answering shared (failed ARGUMENT_MISSING)
+joined shared view texts (Some to) = ended (joined_to view texts (fresh shared) to)
 
 abbrev pub join_row : SharedState → View → List Arg → Effect
 join_row shared view args = joined shared view (texts_at args 0) (text_at args 1)

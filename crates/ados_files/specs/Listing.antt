@@ -62,7 +62,7 @@ list_found shape done (Err codes) = stopped_by codes done
 list_found shape done (Ok found) = list_places shape done (listed done.shared.files found)
 
 abbrev pub list_text : Shape → View → Done → List ℕ → Done
-list_text shape view done text = list_found shape done (named done.shared view.directory text)
+list_text shape view done text = list_found shape done (named done.shared view.parts.directory text)
 
 -- the entries of a directory
 abbrev pub list_at : Shape → Done → List (List ℕ) → Done
@@ -72,7 +72,7 @@ list_at shape done place =
 
 -- without arguments the current directory
 abbrev pub list_texts : Shape → View → Done → List (List ℕ) → Done
-list_texts shape view done [] = list_at shape done view.directory
+list_texts shape view done [] = list_at shape done view.parts.directory
 list_texts shape view done (text ∷ texts) = each (list_text shape view) done (text ∷ texts)
 
 -- the pattern of PAT, where it is given
@@ -85,9 +85,9 @@ pattern_given None = Ok None
 pattern_given (Some text) = some_pattern (pattern_of text)
 
 abbrev pub list_by : SharedState → View → List Arg → Result (Option Meaning) Codes → Effect
-list_by shared view args (Err codes) = answering shared view.limit codes
+list_by shared view args (Err codes) = answering shared codes
 list_by shared view args (Ok pattern) =
-    ended view.limit
+    ended
     (list_texts (record { pattern = pattern; quick = is_on args 2; files = is_on args 3; dirs = is_on args 4 }) view (fresh shared) (texts_at args 0))
 
 abbrev pub list_row : SharedState → View → List Arg → Effect

@@ -20,8 +20,8 @@ made done place =
 
 -- without a name an argument is missing
 abbrev pub all_made : SharedState → View → List (List ℕ) → Effect
-all_made shared view [] = answering shared view.limit (failed ARGUMENT_MISSING)
-all_made shared view (text ∷ texts) = ended view.limit (each (at_path made view) (fresh shared) (text ∷ texts))
+all_made shared view [] = answering shared (failed ARGUMENT_MISSING)
+all_made shared view (text ∷ texts) = ended (each (at_path made view) (fresh shared) (text ∷ texts))
 
 abbrev pub make_dir_row : SharedState → View → List Arg → Effect
 make_dir_row shared view args = all_made shared view (texts_at args 0)

@@ -18,7 +18,7 @@ is_under (Ok place) key = is_at_or_below (key_of place) key
 -- the key is at or below the place to which a path leads
 abbrev pub is_under_path : SharedState → View → Option Text → Key → Bool
 is_under_path shared view None key = false
-is_under_path shared view (Some text) key = is_under (place_of shared view.directory text) key
+is_under_path shared view (Some text) key = is_under (place_of shared view.parts.directory text) key
 
 -- the key is at or below one of the places
 abbrev pub is_under_any : List Place → Key → Bool
@@ -32,7 +32,7 @@ is_under_found (Ok found) key = is_under_any found.places key
 -- the key is at or below an object that one of the arguments names
 abbrev pub is_under_names : SharedState → View → List Text → Key → Bool
 is_under_names shared view [] key = false
-is_under_names shared view (text ∷ texts) key = is_under_found (named shared view.directory text) key || is_under_names shared view texts key
+is_under_names shared view (text ∷ texts) key = is_under_found (named shared view.parts.directory text) key || is_under_names shared view texts key
 
 -- Copy: TO, and what is below it
 abbrev pub copy_may_change : SharedState → View → List Arg → Key → Bool

@@ -106,8 +106,8 @@ protect_one change done place = (let bits = changed_bits change (bits_at (map.ge
     (record done { shared = with_files done.shared (protect_of done.shared.files (key_of place) bits) }))
 
 abbrev pub protected_by : SharedState → View → Result Change Result2 → List (List ℕ) → Effect
-protected_by shared view (Err fault) texts = answering shared view.limit (failed fault)
-protected_by shared view (Ok change) texts = ended view.limit (each (at_names (protect_one change) view) (fresh shared) texts)
+protected_by shared view (Err fault) texts = answering shared (failed fault)
+protected_by shared view (Ok change) texts = ended (each (at_names (protect_one change) view) (fresh shared) texts)
 
 abbrev pub protect_row : SharedState → View → List Arg → Effect
 protect_row shared view args =

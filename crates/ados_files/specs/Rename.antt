@@ -23,29 +23,29 @@ target_of files from e to =
 
 -- the object is renamed, and the current directories of all shells are to be carried along
 abbrev pub renamed_unless : Option Result2 → SharedState → View → List (List ℕ) → List (List ℕ) → Effect
-renamed_unless (Some fault) shared view from to = answering shared view.limit (erred fault)
+renamed_unless (Some fault) shared view from to = answering shared (erred fault)
 renamed_unless None shared view from to =
-    record (answering (after_rename shared from to) view.limit went_well) { renamed = Some (record { from = from; to = to }) }
+    record (answering (after_rename shared from to) view.parts.limit went_well) { renamed = Some (record { from = from; to = to }) }
 
 abbrev pub renamed_to : SharedState → View → List (List ℕ) → List (List ℕ) → Effect
 renamed_to shared view from to = renamed_unless (rename_fault view.busy shared.files (key_of from) (key_of to)) shared view from to
 
 abbrev pub renamed_from : SharedState → View → List (List ℕ) → Option Entry → List (List ℕ) → Effect
-renamed_from shared view from None to = answering shared view.limit (erred OBJECT_NOT_FOUND)
+renamed_from shared view from None to = answering shared (erred OBJECT_NOT_FOUND)
 renamed_from shared view from (Some e) to = renamed_to shared view from (target_of shared.files from e to)
 
 -- the places to which both paths lead
 abbrev pub renamed_at : SharedState → View → Result (List (List ℕ)) Codes → Result (List (List ℕ)) Codes → Effect
-renamed_at shared view (Err codes) to = answering shared view.limit codes
-renamed_at shared view (Ok from) (Err codes) = answering shared view.limit codes
+renamed_at shared view (Err codes) to = answering shared codes
+renamed_at shared view (Ok from) (Err codes) = answering shared codes
 renamed_at shared view (Ok from) (Ok to) = renamed_from shared view from (map.get shared.files (key_of from)) to
 
 -- the template lets neither be missing
 abbrev pub renamed_texts : SharedState → View → Option (List ℕ) → Option (List ℕ) → Effect
-renamed_texts shared view None to = answering shared view.limit (failed ARGUMENT_MISSING)
-renamed_texts shared view (Some from) None = answering shared view.limit (failed ARGUMENT_MISSING)
+renamed_texts shared view None to = answering shared (failed ARGUMENT_MISSING)
+renamed_texts shared view (Some from) None = answering shared (failed ARGUMENT_MISSING)
 renamed_texts shared view (Some from) (Some to) =
-    renamed_at shared view (place_of shared view.directory from) (place_of shared view.directory to)
+    renamed_at shared view (place_of shared view.parts.directory from) (place_of shared view.parts.directory to)
 
 abbrev pub rename_row : SharedState → View → List Arg → Effect
 rename_row shared view args = renamed_texts shared view (text_at args 0) (text_at args 1)

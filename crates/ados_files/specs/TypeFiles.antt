@@ -20,4 +20,4 @@ type_one view done place =
     (record done { output = done.output ++ bytes_at (map.get done.shared.files (key_of place)) })
 
 abbrev pub type_row : SharedState → View → List Arg → Effect
-type_row shared view args = ended view.limit (each (at_names (type_one view) view) (fresh shared) (texts_at args 0))
+type_row shared view args = ended (each (at_names (type_one view) view) (fresh shared) (texts_at args 0))

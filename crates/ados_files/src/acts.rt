@@ -23,11 +23,11 @@ pub fn done_with<X, A: Act<X>>(
     act: &A,
     items: &[X],
 ) -> Result<Outcome, NoMemory>
-    ensures { IfOk result (λ outcome. effect_of shared.now outcome ≡ ended view.now.limit (each (A.act act.now) (fresh shared.now) items.now)) }
+    ensures { IfOk result (λ outcome. effect_of shared.now outcome ≡ ended (each (A.act act.now) (fresh shared.now) items.now)) }
 {
     let mut work = Work::new(alloc);
     each(act, shared, &mut work, items)?;
-    Ok(work.end(view.limit))
+    Ok(work.end())
 }
 
 /// What a command makes that does an act with each of the objects that its arguments name.
@@ -38,7 +38,7 @@ pub fn done_with_named<A: Act<Place>>(
     act: &A,
     texts: &[Text],
 ) -> Result<Outcome, NoMemory>
-    ensures { IfOk result (λ outcome. effect_of shared.now outcome ≡ ended view.now.limit (each (at_names (A.act act.now) view.now) (fresh shared.now) texts.now)) }
+    ensures { IfOk result (λ outcome. effect_of shared.now outcome ≡ ended (each (at_names (A.act act.now) view.now) (fresh shared.now) texts.now)) }
 {
     done_with(alloc, shared, view, &Names { act, view }, texts)
 }
@@ -135,7 +135,7 @@ pub fn at_path<A: Act<Place>>(
     ensures { OnOk result (done_of shared.now work.new ≡ at_path (A.act act.now) view.now (done_of shared.now work.old) text.now) }
 {
     let alloc = *work.output.allocator();
-    match place_of(alloc, current(shared, &work.shared), &view.directory, text) {
+    match place_of(alloc, current(shared, &work.shared), view.directory, text) {
         Err(refusal) => {
             work.stopped = Some(refusal.codes()?);
             Ok(())
@@ -155,7 +155,7 @@ pub fn at_names<A: Act<Place>>(
     ensures { OnOk result (done_of shared.now work.new ≡ at_names (A.act act.now) view.now (done_of shared.now work.old) text.now) }
 {
     let alloc = *work.output.allocator();
-    match named(alloc, current(shared, &work.shared), &view.directory, text) {
+    match named(alloc, current(shared, &work.shared), view.directory, text) {
         Err(refusal) => {
             work.stopped = Some(refusal.codes()?);
             Ok(())

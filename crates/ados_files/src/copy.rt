@@ -32,15 +32,15 @@ pub fn copy_files(
 {
     let missing = Codes::failed(Result2::ARGUMENT_MISSING);
     let Some(to) = args.made_text(alloc, 1)? else {
-        return Ok(Outcome::answering(alloc, view.limit, missing));
+        return Ok(Outcome::answering(alloc, missing));
     };
     let texts = args.made_texts(alloc, 0)?;
     let texts = texts.as_slice();
     if texts.is_empty() {
-        return Ok(Outcome::answering(alloc, view.limit, missing));
+        return Ok(Outcome::answering(alloc, missing));
     }
-    match sources_of(alloc, shared, &view.directory, texts) {
-        Err(refusal) => Ok(Outcome::answering(alloc, view.limit, refusal.codes()?)),
+    match sources_of(alloc, shared, view.directory, texts) {
+        Err(refusal) => Ok(Outcome::answering(alloc, refusal.codes()?)),
         Ok(found) => {
             let copy = Copy {
                 view,
@@ -72,11 +72,11 @@ impl<'a> Act<Place> for Copy<'a> {
 
 fn copied_to(alloc: Global, shared: &Shared, copy: &Copy, to: &Text) -> Result<Outcome, NoMemory>
     ensures { IfOk result (λ outcome. effect_of shared.now outcome ≡
-        copied_to shared.now copy.now.view.now copy.now.all copy.now.quiet copy.now.found (place_of shared.now copy.now.view.now.directory to.now)) }
+        copied_to shared.now copy.now.view.now copy.now.all copy.now.quiet copy.now.found (place_of shared.now copy.now.view.now.parts.directory to.now)) }
 {
     let view = copy.view;
-    match place_of(alloc, shared, &view.directory, to) {
-        Err(refusal) => Ok(Outcome::answering(alloc, view.limit, refusal.codes()?)),
+    match place_of(alloc, shared, view.directory, to) {
+        Err(refusal) => Ok(Outcome::answering(alloc, refusal.codes()?)),
         Ok(to) => done_with(alloc, shared, view, copy, slice::from_ref(&to)),
     }
 }

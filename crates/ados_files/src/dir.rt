@@ -25,7 +25,7 @@ pub fn show_directory(
 {
     let directory = args.made_text(alloc, 0)?;
     match directory_given(alloc, shared, view, directory.as_ref()) {
-        Err(refusal) => Ok(Outcome::answering(alloc, view.limit, refusal.codes()?)),
+        Err(refusal) => Ok(Outcome::answering(alloc, refusal.codes()?)),
         Ok(place) => dir_at(alloc, shared, view, args.is_on(1), args.is_on(2), &place),
     }
 }
@@ -41,7 +41,7 @@ fn directory_given(
 {
     match text {
         None => Ok(view.directory.copy()?),
-        Some(text) => place_of(alloc, shared, &view.directory, text),
+        Some(text) => place_of(alloc, shared, view.directory, text),
     }
 }
 
@@ -56,10 +56,10 @@ fn dir_at(
     ensures { IfOk result (λ outcome. effect_of shared.now outcome ≡ dir_at shared.now view.now dirs files (Ok place.now)) }
 {
     match list_refusal(shared.ram.look(place)) {
-        Some(fault) => Ok(Outcome::answering(alloc, view.limit, Codes::erred(fault))),
+        Some(fault) => Ok(Outcome::answering(alloc, Codes::erred(fault))),
         None => {
             let output = dir_text(alloc, dirs, files, &shared.ram, place)?;
-            Ok(Outcome::putting(view.limit, output))
+            Ok(Outcome::putting(output))
         }
     }
 }

@@ -23,7 +23,7 @@ pub fn join_files(
 {
     let Some(to) = args.made_text(alloc, 1)? else {
         let codes = Codes::failed(Result2::ARGUMENT_MISSING);
-        return Ok(Outcome::answering(alloc, view.limit, codes));
+        return Ok(Outcome::answering(alloc, codes));
     };
     let texts = args.made_texts(alloc, 0)?;
     let act = Joining {

@@ -40,7 +40,7 @@ pub fn list(
 {
     let pattern = args.made_text(alloc, 1)?;
     match pattern_given(alloc, pattern.as_ref()) {
-        Err(refusal) => Ok(Outcome::answering(alloc, view.limit, refusal.codes()?)),
+        Err(refusal) => Ok(Outcome::answering(alloc, refusal.codes()?)),
         Ok(pattern) => {
             let shape = Shape {
                 pattern,
@@ -73,10 +73,10 @@ fn list_texts(
     texts: &[Text],
 ) -> Result<Outcome, NoMemory>
     ensures { IfOk result (λ outcome. effect_of shared.now outcome ≡
-        ended view.now.limit (list_texts shape.now view.now (fresh shared.now) texts.now)) }
+        ended (list_texts shape.now view.now (fresh shared.now) texts.now)) }
 {
     if texts.is_empty() {
-        let here = slice::from_ref(&view.directory);
+        let here = slice::from_ref(view.directory);
         return done_with(alloc, shared, view, &ListingAt { shape }, here);
     }
     done_with(alloc, shared, view, &Listing { shape, view }, texts)
@@ -109,7 +109,7 @@ fn list_text(
 {
     let alloc = *work.output.allocator();
     let now = current(shared, &work.shared);
-    match named(alloc, now, &view.directory, text) {
+    match named(alloc, now, view.directory, text) {
         Err(refusal) => {
             work.stopped = Some(refusal.codes()?);
             Ok(())

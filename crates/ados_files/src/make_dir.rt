@@ -23,7 +23,7 @@ pub fn make_dir(
     let texts = texts.as_slice();
     if texts.is_empty() {
         let codes = Codes::failed(Result2::ARGUMENT_MISSING);
-        return Ok(Outcome::answering(alloc, view.limit, codes));
+        return Ok(Outcome::answering(alloc, codes));
     }
     done_with(alloc, shared, view, &Paths { act: &Making, view }, texts)
 }

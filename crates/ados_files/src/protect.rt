@@ -53,7 +53,7 @@ fn protected_by(
     ensures { IfOk result (λ outcome. effect_of shared.now outcome ≡ protected_by shared.now view.now change texts.now) }
 {
     match change {
-        Err(fault) => Ok(Outcome::answering(alloc, view.limit, Codes::failed(fault))),
+        Err(fault) => Ok(Outcome::answering(alloc, Codes::failed(fault))),
         Ok(change) => done_with_named(alloc, shared, view, &Protecting { change }, texts),
     }
 }

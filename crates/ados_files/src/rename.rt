@@ -31,8 +31,8 @@ pub fn rename_object(
     let Some(to) = args.made_text(alloc, 1)? else {
         return Ok(missing(alloc, view));
     };
-    match place_of(alloc, shared, &view.directory, &from) {
-        Err(refusal) => Ok(Outcome::answering(alloc, view.limit, refusal.codes()?)),
+    match place_of(alloc, shared, view.directory, &from) {
+        Err(refusal) => Ok(Outcome::answering(alloc, refusal.codes()?)),
         Ok(from) => renamed_at(alloc, shared, view, &from, &to),
     }
 }
@@ -41,7 +41,7 @@ pub fn rename_object(
 fn missing(alloc: Global, view: &ShellView) -> Outcome
     ensures { DoesTo result (λ shared. answering shared view.now.limit (failed ARGUMENT_MISSING)) }
 {
-    Outcome::answering(alloc, view.limit, Codes::failed(Result2::ARGUMENT_MISSING))
+    Outcome::answering(alloc, Codes::failed(Result2::ARGUMENT_MISSING))
 }
 
 fn renamed_at(
@@ -51,10 +51,10 @@ fn renamed_at(
     from: &Place,
     to: &Text,
 ) -> Result<Outcome, NoMemory>
-    ensures { IfOk result (λ outcome. effect_of shared.now outcome ≡ renamed_at shared.now view.now (Ok from.now) (place_of shared.now view.now.directory to.now)) }
+    ensures { IfOk result (λ outcome. effect_of shared.now outcome ≡ renamed_at shared.now view.now (Ok from.now) (place_of shared.now view.now.parts.directory to.now)) }
 {
-    match place_of(alloc, shared, &view.directory, to) {
-        Err(refusal) => Ok(Outcome::answering(alloc, view.limit, refusal.codes()?)),
+    match place_of(alloc, shared, view.directory, to) {
+        Err(refusal) => Ok(Outcome::answering(alloc, refusal.codes()?)),
         Ok(to) => renamed_from(alloc, shared, view, from, &to),
     }
 }
@@ -69,7 +69,7 @@ fn renamed_from(
     ensures { IfOk result (λ outcome. effect_of shared.now outcome ≡ renamed_from shared.now view.now from.now (map.get shared.now.files (key_of from.now)) to.now) }
 {
     match shared.ram.look(from) {
-        None => Ok(Outcome::answering(alloc, view.limit, Codes::erred(Result2::OBJECT_NOT_FOUND))),
+        None => Ok(Outcome::answering(alloc, Codes::erred(Result2::OBJECT_NOT_FOUND))),
         Some(entry) => {
             let to = target_of(&shared.ram, from, entry, to)?;
             let from = from.copy()?;
@@ -109,9 +109,9 @@ fn renamed_to(
     match shared.renamed(&view.busy, &renamed.from, &renamed.to) {
         Err(FsFault::NoMemory) => Err(NoMemory),
         Err(FsFault::Refused(fault)) => {
-            Ok(Outcome::answering(alloc, view.limit, Codes::erred(fault)))
+            Ok(Outcome::answering(alloc, Codes::erred(fault)))
         }
-        Ok(new) => Outcome::answering(alloc, view.limit, Codes::NONE)
+        Ok(new) => Outcome::answering(alloc, Codes::NONE)
             .with_shared(new)
             .with_renamed(alloc, renamed),
     }

@@ -1,39 +1,41 @@
 -- What a command makes.
-use Rattle.std.specs.Prelude.{◌≡◌, ℕ, List, [], Option, None, option_map}
-use Rattle.ados_text.specs.declared.codes.Code.{Code}
+use Rattle.std.specs.Prelude.{◌≡◌, ℕ, List, [], Option, Some, None, option_map}
+use Rattle.ados_find.specs.declared.changes.Change.{Change}
 use Rattle.ados_find.specs.declared.codes.Codes.{Codes}
 use Rattle.ados_find.specs.declared.outcomes.Outcome.{Outcome}
 use Rattle.ados_find.specs.declared.outcomes.Renamed.{Renamed}
 use Rattle.ados_find.specs.Codes.{went_well}
 use Rattle.ados_find.specs.Shared.{SharedState, version}
 
--- the shared parts and the fail limit behind it, what it answers, what it puts out, a new current directory, and the
--- object that it renamed, by which all shells' current directories are carried
+-- the shared parts behind it, what it answers, what it puts out, what it changes of its shell's parts, and the object
+-- that it renamed, by which all shells' current directories are carried
 pub record Effect : Type 0 where
   pub shared : SharedState
-  pub limit : Code
   pub codes : Codes
   pub output : List ℕ
-  pub directory : Option (List (List ℕ))
+  pub change : Option Change
   pub renamed : Option Renamed
 
 -- it answers this, changes nothing, and puts nothing out
-abbrev pub answering : SharedState → Code → Codes → Effect
-answering shared limit codes = record { shared = shared; limit = limit; codes = codes; output = []; directory = None; renamed = None }
+abbrev pub answering : SharedState → Codes → Effect
+answering shared codes = record { shared = shared; codes = codes; output = []; change = None; renamed = None }
 
 -- all went well: it changes nothing, and puts this out
-abbrev pub putting : SharedState → Code → List ℕ → Effect
-putting shared limit output = record (answering shared limit went_well) { output = output }
+abbrev pub putting : SharedState → List ℕ → Effect
+putting shared output = record (answering shared went_well) { output = output }
+
+-- all went well: it changes this of its shell's parts, and nothing else
+abbrev pub changing : SharedState → Change → Effect
+changing shared change = record (answering shared went_well) { change = Some change }
 
 -- what an outcome is to the shared parts as they were
 abbrev pub effect_of : SharedState → Outcome → Effect
 effect_of shared outcome =
     record {
       shared = version shared outcome.shared;
-      limit = outcome.limit;
       codes = outcome.codes;
       output = outcome.output;
-      directory = outcome.directory;
+      change = option_map (λ c. c.value) outcome.change;
       renamed = option_map (λ r. r.value) outcome.renamed;
     }
 

@@ -1,5 +1,7 @@
 pub mod Codes
 pub mod Shared
+pub mod Parts
+pub mod Changes
 pub mod Views
 pub mod Effects
 pub mod Done

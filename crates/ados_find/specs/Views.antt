@@ -1,14 +1,11 @@
 -- What commands read of their shell and of the others.
-use Rattle.std.specs.Prelude.{◌≡◌, ℕ, List}
-use Rattle.ados_text.specs.declared.codes.Code.{Code}
+use Rattle.std.specs.Prelude.{◌≡◌}
 use Rattle.ados_ram.specs.InUse.{InUse}
-use Rattle.ados_find.specs.declared.codes.Codes.{Codes}
+use Rattle.ados_find.specs.Parts.{Parts}
 
--- its fail limit, what its last command answered, its current directory, and what is in use by any shell
+-- its parts, and what is in use by any shell
 pub record View : Type 0 where
-  pub limit : Code
-  pub codes : Codes
-  pub directory : List (List ℕ)
+  pub parts : Parts
   pub busy : InUse
 
 -- the same, whatever is in use

@@ -2,6 +2,7 @@
 //! What commands read and what they make: the parts that all shells share, the view of a shell, the work on arguments
 //! in order, and the outcome of a command.
 
+mod changes;
 mod codes;
 mod commands;
 mod outcomes;
@@ -12,6 +13,7 @@ mod targets;
 mod views;
 mod work;
 
+pub use changes::Change;
 pub use codes::Codes;
 pub use commands::CommandEntry;
 pub use outcomes::{Outcome, Renamed};

@@ -1,10 +1,11 @@
 // What a command makes.
 ghost use Rattle.std.specs.Prelude.{◌≡◌, Some, IfOk};
 
+use crate::changes::Change;
 use crate::codes::Codes;
 use crate::shared::Shared;
 use ados_ram::Place;
-use ados_text::{Code, NoMemory, Octets};
+use ados_text::{NoMemory, Octets};
 use std::alloc::Global;
 
 /// An object that was renamed: where it was, and where it is.
@@ -19,47 +20,42 @@ pub struct Renamed {
 pub struct Outcome {
     /// The shared parts behind it, where they are new ones.
     pub shared: Option<Shared>,
-    /// The fail limit behind it.
-    pub limit: Code,
     /// What it answers.
     pub codes: Codes,
     /// What it puts out.
     pub output: Octets,
-    /// The new current directory of its shell, where it set one.
-    pub directory: Option<Place>,
-    /// The object that it renamed, by which the current directories of all shells are carried. It stands apart, so
-    /// that an outcome is small to move.
+    /// What it changes of its shell's parts. It stands apart, so that an outcome is small to move.
+    pub change: Option<Box<Change>>,
+    /// The object that it renamed, by which the current directories of all shells are carried.
     pub renamed: Option<Box<Renamed>>,
 }
 
 impl Outcome {
     ghost use Rattle.ados_find.specs.Shared.{SharedState};
-    ghost use Rattle.ados_find.specs.Effects.{answering, effect_of, putting, DoesTo};
+    ghost use Rattle.ados_find.specs.Effects.{answering, changing, effect_of, putting, DoesTo};
 
     /// The command answers this, changes nothing and puts nothing out.
-    pub fn answering(alloc: Global, limit: Code, codes: Codes) -> Outcome
-        ensures { DoesTo result (λ shared. answering shared limit codes) }
+    pub fn answering(alloc: Global, codes: Codes) -> Outcome
+        ensures { DoesTo result (λ shared. answering shared codes) }
     {
         Outcome {
             shared: None,
-            limit,
             codes,
             output: Octets::from_vec(Vec::new(alloc)),
-            directory: None,
+            change: None,
             renamed: None,
         }
     }
 
     /// All went well; the command changes nothing and puts this out.
-    pub fn putting(limit: Code, output: Vec<u8>) -> Outcome
-        ensures { DoesTo result (λ shared. putting shared limit output.items) }
+    pub fn putting(output: Vec<u8>) -> Outcome
+        ensures { DoesTo result (λ shared. putting shared output.items) }
     {
         Outcome {
             shared: None,
-            limit,
             codes: Codes::NONE,
             output: Octets::from_vec(output),
-            directory: None,
+            change: None,
             renamed: None,
         }
     }
@@ -73,13 +69,13 @@ impl Outcome {
         outcome
     }
 
-    /// The same, and this is the current directory of its shell from now on.
-    pub fn with_directory(self, directory: Place) -> Outcome
-        ensures { (old : SharedState) → effect_of old result ≡ record (effect_of old self) { directory = Some directory } }
+    /// All went well; the command changes this of its shell's parts, and nothing else.
+    pub fn changing(alloc: Global, change: Change) -> Result<Outcome, NoMemory>
+        ensures { IfOk result (λ outcome. DoesTo outcome (λ shared. changing shared change)) }
     {
-        let mut outcome = self;
-        outcome.directory = Some(directory);
-        outcome
+        let mut outcome = Outcome::answering(alloc, Codes::NONE);
+        outcome.change = Some(Box::new(alloc, change)?);
+        Ok(outcome)
     }
 
     /// The same, and it renamed an object.

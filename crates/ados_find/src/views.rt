@@ -3,24 +3,24 @@ use ados_ram::{Busy, Place};
 use ados_text::Code;
 use std::marker::Model;
 
-/// What commands read of their shell, and of the others.
+/// What commands read of their shell, and of the others. The shell lends its parts.
 #[derive(Drop)]
-pub struct ShellView {
+pub struct ShellView<'a> {
+    /// Its current directory.
+    pub directory: &'a Place,
     /// Its fail limit.
     pub limit: Code,
     /// What its last command answered.
     pub codes: Codes,
-    /// Its current directory.
-    pub directory: Place,
     /// What is in use: the current directories of all shells, the directories of assigns, and open outputs. It is
     /// empty for commands that only print and set: they read nothing of it.
     pub busy: Busy,
 }
 
-impl Model for ShellView {
+impl<'a> Model for ShellView<'a> {
     ghost use Rattle.ados_find.specs.Views.{View};
 
     ghost Value = { View };
 
-    ghost view = { λ v. record { limit = v.limit; codes = v.codes; directory = v.directory; busy = v.busy } };
+    ghost view = { λ v. record { parts = record { directory = v.directory.now; limit = v.limit; codes = v.codes }; busy = v.busy } };
 }

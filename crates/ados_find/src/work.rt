@@ -5,7 +5,7 @@ ghost use Rattle.ados_find.specs.Shared.{SharedState, version};
 use crate::codes::Codes;
 use crate::outcomes::Outcome;
 use crate::shared::Shared;
-use ados_text::{Code, NoMemory, Octets};
+use ados_text::{NoMemory, Octets};
 use std::alloc::Global;
 
 /// What a command has done so far.
@@ -35,15 +35,14 @@ impl Work {
     }
 
     /// The command ends with what was done.
-    pub fn end(self, limit: Code) -> Outcome
-        ensures { (shared : SharedState) → effect_of shared result ≡ ended limit (done_of shared self) }
+    pub fn end(self) -> Outcome
+        ensures { (shared : SharedState) → effect_of shared result ≡ ended (done_of shared self) }
     {
         Outcome {
             shared: self.shared,
-            limit,
             codes: codes_of(self.stopped),
             output: Octets::from_vec(self.output),
-            directory: None,
+            change: None,
             renamed: None,
         }
     }

@@ -46,18 +46,18 @@ script_read shared limit place (Ok bytes) = calls shared limit (full_path shared
 
 -- the script at a place, if there is one
 abbrev pub script_at : SharedState → View → Result (List (List ℕ)) Codes → Action
-script_at shared view (Err codes) = Does (answering shared view.limit codes)
-script_at shared view (Ok place) = script_read shared view.limit place (read_at shared.files view.busy.outputs place)
+script_at shared view (Err codes) = Does (answering shared codes)
+script_at shared view (Ok place) = script_read shared place (read_at shared.files view.busy.outputs place)
 
 abbrev pub script_by : SharedState → View → List ℕ → Result (List (List ℕ)) Codes → Action
-script_by shared view word (Err codes) = Does (answering shared view.limit codes)
-script_by shared view word (Ok place) = script_at shared view (script_place shared view.directory word place)
+script_by shared view word (Err codes) = Does (answering shared codes)
+script_by shared view word (Ok place) = script_at shared view (script_place shared view.parts.directory word place)
 
 abbrev pub execute_file : SharedState → View → Option (List ℕ) → Action
-execute_file shared view None = Does (answering shared view.limit (failed ARGUMENT_MISSING))
-execute_file shared view (Some word) = script_by shared view word (place_of shared view.directory word)
+execute_file shared view None = Does (answering shared (failed ARGUMENT_MISSING))
+execute_file shared view (Some word) = script_by shared view word (place_of shared view.parts.directory word)
 
 -- Execute calls a script; `simple` says that it stands in no script and its output is not redirected
 abbrev pub execute_row : Bool → SharedState → View → List Arg → Action
 execute_row simple shared view args =
-    if simple then execute_file shared view (text_at args 0) else Does (answering shared view.limit (failed NOT_IMPLEMENTED))
+    if simple then execute_file shared view (text_at args 0) else Does (answering shared (failed NOT_IMPLEMENTED))

@@ -25,20 +25,20 @@ pub fn execute(
     ensures { IfOk result (λ action. acting shared.now action ≡ execute_row simple shared.now view.now args.now) }
 {
     if !simple {
-        return Ok(Action::answering(alloc, view.limit, Codes::failed(Result2::NOT_IMPLEMENTED)));
+        return Ok(Action::answering(alloc, Codes::failed(Result2::NOT_IMPLEMENTED)));
     }
     match args.made_text(alloc, 0)? {
-        None => Ok(Action::answering(alloc, view.limit, Codes::failed(Result2::ARGUMENT_MISSING))),
+        None => Ok(Action::answering(alloc, Codes::failed(Result2::ARGUMENT_MISSING))),
         Some(word) => call(alloc, shared, view, &word),
     }
 }
 
 fn call(alloc: Global, shared: &Shared, view: &ShellView, word: &Text) -> Result<Action, NoMemory>
-    ensures { IfOk result (λ action. acting shared.now action ≡ script_by shared.now view.now word.now (place_of shared.now view.now.directory word.now)) }
+    ensures { IfOk result (λ action. acting shared.now action ≡ script_by shared.now view.now word.now (place_of shared.now view.now.parts.directory word.now)) }
 {
-    match place_of(alloc, shared, &view.directory, word) {
+    match place_of(alloc, shared, view.directory, word) {
         Err(Refusal::NoMemory) => Err(NoMemory),
-        Err(Refusal::Stopped(codes)) => Ok(Action::answering(alloc, view.limit, codes)),
+        Err(Refusal::Stopped(codes)) => Ok(Action::answering(alloc, codes)),
         Ok(place) => call_found(alloc, shared, view, word, place),
     }
 }
@@ -51,11 +51,11 @@ fn call_found(
     word: &Text,
     place: Place,
 ) -> Result<Action, NoMemory>
-    ensures { IfOk result (λ action. acting shared.now action ≡ script_at shared.now view.now (script_place shared.now view.now.directory word.now place)) }
+    ensures { IfOk result (λ action. acting shared.now action ≡ script_at shared.now view.now (script_place shared.now view.now.parts.directory word.now place)) }
 {
-    match script_place(alloc, shared, &view.directory, word, place) {
+    match script_place(alloc, shared, view.directory, word, place) {
         Err(Refusal::NoMemory) => Err(NoMemory),
-        Err(Refusal::Stopped(codes)) => Ok(Action::answering(alloc, view.limit, codes)),
+        Err(Refusal::Stopped(codes)) => Ok(Action::answering(alloc, codes)),
         Ok(found) => call_at(alloc, shared, view, &found),
     }
 }
@@ -115,13 +115,12 @@ fn call_at(
     ensures { IfOk result (λ action. acting shared.now action ≡ script_read shared.now view.now.limit place.now (read_at shared.now.files view.now.busy.outputs place.now)) }
 {
     match shared.ram.read(&view.busy, place) {
-        Err(fault) => Ok(Action::answering(alloc, view.limit, Codes::erred(fault))),
+        Err(fault) => Ok(Action::answering(alloc, Codes::erred(fault))),
         Ok(bytes) => {
             let lines = lines_of(alloc, bytes)?;
             if is_dotted(lines.as_slice()) {
                 return Ok(Action::answering(
                     alloc,
-                    view.limit,
                     Codes::failed(Result2::NOT_IMPLEMENTED),
                 ));
             }
