@@ -18,8 +18,8 @@ use Rattle.ados_env.specs.Why.{why_row}
 abbrev pub row_of : Command → SharedState → View → List Arg → Effect
 row_of Assign shared view args = assign_row shared view args
 row_of Cd shared view args = cd_row shared view args
-row_of Echo shared view args = echo_row shared view args
-row_of Eval shared view args = eval_row shared view args
+row_of Echo shared view args = echo_row shared args
+row_of Eval shared view args = eval_row shared args
 row_of FailAt shared view args = fail_at_row shared view args
-row_of Fault shared view args = fault_row shared view args
+row_of Fault shared view args = fault_row shared args
 row_of Why shared view args = why_row shared view

@@ -1,10 +1,10 @@
 ghost use Rattle.std.specs.Prelude.{◌≡◌, ◌++◌, ◌∷◌, [], IfOk, Ok};
 ghost use Rattle.ados_ram.specs.Written.{full_path};
-ghost use Rattle.ados_find.specs.Effects.{DoesTo, effect_of};
-ghost use Rattle.ados_env.specs.Cd.{moved_to, cd_row};
+ghost use Rattle.ados_find.specs.Effects.{effect_of};
+ghost use Rattle.ados_env.specs.Cd.{cd_row};
 
 use crate::directories::directory_of;
-use ados_find::{Codes, Outcome, Shared, ShellView};
+use ados_find::{Change, Outcome, Shared, ShellView};
 use ados_ram::{Place, Ram};
 use ados_readargs::Args;
 use ados_text::NoMemory;
@@ -25,15 +25,8 @@ pub fn cd(
     };
     match directory_of(alloc, shared, view, &text) {
         Err(refusal) => Ok(Outcome::answering(alloc, refusal.codes()?)),
-        Ok(place) => Ok(moved_to(alloc, view, place)),
+        Ok(place) => Outcome::changing(alloc, Change::Directory(place)),
     }
-}
-
-// The place is the current directory from now on.
-fn moved_to(alloc: Global, view: &ShellView, place: Place) -> Outcome
-    ensures { DoesTo result (λ shared. moved_to shared view.now (Ok place)) }
-{
-    Outcome::answering(alloc, Codes::NONE).with_directory(place)
 }
 
 // The line of a full path.

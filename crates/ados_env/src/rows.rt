@@ -30,10 +30,10 @@ pub fn run(
     match command {
         Command::Assign => assign(alloc, shared, view, args),
         Command::Cd => cd(alloc, shared, view, args),
-        Command::Echo => echo(alloc, view, args),
-        Command::Eval => eval(alloc, view, args),
+        Command::Echo => echo(alloc, args),
+        Command::Eval => eval(alloc, args),
         Command::FailAt => fail_at(alloc, view, args),
-        Command::Fault => fault(alloc, view, args),
+        Command::Fault => fault(alloc, args),
         Command::Why => why(alloc, view),
     }
 }

@@ -7,7 +7,7 @@ use Rattle.ados_find.specs.Shared.{SharedState, after_rename}
 use Rattle.ados_find.specs.Views.{View}
 use Rattle.ados_files.specs.Rename.{renamed_unless}
 
-pub renamed-is : (shared : SharedState) (view : View) (from to : List (List ℕ)) (fault : Option Result2) → fault ≡ None
-    → record (answering (after_rename shared from to) view.parts.limit went_well) { renamed = Some (record { from = from; to = to }) }
-    ≡ renamed_unless fault shared view from to
-renamed-is shared view from to fault e = rw e refl
+pub renamed-is : (shared : SharedState) (from to : List (List ℕ)) (fault : Option Result2) → fault ≡ None
+    → record (answering (after_rename shared from to) went_well) { renamed = Some (record { from = from; to = to }) }
+    ≡ renamed_unless fault shared from to
+renamed-is shared from to fault e = rw e refl

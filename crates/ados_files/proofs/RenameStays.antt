@@ -19,9 +19,9 @@ use Rattle.ados_files.specs.MayChange.{is_under, is_under_path, rename_may_chang
 abbrev Both : Place → Place → Key → Bool
 Both from to key = is_at_or_below (key_of from) key || is_at_or_below (key_of to) key
 
-unless-stays : (fault : Option Result2) (shared : SharedState) (view : View) (from to : Place) → OthersStay (Both from to) shared.files (renamed_unless fault shared view from to).shared.files
-unless-stays None shared view from to = rename-stays shared.files (key_of from) (key_of to) (last_name to)
-unless-stays (Some fault) shared view from to = λ key out. refl
+unless-stays : (fault : Option Result2) (shared : SharedState) (from to : Place) → OthersStay (Both from to) shared.files (renamed_unless fault shared from to).shared.files
+unless-stays None shared from to = rename-stays shared.files (key_of from) (key_of to) (last_name to)
+unless-stays (Some fault) shared from to = λ key out. refl
 
 -- the target is TO or an object in it
 target-outside : (files : Files) (from : Place) (e : Entry) (to : Place) (key : Key) → is_at_or_below (key_of to) key ≡ false → is_at_or_below (key_of (target_of files from e to)) key ≡ false
@@ -39,7 +39,7 @@ from-stays shared view from None to key out = refl
 from-stays shared view from (Some e) to key out =
     let apart = neither (is_at_or_below (key_of from) key) (is_at_or_below (key_of to) key) out in
     let target = target_of shared.files from e to in
-    unless-stays (rename_fault view.busy shared.files (key_of from) (key_of target)) shared view from target key
+    unless-stays (rename_fault view.busy shared.files (key_of from) (key_of target)) shared from target key
     (or-neither (is_at_or_below (key_of from) key) (is_at_or_below (key_of target) key) apart.0 (target-outside shared.files from e to key apart.1))
 
 at-stays : (shared : SharedState) (view : View) (from to : Result Place Codes) → OthersStay (λ key. is_under from key || is_under to key) shared.files (renamed_at shared view from to).shared.files

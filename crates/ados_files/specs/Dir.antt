@@ -39,15 +39,15 @@ files_text kept files places = if kept then lines_by file_line files places else
 abbrev pub dir_text : Bool → Bool → Files → List (List (List ℕ)) → List ℕ
 dir_text dirs files ram places = directories_text (keeps dirs files) ram places ++ files_text (keeps files dirs) ram places
 
-abbrev pub dir_unless : Option Result2 → SharedState → View → List ℕ → Effect
-dir_unless None shared view text = putting shared text
-dir_unless (Some fault) shared view text = answering shared (erred fault)
+abbrev pub dir_unless : Option Result2 → SharedState → List ℕ → Effect
+dir_unless None shared text = putting shared text
+dir_unless (Some fault) shared text = answering shared (erred fault)
 
 -- a directory that a path leads to
 abbrev pub dir_at : SharedState → View → Bool → Bool → Result (List (List ℕ)) Codes → Effect
 dir_at shared view dirs files (Err codes) = answering shared codes
 dir_at shared view dirs files (Ok place) =
-    dir_unless (list_fault (map.get shared.files (key_of place))) shared view
+    dir_unless (list_fault (map.get shared.files (key_of place))) shared
     (dir_text dirs files shared.files (children (key_of place) (map.entries shared.files)))
 
 -- without DIR the current directory

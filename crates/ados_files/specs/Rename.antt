@@ -22,13 +22,13 @@ target_of files from e to =
     if is_some_directory (map.get files (key_of to)) && not (is_same_key (key_of to) (key_of from)) then to ++ e.name ∷ [] else to
 
 -- the object is renamed, and the current directories of all shells are to be carried along
-abbrev pub renamed_unless : Option Result2 → SharedState → View → List (List ℕ) → List (List ℕ) → Effect
-renamed_unless (Some fault) shared view from to = answering shared (erred fault)
-renamed_unless None shared view from to =
-    record (answering (after_rename shared from to) view.parts.limit went_well) { renamed = Some (record { from = from; to = to }) }
+abbrev pub renamed_unless : Option Result2 → SharedState → List (List ℕ) → List (List ℕ) → Effect
+renamed_unless (Some fault) shared from to = answering shared (erred fault)
+renamed_unless None shared from to =
+    record (answering (after_rename shared from to) went_well) { renamed = Some (record { from = from; to = to }) }
 
 abbrev pub renamed_to : SharedState → View → List (List ℕ) → List (List ℕ) → Effect
-renamed_to shared view from to = renamed_unless (rename_fault view.busy shared.files (key_of from) (key_of to)) shared view from to
+renamed_to shared view from to = renamed_unless (rename_fault view.busy shared.files (key_of from) (key_of to)) shared from to
 
 abbrev pub renamed_from : SharedState → View → List (List ℕ) → Option Entry → List (List ℕ) → Effect
 renamed_from shared view from None to = answering shared (erred OBJECT_NOT_FOUND)

@@ -98,7 +98,7 @@ fn stop(work: &mut Work, refusal: FsFault) -> Result<(), NoMemory>
 #[derive(Drop)]
 pub struct Paths<'a, A> {
     pub act: &'a A,
-    pub view: &'a ShellView,
+    pub view: &'a ShellView<'a>,
 }
 
 impl<'a, A: Act<Place>> Act<Text> for Paths<'a, A> {
@@ -113,7 +113,7 @@ impl<'a, A: Act<Place>> Act<Text> for Paths<'a, A> {
 #[derive(Drop)]
 pub struct Names<'a, A> {
     pub act: &'a A,
-    pub view: &'a ShellView,
+    pub view: &'a ShellView<'a>,
 }
 
 impl<'a, A: Act<Place>> Act<Text> for Names<'a, A> {

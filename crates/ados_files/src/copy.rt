@@ -56,7 +56,7 @@ pub fn copy_files(
 /// What is copied, and how.
 #[derive(Drop)]
 pub struct Copy<'a> {
-    pub view: &'a ShellView,
+    pub view: &'a ShellView<'a>,
     pub all: bool,
     pub quiet: bool,
     pub found: Found,

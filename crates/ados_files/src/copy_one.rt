@@ -17,7 +17,7 @@ use std::slice;
 /// The copying of a file to a place below another.
 #[derive(Drop)]
 pub struct Copying<'a> {
-    pub view: &'a ShellView,
+    pub view: &'a ShellView<'a>,
     pub quiet: bool,
     pub to: &'a Place,
 }

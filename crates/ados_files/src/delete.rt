@@ -32,7 +32,7 @@ pub fn delete(
 /// The deleting of an object, with ALL behind what is below it.
 #[derive(Drop)]
 pub struct Deleting<'a> {
-    pub view: &'a ShellView,
+    pub view: &'a ShellView<'a>,
     pub all: bool,
     pub quiet: bool,
 }
@@ -48,7 +48,7 @@ impl<'a> Act<Place> for Deleting<'a> {
 /// The deleting of one object.
 #[derive(Drop)]
 pub struct DeletingOne<'a> {
-    pub view: &'a ShellView,
+    pub view: &'a ShellView<'a>,
     pub quiet: bool,
 }
 

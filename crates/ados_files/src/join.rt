@@ -36,7 +36,7 @@ pub fn join_files(
 /// The joining of files to one.
 #[derive(Drop)]
 pub struct Joining<'a> {
-    pub view: &'a ShellView,
+    pub view: &'a ShellView<'a>,
     pub texts: &'a [Text],
 }
 
@@ -58,8 +58,16 @@ fn joined_to(
 ) -> Result<(), NoMemory>
     ensures { OnOk result (done_of shared.now work.new ≡ joined_to view.now texts.now (done_of shared.now work.old) to.now) }
 {
-    let act = Typing { view };
-    each(&Paths { act: &act, view }, shared, work, texts)?;
+    let act = Typing { view: &*view };
+    each(
+        &Paths {
+            act: &act,
+            view: &*view,
+        },
+        shared,
+        work,
+        texts,
+    )?;
     written_to(view, shared, work, to)
 }
 
@@ -81,7 +89,7 @@ fn written_to(view: &ShellView, shared: &Shared, work: &mut Work, to: &Text) -> 
 /// The writing of one file.
 #[derive(Drop)]
 pub struct Writing<'a> {
-    pub view: &'a ShellView,
+    pub view: &'a ShellView<'a>,
     pub bytes: &'a [u8],
 }
 

@@ -86,7 +86,7 @@ fn list_texts(
 #[derive(Drop)]
 pub struct Listing<'a> {
     pub shape: &'a Shape,
-    pub view: &'a ShellView,
+    pub view: &'a ShellView<'a>,
 }
 
 impl<'a> Act<Text> for Listing<'a> {

@@ -26,10 +26,10 @@ pub fn rename_object(
     ensures { IfOk result (λ outcome. effect_of shared.now outcome ≡ rename_row shared.now view.now args.now) }
 {
     let Some(from) = args.made_text(alloc, 0)? else {
-        return Ok(missing(alloc, view));
+        return Ok(missing(alloc));
     };
     let Some(to) = args.made_text(alloc, 1)? else {
-        return Ok(missing(alloc, view));
+        return Ok(missing(alloc));
     };
     match place_of(alloc, shared, view.directory, &from) {
         Err(refusal) => Ok(Outcome::answering(alloc, refusal.codes()?)),
@@ -38,8 +38,8 @@ pub fn rename_object(
 }
 
 // An argument is missing.
-fn missing(alloc: Global, view: &ShellView) -> Outcome
-    ensures { DoesTo result (λ shared. answering shared view.now.limit (failed ARGUMENT_MISSING)) }
+fn missing(alloc: Global) -> Outcome
+    ensures { DoesTo result (λ shared. answering shared (failed ARGUMENT_MISSING)) }
 {
     Outcome::answering(alloc, Codes::failed(Result2::ARGUMENT_MISSING))
 }
@@ -108,9 +108,7 @@ fn renamed_to(
 {
     match shared.renamed(&view.busy, &renamed.from, &renamed.to) {
         Err(FsFault::NoMemory) => Err(NoMemory),
-        Err(FsFault::Refused(fault)) => {
-            Ok(Outcome::answering(alloc, Codes::erred(fault)))
-        }
+        Err(FsFault::Refused(fault)) => { Ok(Outcome::answering(alloc, Codes::erred(fault))) }
         Ok(new) => Outcome::answering(alloc, Codes::NONE)
             .with_shared(new)
             .with_renamed(alloc, renamed),

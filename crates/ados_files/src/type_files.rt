@@ -26,7 +26,7 @@ pub fn type_files(
 /// The putting out of one file.
 #[derive(Drop)]
 pub struct Typing<'a> {
-    pub view: &'a ShellView,
+    pub view: &'a ShellView<'a>,
 }
 
 impl<'a> Act<Place> for Typing<'a> {

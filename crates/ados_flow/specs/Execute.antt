@@ -2,7 +2,6 @@
 use Rattle.std.specs.Prelude.{ℕ, List, [], ◌∷◌, ◌++◌, Bool, false, ◌==◌, ◌&&◌, ◌||◌, Option, Some, None, Result, Ok, Err, codes, position, is_none, if◌then◌else◌}
 use Rattle.std.specs.FinMap as finite
 use Rattle.ados_text.specs.Lines.{lines_of}
-use Rattle.ados_text.specs.declared.codes.Code.{Code}
 use Rattle.ados_text.specs.declared.codes.Result2.{Result2}
 use Rattle.ados_text.specs.declared.codes.TheConstants.Result2.{ARGUMENT_MISSING, NOT_IMPLEMENTED}
 use Rattle.ados_ram.specs.Place.{key_of}
@@ -36,13 +35,13 @@ is_dotted [] = false
 is_dotted ([] ∷ lines) = false
 is_dotted ((byte ∷ bytes) ∷ lines) = byte == 46
 
-abbrev pub calls : SharedState → Code → List ℕ → List (List ℕ) → Action
-calls shared limit name lines =
-    if is_dotted lines then Does (answering shared limit (failed NOT_IMPLEMENTED)) else Calls (record { name = name; lines = lines })
+abbrev pub calls : SharedState → List ℕ → List (List ℕ) → Action
+calls shared name lines =
+    if is_dotted lines then Does (answering shared (failed NOT_IMPLEMENTED)) else Calls (record { name = name; lines = lines })
 
-abbrev pub script_read : SharedState → Code → List (List ℕ) → Result (List ℕ) Result2 → Action
-script_read shared limit place (Err fault) = Does (answering shared limit (erred fault))
-script_read shared limit place (Ok bytes) = calls shared limit (full_path shared.files place) (lines_of bytes)
+abbrev pub script_read : SharedState → List (List ℕ) → Result (List ℕ) Result2 → Action
+script_read shared place (Err fault) = Does (answering shared (erred fault))
+script_read shared place (Ok bytes) = calls shared (full_path shared.files place) (lines_of bytes)
 
 -- the script at a place, if there is one
 abbrev pub script_at : SharedState → View → Result (List (List ℕ)) Codes → Action

@@ -2,7 +2,6 @@ ghost use Rattle.std.specs.Prelude.{◌≡◌};
 
 use crate::called::Called;
 use ados_find::{Codes, Outcome};
-use ados_text::Code;
 use std::alloc::Global;
 
 /// What a command does to its shell.
@@ -22,9 +21,9 @@ impl Action {
     ghost use Rattle.ados_flow.specs.Actions.{Does, acting};
 
     /// It answers this, changes nothing and puts nothing out.
-    pub fn answering(alloc: Global, limit: Code, codes: Codes) -> Action
-        ensures { (shared : SharedState) → acting shared result ≡ Does (answering shared limit codes) }
+    pub fn answering(alloc: Global, codes: Codes) -> Action
+        ensures { (shared : SharedState) → acting shared result ≡ Does (answering shared codes) }
     {
-        Action::Does(Outcome::answering(alloc, limit, codes))
+        Action::Does(Outcome::answering(alloc, codes))
     }
 }

@@ -112,17 +112,14 @@ fn call_at(
     view: &ShellView,
     place: &Place,
 ) -> Result<Action, NoMemory>
-    ensures { IfOk result (λ action. acting shared.now action ≡ script_read shared.now view.now.limit place.now (read_at shared.now.files view.now.busy.outputs place.now)) }
+    ensures { IfOk result (λ action. acting shared.now action ≡ script_read shared.now place.now (read_at shared.now.files view.now.busy.outputs place.now)) }
 {
     match shared.ram.read(&view.busy, place) {
         Err(fault) => Ok(Action::answering(alloc, Codes::erred(fault))),
         Ok(bytes) => {
             let lines = lines_of(alloc, bytes)?;
             if is_dotted(lines.as_slice()) {
-                return Ok(Action::answering(
-                    alloc,
-                    Codes::failed(Result2::NOT_IMPLEMENTED),
-                ));
+                return Ok(Action::answering(alloc, Codes::failed(Result2::NOT_IMPLEMENTED)));
             }
             let name = shared.ram.full_path(place)?;
             Ok(Action::Calls(Called { name, lines }))

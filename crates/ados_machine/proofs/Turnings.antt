@@ -4,7 +4,7 @@ use Rattle.ados_machine.specs.declared.phases.Phase.{Phase}
 use Rattle.ados_machine.specs.declared.phases.Phase.TheVariants.{Ready, Waiting}
 use Rattle.ados_machine.specs.declared.phases.Wait.TheVariants.{ForAnswer}
 use Rattle.ados_flow.specs.Frames.{FrameState, moved}
-use Rattle.ados_machine.specs.Shells.{Parts}
+use Rattle.ados_find.specs.Parts.{Parts}
 use Rattle.ados_machine.specs.Course.{Course}
 use Rattle.ados_machine.specs.Deeds.{Deed, Passes}
 use Rattle.ados_machine.specs.Lines.{line_deed, answer_deed}

@@ -12,7 +12,7 @@ use Rattle.ados_flow.specs.declared.kinds.Kind.TheVariants.{Script}
 use Rattle.ados_flow.specs.declared.records.Record.{Record}
 use Rattle.ados_flow.specs.Frames.{FrameState, is_script, scripts_in, began, is_over, is_ended, maker, limit_behind, entry_of, last_codes}
 use Rattle.ados_machine.specs.Items.{Began}
-use Rattle.ados_machine.specs.Shells.{Parts}
+use Rattle.ados_find.specs.Parts.{Parts}
 use Rattle.ados_machine.specs.Course.{Course}
 use Rattle.ados_machine.specs.Deeds.{Deed, Passes, Answers, Calls, Waits}
 use Rattle.ados_machine.specs.Settled.{Said, Settled, behind, told, faulted, with_limit, finish, passed, finished}

@@ -4,7 +4,8 @@ use Rattle.std.specs.FinMap as finite
 use Rattle.ados_ram.specs.Place.{carried, key_of}
 use Rattle.ados_find.specs.declared.outcomes.Renamed.{Renamed}
 use Rattle.ados_find.specs.Shared.{SharedState}
-use Rattle.ados_machine.specs.Shells.{Parts, ShellState}
+use Rattle.ados_find.specs.Parts.{Parts}
+use Rattle.ados_machine.specs.Shells.{ShellState}
 
 -- what was renamed has moved: it was at its old place, and is there no more
 abbrev pub has_moved : SharedState → SharedState → Renamed → Bool

@@ -1,6 +1,5 @@
 -- What each command does with its arguments.
 use Rattle.std.specs.Prelude.{ℕ, List, Bool, Option, Some, None, Result, Ok, Err}
-use Rattle.ados_text.specs.declared.codes.Code.{Code}
 use Rattle.ados_text.specs.declared.codes.Result2.{Result2}
 use Rattle.ados_text.specs.declared.errors.NoMemory.{NoMemory}
 use Rattle.ados_text.specs.declared.codes.TheConstants.Result2.{NO_FREE_STORE}
@@ -54,13 +53,13 @@ row_of (Files command) simple shared view args = Does (file_row_of command share
 row_of (Flow command) simple shared view args = flow_row_of command simple shared view args
 
 -- the answer to a fault of arguments; want of memory has no number, and what a line fills never comes to it
-abbrev pub fault_answer : SharedState → Code → Result Result2 NoMemory → Action
-fault_answer shared limit (Ok number) = Does (answering shared limit (failed number))
-fault_answer shared limit (Err none) = Does (answering shared limit (failed NO_FREE_STORE))
+abbrev pub fault_answer : SharedState → Result Result2 NoMemory → Action
+fault_answer shared (Ok number) = Does (answering shared (failed number))
+fault_answer shared (Err none) = Does (answering shared (failed NO_FREE_STORE))
 
 -- the arguments are filled first, and their fault is the command's
 abbrev pub action_by : Builtin → Bool → SharedState → View → Result (List Arg) ArgFault → Action
-action_by builtin simple shared view (Err fault) = fault_answer shared view.limit (result2_of fault)
+action_by builtin simple shared view (Err fault) = fault_answer shared (result2_of fault)
 action_by builtin simple shared view (Ok args) = row_of builtin simple shared view args
 
 -- what a command does with the text of its arguments

@@ -9,7 +9,8 @@ use Rattle.ados_find.specs.Codes.{failed}
 use Rattle.ados_find.specs.declared.outcomes.Renamed.{Renamed}
 use Rattle.ados_find.specs.Shared.{SharedState, with_files}
 use Rattle.ados_find.specs.declared.targets.Target.TheVariants.{Nil, At}
-use Rattle.ados_machine.specs.Shells.{Parts, Seen}
+use Rattle.ados_find.specs.Parts.{Parts}
+use Rattle.ados_machine.specs.Shells.{Seen}
 use Rattle.ados_machine.specs.Sinks.{Sink, Console, To}
 
 -- what an event hands through: its shell's parts; the shared parts; what was seen of each number's shell as the event

@@ -1,5 +1,5 @@
 -- What a line of a shell comes to.
-use Rattle.std.specs.Prelude.{ℕ, List, Bool, false, true, not, ◌&&◌, if◌then◌else◌, Option, Some, None, Result, Ok, Err, unwrap_or}
+use Rattle.std.specs.Prelude.{ℕ, List, Bool, false, true, not, ◌&&◌, if◌then◌else◌, Option, Some, None, Result, Ok, Err}
 use Rattle.ados_text.specs.declared.codes.Result2.{Result2}
 use Rattle.ados_text.specs.declared.codes.TheConstants.Result2.{OBJECT_NOT_FOUND}
 use Rattle.ados_line.specs.declared.faults.LineFault.{LineFault}
@@ -10,6 +10,7 @@ use Rattle.ados_line.specs.declared.lines.Expanded.TheVariants.{Nothing, Ready}
 use Rattle.ados_line.specs.Cut.{expanded_of}
 use Rattle.ados_ram.specs.InUse.{InUse}
 use Rattle.ados_assign.specs.InUse.{busy_of}
+use Rattle.ados_find.specs.Changes.{changed}
 use Rattle.ados_find.specs.Codes.{erred}
 use Rattle.ados_find.specs.Effects.{Effect}
 use Rattle.ados_find.specs.Views.{View}
@@ -32,18 +33,12 @@ busy_in course = busy_of (directories_of course.seen) (outputs_of course.seen) c
 
 -- what commands read of their shell, and of the others
 abbrev pub view_of : Course → View
-view_of course = record {
-  limit = course.parts.limit;
-  codes = course.parts.codes;
-  directory = course.parts.directory;
-  busy = busy_in course;
-}
+view_of course = record { parts = course.parts; busy = busy_in course }
 
--- what a command's effect leaves of the course: the shell's fail limit, its directory where it has a new one, the
--- shared parts, and what was renamed
+-- what a command's effect leaves of the course: its change of the shell's parts, the shared parts, and what was renamed
 abbrev pub with_effect : Effect → Course → Course
 with_effect effect course = record course {
-  parts = record course.parts { limit = effect.limit; directory = unwrap_or effect.directory course.parts.directory };
+  parts = changed effect.change course.parts;
   shared = effect.shared;
   renamed = effect.renamed;
 }

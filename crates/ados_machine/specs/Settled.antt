@@ -8,7 +8,7 @@ use Rattle.ados_machine.specs.declared.phases.Phase.TheVariants.{Ready}
 use Rattle.ados_machine.specs.CodeRule.{fault_line, failed_line}
 use Rattle.ados_flow.specs.Frames.{FrameState, is_over, is_ended, maker, limit_behind, last_codes, answered_frame}
 use Rattle.ados_machine.specs.Items.{Item, noted, end_of}
-use Rattle.ados_machine.specs.Shells.{Parts}
+use Rattle.ados_find.specs.Parts.{Parts}
 
 -- what the code rule changes beside frames: the shell's parts, and what is printed
 pub record Said : Type 0 where

@@ -1,18 +1,11 @@
 -- A shell, and what the others see of it.
 use Rattle.std.specs.Prelude.{ℕ, List, []}
-use Rattle.ados_text.specs.declared.codes.Code.{Code}
-use Rattle.ados_find.specs.declared.codes.Codes.{Codes}
 use Rattle.ados_find.specs.Codes.{went_well}
+use Rattle.ados_find.specs.Parts.{Parts}
 use Rattle.ados_machine.specs.declared.phases.Phase.{Phase}
 use Rattle.ados_machine.specs.declared.phases.Phase.TheVariants.{Ready}
 use Rattle.ados_flow.specs.Frames.{FrameState, first_limit}
 use Rattle.ados_machine.specs.Sinks.{outputs_in}
-
--- a shell's parts beside its frames and its phase
-pub record Parts : Type 0 where
-  pub directory : List (List ℕ)
-  pub limit : Code
-  pub codes : Codes
 
 -- a shell; the newest frame is the first
 pub record ShellState : Type 0 where

@@ -10,7 +10,8 @@ use Rattle.ados_machine.specs.declared.outs.EndReport.{EndReport}
 use Rattle.ados_machine.specs.declared.refusals.Refusal.{Refusal}
 use Rattle.ados_machine.specs.declared.refusals.Refusal.TheVariants.{Over, NoSuchShell, NotReady, WrongAnswer, QueueFull, LineTooLong}
 use Rattle.ados_machine.specs.Items.{Item, reports_of}
-use Rattle.ados_machine.specs.Shells.{Parts, ShellState}
+use Rattle.ados_find.specs.Parts.{Parts}
+use Rattle.ados_machine.specs.Shells.{ShellState}
 use Rattle.ados_machine.specs.Course.{Course}
 use Rattle.ados_machine.specs.Carrying.{moved_by, carried_shells, carried_by}
 use Rattle.ados_machine.specs.Settle.{Turned}

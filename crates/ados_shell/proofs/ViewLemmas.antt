@@ -11,7 +11,7 @@ use Rattle.ados_env.specs.declared.commands.Command.TheVariants.{Assign, Cd, Ech
 use Rattle.ados_machine.specs.declared.builtins.Builtin.{Builtin}
 use Rattle.ados_machine.specs.declared.builtins.Builtin.TheVariants.{Env, Files, Flow}
 use Rattle.ados_machine.specs.Commands.{action_by, action_of, template_of}
-use Rattle.ados_machine.specs.Shells.{Parts}
+use Rattle.ados_find.specs.Parts.{Parts}
 use Rattle.ados_shell.specs.Views.{Serves, seen}
 
 filled-serves : (command : Command) (parts : Parts) (busy other : InUse) (simple : Bool) (shared : SharedState) (filled : Result (List Arg) ArgFault)

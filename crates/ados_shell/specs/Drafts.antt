@@ -1,14 +1,17 @@
 -- What a turn has changed so far, by the machine's definitions.
 use Rattle.std.specs.Prelude.{◌≡◌, ℕ, [], ◌∷◌, ◌++◌, List, Option, None, option_map, unwrap_or}
 use Rattle.ados_text.specs.declared.codes.Code.{Code}
+use Rattle.ados_find.specs.declared.changes.Change.{Change}
 use Rattle.ados_find.specs.declared.codes.Codes.{Codes}
+use Rattle.ados_find.specs.Changes.{changed}
 use Rattle.ados_find.specs.declared.outcomes.Renamed.{Renamed}
 use Rattle.ados_find.specs.Shared.{SharedState, version}
 use Rattle.ados_machine.specs.declared.outs.Out.{Out}
 use Rattle.ados_machine.specs.declared.phases.Phase.{Phase}
 use Rattle.ados_flow.specs.Frames.{FrameState, limit_behind}
 use Rattle.ados_machine.specs.Items.{reports_of}
-use Rattle.ados_machine.specs.Shells.{Parts, ShellState}
+use Rattle.ados_find.specs.Parts.{Parts}
+use Rattle.ados_machine.specs.Shells.{ShellState}
 use Rattle.ados_machine.specs.Course.{Course}
 use Rattle.ados_machine.specs.Deeds.{Here, Deed}
 use Rattle.ados_machine.specs.Settled.{Settled}
@@ -133,11 +136,9 @@ pub record IsEnded (scene : Scene) (before after : Draft) (frame : FrameState) :
   pub reports : after.reports.items ≡ before.reports.items ++ report_of scene.number frame ∷ []
 
 -- what a command made was moved in
-pub record HoldsEffect (before after : Draft) (limit : Code) (directory : Option (List (List ℕ))) (shared : Option SharedState) (renamed : Option Renamed) : Type 0 where
+pub record HoldsEffect (before after : Draft) (change : Option Change) (shared : Option SharedState) (renamed : Option Renamed) : Type 0 where
   pub frames : after.shell.frames ≡ before.shell.frames
-  pub limit_is : after.shell.limit ≡ limit
-  pub codes : after.shell.codes ≡ before.shell.codes
-  pub directory_is : (old : List (List ℕ)) → unwrap_or after.shell.directory old ≡ unwrap_or directory (unwrap_or before.shell.directory old)
+  pub parts_are : (shell : ShellState) → (behind after.shell shell).parts ≡ changed change (behind before.shell shell).parts
   pub shared_is : (old : SharedState) → version old after.shared ≡ version (version old before.shared) shared
   pub renamed_is : option_map (λ r. r.value) after.renamed ≡ renamed
   pub printed : after.printed.items ≡ before.printed.items

@@ -5,7 +5,7 @@ use Rattle.ados_find.specs.Shared.{SharedState}
 use Rattle.ados_find.specs.Views.{View}
 use Rattle.ados_machine.specs.declared.builtins.Builtin.{Builtin}
 use Rattle.ados_machine.specs.Commands.{action_of}
-use Rattle.ados_machine.specs.Shells.{Parts}
+use Rattle.ados_find.specs.Parts.{Parts}
 
 -- to a command one view is as good as another
 abbrev pub Serves : Builtin → View → View → Type 0
@@ -14,4 +14,4 @@ Serves builtin view other =
 
 -- what commands read of a shell with these parts, where this is in use
 abbrev pub seen : Parts → InUse → View
-seen parts busy = record { limit = parts.limit; codes = parts.codes; directory = parts.directory; busy = busy }
+seen parts busy = record { parts = parts; busy = busy }

@@ -64,7 +64,7 @@ impl Commands {
     {
         match self.template(builtin).fill_into(text.as_bytes(), args) {
             Ok(()) => row(alloc, builtin, simple, shared, view, args),
-            Err(fault) => Ok(Action::answering(alloc, view.limit, Codes::failed(fault.result2()?))),
+            Err(fault) => Ok(Action::answering(alloc, Codes::failed(fault.result2()?))),
         }
     }
 }

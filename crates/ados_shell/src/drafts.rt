@@ -6,7 +6,7 @@ ghost use Rattle.ados_machine.specs.Step.{giving};
 use crate::scenes::Scene;
 use crate::shells::Shell;
 use crate::stacks::Stack;
-use ados_find::{Codes, Renamed, Shared};
+use ados_find::{Change, Codes, Renamed, Shared};
 use ados_flow::FIRST_LIMIT;
 use ados_machine::{EndReport, Out, Wait};
 use ados_ram::Place;
@@ -148,20 +148,18 @@ impl Draft {
         }
     }
 
-    /// What a command made is moved in: the fail limit, a new directory and new shared parts, where there are any, and
-    /// what was renamed.
+    /// What a command made is moved in: what it changed of the shell's parts, new shared parts, where there are any,
+    /// and what was renamed.
     pub fn affect(
         &mut self,
-        limit: Code,
-        directory: Option<Place>,
+        change: Option<Box<Change>>,
         shared: Option<Shared>,
         renamed: Option<Box<Renamed>>,
     )
-        ensures { HoldsEffect self.old self.new limit directory shared (option_map (λ r. r.value) renamed) }
+        ensures { HoldsEffect self.old self.new (option_map (λ c. c.value) change) shared (option_map (λ r. r.value) renamed) }
     {
-        self.shell.limit = limit;
-        if let Some(directory) = directory {
-            self.shell.directory = Some(directory);
+        if let Some(change) = change {
+            self.shell.change(*change);
         }
         if let Some(shared) = shared {
             self.shared = Some(shared);
@@ -171,6 +169,8 @@ impl Draft {
 }
 
 impl ShellDraft {
+    ghost use Rattle.ados_find.specs.Changes.{changed_by};
+    ghost use Rattle.ados_machine.specs.Shells.{ShellState};
     ghost use Rattle.ados_shell.specs.Drafts.{IsUnchanged, behind};
 
     /// A turn of a shell begins: nothing is changed yet.
@@ -182,6 +182,18 @@ impl ShellDraft {
         self.limit = shell.limit;
         self.codes = shell.codes;
         self.directory = None;
+    }
+
+    /// A command changed one of the shell's parts.
+    fn change(&mut self, change: Change)
+        ensures parts { (shell : ShellState) → (behind self.new shell).parts ≡ changed_by change (behind self.old shell).parts }
+        ensures frames { self.new.frames ≡ self.old.frames }
+        ensures waits { self.new.waits ≡ self.old.waits }
+    {
+        match change {
+            Change::Limit(limit) => self.limit = limit,
+            Change::Directory(directory) => self.directory = Some(directory),
+        }
     }
 
     /// Moves in what a turn makes of its shell.

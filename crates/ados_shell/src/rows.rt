@@ -126,13 +126,12 @@ impl Draft {
     {
         let Outcome {
             shared,
-            limit,
             codes,
             output,
-            directory,
+            change,
             renamed,
         } = outcome;
-        self.affect(limit, directory, shared, renamed);
+        self.affect(change, shared, renamed);
         let answered = self.put(scene, target, output, codes)?;
         self.answer(scene, word.as_bytes(), answered, false)
     }

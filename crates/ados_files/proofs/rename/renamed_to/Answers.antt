@@ -4,7 +4,6 @@ use Rattle.ados_ram.specs.Place.{key_of}
 use Rattle.ados_ram.specs.FileOperations.{rename_fault}
 use Rattle.ados_find.specs.Codes.{went_well}
 use Rattle.ados_find.specs.Effects.{Effect, answering}
-use Rattle.ados_find.specs.Shared.{after_rename}
 use Rattle.ados_files.proofs.RenameLemmas.{renamed-is}
 use Rattle.ados_files.proofs.rename.renamed_to.Goals as goal
 
@@ -13,14 +12,12 @@ returns c =
     let shared = c.args.shared.now in
     let from = c.args.renamed.from in
     let to = c.args.renamed.to in
-    let limit : c.view.inside.limit ≡ c.args.view.now.limit = search rules in
     let busy : c.args.view.now.busy ≡ c.view.inside.busy = search rules in
     let none = ap (λ b. rename_fault b shared.files (key_of from) (key_of to)) busy ∙ c.in-Ok.ensures.fault in
     IfOk-weaker c.with_renamed.result _ _
     (λ outcome h. h shared
     ∙ ap (λ (e : Effect). record e { renamed = Some c.args.renamed }) (c.with_shared.ensures shared
     ∙ ap (λ (e : Effect). record e { shared = c.in-Ok.new }) (c.answering-in-Ok.ensures shared)
-    ∙ ap (λ s. answering s c.view.inside.limit went_well) c.in-Ok.ensures.ok
-    ∙ ap (λ l. answering (after_rename shared from to) l went_well) limit)
-    ∙ renamed-is shared c.args.view.now from to _ none)
+    ∙ ap (λ s. answering s went_well) c.in-Ok.ensures.ok)
+    ∙ renamed-is shared from to _ none)
     c.with_renamed.ensures
