@@ -1,3 +1,4 @@
+pub mod InUseLemmas
 pub mod RunLemmas
 pub mod Follows
 pub mod Keeps

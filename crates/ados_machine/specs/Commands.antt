@@ -1,5 +1,5 @@
 -- What each command does with its arguments.
-use Rattle.std.specs.Prelude.{ℕ, List, Bool, Option, Some, None, Result, Ok, Err}
+use Rattle.std.specs.Prelude.{ℕ, List, Bool, true, Option, Some, None, Result, Ok, Err}
 use Rattle.ados_text.specs.declared.codes.Result2.{Result2}
 use Rattle.ados_text.specs.declared.errors.NoMemory.{NoMemory}
 use Rattle.ados_text.specs.declared.codes.TheConstants.Result2.{NO_FREE_STORE}
@@ -45,6 +45,12 @@ abbrev pub template_of : Builtin → List ℕ
 template_of (Env command) = env.template_of_command command
 template_of (Files command) = files.template_of_command command
 template_of (Flow command) = flow.template_of_command command
+
+-- whether what a command does reads what is in use
+abbrev pub reads_in_use : Builtin → Bool
+reads_in_use (Env command) = env.reads_in_use command
+reads_in_use (Files command) = true
+reads_in_use (Flow command) = flow.reads_in_use command
 
 -- what a command does with its arguments; `simple` says that it stands in no script and its output is not redirected
 abbrev pub row_of : Builtin → Bool → SharedState → View → List Arg → Action

@@ -1,4 +1,3 @@
 pub mod CommandLemmas
 pub mod StackLemmas
 pub mod TurnLemmas
-pub mod ViewLemmas

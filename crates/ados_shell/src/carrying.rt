@@ -34,11 +34,7 @@ impl ShellDraft {
     pub fn carry(&mut self, shell: &Shell, moved: &Renamed) -> Result<(), NoMemory>
         ensures { OnOk result (behind self.new (carried_shell moved.now shell.now) ≡ carried_shell moved.now (behind self.old shell.now)) }
     {
-        let directory = match &self.directory {
-            None => shell.directory(),
-            Some(directory) => directory,
-        };
-        self.directory = Some(directory.carried(&moved.from, &moved.to)?);
+        self.directory = Some(self.directory(shell).carried(&moved.from, &moved.to)?);
         Ok(())
     }
 }

@@ -6,10 +6,10 @@ ghost use Rattle.ados_machine.specs.Step.{giving};
 use crate::scenes::Scene;
 use crate::shells::Shell;
 use crate::stacks::Stack;
-use ados_find::{Change, Codes, Renamed, Shared};
+use ados_find::{Change, Codes, Renamed, Shared, ShellView};
 use ados_flow::FIRST_LIMIT;
 use ados_machine::{EndReport, Out, Wait};
-use ados_ram::Place;
+use ados_ram::{Busy, Place};
 use ados_readargs::Args;
 use ados_text::{Code, NoMemory};
 use std::alloc::Global;
@@ -132,10 +132,7 @@ impl Draft {
     pub fn directory<'b>(&'b self, scene: &'b Scene) -> &'b Place
         ensures { result.now ≡ (parts_of scene.now self.now).directory }
     {
-        match &self.shell.directory {
-            None => scene.shell.directory(),
-            Some(directory) => directory,
-        }
+        self.shell.directory(scene.shell)
     }
 
     /// The shared parts as they stand.
@@ -159,7 +156,7 @@ impl Draft {
         ensures { HoldsEffect self.old self.new (option_map (λ c. c.value) change) shared (option_map (λ r. r.value) renamed) }
     {
         if let Some(change) = change {
-            self.shell.change(*change);
+            self.shell.change(Box::into_inner(change));
         }
         if let Some(shared) = shared {
             self.shared = Some(shared);
@@ -172,6 +169,7 @@ impl ShellDraft {
     ghost use Rattle.ados_find.specs.Changes.{changed_by};
     ghost use Rattle.ados_machine.specs.Shells.{ShellState};
     ghost use Rattle.ados_shell.specs.Drafts.{IsUnchanged, behind};
+    ghost use Rattle.ados_shell.specs.Views.{seen};
 
     /// A turn of a shell begins: nothing is changed yet.
     fn begin_turn(&mut self, shell: &Shell)
@@ -182,6 +180,28 @@ impl ShellDraft {
         self.limit = shell.limit;
         self.codes = shell.codes;
         self.directory = None;
+    }
+
+    /// What commands read of the shell as it stands; this is in use.
+    pub fn view<'b>(&'b self, shell: &'b Shell, busy: Busy) -> ShellView<'b>
+        ensures { result ≡ seen (behind self.now shell.now).parts busy }
+    {
+        ShellView {
+            directory: self.directory(shell),
+            limit: self.limit,
+            codes: self.codes,
+            busy,
+        }
+    }
+
+    /// The current directory as it stands.
+    pub fn directory<'b>(&'b self, shell: &'b Shell) -> &'b Place
+        ensures { result.now ≡ (behind self.now shell.now).parts.directory }
+    {
+        match &self.directory {
+            None => shell.directory(),
+            Some(directory) => directory,
+        }
     }
 
     /// A command changed one of the shell's parts.

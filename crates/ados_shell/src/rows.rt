@@ -10,7 +10,7 @@ use crate::drafts::Draft;
 use crate::outputs::Opened;
 use crate::scenes::Scene;
 use crate::seen::in_use;
-use ados_find::{Outcome, ShellView, Target};
+use ados_find::{Outcome, Target};
 use ados_flow::Action;
 use ados_line::Line;
 use ados_machine::Builtin;
@@ -69,7 +69,8 @@ impl Draft {
             ≡ action_of builtin simple (course_of scene.now self.old).shared (view_of (course_of scene.now self.old)) line.now.args) }
         ensures same { self.new ≡ record self.old { args = self.new.args } }
     {
-        let view = self.view_for(scene, builtin)?;
+        let busy = self.busy_for(scene, builtin)?;
+        let view = self.shell.view(scene.shell, busy);
         let shared = match &self.shared {
             None => scene.shared,
             Some(new) => new,
@@ -86,30 +87,15 @@ impl Draft {
         )
     }
 
-    /// What a command reads of the shell, and of the others. What is in use is gathered only for the commands
-    /// that work on files or flow: no other reads it.
-    #[tactic(auto, using(crate::proofs::ViewLemmas::any_serves))]
-    fn view_for(&self, scene: &Scene, builtin: Builtin) -> Result<ShellView, NoMemory>
-        ensures { IfOk result (λ view. Serves builtin view (view_of (course_of scene.now self.now))) }
+    /// What is in use, for a command. It is gathered only for those that read it.
+    fn busy_for(&self, scene: &Scene, builtin: Builtin) -> Result<Busy, NoMemory>
+        ensures { IfOk result (λ busy. Serves builtin (seen (parts_of scene.now self.now) busy) (view_of (course_of scene.now self.now))) }
     {
-        match builtin {
-            Builtin::Files(_) | Builtin::Flow(_) => {
-                let assigns = &self.current(scene).assigns;
-                self.view(scene, in_use(scene.alloc, scene.shells, assigns)?)
-            }
-            Builtin::Env(_) => self.view(scene, Busy::none(scene.alloc)),
+        if builtin.reads_in_use() {
+            in_use(scene.alloc, scene.shells, &self.current(scene).assigns)
+        } else {
+            Ok(Busy::none(scene.alloc))
         }
-    }
-
-    fn view(&self, scene: &Scene, busy: Busy) -> Result<ShellView, NoMemory>
-        ensures { IfOk result (λ view. view ≡ seen (parts_of scene.now self.now) busy) }
-    {
-        Ok(ShellView {
-            limit: self.shell.limit,
-            codes: self.shell.codes,
-            directory: self.directory(scene).copy()?,
-            busy,
-        })
     }
 
     /// What a command made is moved in, its output is put, and it answers.
