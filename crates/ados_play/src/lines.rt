@@ -21,6 +21,8 @@ pub enum Line {
 #[derive(Clone, Copy)]
 pub enum View {
     Shells,
+    /// A shell's current directory and its fail limit.
+    Shell(u8),
     Codes(u8),
     Ready(u8),
     Pending(u8),
@@ -48,6 +50,7 @@ fn view_of(text: &str) -> Option<View> {
     let (word, rest) = parted(text);
     match word {
         "shells" => Some(View::Shells),
+        "shell" => number(rest).map(View::Shell),
         "codes" => number(rest).map(View::Codes),
         "ready" => number(rest).map(View::Ready),
         "pending" => number(rest).map(View::Pending),

@@ -12,6 +12,7 @@ use ados_world::{Codes, Request, World};
 pub fn push_view(text: &mut Vec<u8>, world: &World, view: View) -> Result<(), NoMemory> {
     match view {
         View::Shells => push_shells(text, world.shells()),
+        View::Shell(number) => push_shell(text, world, number),
         View::Codes(shell) => push_codes(text, world.codes(shell)),
         View::Ready(shell) => push_answer(text, world.ready(shell)),
         View::Pending(shell) => push_pending(text, world.pending(shell)),
@@ -36,6 +37,17 @@ fn push_shells(text: &mut Vec<u8>, shells: [bool; 20]) -> Result<(), NoMemory> {
             push_count(text, place + 1)?;
         }
     }
+    text.push(b'\n')?;
+    Ok(())
+}
+
+fn push_shell(text: &mut Vec<u8>, world: &World, number: u8) -> Result<(), NoMemory> {
+    let Some(shell) = world.shell(number) else {
+        return push_all(text, &[b"= none\n"]);
+    };
+    let path = world.files().full_path(shell.directory())?;
+    push_all(text, &[b"= ", path.as_bytes(), b" "])?;
+    push_number(text, shell.limit().0)?;
     text.push(b'\n')?;
     Ok(())
 }

@@ -72,6 +72,13 @@ impl Shell {
         self.codes
     }
 
+    /// Its fail limit.
+    pub fn limit(&self) -> Code
+        ensures { result ≡ self.now.parts.limit }
+    {
+        self.limit
+    }
+
     /// Its current directory.
     pub fn directory(&self) -> &Place
         ensures { result.now ≡ self.now.parts.directory }

@@ -74,7 +74,7 @@ impl World {
     {
         // By this a turn knows what holds of every world: no script runs on behind a failure.
         let _ = &self.alloc;
-        let Some(shell) = self.shell_at(number) else {
+        let Some(shell) = self.shell(number) else {
             return Err(Refusal::NoSuchShell);
         };
         let codes = shell.codes();
@@ -152,7 +152,7 @@ impl World {
     fn refusal_of_answer(&self, number: u8) -> Refusal
         ensures { (answer : Reply) → IsAnswer (Event.Answer number answer) (Err result) (replied (shell_at self.now number)) }
     {
-        match self.shell_at(number) {
+        match self.shell(number) {
             Some(_) => Refusal::WrongAnswer,
             None => Refusal::NoSuchShell,
         }

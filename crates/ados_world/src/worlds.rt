@@ -77,6 +77,14 @@ impl World {
         })
     }
 
+    /// The shell of this number, where one runs: what it holds, by a name for each part.
+    pub fn shell(&self, number: u8) -> Option<&Shell>
+        ensures shell { option_copied result ≡ shell_at self.now number }
+        ensures number { OnSome result (IsShellNumber number) }
+    {
+        find_shell(&self.shells, number)
+    }
+
     /// Which numbers from 1 to 20 have a shell.
     pub fn shells(&self) -> [bool; 20]
         ensures { result ≡ running self.now }
@@ -89,7 +97,7 @@ impl World {
     pub fn codes(&self, number: u8) -> Codes
         ensures { result ≡ codes_at self.now number }
     {
-        match self.shell_at(number) {
+        match self.shell(number) {
             Some(shell) => shell.codes(),
             None => self.ended_codes(number),
         }
@@ -101,7 +109,7 @@ impl World {
     pub fn ready(&self, number: u8) -> bool
         ensures { result ≡ is_ready self.now number }
     {
-        match self.shell_at(number) {
+        match self.shell(number) {
             None => false,
             Some(shell) => shell.can_take(self.has_input(number)),
         }
@@ -121,7 +129,7 @@ impl World {
     pub fn wants_line(&self) -> bool
         ensures { result ≡ wants_line self.now }
     {
-        self.shell_at(1).is_some() && !self.ready(1)
+        self.shell(1).is_some() && !self.ready(1)
     }
 
     /// The files as they stand.
@@ -159,13 +167,6 @@ impl World {
         ensures { result ≡ is_over self.now }
     {
         !any_runs(&self.shells)
-    }
-
-    pub(crate) fn shell_at(&self, number: u8) -> Option<&Shell>
-        ensures shell { option_copied result ≡ shell_at self.now number }
-        ensures number { OnSome result (IsShellNumber number) }
-    {
-        find_shell(&self.shells, number)
     }
 
     fn ended_codes(&self, number: u8) -> Codes
