@@ -4,6 +4,7 @@ pub mod Buffers
 pub mod Words
 pub mod Readings
 pub mod Meanings
+pub mod Steps
 pub mod Shares
 pub mod Args
 pub mod Slots
