@@ -1,5 +1,6 @@
 pub mod Faults
 pub mod Options
+pub mod NameLengths
 pub mod Buffers
 pub mod Words
 pub mod Readings

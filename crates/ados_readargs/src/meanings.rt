@@ -291,11 +291,13 @@ struct PlainWord {
     to: usize,
 }
 
-// Whether a name is a keyword of no option.
+// Whether a name is a keyword of no option. Nearly always no option has a name as long.
+#[tactic(auto, using(crate::proofs::OptionLemmas::none_named))]
+#[inline(always)]
 fn is_no_keyword(options: &OptionList, name: &[u8]) -> bool
     ensures { result ≡ true → position (is_keyword name.now true) options.now ≡ None }
 {
-    option_named(options.as_slice(), name, true).is_none()
+    options.has_none_as_long(name.len()) || option_named(options.as_slice(), name, true).is_none()
 }
 
 // The plain word at a place, where that is seen at once: a word with no quote and no equal sign that
