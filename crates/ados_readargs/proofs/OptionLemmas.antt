@@ -1,7 +1,15 @@
 -- what is known of options that no line changes
-use Rattle.std.proofs.Common.{◌≡◌, ◌<◌, ℕ, List, [], ◌∷◌, Bool, true, false, Option, Some, None, ◌||◌, length, refl}
+use Rattle.std.proofs.Common.{zero, suc, ◌≡◌, ◌<◌, ◌+◌, ◌==◌, ◌∙◌, ℕ, List, [], ◌∷◌, Bool, true, false, Option, Some, None, ◌||◌, length, position, get_or, replicate, refl, ap, sym, arith}
 use Rattle.std.specs.Prelude.{IfSome}
-use Rattle.std.specs.List.{list_any}
+use Rattle.std.specs.List.{list_any, position_from}
+use Rattle.std.proofs.lemmas.Bool.{false_from_ne_true}
+use Rattle.std.proofs.lemmas.Bool.Decides.{nat_tests}
+use Rattle.std.proofs.lemmas.List.{length-map}
+use Rattle.std.proofs.lemmas.Iterator.Adapters.{position_from-zero}
+use Rattle.std.proofs.lemmas.Slice.Eq.{bytes_eq-Decides}
+use Rattle.ados_text.specs.Text.{fold_of, folded, is_same}
+use Rattle.ados_readargs.specs.NameLengths.{is_as_long, has_as_long, one_is_as_long}
+use Rattle.ados_readargs.specs.Meanings.{is_keyword}
 use Rattle.std.proofs.lemmas.List.Quantifiers.{position-Some}
 use Rattle.ados_readargs.specs.declared.options.TemplateOption.{TemplateOption}
 use Rattle.ados_readargs.specs.declared.args.Arg.{Arg}
@@ -40,3 +48,37 @@ none_bad [] args e = refl
 none_bad (option ∷ options) [] e = refl
 none_bad (option ∷ options) (arg ∷ args) e =
     rw (neither-left (takes_number option) (list_any takes_number options) e, none_bad options args (neither-right (takes_number option) (list_any takes_number options) e)) refl
+
+-- a name of another length is another name
+other-length : (own name : List ℕ) → (length own == length name) ≡ false → is_same own name ≡ false
+other-length own name e =
+    false_from_ne_true (is_same own name) (λ same.
+    let equal : folded own ≡ folded name = (bytes_eq-Decides (folded own) (folded name)).0 same in
+    let alike : length own ≡ length name = sym (length-map own fold_of) ∙ ap length equal ∙ length-map name fold_of in
+    absurd (grind (arith, nat_tests, e, alike)))
+
+not-named : (names : List (List ℕ)) (name : List ℕ) → list_any (is_as_long (length name)) names ≡ false → list_any (λ own. is_same own name) names ≡ false
+not-named [] name e = refl
+not-named (own ∷ names) name e =
+    rw (
+      other-length own name (neither-left (is_as_long (length name) own) (list_any (is_as_long (length name)) names) e),
+      not-named names name (neither-right (is_as_long (length name) own) (list_any (is_as_long (length name)) names) e),
+    ) refl
+
+none-from : (options : List TemplateOption) (name : List ℕ) (place : ℕ) → one_is_as_long (length name) options ≡ false → position_from (is_keyword name true) place options ≡ None
+none-from [] name place e = refl
+none-from (option ∷ options) name place e =
+    rw (
+      not-named option.names name (neither-left (has_as_long (length name) option) (one_is_as_long (length name) options) e),
+      none-from options name (place + 1) (neither-right (has_as_long (length name) option) (one_is_as_long (length name) options) e),
+    ) refl
+
+-- where no option has a name as long, the name is a keyword of none
+pub none_named : (options : List TemplateOption) (name : List ℕ) → one_is_as_long (length name) options ≡ false → position (is_keyword name true) options ≡ None
+none_named options name e = position_from-zero (is_keyword name true) options ∙ none-from options name 0 e
+
+-- in a list of `true` alone no `false` is found
+pub true-alone : (count size : ℕ) → get_or (replicate count true) size true ≡ true
+true-alone zero size = refl
+true-alone (suc count) zero = refl
+true-alone (suc count) (suc size) = true-alone count size

@@ -1,16 +1,27 @@
 -- what the words from a place on say, by the word there
-use Rattle.std.proofs.Common.{ℕ, suc, ◌≡◌, List, true, Some, None, Result, Err, ap, sym, ◌∙◌}
-use Rattle.ados_items.specs.Items.{item_at}
+use Rattle.std.proofs.Common.{ℕ, suc, ◌≡◌, ◌+◌, ◌≤◌, ◌==◌, List, [], Bool, true, false, Option, Some, None, Result, Err, position, if◌then◌else◌, length, drop, refl, ap, sym, ◌∙◌, arith}
+use Rattle.std.specs.List.{list_any, prefix_len}
+use Rattle.std.proofs.lemmas.Bool.Decides.{nat_tests}
+use Rattle.std.proofs.lemmas.List.{drop_all}
+use Rattle.ados_items.specs.Items.{is_blank, bytes_between, item_at}
+use Rattle.ados_items.specs.declared.items.Item.{Item}
+use Rattle.ados_items.specs.declared.items.Item.TheVariants as item
 use Rattle.ados_readargs.specs.Faults.{IsFaultOf}
-use Rattle.ados_readargs.specs.Meanings.{meaning_of, read_from, read_end, read_behind}
+use Rattle.ados_readargs.specs.Meanings.{is_keyword, plain_meaning, word_meaning, meaning_of, read_from, read_end, read_behind}
 use Rattle.ados_readargs.specs.Readings.{Readings}
-use Rattle.ados_readargs.specs.Words.{word_of, words_from}
+use Rattle.ados_readargs.specs.Options.{is_rest}
+use Rattle.ados_readargs.specs.Words.{item_of, run_end, word_of, words_from}
+use Rattle.ados_readargs.specs.Steps.{IsPlainAt}
 use Rattle.ados_readargs.specs.declared.errors.ArgFault.{ArgFault}
 use Rattle.ados_readargs.specs.declared.errors.ArgFault.TheVariants as fault
 use Rattle.ados_readargs.specs.declared.meanings.Meaning.{Meaning}
 use Rattle.ados_readargs.specs.declared.meanings.Pending.{Pending}
 use Rattle.ados_readargs.specs.declared.options.TemplateOption.{TemplateOption}
 use Rattle.ados_readargs.specs.declared.words.LineWord.{LineWord}
+use Rattle.ados_readargs.specs.declared.words.LineWord.TheVariants.{Run}
+use Rattle.ados_readargs.specs.declared.readings.Reading.{Reading}
+use Rattle.ados_readargs.specs.declared.meanings.Pending.TheVariants.{Free}
+use Rattle.ados_readargs.specs.declared.meanings.Meaning.TheVariants.{Plain}
 use Rattle.ados_readargs.proofs.WordsLemmas.{words-step}
 
 -- there is none
@@ -37,3 +48,24 @@ refused defined fault.ValueMissing h = h
 refused defined fault.TooMany h = h
 refused defined fault.Unmatched h = h
 refused defined fault.NoMemory h = tt
+
+-- at the line's end there is no word
+pub no-word : (line : List ℕ) (place : ℕ) → length line ≤ place → None ≡ word_of line (item_at true line place)
+no-word line place h =
+    let nothing : drop (place + prefix_len is_blank (drop place line)) line ≡ [] = drop_all (place + prefix_len is_blank (drop place line)) line (omega arith) in
+    rw nothing refl
+
+plain-by : (options : List TemplateOption) (given : List Reading) (word : LineWord) (empty : Bool) (found : Option ℕ) → found ≡ None
+    → word_meaning options given None word (if empty then None else found) ≡ Plain (item_of word)
+plain-by options given word true found e = refl
+plain-by options given word false found e = ap (word_meaning options given None word) e
+
+-- a run with no equal sign that is no keyword, in a template with no /F
+pub plain-word : (options : List TemplateOption) (line : List ℕ) (place from to : ℕ) → list_any is_rest options ≡ false
+    → item.Word from to ≡ item_at true line place → run_end line to ≡ to → position (is_keyword (bytes_between line from to) true) options ≡ None
+    → IsPlainAt options line place (record { from = from; to = to })
+plain-word options line place from to rest here over none =
+    let same : (to == to) ≡ true = grind (arith, nat_tests) in (
+      ap (word_of line) (sym here) ∙ ap (λ end. Some (Run from to end, end)) over,
+      λ given. rw (rest, same) (plain-by options given (Run from to to) (from == to) _ none),
+    )

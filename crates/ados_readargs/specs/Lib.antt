@@ -1,9 +1,11 @@
 pub mod Faults
 pub mod Options
+pub mod NameLengths
 pub mod Buffers
 pub mod Words
 pub mod Readings
 pub mod Meanings
+pub mod Steps
 pub mod Shares
 pub mod Args
 pub mod Slots

@@ -1,6 +1,7 @@
-ghost use Rattle.std.specs.Prelude.{◌≡◌, ◌++◌, [], ◌∷◌, length, get_or, OnOk, OnErr};
+ghost use Rattle.std.specs.Prelude.{◌≡◌, ◌++◌, ◌+◌, ◌≤◌, [], ◌∷◌, length, map, take, drop, get_or, IfOk, OnOk, OnErr};
 ghost use Rattle.ados_text.specs.Text.{IsText};
 ghost use Rattle.ados_items.specs.Items.{value_of};
+ghost use Rattle.ados_readargs.specs.Buffers.{AreLaid, texts_in};
 
 use ados_items::{Item, push_value};
 use ados_text::NoMemory;
@@ -81,4 +82,61 @@ impl Buffer {
         self.spans.push(Span { from, to })?;
         Ok(())
     }
+
+    /// Adds the texts of items of a line, in order. At `NoMemory` nothing is known of what is there.
+    pub fn push_all(&mut self, line: &[u8], items: &[Item]) -> Result<(), NoMemory>
+        ensures ok { OnOk result (self.new ≡ self.old ++ map (value_of line.now) items.now) }
+        ensures grown { length self.old ≤ length self.new }
+    {
+        let laid = self.push_copied(line, items)?;
+        for place in laid..items.len() {
+            self.push(line, &items[place])?;
+        }
+        Ok(())
+    }
+
+    // Adds the texts of the words with which items begin; how many they are. Nearly always a line is
+    // ASCII: then it is copied once, and each of its words is a place in the copy. For a single item
+    // that does not pay.
+    fn push_copied(&mut self, line: &[u8], items: &[Item]) -> Result<usize, NoMemory>
+        ensures ok { IfOk result (λ count. self.new ≡ self.old ++ map (value_of line.now) (take count items.now)) }
+        ensures within { IfOk result (λ count. count ≤ length items.now) }
+        ensures grown { length self.old ≤ length self.new }
+    {
+        if items.len() <= 1 || !line.is_ascii() {
+            return Ok(0);
+        }
+        let base = self.bytes.len();
+        self.bytes.extend_from_slice(line)?;
+        lay_words(&mut self.spans, self.bytes.as_slice(), line, base, items)
+    }
+}
+
+// Lays the words with which items begin on a line that was copied to the end of the bytes; how many
+// they are.
+fn lay_words(
+    spans: &mut Vec<Span>,
+    bytes: &[u8],
+    line: &[u8],
+    base: usize,
+    items: &[Item],
+) -> Result<usize, NoMemory>
+    requires laid { AreLaid bytes.now spans.old.items }
+    requires copied { drop base bytes.now ≡ line.now }
+    requires len { base + length line.now ≡ length bytes.now }
+    ensures ok { IfOk result (λ count. texts_in bytes.now spans.new.items ≡ texts_in bytes.now spans.old.items ++ map (value_of line.now) (take count items.now)) }
+    ensures within { IfOk result (λ count. count ≤ length items.now) }
+    ensures laid { AreLaid bytes.now spans.new.items }
+    ensures grown { length spans.old.items ≤ length spans.new.items }
+{
+    for place in 0..items.len() {
+        match items[place] {
+            Item::Word { from, to } if from <= to && to <= line.len() => spans.push(Span {
+                from: base + from,
+                to: base + to,
+            })?,
+            _ => return Ok(place),
+        }
+    }
+    Ok(items.len())
 }

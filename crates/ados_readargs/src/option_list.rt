@@ -1,5 +1,6 @@
-ghost use Rattle.std.specs.Prelude.{◌≡◌, ◌<◌, length, position, IfSome};
+ghost use Rattle.std.specs.Prelude.{◌≡◌, ◌<◌, ℕ, true, false, length, position, get_or, IfSome};
 ghost use Rattle.std.specs.List.{list_any};
+ghost use Rattle.ados_readargs.specs.NameLengths.{has_as_long, one_is_as_long};
 ghost use Rattle.ados_readargs.specs.Options.{is_required, is_rest, takes_number};
 ghost use Rattle.ados_readargs.specs.Shares.{is_middle, middle_of};
 
@@ -14,11 +15,14 @@ pub struct OptionList {
     with_required: bool,
     with_number: bool,
     middle: Option<usize>,
+    // Whether an option has a name of so many bytes, from 0 on; of longer names nothing is said.
+    lengths: [bool; 32],
 }
 
 impl Model for OptionList {
-    ghost use Rattle.std.specs.Prelude.{◌≡◌, List};
+    ghost use Rattle.std.specs.Prelude.{◌≡◌, ℕ, true, false, List, get_or};
     ghost use Rattle.std.specs.List.{list_any};
+    ghost use Rattle.ados_readargs.specs.NameLengths.{one_is_as_long};
     ghost use Rattle.ados_readargs.specs.Options.{is_required, is_rest, takes_number};
     ghost use Rattle.ados_readargs.specs.Shares.{middle_of};
     ghost use Rattle.ados_readargs.specs.declared.options.TemplateOption.{TemplateOption};
@@ -28,7 +32,8 @@ impl Model for OptionList {
     ghost view = { λ o. o.items.items };
 
     ghost invariant = { λ o. (o.with_rest ≡ list_any is_rest o.items.items) × (o.with_required ≡ list_any is_required o.items.items)
-        × (o.with_number ≡ list_any takes_number o.items.items) × (o.middle ≡ middle_of o.items.items) };
+        × (o.with_number ≡ list_any takes_number o.items.items) × (o.middle ≡ middle_of o.items.items)
+        × ((size : ℕ) → get_or o.lengths size true ≡ false → one_is_as_long size o.items.items ≡ false) };
 }
 
 impl OptionList {
@@ -40,12 +45,14 @@ impl OptionList {
         let with_number = has_number(items.as_slice());
         let with_required = has_required(items.as_slice());
         let middle = middle_of(items.as_slice());
+        let lengths = name_lengths(items.as_slice());
         OptionList {
             items,
             with_rest,
             with_required,
             with_number,
             middle,
+            lengths,
         }
     }
 
@@ -85,6 +92,43 @@ impl OptionList {
     {
         self.middle
     }
+
+    /// Whether it is known that no option has a name of so many bytes.
+    pub fn has_none_as_long(&self, size: usize) -> bool
+        ensures { result ≡ true → one_is_as_long size self.now ≡ false }
+    {
+        match self.lengths.get(size) {
+            Some(has) => !*has,
+            None => false,
+        }
+    }
+}
+
+// Whether an option has a name of so many bytes, from 0 on.
+fn name_lengths(options: &[TemplateOption]) -> [bool; 32]
+    ensures { (size : ℕ) → get_or result size true ≡ false → one_is_as_long size options.now ≡ false }
+{
+    let mut lengths = [true; 32];
+    for size in 0..32 {
+        lengths[size] = one_is_as_long(options, size);
+    }
+    lengths
+}
+
+fn one_is_as_long(options: &[TemplateOption], size: usize) -> bool
+    ensures { result ≡ one_is_as_long size options.now }
+{
+    options.iter().any(|option| has_as_long(option, size))
+}
+
+fn has_as_long(option: &TemplateOption, size: usize) -> bool
+    ensures { result ≡ has_as_long size option.now }
+{
+    option
+        .names
+        .as_slice()
+        .iter()
+        .any(|name| name.as_bytes().len() == size)
 }
 
 fn has_required(options: &[TemplateOption]) -> bool

@@ -200,7 +200,7 @@ impl Slots {
     {
         let from = self.texts.len();
         push_given(&mut self.texts, line, given, place)?;
-        push_items(&mut self.texts, line, plain)?;
+        self.texts.push_all(line, plain)?;
         let to = self.texts.len();
         self.slots.push(slot_of(q.many, from, to))?;
         Ok(())
@@ -257,17 +257,6 @@ fn push_given(
         if let Some(item) = reading.given_to(place) {
             texts.push(line, &item)?;
         }
-    }
-    Ok(())
-}
-
-// Adds the texts of items.
-fn push_items(texts: &mut Buffer, line: &[u8], items: &[Item]) -> Result<(), NoMemory>
-    ensures ok { OnOk result (texts.new ≡ texts.old ++ map (value_of line.now) items.now) }
-    ensures grown { length texts.old ≤ length texts.new }
-{
-    for item in items {
-        texts.push(line, item)?;
     }
     Ok(())
 }

@@ -59,8 +59,8 @@ impl LineWord {
     }
 }
 
-// A blank or the line's end stands at a place, so that a run which has come there ends.
-fn is_run_over(line: &[u8], place: usize) -> bool
+/// A blank or the line's end stands at a place, so that a run which has come there ends.
+pub fn is_run_over(line: &[u8], place: usize) -> bool
     ensures { result ≡ true → run_end line.now place ≡ place }
 {
     match line.get(place) {

@@ -11,8 +11,8 @@ returns c =
     let front = given_items c.args.place c.args.given.now in
     let items = front ++ c.args.plain.now in
     let texts = c.self.inside.texts in
-    let laid : c.push_items.new.texts ≡ texts ++ map (value_of line) items =
-    c.in_ok-push_items.ensures.ok ∙ ap (λ t. t ++ map (value_of line) c.args.plain.now) c.in_ok-push_given.ensures.ok
+    let laid : c.push_all.new.self ≡ texts ++ map (value_of line) items =
+    c.in_ok-push_all.ensures.ok ∙ ap (λ t. t ++ map (value_of line) c.args.plain.now) c.in_ok-push_given.ensures.ok
     ∙ append_assoc texts (map (value_of line) front) (map (value_of line) c.args.plain.now)
     ∙ ap (λ t. texts ++ t) (sym (map-append (value_of line) front c.args.plain.now)) in
     let to : c.len-to.result ≡ length texts + length items =
