@@ -2,6 +2,7 @@
 use Rattle.std.specs.Prelude.{◌≡◌, ℕ, Option, Some, List, [], ◌∷◌, length, nat_le, if◌then◌else◌}
 use Rattle.std.specs.Io.KnownBytes.{prepend_known}
 use Rattle.ados_text.specs.Lines.{is_newline}
+use Rattle.ados_line.specs.Cut.{line_limit}
 use Rattle.ados_launch.specs.declared.lines.LineKind.{LineKind}
 use Rattle.ados_launch.specs.declared.lines.LineKind.TheVariants.{End, Short, Long, Overlong}
 
@@ -15,9 +16,13 @@ abbrev pub rest_of : List ℕ → List ℕ
 rest_of [] = []
 rest_of (byte ∷ bytes) = if is_newline byte then bytes else rest_of bytes
 
+-- a line of the input that has at most so many bytes is answered once, however long it is
+abbrev pub input_limit : ℕ
+input_limit = 65536
+
 -- the kind of a line of this length
 abbrev pub kind_of_length : ℕ → LineKind
-kind_of_length n = if nat_le n 512 then Short else if nat_le n 65536 then Long else Overlong
+kind_of_length n = if nat_le n line_limit then Short else if nat_le n input_limit then Long else Overlong
 
 -- what comes next from these bytes
 abbrev pub kind_of : List ℕ → LineKind
