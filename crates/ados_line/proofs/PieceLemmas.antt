@@ -1,5 +1,5 @@
 -- a line that was cut is made of its pieces
-use Rattle.std.proofs.Common.{ℕ, zero, suc, ◌+◌, ◌-◌, ◌<◌, ◌≤◌, ◌≡◌, ◌∙◌, List, [], ◌∷◌, ◌++◌, true, false, ◌==◌, ◌||◌, Option, Some, None, Result, Ok, Err, IfOk, length, drop, refl, ap, sym, subst, arith, append_assoc, append-nil, inl, inr, nat_lt}
+use Rattle.std.proofs.Common.{ℕ, zero, suc, ◌+◌, ◌-◌, ◌<◌, ◌≤◌, ◌≡◌, ◌∙◌, List, [], ◌∷◌, ◌++◌, true, false, ◌==◌, ◌||◌, Option, Some, None, Result, Ok, Err, IfOk, length, drop, refl, ap, sym, subst, arith, append_assoc, append-nil, inl, inr}
 use Rattle.std.specs.Prelude.{is_some, slice_index, option_to_list}
 use Rattle.std.specs.List.{flat_map}
 use Rattle.std.proofs.lemmas.Bool.{cond_both, and_parts, eqb-true, cases_lt}
@@ -9,15 +9,15 @@ use Rattle.ados_items.specs.declared.items.Item.TheVariants.{Word, Quoted, Equal
 use Rattle.ados_items.specs.Items.{item_at, value_of, bytes_between}
 use Rattle.ados_items.proofs.ItemLemmas.{StandsBehind, item-behind}
 use Rattle.ados_line.specs.declared.faults.LineFault.{LineFault}
-use Rattle.ados_line.specs.declared.faults.LineFault.TheVariants.{TooManyArguments, LineTooLong, NotImplemented}
+use Rattle.ados_line.specs.declared.faults.LineFault.TheVariants.{TooManyArguments, NotImplemented}
 use Rattle.ados_line.specs.declared.signs.Sign.{Sign}
 use Rattle.ados_line.specs.declared.signs.Sign.TheVariants.{Input, Output, Append}
 use Rattle.ados_line.specs.declared.cuts.Cut.{Cut}
 use Rattle.ados_line.specs.declared.lines.Expanded.{Expanded}
 use Rattle.ados_line.specs.Signs.{begins, is_both, sign_at, width_of}
-use Rattle.ados_line.specs.Cut.{with_piece, with_blanks, with_name, named, is_taken, redirected, by_sign, cut_word, cut_item, cut_from, cut_of, nothing_read, came_to, line_limit, expanded_by, expanded_of, IsExpanded}
-use Rattle.ados_line.specs.Comment.{without_comment}
-use Rattle.ados_line.specs.Pieces.{Piece, Blank, Kept, Redirected, sign_bytes, written, EndsAt, IsPieceAt, Stand, kept, command_of, args_of, inputs, outputs, IsInPieces}
+use Rattle.ados_line.specs.Cut.{with_piece, with_blanks, with_name, named, is_taken, redirected, by_sign, cut_word, cut_item, cut_from, cut_of, nothing_read, came_to, expanded_by}
+use Rattle.ados_line.specs.Answers.{Gives}
+use Rattle.ados_line.specs.Pieces.{Piece, Blank, Kept, Redirected, sign_bytes, written, EndsAt, IsPieceAt, Stand, kept, command_of, args_of, inputs, outputs, IsOfPieces}
 
 -- the command and the arguments, where a command was read or not
 abbrev command_from : Option (List ℕ) → List Piece → Option (List ℕ)
@@ -341,10 +341,10 @@ parts-from (suc n) line place read after within enough e =
     item-parts (cut_from n line) line read after place (item_at true line place) refl within (item-behind true line place)
     (λ to more above end h. parts-from n line to more after end (omega arith) h) e
 
-came-parts : (raw : List ℕ) (read : Cut) (command : Option (List ℕ)) → read.command ≡ command
-    → Parts (without_comment raw) 0 nothing_read read → IsInPieces raw (came_to command read)
-came-parts raw read None e p = let a = p.1 in (p.0, record { joined = a.joined; placed = a.placed }, sym a.command ∙ e)
-came-parts raw read (Some text) e p =
+came-parts : (line : List ℕ) (read : Cut) (command : Option (List ℕ)) → read.command ≡ command
+    → Parts line 0 nothing_read read → IsOfPieces line (came_to command read)
+came-parts line read None e p = let a = p.1 in (p.0, record { joined = a.joined; placed = a.placed }, sym a.command ∙ e)
+came-parts line read (Some text) e p =
     let a = p.1 in (
       p.0,
       record { joined = a.joined; placed = a.placed },
@@ -356,21 +356,15 @@ came-parts raw read (Some text) e p =
       },
     )
 
-by-cut : (raw : List ℕ) (cut : Result Cut LineFault) → cut_of (without_comment raw) ≡ cut → (found : Expanded) → expanded_by cut ≡ Ok found → IsInPieces raw found
-by-cut raw (Ok read) h found e =
-    let line = without_comment raw in
+by-cut : (line : List ℕ) (cut : Result Cut LineFault) → cut_of line ≡ cut → (found : Expanded) → expanded_by cut ≡ Ok found → IsOfPieces line found
+by-cut line (Ok read) h found e =
     let same : came_to read.command read ≡ found = cc in
-    let P : Expanded → Type 0 = λ it. IsInPieces raw it in
-    subst P same (came-parts raw read read.command refl (parts-from (length line + 1) line 0 nothing_read read (omega arith) (omega arith) h))
-by-cut raw (Err fault) h found e = cc
-
-expanded-parts : (raw : List ℕ) (found : Expanded) → expanded_of raw ≡ Ok found → IsInPieces raw found
-expanded-parts raw found =
-    let P : Result Expanded LineFault → Type 0 = λ r. r ≡ Ok found → IsInPieces raw found in
-    cond_both (nat_lt line_limit (length raw)) (Err LineTooLong) _ P (λ _ e. cc) (λ _ e. by-cut raw _ refl found e)
+    let P : Expanded → Type 0 = λ it. IsOfPieces line it in
+    subst P same (came-parts line read read.command refl (parts-from (length line + 1) line 0 nothing_read read (omega arith) (omega arith) h))
+by-cut line (Err fault) h found e = cc
 
 -- what a line came to, if it was cut
-pub in_pieces : (result : Result Expanded LineFault) (raw : List ℕ) → IsExpanded result raw → IfOk result (IsInPieces raw)
-in_pieces (Ok found) raw (inl none) = cc
-in_pieces (Ok found) raw (inr same) = expanded-parts raw found (sym same)
-in_pieces (Err fault) raw h = tt
+pub of_pieces : (result : Result Expanded LineFault) (line : List ℕ) → Gives result (expanded_by (cut_of line)) → IfOk result (IsOfPieces line)
+of_pieces (Ok found) line (inl none) = cc
+of_pieces (Ok found) line (inr same) = by-cut line _ refl found (sym same)
+of_pieces (Err fault) line h = tt

@@ -1,6 +1,11 @@
+pub mod Alias
+pub mod Answers
 pub mod Comment
 pub mod Cut
+pub mod Expansion
+pub mod Faults
+pub mod Letters
 pub mod Pieces
 pub mod Signs
 pub mod Steps
-pub mod Faults
+pub mod Values

@@ -127,7 +127,11 @@ pub record IsSaid (line : Line) (pieces : List Piece) : Type 0 where
   pub input : flat_map inputs pieces ≡ option_to_list line.input
   pub output : flat_map outputs pieces ≡ option_to_list line.output
 
--- What a raw line came to is made of the pieces of it without its comment; where it asks for nothing no item is kept.
+-- What a line came to is made of its pieces; where it asks for nothing no item is kept.
+abbrev pub IsOfPieces : Text → Expanded → Type 0
+IsOfPieces line Nothing = (pieces : List Piece) × ArePieces line pieces × (command_of pieces ≡ None)
+IsOfPieces line (Ready said) = (pieces : List Piece) × ArePieces line pieces × IsSaid said pieces
+
+-- What a raw line came to is made of the pieces of it without its comment.
 abbrev pub IsInPieces : Text → Expanded → Type 0
-IsInPieces raw Nothing = (pieces : List Piece) × ArePieces (without_comment raw) pieces × (command_of pieces ≡ None)
-IsInPieces raw (Ready line) = (pieces : List Piece) × ArePieces (without_comment raw) pieces × IsSaid line pieces
+IsInPieces raw found = IsOfPieces (without_comment raw) found

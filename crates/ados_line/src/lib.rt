@@ -1,12 +1,21 @@
 #![tactic(auto)]
-//! What a raw line asks for: its comment is dropped, and what is left is cut into the command, its
-//! arguments and the redirections of its input and its output.
+//! What a raw line asks for: its comment is dropped, its alias and its variables are put in, and what is left is cut
+//! into the command, its arguments and the redirections of its input and its output.
 
+mod aliases;
 mod comments;
 mod cuts;
+mod expansion;
 mod faults;
+mod letters;
 mod lines;
+mod references;
+mod scopes;
 mod signs;
+mod spelling;
+mod values;
 
+pub use expansion::expand_in;
 pub use faults::LineFault;
 pub use lines::{Expanded, Line, Redirection, expand};
+pub use scopes::Scope;

@@ -1,6 +1,8 @@
 ghost use Rattle.std.specs.Prelude.{◌≡◌, ◌<◌, Err, IfOk, length};
-ghost use Rattle.ados_line.specs.Cut.{IsExpanded};
-ghost use Rattle.ados_line.specs.Pieces.{IsInPieces};
+ghost use Rattle.ados_text.specs.Text.{IsText};
+ghost use Rattle.ados_line.specs.Answers.{Gives};
+ghost use Rattle.ados_line.specs.Cut.{cut_of, expanded_by, IsExpanded};
+ghost use Rattle.ados_line.specs.Pieces.{IsInPieces, IsOfPieces};
 
 use crate::comments::without_comment;
 use crate::cuts::{Cut, cut_line};
@@ -73,12 +75,21 @@ pub fn expand(alloc: Global, raw: &Text) -> Result<Expanded, LineFault>
     if raw.as_bytes().len() > LINE_BYTES {
         return Err(LineFault::LineTooLong);
     }
+    cut_text(alloc, without_comment(raw.as_bytes()))
+}
+
+/// What a line without comment, alias and variables comes to: the cut of it.
+pub fn cut_text(alloc: Global, line: &[u8]) -> Result<Expanded, LineFault>
+    requires { IsText line.now }
+    ensures value { Gives result (expanded_by (cut_of line.now)) }
+    ensures pieces { IfOk result (IsOfPieces line.now) }
+{
     let Cut {
         command,
         args,
         input,
         output,
-    } = cut_line(alloc, without_comment(raw.as_bytes()))?;
+    } = cut_line(alloc, line)?;
     match command {
         None => Ok(Expanded::Nothing),
         Some(command) => Ok(Expanded::Ready(Line {

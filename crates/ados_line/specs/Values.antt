@@ -1,0 +1,111 @@
+-- The variables of a line: it is a row of segments, and each is a character that stands for itself, or a reference that
+-- stands for a value. Values are not read again.
+use Rattle.std.specs.Prelude.{◌≡◌, ℕ, zero, suc, ◌+◌, ◌-◌, List, [], ◌∷◌, length, take, drop, slice_get, Bool, false, ◌==◌, ◌&&◌, ◌||◌, nat_lt, nat_le, Option, Some, None, if◌then◌else◌}
+use Rattle.std.specs.List.{flat_map, prefix_len}
+use Rattle.std.specs.Option.{option_or}
+use Rattle.ados_ram.specs.Files.{Files}
+use Rattle.ados_assign.specs.Assigns.{AssignMap}
+use Rattle.ados_vars.specs.Vars.{Pairs, value_in}
+use Rattle.ados_vars.specs.Global.{global_of}
+use Rattle.ados_line.specs.declared.scopes.Scope.{Scope}
+use Rattle.ados_line.specs.declared.letters.Letter.{Letter}
+use Rattle.ados_line.specs.declared.letters.Letter.TheVariants.{Plain, Starred}
+use Rattle.ados_line.specs.declared.references.Reference.{Reference}
+use Rattle.ados_line.specs.Letters.{spelled, bared}
+
+-- the values of variables, by their names
+abbrev pub Variables : Type 0
+Variables = List ℕ → Option (List ℕ)
+
+-- a local variable, or else a global one
+abbrev pub variables_of : Pairs → AssignMap → Files → Variables
+variables_of locals assigns files name = option_or (value_in locals name) (global_of assigns files name)
+
+abbrev pub variables_in : Scope → Variables
+variables_in scope = variables_of scope.locals.now scope.assigns.now scope.ram.now
+
+-- a digit, a letter or `_`
+abbrev pub is_name_byte : ℕ → Bool
+is_name_byte c = (nat_le 48 c && nat_le c 57) || (nat_le 65 c && nat_le c 90) || (nat_le 97 c && nat_le c 122) || c == 95
+
+abbrev pub is_of_name : Letter → Bool
+is_of_name (Plain c) = is_name_byte c
+is_of_name (Starred c) = false
+
+-- the character is this byte, on its own
+abbrev pub is_plain : ℕ → Letter → Bool
+is_plain byte (Plain c) = c == byte
+is_plain byte (Starred c) = false
+
+abbrev pub is_this : ℕ → Option Letter → Bool
+is_this byte None = false
+is_this byte (Some letter) = is_plain byte letter
+
+-- the reference whose `$` stands before these characters, by the places of its name and of its end: `name`, as long
+-- as it goes, or `{name}`
+abbrev pub braced : List Letter → ℕ → Option Reference
+braced rest to = if nat_lt 1 to && is_this 125 (slice_get rest to) then Some (record { from = 1; to = to; end = to + 1 }) else None
+
+abbrev pub bare : ℕ → Option Reference
+bare to = if nat_lt 0 to then Some (record { from = 0; to = to; end = to }) else None
+
+abbrev pub reference : List Letter → Option Reference
+reference rest =
+    if is_this 123 (slice_get rest 0) then braced rest (1 + prefix_len is_of_name (drop 1 rest)) else bare (prefix_len is_of_name rest)
+
+-- the name of a reference
+abbrev pub name_of : List Letter → Reference → List ℕ
+name_of rest r = flat_map spelled (take (r.to - r.from) (drop r.from rest))
+
+-- a segment: a character for itself, or a `$` and the characters of its reference for a value
+pub data Segment : Type 0 where
+  Literal : Letter → Segment
+  Value : List Letter → List ℕ → Segment
+
+-- the characters that a segment takes up
+abbrev pub covered : Segment → List Letter
+covered (Literal letter) = letter ∷ []
+covered (Value letters value) = Plain 36 ∷ letters
+
+-- how many it has behind its first
+abbrev pub further : Segment → ℕ
+further (Literal letter) = 0
+further (Value letters value) = length letters
+
+-- the text that it stands for: the star before a `$` goes
+abbrev pub meant : Segment → List ℕ
+meant (Literal letter) = bared 36 letter
+meant (Value letters value) = value
+
+-- an unknown variable stays as it is written
+abbrev pub by_value : Letter → List Letter → Option (List ℕ) → Segment
+by_value letter letters None = Literal letter
+by_value letter letters (Some value) = Value letters value
+
+abbrev pub by_reference : Variables → Letter → List Letter → Option Reference → Segment
+by_reference variables letter rest None = Literal letter
+by_reference variables letter rest (Some r) = by_value letter (take r.end rest) (variables (name_of rest r))
+
+-- the segment that begins with a character
+abbrev pub first_segment : Variables → Letter → List Letter → Segment
+first_segment variables letter rest = if is_plain 36 letter then by_reference variables letter rest (reference rest) else Literal letter
+
+-- the segments of a row of characters, behind so many that belong to the segment before
+abbrev pub segments : Variables → ℕ → List Letter → List Segment
+segments variables taken [] = []
+segments variables (suc taken) (l ∷ ls) = segments variables taken ls
+segments variables zero (l ∷ ls) =
+    (let segment = first_segment variables l ls in segment ∷ segments variables (further segment) ls)
+
+-- what the characters stand for, behind so many of a segment before
+abbrev pub values : Variables → ℕ → List Letter → List ℕ
+values variables taken letters = flat_map meant (segments variables taken letters)
+
+-- the segments are a row of characters, in order, and stand for a text
+pub record AreSegments (letters : List Letter) (result : List ℕ) (row : List Segment) : Type 0 where
+  pub covers : flat_map covered row ≡ letters
+  pub means : flat_map meant row ≡ result
+
+-- a text is a row of characters with values put in: each segment is a character that stands for itself, or a reference
+abbrev pub IsInSegments : List Letter → List ℕ → Type 0
+IsInSegments letters result = (row : List Segment) × AreSegments letters result row

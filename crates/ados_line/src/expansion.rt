@@ -1,0 +1,52 @@
+ghost use Rattle.std.specs.Prelude.{◌≡◌, ◌<◌, Err, IfOk, length};
+ghost use Rattle.ados_text.specs.Text.{IsText};
+ghost use Rattle.ados_line.specs.Answers.{Gives};
+ghost use Rattle.ados_line.specs.Expansion.{expanded_in, expanded_line, with_values, then_cut};
+ghost use Rattle.ados_line.specs.Values.{variables_in};
+
+use crate::aliases::replace_alias;
+use crate::comments::without_comment;
+use crate::faults::LineFault;
+use crate::letters::read_letters;
+use crate::lines::{Expanded, cut_text};
+use crate::scopes::Scope;
+use crate::values::put_values;
+use ados_text::{LINE_BYTES, Text};
+
+/// What a raw line comes to where aliases and variables stand. It has at most 512 bytes; its comment is dropped; the
+/// alias that its first word names is put in, once; then the variables that it names are put in, and what came out,
+/// which has at most 512 bytes too, is cut.
+///
+/// Quotes are judged before values are put in, and no value is read again. `LineTooLong` comes first; the other faults
+/// are those of `expand`, in what came out.
+#[tactic(auto, unfolding(crate::specs::Expansion::expanded_in))]
+pub fn expand_in(scope: &Scope, raw: &Text) -> Result<Expanded, LineFault>
+    ensures value { Gives result (expanded_in scope.now.aliases.now (variables_in scope.now) raw.now) }
+    ensures long { 512 < length raw.now → result ≡ Err LineFault.LineTooLong }
+{
+    let bytes = raw.as_bytes();
+    if bytes.len() > LINE_BYTES {
+        return Err(LineFault::LineTooLong);
+    }
+    let line = without_comment(bytes);
+    match replace_alias(scope.alloc, scope.aliases, line)? {
+        None => put_and_cut(scope, line),
+        Some(text) => put_and_cut(scope, text.as_bytes()),
+    }
+}
+
+// A line with its variables, cut. Nearly all lines have none, and are cut where they lie.
+#[tactic(auto, using(crate::proofs::UnmarkedLemmas::plain_values))]
+fn put_and_cut(scope: &Scope, line: &[u8]) -> Result<Expanded, LineFault>
+    requires { IsText line.now }
+    ensures { Gives result (then_cut (with_values (variables_in scope.now) line.now)) }
+{
+    if line.contains(&b'$') {
+        let text = put_values(scope, &read_letters(scope.alloc, line)?)?;
+        cut_text(scope.alloc, text.as_bytes())
+    } else if line.len() > LINE_BYTES {
+        Err(LineFault::LineTooLong)
+    } else {
+        cut_text(scope.alloc, line)
+    }
+}

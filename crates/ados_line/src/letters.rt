@@ -1,0 +1,107 @@
+ghost use Rattle.std.specs.Prelude.{◌≡◌, ◌++◌, ℕ, List, true, false, IfOk, OnOk};
+ghost use Rattle.ados_items.specs.Items.{item_at, bytes_between};
+ghost use Rattle.ados_line.specs.declared.letters.Letter.{Letter};
+ghost use Rattle.ados_line.specs.Letters.{singly, paired, letters_behind, letters_of, behind};
+
+use ados_items::{Item, next_item};
+use ados_text::NoMemory;
+use std::alloc::Global;
+
+/// A character of a line, as quotes have it read.
+#[derive(Clone, Copy, PartialEq, Eq)]
+pub enum Letter {
+    /// This byte.
+    Plain(u8),
+    /// Inside quotes, a star and this byte behind it.
+    Starred(u8),
+}
+
+/// The characters of a line: inside quotes a star and the byte behind it are one, anything else is a byte on its own.
+pub fn read_letters(alloc: Global, line: &[u8]) -> Result<Vec<Letter>, NoMemory>
+    ensures { IfOk result (λ letters. letters.items ≡ letters_of line.now) }
+{
+    let mut letters = Vec::with_capacity(alloc, line.len())?;
+    let mut place = 0;
+    for step in 0..line.len() + 1 {
+        match push_item(&mut letters, line, place)? {
+            Some(to) => place = to,
+            None => return Ok(letters),
+        }
+    }
+    Ok(letters)
+}
+
+// Adds the characters from a place up to behind the item there; gives that place, if anything may stand there.
+fn push_item(
+    letters: &mut Vec<Letter>,
+    line: &[u8],
+    place: usize,
+) -> Result<Option<usize>, NoMemory>
+    ensures { (next : ℕ → List Letter) →
+        IfOk result (λ to. letters.old.items ++ letters_behind next line.now place (item_at true line.now place) ≡ letters.new.items ++ behind next to) }
+{
+    match next_item(line, place) {
+        Item::Word { to, .. } => {
+            push_singly(letters, piece(line, place, to))?;
+            Ok(Some(to))
+        }
+        Item::Quoted { from, to } => {
+            push_singly(letters, piece(line, place, from))?;
+            push_paired(letters, piece(line, from, to))?;
+            push_singly(letters, piece(line, to, to + 1))?;
+            Ok(Some(to + 1))
+        }
+        Item::Equal(at) => {
+            push_singly(letters, piece(line, place, at + 1))?;
+            Ok(Some(at + 1))
+        }
+        Item::End(_) => {
+            push_singly(letters, piece(line, place, line.len()))?;
+            Ok(None)
+        }
+        Item::Unmatched(from) => {
+            push_singly(letters, piece(line, place, from))?;
+            push_paired(letters, piece(line, from, line.len()))?;
+            Ok(None)
+        }
+    }
+}
+
+// Adds bytes outside quotes.
+fn push_singly(letters: &mut Vec<Letter>, bytes: &[u8]) -> Result<(), NoMemory>
+    ensures { OnOk result (letters.new.items ≡ letters.old.items ++ singly bytes.now) }
+{
+    for byte in bytes {
+        letters.push(Letter::Plain(*byte))?;
+    }
+    Ok(())
+}
+
+// Adds bytes inside quotes.
+fn push_paired(letters: &mut Vec<Letter>, bytes: &[u8]) -> Result<(), NoMemory>
+    ensures { OnOk result (letters.new.items ≡ letters.old.items ++ paired false bytes.now) }
+{
+    let mut starred = false;
+    for byte in bytes {
+        if starred {
+            letters.push(Letter::Starred(*byte))?;
+            starred = false;
+        } else if *byte == b'*' {
+            starred = true;
+        } else {
+            letters.push(Letter::Plain(*byte))?;
+        }
+    }
+    if starred {
+        letters.push(Letter::Plain(b'*'))?;
+    }
+    Ok(())
+}
+
+// The bytes of a line from one place up to another; none where the places are the other way round.
+fn piece(line: &[u8], from: usize, to: usize) -> &[u8]
+    ensures { result.now ≡ bytes_between line.now from to }
+{
+    let to = to.min(line.len());
+    if from >= to { &[] } else { &line[from..to] }
+}

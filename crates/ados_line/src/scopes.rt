@@ -1,0 +1,36 @@
+ghost use Rattle.std.specs.Prelude.{◌≡◌, IfOk};
+ghost use Rattle.ados_line.specs.Values.{variables_in};
+
+use ados_assign::Assigns;
+use ados_ram::Ram;
+use ados_text::{Name, NoMemory, Text};
+use ados_vars::{Aliases, Locals, global};
+use std::alloc::Global;
+
+/// Where the words of a line have their meanings.
+#[derive(Clone, Copy)]
+pub struct Scope<'a> {
+    /// Where what comes out is kept.
+    pub alloc: Global,
+    /// The shell's aliases.
+    pub aliases: &'a Aliases,
+    /// The shell's own variables.
+    pub locals: &'a Locals,
+    /// By them the global variables are found,
+    pub assigns: &'a Assigns,
+    /// which are files.
+    pub ram: &'a Ram,
+}
+
+impl<'a> Scope<'a> {
+    /// The value of a variable: of a local one, or else of a global one.
+    pub fn value(&self, name: Text) -> Result<Option<Text>, NoMemory>
+        ensures { IfOk result (λ value. value ≡ variables_in self.now name) }
+    {
+        let name = Name::new(name);
+        match self.locals.get(&name)? {
+            Some(value) => Ok(Some(value)),
+            None => global(self.alloc, self.ram, self.assigns, name.text()),
+        }
+    }
+}

@@ -1,0 +1,38 @@
+// Characters as text.
+ghost use Rattle.std.specs.Prelude.{◌≡◌, ◌++◌, IfOk, OnOk};
+ghost use Rattle.std.specs.List.{flat_map};
+ghost use Rattle.ados_line.specs.Letters.{spelled, bared};
+
+use crate::letters::Letter;
+use ados_text::{NoMemory, Text};
+
+/// Adds characters as they are written.
+pub fn push_spelled(text: &mut Text, letters: &[Letter]) -> Result<(), NoMemory>
+    ensures { OnOk result (text.new ≡ text.old ++ flat_map spelled letters.now) }
+{
+    for letter in letters {
+        match *letter {
+            Letter::Plain(c) => text.push(c)?,
+            Letter::Starred(c) => {
+                text.push(b'*')?;
+                text.push(c)?;
+            }
+        }
+    }
+    Ok(())
+}
+
+/// Adds one character, without the star before a mark.
+pub fn push_one(text: &mut Text, letter: Letter, mark: u8) -> Result<(), NoMemory>
+    ensures { OnOk result (text.new ≡ text.old ++ bared mark letter) }
+{
+    match letter {
+        Letter::Plain(c) => text.push(c),
+        Letter::Starred(c) => {
+            if c != mark {
+                text.push(b'*')?;
+            }
+            text.push(c)
+        }
+    }
+}

@@ -1,0 +1,2 @@
+pub mod LocalsLemmas
+pub mod VarsLemmas

@@ -1,0 +1,134 @@
+-- the pairs of which RC and Result2 are set at last
+use Rattle.std.proofs.Common.{◌≡◌, ◌∙◌, ℕ, codes, [], ◌∷◌, true, false, Some, IsSome, ap, sym, refl, cond}
+use Rattle.std.specs.Fmt.{decimal, signed_decimal}
+use Rattle.ados_text.specs.Text.{Text, is_same}
+use Rattle.ados_text.specs.declared.codes.Code.{Code}
+use Rattle.ados_text.specs.declared.codes.Result2.{Result2}
+use Rattle.ados_text.specs.declared.codes.TheConstants.Code.{OK}
+use Rattle.ados_text.specs.declared.codes.TheConstants.Result2.{NONE}
+use Rattle.ados_vars.specs.Vars.{Pairs, set_pair, value_in, without}
+use Rattle.ados_vars.specs.Locals.{code_name, fault_name, with_codes, shown, own_pairs, HasCodes}
+use Rattle.ados_vars.proofs.VarsLemmas.{value-set, value-without, set-there, set-keeps, set-again, set-swaps, set-over, without-over}
+
+apart : is_same code_name fault_name ≡ false
+apart = refl
+
+apart-too : is_same fault_name code_name ≡ false
+apart-too = refl
+
+-- both are there behind it, and stay
+pub has-codes : (pairs : Pairs) (code fault : Text) → HasCodes (with_codes pairs code fault)
+unfolding with_codes
+has-codes pairs code fault = record {
+  code = set-keeps (set_pair pairs code_name code) fault_name fault code_name (set-there pairs code_name code);
+  fault = set-there (set_pair pairs code_name code) fault_name fault;
+}
+
+pub set-keeps-codes : (pairs : Pairs) (name value : Text) → HasCodes pairs → HasCodes (set_pair pairs name value)
+set-keeps-codes pairs name value h = record {
+  code = set-keeps pairs name value code_name h.code;
+  fault = set-keeps pairs name value fault_name h.fault;
+}
+
+pub without-keeps-codes : (pairs : Pairs) (name : Text) → is_same name code_name ≡ false → is_same name fault_name ≡ false → HasCodes pairs
+    → HasCodes (without pairs name)
+without-keeps-codes pairs name e f h = record {
+  code = rw (value-without pairs name code_name e) h.code;
+  fault = rw (value-without pairs name fault_name f) h.fault;
+}
+
+-- of two settings of both the second one is seen
+pub codes-again : (pairs : Pairs) (code fault next last : Text) → with_codes (with_codes pairs code fault) next last ≡ with_codes pairs next last
+unfolding with_codes
+codes-again pairs code fault next last =
+    ap (λ ps. set_pair ps fault_name last)
+    (set-swaps (set_pair pairs code_name code) code_name next fault_name fault (set-there pairs code_name code) apart
+    ∙ ap (λ ps. set_pair ps fault_name fault) (set-again pairs code_name code next))
+    ∙ set-again (set_pair pairs code_name next) fault_name fault last
+
+-- two changes of pairs, of which the one sees the values of both, and the other does not, come to the same
+over : (change : Pairs → Pairs) → (pairs : Pairs) (code fault next last : Text) → HasCodes pairs
+    → ((ps : Pairs) → IsSome (value_in ps fault_name) → IsSome (value_in (change ps) fault_name))
+    → ((ps : Pairs) (own old new : Text) → IsSome (value_in ps own) → set_pair (change (set_pair ps own old)) own new ≡ set_pair (change ps) own new)
+    → with_codes (change (with_codes pairs code fault)) next last ≡ with_codes (change pairs) next last
+unfolding with_codes
+over change pairs code fault next last h keeps plays =
+    let under = set_pair pairs fault_name fault in
+    ap (λ ps. set_pair (set_pair (change ps) code_name next) fault_name last) (set-swaps pairs fault_name fault code_name code h.fault apart-too)
+    ∙ ap (λ ps. set_pair ps fault_name last) (plays under code_name code next (set-keeps pairs fault_name fault code_name h.code))
+    ∙ set-swaps (change under) fault_name last code_name next (keeps under (set-there pairs fault_name fault)) apart-too
+    ∙ ap (λ ps. set_pair ps code_name next) (plays pairs fault_name fault last h.fault)
+    ∙ sym (set-swaps (change pairs) fault_name last code_name next (keeps pairs h.fault) apart-too)
+
+pub set-below-codes : (pairs : Pairs) (code fault name value next last : Text) → HasCodes pairs
+    → with_codes (set_pair (with_codes pairs code fault) name value) next last ≡ with_codes (set_pair pairs name value) next last
+set-below-codes pairs code fault name value next last h =
+    over (λ ps. set_pair ps name value) pairs code fault next last h
+    (λ ps there. set-keeps ps name value fault_name there)
+    (λ ps own old new there. set-over ps own old name value new there)
+
+pub without-below-codes : (pairs : Pairs) (code fault name next last : Text) → is_same name fault_name ≡ false → HasCodes pairs
+    → with_codes (without (with_codes pairs code fault) name) next last ≡ with_codes (without pairs name) next last
+without-below-codes pairs code fault name next last other h =
+    over (λ ps. without ps name) pairs code fault next last h
+    (λ ps there. rw (value-without ps name fault_name other) there)
+    (λ ps own old new there. without-over ps own old name new there)
+
+-- the same of what a command answered
+pub shown-is : (pairs copy : Pairs) (code : Code) (result2 : Result2) (text fault : Text) → copy ≡ pairs → text ≡ signed_decimal code.0 → fault ≡ decimal result2.0
+    → with_codes copy text fault ≡ shown pairs code result2
+unfolding shown
+shown-is pairs copy code result2 text fault e f g = ap (λ ps. with_codes ps text fault) e ∙ ap (λ t. with_codes pairs t fault) f ∙ ap (λ t. with_codes pairs (signed_decimal code.0) t) g
+
+pub shown-has : (pairs : Pairs) (code : Code) (result2 : Result2) → HasCodes (shown pairs code result2)
+unfolding shown
+shown-has pairs code result2 = has-codes pairs (signed_decimal code.0) (decimal result2.0)
+
+pub shown-again : (pairs : Pairs) (code next : Code) (result2 last : Result2) → shown (shown pairs code result2) next last ≡ shown pairs next last
+unfolding shown
+shown-again pairs code next result2 last = codes-again pairs (signed_decimal code.0) (decimal result2.0) (signed_decimal next.0) (decimal last.0)
+
+pub shown-over : (pairs : Pairs) (code : Code) (result2 : Result2) (before fault : Text) → shown (with_codes pairs before fault) code result2 ≡ shown pairs code result2
+unfolding shown
+shown-over pairs code result2 before fault = codes-again pairs before fault (signed_decimal code.0) (decimal result2.0)
+
+pub shown-set : (pairs : Pairs) (code next : Code) (result2 last : Result2) (name value : Text) → HasCodes pairs
+    → shown (set_pair pairs name value) next last ≡ shown (set_pair (shown pairs code result2) name value) next last
+unfolding shown
+shown-set pairs code next result2 last name value h =
+    sym (set-below-codes pairs (signed_decimal code.0) (decimal result2.0) name value (signed_decimal next.0) (decimal last.0) h)
+
+pub shown-without : (pairs : Pairs) (code next : Code) (result2 last : Result2) (name : Text) → is_same name fault_name ≡ false → HasCodes pairs
+    → shown (without pairs name) next last ≡ shown (without (shown pairs code result2) name) next last
+unfolding shown
+shown-without pairs code next result2 last name other h =
+    sym (without-below-codes pairs (signed_decimal code.0) (decimal result2.0) name (signed_decimal next.0) (decimal last.0) other h)
+
+-- the values of both, and of others
+value-shown : (pairs : Pairs) (code : Code) (result2 : Result2) (name : Text)
+    → value_in (shown pairs code result2) name
+    ≡ cond (is_same name fault_name) (Some (decimal result2.0)) (cond (is_same name code_name) (Some (signed_decimal code.0)) (value_in pairs name))
+unfolding shown with_codes
+value-shown pairs code result2 name =
+    value-set (set_pair pairs code_name (signed_decimal code.0)) fault_name (decimal result2.0) name
+    ∙ ap (λ o. cond (is_same name fault_name) (Some (decimal result2.0)) o) (value-set pairs code_name (signed_decimal code.0) name)
+
+pub fault-value : (pairs : Pairs) (code : Code) (result2 : Result2) (name : Text) → is_same name fault_name ≡ true
+    → value_in (shown pairs code result2) name ≡ Some (decimal result2.0)
+fault-value pairs code result2 name e = value-shown pairs code result2 name ∙ simp e refl
+
+pub code-value : (pairs : Pairs) (code : Code) (result2 : Result2) (name : Text) → is_same name fault_name ≡ false → is_same name code_name ≡ true
+    → value_in (shown pairs code result2) name ≡ Some (signed_decimal code.0)
+code-value pairs code result2 name e f = value-shown pairs code result2 name ∙ simp (e, f) refl
+
+pub other-value : (pairs : Pairs) (code : Code) (result2 : Result2) (name : Text) → is_same name fault_name ≡ false → is_same name code_name ≡ false
+    → value_in (shown pairs code result2) name ≡ value_in pairs name
+other-value pairs code result2 name e f = value-shown pairs code result2 name ∙ simp (e, f) refl
+
+-- the variables of a shell at first
+pub first-pairs : (number : ℕ) (none vars new : Pairs) (name value text fault : Text) → none ≡ [] → name ≡ codes "Process" → value ≡ decimal number → vars ≡ set_pair none name value
+    → text ≡ [] → fault ≡ [] → new ≡ with_codes vars text fault → shown new OK NONE ≡ own_pairs number
+unfolding own_pairs set_pair
+first-pairs number none vars new name value text fault e f g put x y h =
+    ap (λ ps. shown ps OK NONE) h ∙ shown-over vars OK NONE text fault
+    ∙ ap (λ ps. shown ps OK NONE) (put ∙ ap (λ ps. set_pair ps name value) e ∙ ap (λ n. (n, value) ∷ []) f ∙ ap (λ v. (codes "Process", v) ∷ []) g)

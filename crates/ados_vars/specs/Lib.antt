@@ -1,0 +1,3 @@
+pub mod Global
+pub mod Locals
+pub mod Vars

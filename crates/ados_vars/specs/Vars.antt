@@ -1,0 +1,22 @@
+-- Variables and aliases: names with their values, in the order in which the names were first set.
+use Rattle.std.specs.Prelude.{List, [], ◌∷◌, Option, Some, None, if◌then◌else◌}
+use Rattle.ados_text.specs.Text.{Text, is_same}
+
+-- names and their values, in order
+abbrev pub Pairs : Type 0
+Pairs = List (Text × Text)
+
+-- a new name goes last; a name that is there keeps its place and its first spelling, and takes the value
+unfoldable pub set_pair : Pairs → Text → Text → Pairs
+set_pair [] name value = (name, value) ∷ []
+set_pair (p ∷ ps) name value = if is_same name p.0 then (p.0, value) ∷ ps else p ∷ set_pair ps name value
+
+-- the value of a name
+unfoldable pub value_in : Pairs → Text → Option Text
+value_in [] name = None
+value_in (p ∷ ps) name = if is_same name p.0 then Some p.1 else value_in ps name
+
+-- the pairs without that of a name; the others keep their order
+unfoldable pub without : Pairs → Text → Pairs
+without [] name = []
+without (p ∷ ps) name = if is_same name p.0 then ps else p ∷ without ps name

@@ -1,0 +1,49 @@
+// Global variables: each is a file of ENV:.
+ghost use Rattle.std.specs.Prelude.{◌≡◌, IfOk};
+ghost use Rattle.std.specs.Option.{option_copied};
+ghost use Rattle.ados_vars.specs.Global.{value_of, global_of};
+
+use ados_assign::{Assigns, ResolveFault};
+use ados_names::{NameFault, Path};
+use ados_ram::{Entry, Place, Ram};
+use ados_text::{NoMemory, Text, first_line};
+use std::alloc::Global;
+
+/// The value of a global variable: the first line of the file of its name in `ENV:`, where bit r of that is set. The
+/// file of an output that is open counts too.
+///
+/// `None` where no such file is there, or its name leads nowhere.
+#[tactic(auto, unfolding(crate::specs::Global::global_of))]
+pub fn global(
+    alloc: Global,
+    ram: &Ram,
+    assigns: &Assigns,
+    name: &Text,
+) -> Result<Option<Text>, NoMemory>
+    ensures { IfOk result (λ value. value ≡ global_of assigns.now ram.now name.now) }
+{
+    let mut text = Text::new(alloc);
+    text.push_bytes(b"ENV:")?;
+    text.push_bytes(name.as_bytes())?;
+    match Path::parse(alloc, &text) {
+        Err(NameFault::NoMemory) => Err(NoMemory),
+        Err(NameFault::Invalid) => Ok(None),
+        Ok(path) => match assigns.resolve(&path, &Place::root(alloc), ram) {
+            Err(ResolveFault::NoMemory) => Err(NoMemory),
+            Err(ResolveFault::Refused(_)) => Ok(None),
+            Ok(place) => value(alloc, ram.look(&place)),
+        },
+    }
+}
+
+// The value in what stands at a place.
+fn value(alloc: Global, entry: Option<&Entry>) -> Result<Option<Text>, NoMemory>
+    ensures { IfOk result (λ value. value ≡ value_of (option_copied entry.entry)) }
+{
+    match entry {
+        Some(entry) if !entry.is_directory() && entry.bits.read => {
+            Ok(Some(first_line(alloc, entry.bytes())?))
+        }
+        _ => Ok(None),
+    }
+}

@@ -1,0 +1,10 @@
+#![tactic(auto)]
+//! Variables and aliases, in the order of their first setting; a shell's own variables; global variables.
+
+mod globals;
+mod locals;
+mod vars;
+
+pub use globals::global;
+pub use locals::Locals;
+pub use vars::{Aliases, Vars};

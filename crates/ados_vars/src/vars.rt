@@ -1,0 +1,84 @@
+ghost use Rattle.std.specs.Prelude.{◌≡◌, [], None, IfOk, OnOk, OnErr};
+ghost use Rattle.std.specs.Option.{option_copied};
+ghost use Rattle.ados_vars.specs.Vars.{set_pair, value_in, without};
+
+use ados_text::{Name, NoMemory, Text};
+use indexmap::IndexMap;
+use indexmap::map::Slice;
+use std::alloc::Global;
+use std::marker::Model;
+
+/// Names with their values, in the order in which the names were first set. Case is ignored in names.
+#[derive(Clone)]
+pub struct Vars {
+    map: IndexMap<Name, Text>,
+}
+
+// Written out, so that for whoever drops a list it is one step, and not one for each of its parts.
+impl Drop for Vars {
+    fn drop(self) {
+        let Vars { map: _map } = self;
+    }
+}
+
+/// Aliases: words with the texts that stand for them.
+pub type Aliases = Vars;
+
+impl Model for Vars {
+    ghost use Rattle.ados_vars.specs.Vars.{Pairs};
+
+    ghost Value = { Pairs };
+
+    ghost view = { λ v. v.map.entries };
+}
+
+impl Vars {
+    /// No name.
+    pub fn new(alloc: Global) -> Vars
+        ensures { result ≡ [] }
+    {
+        Vars {
+            map: IndexMap::new(alloc),
+        }
+    }
+
+    /// Sets the value of a name. A new name goes last; one that is there keeps its place and its first spelling.
+    ///
+    /// `NoMemory` only for a new name; nothing is changed then.
+    pub fn set(&mut self, name: Name, value: Text) -> Result<(), NoMemory>
+        ensures ok { OnOk result (self.new ≡ set_pair self.old name value) }
+        ensures err { OnErr result (self.new ≡ self.old) }
+        ensures absent { OnErr result (value_in self.old name ≡ None) }
+    {
+        self.map.insert(name, value)?;
+        Ok(())
+    }
+
+    /// The value of a name. Takes no memory.
+    pub fn get(&self, name: &Name) -> Option<&Text>
+        ensures { option_copied result ≡ value_in self.now name.now }
+    {
+        self.map.get(name)
+    }
+
+    /// Takes a name away, where it is there; the others keep their order. Takes no memory.
+    pub fn unset(&mut self, name: &Name)
+        ensures { self.new ≡ without self.old name.now }
+    {
+        self.map.shift_remove(name);
+    }
+
+    /// The names with their values, in order. Takes no memory.
+    pub fn list(&self) -> Slice<'_, Name, Text>
+        ensures { result ≡ self.now }
+    {
+        self.map.as_slice()
+    }
+
+    /// An equal list.
+    pub fn copy(&self) -> Result<Vars, NoMemory>
+        ensures { IfOk result (λ vars. vars ≡ self.now) }
+    {
+        Ok(self.clone()?)
+    }
+}
