@@ -15,3 +15,9 @@ abbrev pub first_named : {C : Type 0} → (C → CommandEntry) → List ℕ → 
 first_named entry_of word [] = None
 first_named entry_of word (command ∷ commands) =
     if is_same word (entry_of command).name then Some command else first_named entry_of word commands
+
+-- the first of these that has this name, case ignored
+abbrev pub first_with_name : {C : Type 0} → (C → List ℕ) → List ℕ → List C → Option C
+first_with_name name_of name [] = None
+first_with_name name_of name (command ∷ commands) =
+    if is_same name (name_of command) then Some command else first_with_name name_of name commands

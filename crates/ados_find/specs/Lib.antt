@@ -8,3 +8,7 @@ pub mod Done
 pub mod Paths
 pub mod Targets
 pub mod Commands
+pub mod InternalCommands
+pub mod DiskCommands
+pub mod Programs
+pub mod Search

@@ -4,14 +4,16 @@ use Rattle.ados_ram.specs.Place.{key_of, last_name}
 use Rattle.ados_ram.specs.Files.{Files, first_files}
 use Rattle.ados_ram.specs.FileOperations.{rename_of}
 use Rattle.ados_assign.specs.Assigns.{AssignMap, first_assigns, carry_of}
+use Rattle.ados_find.specs.declared.disk_commands.TheConstants.DiskCommand.{ALL}
+use Rattle.ados_find.specs.Programs.{with_programs}
 
 pub record SharedState : Type 0 where
   pub files : Files
   pub assigns : AssignMap
 
--- the shared parts at first
-abbrev pub first_shared : SharedState
-first_shared = record { files = first_files; assigns = first_assigns }
+-- the shared parts at first: RAM:C holds the program of each disk command
+unfoldable pub first_shared : SharedState
+first_shared = record { files = with_programs first_files ALL; assigns = first_assigns }
 
 -- the shared parts behind a change: the new ones, where there are any
 abbrev pub version : SharedState → Option SharedState → SharedState

@@ -1,13 +1,17 @@
 #![tactic(auto)]
 //! What commands read and what they make: the parts that all shells share, the view of a shell, the work on arguments
-//! in order, and the outcome of a command.
+//! in order, and the outcome of a command; and what the word of a command stands for.
 
 mod changes;
 mod codes;
 mod commands;
+mod disk_commands;
+mod internal_commands;
 mod outcomes;
 mod paths;
+mod programs;
 mod refusals;
+mod search;
 mod shared;
 mod targets;
 mod views;
@@ -16,9 +20,12 @@ mod work;
 pub use changes::Change;
 pub use codes::Codes;
 pub use commands::CommandEntry;
+pub use disk_commands::DiskCommand;
+pub use internal_commands::InternalCommand;
 pub use outcomes::{Outcome, Renamed};
 pub use paths::place_of;
 pub use refusals::Refusal;
+pub use search::{Found, Program, find, find_file};
 pub use shared::Shared;
 pub use targets::{Target, target_of};
 pub use views::ShellView;

@@ -4,6 +4,8 @@ ghost use Rattle.ados_ram.specs.Place.{key_of};
 ghost use Rattle.ados_ram.specs.FileOperations.{Answers, rename_fault};
 ghost use Rattle.ados_assign.specs.Resolve.{resolved, Gives};
 
+use crate::disk_commands::DiskCommand;
+use crate::programs::with_programs;
 use ados_assign::{Assigns, ResolveFault};
 use ados_names::Path;
 use ados_ram::{Busy, FsFault, Place, Ram};
@@ -34,12 +36,13 @@ impl Model for Shared {
 impl Shared {
     ghost use Rattle.ados_find.specs.Shared.{first_shared, with_files, with_assigns, after_rename};
 
-    /// The files and the assigns at first.
+    /// The files and the assigns at first: RAM:C holds the program of each disk command.
+    #[tactic(auto, unfolding(crate::specs::Shared::first_shared))]
     pub fn first(alloc: Global) -> Result<Shared, NoMemory>
         ensures { IfOk result (λ shared. shared ≡ first_shared) }
     {
         Ok(Shared {
-            ram: Ram::new(alloc)?,
+            ram: with_programs(alloc, Ram::new(alloc)?, &DiskCommand::ALL)?,
             assigns: Assigns::first(alloc)?,
         })
     }

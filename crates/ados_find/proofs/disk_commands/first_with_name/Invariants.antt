@@ -1,0 +1,7 @@
+use Rattle.std.proofs.Common.{◌≡◌, drop}
+use Rattle.ados_find.specs.Commands.{first_with_name}
+use Rattle.ados_find.specs.DiskCommands.{name_of}
+use Rattle.ados_find.proofs.disk_commands.first_with_name.Given as goal
+
+abbrev pub invariant-loop-command : goal.invariant-loop-command
+invariant-loop-command l = first_with_name name_of l.name l.commands ≡ first_with_name name_of l.name (drop l.command-index l.commands)
