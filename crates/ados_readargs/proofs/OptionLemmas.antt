@@ -1,5 +1,5 @@
 -- what is known of options that no line changes
-use Rattle.std.proofs.Common.{zero, suc, ◌≡◌, ◌<◌, ◌+◌, ◌==◌, ◌∙◌, ℕ, List, [], ◌∷◌, Bool, true, false, Option, Some, None, ◌||◌, length, position, get_or, replicate, refl, ap, sym, arith}
+use Rattle.std.proofs.Common.{zero, suc, ◌≡◌, ◌<◌, ◌+◌, ◌==◌, ◌∙◌, ℕ, List, [], ◌∷◌, Bool, true, false, Option, Some, None, ◌||◌, ◌&&◌, not, if◌then◌else◌, length, drop, position, get_or, replicate, refl, ap, sym, arith}
 use Rattle.std.specs.Prelude.{IfSome}
 use Rattle.std.specs.List.{list_any, position_from}
 use Rattle.std.proofs.lemmas.Bool.{false_from_ne_true}
@@ -15,7 +15,9 @@ use Rattle.ados_readargs.specs.declared.options.TemplateOption.{TemplateOption}
 use Rattle.ados_readargs.specs.declared.args.Arg.{Arg}
 use Rattle.ados_readargs.specs.Options.{is_required, takes_number, unqualified}
 use Rattle.ados_readargs.specs.Checks.{lacks, has_bad}
-use Rattle.ados_readargs.specs.Shares.{is_middle, middle_of}
+use Rattle.ados_readargs.specs.Shares.{is_middle, middle_of, vacant_count}
+use Rattle.ados_readargs.specs.Readings.{is_vacant}
+use Rattle.ados_readargs.specs.declared.readings.Reading.{Reading}
 
 abbrev no_option : TemplateOption
 no_option = record { names = []; qualifiers = unqualified }
@@ -82,3 +84,23 @@ pub true-alone : (count size : ℕ) → get_or (replicate count true) size true 
 true-alone zero size = refl
 true-alone (suc count) zero = refl
 true-alone (suc count) (suc size) = true-alone count size
+
+not-counted : (vacant : Bool) → (if vacant && (not true || false) then 1 else 0) + 0 ≡ 0
+not-counted true = refl
+not-counted false = refl
+
+none-needed : (options : List TemplateOption) (given : List Reading) (place : ℕ) → list_any is_required options ≡ false → vacant_count true place options given ≡ 0
+none-needed [] given place e = refl
+none-needed (option ∷ options) given place e =
+    let first : option.qualifiers.required ≡ false = neither-left (is_required option) (list_any is_required options) e in
+    let rest = none-needed options given (place + 1) (neither-right (is_required option) (list_any is_required options) e) in
+    rw (first, rest) (not-counted (is_vacant place option.qualifiers given))
+
+none-behind : (options : List TemplateOption) (n : ℕ) → list_any is_required options ≡ false → list_any is_required (drop n options) ≡ false
+none-behind options zero e = e
+none-behind [] (suc n) e = refl
+none-behind (option ∷ options) (suc n) e = none-behind options n (neither-right (is_required option) (list_any is_required options) e)
+
+-- where no option has /A, none from a place on is needed
+pub none_needed : (options : List TemplateOption) (given : List Reading) (place : ℕ) → list_any is_required options ≡ false → vacant_count true place (drop place options) given ≡ 0
+none_needed options given place e = none-needed (drop place options) given place (none-behind options place e)

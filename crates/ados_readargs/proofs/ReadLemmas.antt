@@ -4,10 +4,9 @@ use Rattle.std.specs.List.{list_any, prefix_len}
 use Rattle.std.proofs.lemmas.Bool.Decides.{nat_tests}
 use Rattle.std.proofs.lemmas.List.{drop_all}
 use Rattle.ados_items.specs.Items.{is_blank, bytes_between, item_at}
-use Rattle.ados_items.specs.declared.items.Item.{Item}
 use Rattle.ados_items.specs.declared.items.Item.TheVariants as item
 use Rattle.ados_readargs.specs.Faults.{IsFaultOf}
-use Rattle.ados_readargs.specs.Meanings.{is_keyword, plain_meaning, word_meaning, meaning_of, read_from, read_end, read_behind}
+use Rattle.ados_readargs.specs.Meanings.{is_keyword, word_meaning, meaning_of, read_from, read_end, read_behind}
 use Rattle.ados_readargs.specs.Readings.{Readings}
 use Rattle.ados_readargs.specs.Options.{is_rest}
 use Rattle.ados_readargs.specs.Words.{item_of, run_end, word_of, words_from}
@@ -20,7 +19,6 @@ use Rattle.ados_readargs.specs.declared.options.TemplateOption.{TemplateOption}
 use Rattle.ados_readargs.specs.declared.words.LineWord.{LineWord}
 use Rattle.ados_readargs.specs.declared.words.LineWord.TheVariants.{Run}
 use Rattle.ados_readargs.specs.declared.readings.Reading.{Reading}
-use Rattle.ados_readargs.specs.declared.meanings.Pending.TheVariants.{Free}
 use Rattle.ados_readargs.specs.declared.meanings.Meaning.TheVariants.{Plain}
 use Rattle.ados_readargs.proofs.WordsLemmas.{words-step}
 

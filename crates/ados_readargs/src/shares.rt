@@ -55,15 +55,27 @@ fn front_share<'a>(options: &[TemplateOption], readings: &'a Readings, place: us
     }
 }
 
+// How many options from a place on are vacant and have /A. Most templates with /M have no /A.
+#[tactic(auto, using(crate::proofs::OptionLemmas::none_needed))]
+fn needed_count(options: &OptionList, given: &[Reading], from: usize) -> usize
+    ensures { result ≡ vacant_count true from (drop from options.now) given.now }
+{
+    if options.with_required() {
+        vacant_count(true, from, options.as_slice(), given)
+    } else {
+        0
+    }
+}
+
 // The plain words of the /M.
-fn middle_share<'a>(options: &[TemplateOption], readings: &'a Readings, middle: usize) -> &'a [Item]
+fn middle_share<'a>(options: &OptionList, readings: &'a Readings, middle: usize) -> &'a [Item]
     requires { middle < length options.now }
     ensures { result.now ≡ middle_share options.now readings.now middle }
 {
     let given = readings.given.as_slice();
     let plain = readings.plain.as_slice();
-    let front = front_count(options, given, middle);
-    let behind = vacant_count(true, middle + 1, options, given);
+    let front = front_count(options.as_slice(), given, middle);
+    let behind = needed_count(options, given, middle + 1);
     piece(
         plain,
         front,
@@ -106,7 +118,7 @@ pub fn share<'a>(options: &OptionList, readings: &'a Readings, place: usize) -> 
             if place < middle {
                 front_share(items, readings, place)
             } else if place == middle {
-                middle_share(items, readings, middle)
+                middle_share(options, readings, middle)
             } else {
                 back_share(items, readings, middle, place)
             }

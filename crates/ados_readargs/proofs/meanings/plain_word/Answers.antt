@@ -1,4 +1,4 @@
-use Rattle.std.proofs.Common.{rules, refl, ◌≡◌, ◌∙◌, ap, sym, true, false, None, position}
+use Rattle.std.proofs.Common.{rules, refl, ◌≡◌, ◌∙◌, sym, true, false, None, position}
 use Rattle.std.specs.List.{list_any}
 use Rattle.ados_items.specs.Items.{bytes_between}
 use Rattle.ados_readargs.specs.Meanings.{is_keyword}
