@@ -1,7 +1,10 @@
+pub mod AliasLemmas
 pub mod CommentLemmas
 pub mod CutLemmas
+pub mod ExpansionLemmas
 pub mod LetterLemmas
 pub mod PieceLemmas
 pub mod PlainLemmas
+pub mod SegmentLemmas
 pub mod UnmarkedLemmas
 pub mod ValueLemmas

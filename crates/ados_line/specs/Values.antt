@@ -1,6 +1,6 @@
 -- The variables of a line: it is a row of segments, and each is a character that stands for itself, or a reference that
 -- stands for a value. Values are not read again.
-use Rattle.std.specs.Prelude.{◌≡◌, ℕ, zero, suc, ◌+◌, ◌-◌, List, [], ◌∷◌, length, take, drop, slice_get, Bool, false, ◌==◌, ◌&&◌, ◌||◌, nat_lt, nat_le, Option, Some, None, if◌then◌else◌}
+use Rattle.std.specs.Prelude.{◌≡◌, ◌⊎◌, ℕ, zero, suc, ◌+◌, ◌-◌, List, [], ◌∷◌, ◌++◌, length, take, drop, slice_get, Bool, false, ◌==◌, ◌&&◌, ◌||◌, nat_lt, nat_le, Option, Some, None, if◌then◌else◌}
 use Rattle.std.specs.List.{flat_map, prefix_len}
 use Rattle.std.specs.Option.{option_or}
 use Rattle.ados_ram.specs.Files.{Files}
@@ -11,7 +11,7 @@ use Rattle.ados_line.specs.declared.scopes.Scope.{Scope}
 use Rattle.ados_line.specs.declared.letters.Letter.{Letter}
 use Rattle.ados_line.specs.declared.letters.Letter.TheVariants.{Plain, Starred}
 use Rattle.ados_line.specs.declared.references.Reference.{Reference}
-use Rattle.ados_line.specs.Letters.{spelled, bared}
+use Rattle.ados_line.specs.Letters.{singly, spelled, bared, letters_of}
 
 -- the values of variables, by their names
 abbrev pub Variables : Type 0
@@ -101,11 +101,25 @@ segments variables zero (l ∷ ls) =
 abbrev pub values : Variables → ℕ → List Letter → List ℕ
 values variables taken letters = flat_map meant (segments variables taken letters)
 
--- the segments are a row of characters, in order, and stand for a text
-pub record AreSegments (letters : List Letter) (result : List ℕ) (row : List Segment) : Type 0 where
-  pub covers : flat_map covered row ≡ letters
-  pub means : flat_map meant row ≡ result
+-- the characters behind the `$` of a reference to a name: the name, or the name in braces
+abbrev pub IsReference : List Letter → List ℕ → Type 0
+IsReference letters name = (letters ≡ singly name) ⊎ (letters ≡ Plain 123 ∷ (singly name ++ Plain 125 ∷ []))
 
--- a text is a row of characters with values put in: each segment is a character that stands for itself, or a reference
-abbrev pub IsInSegments : List Letter → List ℕ → Type 0
-IsInSegments letters result = (row : List Segment) × AreSegments letters result row
+-- a segment is a character for itself, or a reference for the value of its name
+abbrev pub IsSegment : Variables → Segment → Type 0
+IsSegment variables (Literal letter) = Unit {0}
+IsSegment variables (Value letters value) = (name : List ℕ) × IsReference letters name × (variables name ≡ Some value)
+
+abbrev pub AreSegments : Variables → List Segment → Type 0
+AreSegments variables [] = Unit {0}
+AreSegments variables (segment ∷ row) = IsSegment variables segment × AreSegments variables row
+
+-- a row of segments is a line's characters, in order, and stands for a text
+pub record Stands (variables : Variables) (line text : List ℕ) (row : List Segment) : Type 0 where
+  pub covers : flat_map covered row ≡ letters_of line
+  pub known : AreSegments variables row
+  pub means : flat_map meant row ≡ text
+
+-- a text is a line with its variables put in: its segments joined, each a character of the line or one value
+abbrev pub IsInSegments : Variables → List ℕ → List ℕ → Type 0
+IsInSegments variables line text = (row : List Segment) × Stands variables line text row

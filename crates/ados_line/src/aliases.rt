@@ -10,7 +10,7 @@ use ados_vars::Aliases;
 use std::alloc::Global;
 
 /// A line whose first word names an alias, with the alias's text in its place; `None` where it names none.
-#[tactic(auto, using(ados_text::proofs::TextLemmas::parts))]
+#[tactic(auto, using(ados_text::proofs::TextLemmas::parts, crate::proofs::AliasLemmas::no_aliases))]
 pub fn replace_alias(
     alloc: Global,
     aliases: &Aliases,
@@ -19,6 +19,9 @@ pub fn replace_alias(
     requires { IsText line.now }
     ensures { IfOk result (λ replaced. unwrap_or replaced line.now ≡ with_alias aliases.now line.now) }
 {
+    if aliases.list().is_empty() {
+        return Ok(None);
+    }
     let item = next_item(line, 0);
     let Item::Word { from, to } = item else {
         return Ok(None);

@@ -267,8 +267,8 @@ fn cut_items(alloc: Global, line: &[u8]) -> Result<Cut, LineFault>
     Ok(read)
 }
 
-// The bytes of a line from one place up to another; none where the places are the other way round.
-fn piece(line: &[u8], from: usize, to: usize) -> &[u8]
+/// The bytes of a line from one place up to another; none where the places are the other way round.
+pub fn piece(line: &[u8], from: usize, to: usize) -> &[u8]
     requires { IsText line.now }
     ensures value { result.now ≡ bytes_between line.now from to }
     ensures ascii { IsText result.now }

@@ -1,8 +1,10 @@
 ghost use Rattle.std.specs.Prelude.{◌≡◌, ◌++◌, ℕ, List, true, false, IfOk, OnOk};
-ghost use Rattle.ados_items.specs.Items.{item_at, bytes_between};
+ghost use Rattle.ados_text.specs.Text.{IsText};
+ghost use Rattle.ados_items.specs.Items.{item_at};
 ghost use Rattle.ados_line.specs.declared.letters.Letter.{Letter};
 ghost use Rattle.ados_line.specs.Letters.{singly, paired, letters_behind, letters_of, behind};
 
+use crate::cuts::piece;
 use ados_items::{Item, next_item};
 use ados_text::NoMemory;
 use std::alloc::Global;
@@ -18,6 +20,7 @@ pub enum Letter {
 
 /// The characters of a line: inside quotes a star and the byte behind it are one, anything else is a byte on its own.
 pub fn read_letters(alloc: Global, line: &[u8]) -> Result<Vec<Letter>, NoMemory>
+    requires { IsText line.now }
     ensures { IfOk result (λ letters. letters.items ≡ letters_of line.now) }
 {
     let mut letters = Vec::with_capacity(alloc, line.len())?;
@@ -37,6 +40,7 @@ fn push_item(
     line: &[u8],
     place: usize,
 ) -> Result<Option<usize>, NoMemory>
+    requires { IsText line.now }
     ensures { (next : ℕ → List Letter) →
         IfOk result (λ to. letters.old.items ++ letters_behind next line.now place (item_at true line.now place) ≡ letters.new.items ++ behind next to) }
 {
@@ -96,12 +100,4 @@ fn push_paired(letters: &mut Vec<Letter>, bytes: &[u8]) -> Result<(), NoMemory>
         letters.push(Letter::Plain(b'*'))?;
     }
     Ok(())
-}
-
-// The bytes of a line from one place up to another; none where the places are the other way round.
-fn piece(line: &[u8], from: usize, to: usize) -> &[u8]
-    ensures { result.now ≡ bytes_between line.now from to }
-{
-    let to = to.min(line.len());
-    if from >= to { &[] } else { &line[from..to] }
 }

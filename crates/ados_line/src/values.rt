@@ -1,6 +1,6 @@
 ghost use Rattle.std.specs.Prelude.{◌≡◌, ◌++◌, IfOk};
 ghost use Rattle.ados_line.specs.Answers.{limited, Gives};
-ghost use Rattle.ados_line.specs.Values.{variables_in, first_segment, further, meant, values, IsInSegments};
+ghost use Rattle.ados_line.specs.Values.{variables_in, first_segment, further, meant, values};
 
 use crate::faults::LineFault;
 use crate::letters::Letter;
@@ -11,8 +11,7 @@ use ados_text::{LINE_BYTES, NoMemory, Text};
 
 /// What the characters stand for, with the values of their variables.
 pub fn put_values(scope: &Scope, letters: &[Letter]) -> Result<Text, LineFault>
-    ensures value { Gives result (limited (values (variables_in scope.now) 0 letters.now)) }
-    ensures segments { IfOk result (IsInSegments letters.now) }
+    ensures { Gives result (limited (values (variables_in scope.now) 0 letters.now)) }
 {
     let mut text = Text::new(scope.alloc);
     let mut taken = 0;

@@ -2,7 +2,7 @@ use Rattle.std.proofs.Common.{arith, ◌+◌}
 use Rattle.std.proofs.lemmas.List.{take_rest}
 use Rattle.ados_line.specs.declared.letters.Letter.TheVariants.{Plain}
 use Rattle.ados_line.specs.Values.{variables_in}
-use Rattle.ados_line.proofs.ValueLemmas.{taken-one, segment-put, all-put, put-in-segments}
+use Rattle.ados_line.proofs.ValueLemmas.{taken-one, segment-put, all-put}
 use Rattle.ados_line.proofs.values.put_values.Goals as goal
 use Rattle.ados_line.proofs.values.put_values.Goals.{then-taken-gt0, else-taken-gt0+in_ok-taken}
 
@@ -21,12 +21,7 @@ loop-place-preserved c =
       short = grind (arith, c.if-as_bytes-gt-LINE_BYTES.false, c.as_bytes.ensures.value);
     }
 
-pub returns-clause-value : goal.returns-clause-value
-returns-clause-value c =
+pub returns : goal.returns
+returns c =
     let v = variables_in c.args.scope.now in
     all-put v _ _ _ _ _ c.loop-place-test.false c.loop-place.invariant.short c.loop-place.invariant.text
-
-pub returns-clause-segments : goal.returns-clause-segments
-returns-clause-segments c =
-    let v = variables_in c.args.scope.now in
-    put-in-segments v _ _ _ _ c.loop-place-test.false c.loop-place.invariant.text
