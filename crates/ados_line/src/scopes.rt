@@ -16,9 +16,9 @@ pub struct Scope<'a> {
     pub aliases: &'a Aliases,
     /// The shell's own variables.
     pub locals: &'a Locals,
-    /// By them the global variables are found,
+    /// The assigns, by which global variables are found.
     pub assigns: &'a Assigns,
-    /// which are files.
+    /// The files, of which each global variable is one.
     pub ram: &'a Ram,
 }
 
