@@ -1,34 +1,45 @@
--- The commands of this crate: the table of their names and templates.
-use Rattle.std.specs.Prelude.{ℕ, List, [], Bool, false, Option, codes}
-use Rattle.ados_find.specs.Commands.{CommandEntry, entry, first_named}
+-- The commands of this crate: the text of each one's template.
+use Rattle.std.specs.Prelude.{[], Bool, true, false, codes}
+use Rattle.ados_text.specs.Text.{Text}
 use Rattle.ados_env.specs.declared.commands.Command.{Command}
-use Rattle.ados_env.specs.declared.commands.Command.TheVariants.{Assign, Cd, Echo, Eval, FailAt, Fault, Why}
-use Rattle.ados_env.specs.declared.commands.TheConstants.Command.{ALL}
-
--- the table
-abbrev pub entry_of : Command → CommandEntry
-entry_of Assign = entry (codes "Assign") (codes "NAME,TARGET,EXISTS/S")
-entry_of Cd = entry (codes "CD") (codes "DIR")
-entry_of Echo = entry (codes "Echo") (codes "/M,NOLINE/S")
-entry_of Eval = entry (codes "Eval") (codes "VALUE1/A,OP,VALUE2")
-entry_of FailAt = entry (codes "FailAt") (codes "RCLIM/N")
-entry_of Fault = entry (codes "Fault") (codes "/N/M")
-entry_of Why = entry (codes "Why") []
-
--- the command of a word, case ignored
-abbrev pub command_of : List ℕ → Option Command
-command_of word = first_named entry_of word ALL
+use Rattle.ados_env.specs.declared.commands.Command.TheVariants.{Alias, Assign, Cd, Echo, Eval, FailAt, Fault, Get, GetEnv, Path, Set, SetEnv, Unalias, Unset, UnsetEnv, Which, Why}
 
 -- the text of a command's template
-abbrev pub template_of_command : Command → List ℕ
-template_of_command command = (entry_of command).template
+abbrev pub template_of_command : Command → Text
+template_of_command Alias = codes "NAME,STRING/F"
+template_of_command Assign = codes "NAME,TARGET,EXISTS/S"
+template_of_command Cd = codes "DIR"
+template_of_command Echo = codes "/M,NOLINE/S"
+template_of_command Eval = codes "VALUE1/A,OP,VALUE2"
+template_of_command FailAt = codes "RCLIM/N"
+template_of_command Fault = codes "/N/M"
+template_of_command Get = codes "NAME/A"
+template_of_command GetEnv = codes "NAME/A"
+template_of_command Path = codes "PATH/M,ADD/S,SHOW/S,RESET/S,REMOVE/S"
+template_of_command Set = codes "NAME,STRING/F"
+template_of_command SetEnv = codes "NAME,STRING/F"
+template_of_command Unalias = codes "NAME/A"
+template_of_command Unset = codes "NAME/A"
+template_of_command UnsetEnv = codes "NAME/A"
+template_of_command Which = codes "FILE/A"
+template_of_command Why = []
 
--- whether a command's row reads what is in use: those that print and set do not
+-- whether a command's row reads what is in use: those that change files do
 abbrev pub reads_in_use : Command → Bool
+reads_in_use Alias = false
 reads_in_use Assign = false
 reads_in_use Cd = false
 reads_in_use Echo = false
 reads_in_use Eval = false
 reads_in_use FailAt = false
 reads_in_use Fault = false
+reads_in_use Get = false
+reads_in_use GetEnv = false
+reads_in_use Path = false
+reads_in_use Set = false
+reads_in_use SetEnv = true
+reads_in_use Unalias = false
+reads_in_use Unset = false
+reads_in_use UnsetEnv = true
+reads_in_use Which = false
 reads_in_use Why = false

@@ -9,4 +9,10 @@ pub mod Eval
 pub mod FailAt
 pub mod Fault
 pub mod Why
+pub mod Pairs
+pub mod Variables
+pub mod Aliases
+pub mod Globals
+pub mod Path
+pub mod Which
 pub mod Rows

@@ -1,11 +1,9 @@
 ghost use Rattle.std.specs.Prelude.{◌≡◌};
 
-use ados_find::CommandEntry;
-use ados_text::Text;
-
 /// The commands of this crate.
 #[derive(Clone, Copy)]
 pub enum Command {
+    Alias,
     Assign,
     /// CD.
     Cd,
@@ -13,61 +11,49 @@ pub enum Command {
     Eval,
     FailAt,
     Fault,
+    Get,
+    GetEnv,
+    Path,
+    Set,
+    SetEnv,
+    Unalias,
+    Unset,
+    UnsetEnv,
+    Which,
     Why,
 }
 
 impl Command {
-    ghost use Rattle.ados_env.specs.Commands.{command_of, entry_of, reads_in_use, template_of_command};
+    ghost use Rattle.ados_env.specs.Commands.{reads_in_use, template_of_command};
     ghost use Rattle.std.specs.Prelude.{List, false};
     ghost use Rattle.ados_readargs.specs.declared.args.Arg.{Arg};
     ghost use Rattle.ados_find.specs.Shared.{SharedState};
     ghost use Rattle.ados_find.specs.Views.{IgnoresInUse};
     ghost use Rattle.ados_env.specs.Rows.{row_of};
 
-    /// All commands of this crate.
-    pub const ALL: [Command; 7] = [
-        Command::Assign,
-        Command::Cd,
-        Command::Echo,
-        Command::Eval,
-        Command::FailAt,
-        Command::Fault,
-        Command::Why,
-    ];
-
-    // The table of commands.
-    fn entry(self) -> CommandEntry
-        ensures name { result.name.now ≡ (entry_of self).name }
-        ensures template { result.template.now ≡ (entry_of self).template }
-    {
-        match self {
-            Command::Assign => CommandEntry::new("Assign", "NAME,TARGET,EXISTS/S"),
-            Command::Cd => CommandEntry::new("CD", "DIR"),
-            Command::Echo => CommandEntry::new("Echo", "/M,NOLINE/S"),
-            Command::Eval => CommandEntry::new("Eval", "VALUE1/A,OP,VALUE2"),
-            Command::FailAt => CommandEntry::new("FailAt", "RCLIM/N"),
-            Command::Fault => CommandEntry::new("Fault", "/N/M"),
-            Command::Why => CommandEntry::new("Why", ""),
-        }
-    }
-
-    /// The command of this name; case is ignored.
-    pub fn named(word: &Text) -> Option<Command>
-        ensures { result ≡ command_of word.now }
-    {
-        for command in &Command::ALL {
-            if word.is(command.entry().name) {
-                return Some(*command);
-            }
-        }
-        None
-    }
-
     /// The text of its template.
     pub fn template(self) -> &'static str
         ensures { result.now ≡ template_of_command self }
     {
-        self.entry().template
+        match self {
+            Command::Alias => "NAME,STRING/F",
+            Command::Assign => "NAME,TARGET,EXISTS/S",
+            Command::Cd => "DIR",
+            Command::Echo => "/M,NOLINE/S",
+            Command::Eval => "VALUE1/A,OP,VALUE2",
+            Command::FailAt => "RCLIM/N",
+            Command::Fault => "/N/M",
+            Command::Get => "NAME/A",
+            Command::GetEnv => "NAME/A",
+            Command::Path => "PATH/M,ADD/S,SHOW/S,RESET/S,REMOVE/S",
+            Command::Set => "NAME,STRING/F",
+            Command::SetEnv => "NAME,STRING/F",
+            Command::Unalias => "NAME/A",
+            Command::Unset => "NAME/A",
+            Command::UnsetEnv => "NAME/A",
+            Command::Which => "FILE/A",
+            Command::Why => "",
+        }
     }
 
     /// Whether its row reads what is in use.
@@ -77,12 +63,21 @@ impl Command {
         ensures ignores { result ≡ false → (shared : SharedState) (args : List Arg) → IgnoresInUse (λ view. row_of self shared view args) }
     {
         match self {
-            Command::Assign
+            Command::SetEnv | Command::UnsetEnv => true,
+            Command::Alias
+            | Command::Assign
             | Command::Cd
             | Command::Echo
             | Command::Eval
             | Command::FailAt
             | Command::Fault
+            | Command::Get
+            | Command::GetEnv
+            | Command::Path
+            | Command::Set
+            | Command::Unalias
+            | Command::Unset
+            | Command::Which
             | Command::Why => false,
         }
     }

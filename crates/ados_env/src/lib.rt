@@ -1,6 +1,8 @@
 #![tactic(auto)]
-//! The commands that print and set: Assign, CD, Echo, Eval, FailAt, Fault and Why.
+//! The commands that print and set: Assign, CD, Echo, Eval, FailAt, Fault and Why, those of variables and aliases, Path
+//! and Which.
 
+mod aliases;
 mod assign;
 mod assign_names;
 mod cd;
@@ -10,8 +12,13 @@ mod echo;
 mod eval;
 mod fail_at;
 mod fault;
+mod globals;
 mod operators;
+mod pairs;
+mod path;
 mod rows;
+mod variables;
+mod which;
 mod why;
 
 pub use commands::Command;

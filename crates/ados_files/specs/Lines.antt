@@ -1,7 +1,7 @@
 -- Lines of a listing.
-use Rattle.std.specs.Prelude.{ℕ, ◌-◌, Bool, true, false, not, ◌||◌, List, [], ◌∷◌, ◌++◌, Option, codes, decimal, length}
-use Rattle.std.proofs.Math.ListN.{replicate}
+use Rattle.std.specs.Prelude.{ℕ, Bool, true, false, not, ◌||◌, List, [], ◌∷◌, ◌++◌, Option, codes, decimal, length}
 use Rattle.std.specs.FinMap as map
+use Rattle.ados_text.specs.Columns.{left_in, right_in}
 use Rattle.ados_ram.specs.Place.{key_of}
 use Rattle.ados_ram.specs.Files.{Files}
 use Rattle.ados_ram.specs.declared.entries.Bits.{Bits}
@@ -22,13 +22,6 @@ keeps own other = own || not other
 abbrev pub lines_by : (Option Entry → List ℕ) → Files → List (List (List ℕ)) → List ℕ
 lines_by line files [] = []
 lines_by line files (place ∷ places) = line (map.get files (key_of place)) ++ lines_by line files places
-
--- a text left in so many places, and right
-abbrev pub left_in : ℕ → List ℕ → List ℕ
-left_in width text = text ++ replicate (width - length text) 32
-
-abbrev pub right_in : ℕ → List ℕ → List ℕ
-right_in width text = replicate (width - length text) 32 ++ text
 
 -- the letter of a bit that is set, and else `-`
 abbrev pub letter : Bool → ℕ → ℕ

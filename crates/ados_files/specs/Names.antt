@@ -2,7 +2,6 @@
 use Rattle.std.specs.Prelude.{ℕ, List, [], ◌∷◌, ◌++◌, take, drop, Bool, true, false, cond, Option, Some, None, Result, Ok, Err}
 use Rattle.std.specs.FinMap as map
 use Rattle.ados_text.specs.declared.codes.Result2.{Result2}
-use Rattle.ados_text.specs.declared.codes.TheConstants.Code.{WARN}
 use Rattle.ados_text.specs.declared.codes.TheConstants.Result2.{LINE_TOO_LONG, DIRECTORY_NOT_FOUND, OBJECT_NOT_FOUND, INVALID_NAME, WRONG_TYPE, NO_FREE_STORE}
 use Rattle.ados_pattern.specs.Form.{Form}
 use Rattle.ados_pattern.specs.Meaning.{Meaning, meaning_of}
@@ -16,14 +15,10 @@ use Rattle.ados_ram.specs.Files.{Files}
 use Rattle.ados_ram.specs.Contents.{children}
 use Rattle.ados_ram.specs.declared.entries.Entry.{Entry}
 use Rattle.ados_find.specs.declared.codes.Codes.{Codes}
-use Rattle.ados_find.specs.Codes.{erred}
+use Rattle.ados_find.specs.Codes.{erred, warned}
 use Rattle.ados_find.specs.Shared.{SharedState}
 use Rattle.ados_find.specs.Paths.{place_of}
 use Rattle.ados_pattern.specs.Matching.{is_match}
-
--- a warning, by a fault
-abbrev pub warned : Result2 → Codes
-warned fault = record { code = WARN; result2 = fault }
 
 -- what a text that is no pattern answers
 abbrev pub pattern_codes : PatternFault → Codes

@@ -1,13 +1,13 @@
 // Lines of a listing.
-ghost use Rattle.std.specs.Prelude.{◌≡◌, ℕ, List, Option, ◌++◌, ◌∷◌, [], ◌-◌, OnOk};
-ghost use Rattle.std.proofs.Math.ListN.{replicate};
+ghost use Rattle.std.specs.Prelude.{◌≡◌, ℕ, List, Option, ◌++◌, ◌∷◌, [], OnOk};
 ghost use Rattle.std.specs.Option.{option_copied};
+ghost use Rattle.ados_text.specs.Columns.{right_in};
 ghost use Rattle.ados_ram.specs.Written.{full_path};
 ghost use Rattle.ados_ram.specs.declared.entries.Entry.{Entry};
-ghost use Rattle.ados_files.specs.Lines.{say, keeps, lines_by, left_in, right_in, letter, bits_text, size_text, comment_line, list_line};
+ghost use Rattle.ados_files.specs.Lines.{say, keeps, lines_by, letter, bits_text, size_text, comment_line, list_line};
 
 use ados_ram::{Bits, Body, Entry, Place, Ram};
-use ados_text::NoMemory;
+use ados_text::{NoMemory, push_left, push_right};
 use itoa::Buffer;
 
 /// Puts out a text between two others.
@@ -83,30 +83,6 @@ pub fn push_line(output: &mut Vec<u8>, entry: &Entry) -> Result<(), NoMemory>
     push_size(output, &entry.body)?;
     push_bits(output, entry.bits)?;
     push_comment(output, entry.comment.as_bytes())
-}
-
-fn push_left(output: &mut Vec<u8>, width: usize, text: &[u8]) -> Result<(), NoMemory>
-    ensures { OnOk result (output.new.items ≡ output.old.items ++ left_in width text.now) }
-{
-    output.extend_from_slice(text)?;
-    push_blanks(output, width, text.len())
-}
-
-fn push_right(output: &mut Vec<u8>, width: usize, text: &[u8]) -> Result<(), NoMemory>
-    ensures { OnOk result (output.new.items ≡ output.old.items ++ right_in width text.now) }
-{
-    push_blanks(output, width, text.len())?;
-    output.extend_from_slice(text)?;
-    Ok(())
-}
-
-fn push_blanks(output: &mut Vec<u8>, width: usize, taken: usize) -> Result<(), NoMemory>
-    ensures { OnOk result (output.new.items ≡ output.old.items ++ replicate (width - taken) 32) }
-{
-    for _ in 0..width.saturating_sub(taken) {
-        output.push(b' ')?;
-    }
-    Ok(())
 }
 
 fn push_size(output: &mut Vec<u8>, body: &Body) -> Result<(), NoMemory>

@@ -9,7 +9,7 @@ use ados_find::{Codes, Refusal, Shared, place_of};
 use ados_names::last_piece;
 use ados_pattern::{Pattern, PatternFault};
 use ados_ram::{Entry, Place, Ram};
-use ados_text::{Code, NoMemory, Result2, Text};
+use ados_text::{NoMemory, Result2, Text};
 use std::alloc::Global;
 use std::marker::Model;
 
@@ -216,10 +216,7 @@ fn some_matches(places: Vec<Place>) -> Result<Found, Refusal>
     ensures { Gives result (some_matches places.items) }
 {
     if places.is_empty() {
-        return Err(Refusal::Stopped(Codes {
-            code: Code::WARN,
-            result2: Result2::OBJECT_NOT_FOUND,
-        }));
+        return Err(Refusal::Stopped(Codes::warned(Result2::OBJECT_NOT_FOUND)));
     }
     Ok(Found::several(places))
 }

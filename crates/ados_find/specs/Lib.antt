@@ -1,5 +1,7 @@
 pub mod Codes
 pub mod Shared
+pub mod SearchPath
+pub mod Settings
 pub mod Parts
 pub mod Changes
 pub mod Views

@@ -11,13 +11,9 @@ pub record SharedState : Type 0 where
   pub files : Files
   pub assigns : AssignMap
 
--- the shared parts at first
+-- the shared parts at first: the program of each disk command is in RAM:C, where the search finds it
 abbrev pub first_shared : SharedState
-first_shared = record { files = first_files; assigns = first_assigns }
-
--- the same with the program of each disk command in RAM:C, where the search finds it
-abbrev pub with_all_programs : SharedState → SharedState
-with_all_programs shared = record shared { files = with_programs shared.files ALL }
+first_shared = record { files = with_programs first_files ALL; assigns = first_assigns }
 
 -- the shared parts behind a change: the new ones, where there are any
 abbrev pub version : SharedState → Option SharedState → SharedState

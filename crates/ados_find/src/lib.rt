@@ -4,7 +4,6 @@
 
 mod changes;
 mod codes;
-mod commands;
 mod disk_commands;
 mod internal_commands;
 mod outcomes;
@@ -12,6 +11,8 @@ mod paths;
 mod programs;
 mod refusals;
 mod search;
+mod search_path;
+mod settings;
 mod shared;
 mod targets;
 mod views;
@@ -19,13 +20,14 @@ mod work;
 
 pub use changes::Change;
 pub use codes::Codes;
-pub use commands::CommandEntry;
 pub use disk_commands::DiskCommand;
 pub use internal_commands::InternalCommand;
 pub use outcomes::{Outcome, Renamed};
 pub use paths::place_of;
 pub use refusals::Refusal;
 pub use search::{Found, Program, find, find_file};
+pub use search_path::SearchPath;
+pub use settings::{Setting, Settings};
 pub use shared::Shared;
 pub use targets::{Target, target_of};
 pub use views::ShellView;

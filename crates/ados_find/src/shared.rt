@@ -34,25 +34,16 @@ impl Model for Shared {
 }
 
 impl Shared {
-    ghost use Rattle.ados_find.specs.Shared.{first_shared, with_all_programs, with_files, with_assigns, after_rename};
+    ghost use Rattle.ados_find.specs.Shared.{first_shared, with_files, with_assigns, after_rename};
 
-    /// The files and the assigns at first.
+    /// The files and the assigns at first. The program of each disk command is in RAM:C, where the search finds it.
     pub fn first(alloc: Global) -> Result<Shared, NoMemory>
         ensures { IfOk result (λ shared. shared ≡ first_shared) }
     {
         Ok(Shared {
-            ram: Ram::new(alloc)?,
+            ram: with_programs(alloc, Ram::new(alloc)?, &DiskCommand::ALL)?,
             assigns: Assigns::first(alloc)?,
         })
-    }
-
-    /// The same with the program of each disk command in RAM:C, where the search finds it.
-    pub fn with_all_programs(self, alloc: Global) -> Result<Shared, NoMemory>
-        ensures { IfOk result (λ shared. shared ≡ with_all_programs self) }
-    {
-        let Shared { ram, assigns } = self;
-        let ram = with_programs(alloc, ram, &DiskCommand::ALL)?;
-        Ok(Shared { ram, assigns })
     }
 
     /// The place to which a path leads from a current directory. The last step is not looked at: there may be nothing

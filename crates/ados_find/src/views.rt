@@ -1,4 +1,5 @@
 use crate::codes::Codes;
+use crate::settings::Settings;
 use ados_ram::{Busy, Place};
 use ados_text::Code;
 use std::marker::Model;
@@ -12,6 +13,8 @@ pub struct ShellView<'a> {
     pub limit: Code,
     /// What its last command answered.
     pub codes: Codes,
+    /// What is set in it.
+    pub settings: &'a Settings,
     /// What is in use: the current directories of all shells, the directories of assigns, and open outputs. It is
     /// empty for commands that only print and set: they read nothing of it.
     pub busy: Busy,
@@ -22,5 +25,5 @@ impl<'a> Model for ShellView<'a> {
 
     ghost Value = { View };
 
-    ghost view = { λ v. record { parts = record { directory = v.directory.now; limit = v.limit; codes = v.codes }; busy = v.busy } };
+    ghost view = { λ v. record { parts = record { directory = v.directory.now; limit = v.limit; codes = v.codes; settings = v.settings.now }; busy = v.busy } };
 }

@@ -7,6 +7,7 @@ use Rattle.ados_ram.specs.Files.{Files}
 use Rattle.ados_assign.specs.Assigns.{AssignMap}
 use Rattle.ados_vars.specs.Vars.{Pairs, value_in}
 use Rattle.ados_vars.specs.Global.{global_of}
+use Rattle.ados_vars.specs.Locals.{shown}
 use Rattle.ados_line.specs.declared.scopes.Scope.{Scope}
 use Rattle.ados_line.specs.declared.letters.Letter.{Letter}
 use Rattle.ados_line.specs.declared.letters.Letter.TheVariants.{Plain, Starred}
@@ -17,12 +18,12 @@ use Rattle.ados_line.specs.Letters.{singly, spelled, bared, letters_of}
 abbrev pub Variables : Type 0
 Variables = List ℕ → Option (List ℕ)
 
--- a local variable, or else a global one
+-- a local variable, of which these are seen, or else a global one
 abbrev pub variables_of : Pairs → AssignMap → Files → Variables
 variables_of locals assigns files name = option_or (value_in locals name) (global_of assigns files name)
 
 abbrev pub variables_in : Scope → Variables
-variables_in scope = variables_of scope.locals.now scope.assigns.now scope.ram.now
+variables_in scope = variables_of (shown scope.locals.now scope.code scope.result2) scope.assigns.now scope.ram.now
 
 -- a digit, a letter or `_`
 abbrev pub is_name_byte : ℕ → Bool

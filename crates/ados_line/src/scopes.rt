@@ -3,7 +3,7 @@ ghost use Rattle.ados_line.specs.Values.{variables_in};
 
 use ados_assign::Assigns;
 use ados_ram::Ram;
-use ados_text::{Name, NoMemory, Text};
+use ados_text::{Code, Name, NoMemory, Result2, Text};
 use ados_vars::{Aliases, Locals, global};
 use std::alloc::Global;
 
@@ -16,6 +16,10 @@ pub struct Scope<'a> {
     pub aliases: &'a Aliases,
     /// The shell's own variables.
     pub locals: &'a Locals,
+    /// The code that its last command answered, which RC shows.
+    pub code: Code,
+    /// The Result2 that its last command answered, which Result2 shows.
+    pub result2: Result2,
     /// The assigns, by which global variables are found.
     pub assigns: &'a Assigns,
     /// The files, of which each global variable is one.
@@ -28,7 +32,7 @@ impl<'a> Scope<'a> {
         ensures { IfOk result (λ value. value ≡ variables_in self.now name) }
     {
         let name = Name::new(name);
-        match self.locals.get(&name)? {
+        match self.locals.get(&name, self.code, self.result2)? {
             Some(value) => Ok(Some(value)),
             None => global(self.alloc, self.ram, self.assigns, name.text()),
         }

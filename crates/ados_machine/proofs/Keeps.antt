@@ -6,19 +6,22 @@ use Rattle.ados_line.specs.declared.faults.LineFault.{LineFault}
 use Rattle.ados_line.specs.declared.lines.Line.{Line}
 use Rattle.ados_line.specs.declared.lines.Expanded.{Expanded}
 use Rattle.ados_line.specs.declared.lines.Expanded.TheVariants.{Nothing, Ready}
-use Rattle.ados_line.specs.Cut.{expanded_of}
+use Rattle.ados_line.specs.Expansion.{expanded_in}
+use Rattle.ados_ram.specs.Place.{Place}
+use Rattle.ados_find.specs.declared.search.Found.{Found}
+use Rattle.ados_find.specs.declared.search.Found.TheVariants as found
 use Rattle.ados_find.specs.declared.targets.Target.{Target}
 use Rattle.ados_flow.specs.Actions.{Action}
 use Rattle.ados_flow.specs.Actions as flow
 use Rattle.ados_machine.specs.declared.builtins.Builtin.{Builtin}
 use Rattle.ados_machine.specs.declared.phases.Asking.{Asking}
-use Rattle.ados_machine.specs.Commands.{builtin_of}
+use Rattle.ados_machine.specs.Commands.{internal_builtin, disk_builtin}
 use Rattle.ados_find.specs.Parts.{Parts}
 use Rattle.ados_machine.specs.Course.{Course, printing}
 use Rattle.ados_machine.specs.Opening.{Opened, opening}
 use Rattle.ados_machine.specs.Prompts.{with_args, asks, prompt, input_line}
 use Rattle.ados_machine.specs.Deeds.{Here, Deed, Passes, Answers, Calls, Waits}
-use Rattle.ados_machine.specs.Lines.{action_in, action_deed, opened_deed, command_deed, prompt_deed, input_deed, found_deed, expanded_deed, line_deed, answer_deed}
+use Rattle.ados_machine.specs.Lines.{action_in, action_deed, opened_deed, command_deed, prompt_deed, input_deed, builtin_deed, arriving_deed, directory_deed, found_in, found_deed, expanded_deed, variables_in, line_deed, answer_deed}
 
 -- where no command answers, these parts stand on
 abbrev pub KeepsParts : Parts → Deed → Type 0
@@ -58,19 +61,36 @@ input-keeps builtin line here course (Ok args) =
       | inr e ↦ rw e (command-keeps builtin line here course)
     ]
 
-found-keeps : (builtin : Option Builtin) (line : Line) (here : Here) (course : Course) →
-    KeepsParts course.parts (found_deed builtin line here course)
-found-keeps None line here course = tt
-found-keeps (Some builtin) line here course = input-keeps builtin line here course (input_line course line.input)
+builtin-keeps : (builtin : Builtin) (line : Line) (here : Here) (course : Course) →
+    KeepsParts course.parts (builtin_deed builtin line here course)
+builtin-keeps builtin line here course = input-keeps builtin line here course (input_line course line.input)
+
+arriving-keeps : (place : Place) (line : Line) (here : Here) (course : Course) (opened : Result Opened Result2) →
+    KeepsParts course.parts (arriving_deed place line here course opened)
+arriving-keeps place line here course (Err fault) = tt
+arriving-keeps place line here course (Ok opened) = tt
+
+directory-keeps : (place : Place) (line : Line) (here : Here) (course : Course) (read : Result (Option (List ℕ)) Result2) →
+    KeepsParts course.parts (directory_deed place line here course read)
+directory-keeps place line here course (Err fault) = tt
+directory-keeps place line here course (Ok answer) = arriving-keeps place line here course (opening course line.output)
+
+found-keeps : (word : Found) (line : Line) (here : Here) (course : Course) → KeepsParts course.parts (found_deed word line here course)
+found-keeps (found.Internal command) line here course = builtin-keeps (internal_builtin command) line here course
+found-keeps (found.File program) line here course = builtin-keeps (disk_builtin program.command) line here course
+found-keeps (found.Script place) line here course = tt
+found-keeps (found.Directory place) line here course = directory-keeps place line here course (input_line course line.input)
+found-keeps (found.NotExecutable fault) line here course = tt
+found-keeps found.Unknown line here course = tt
 
 expanded-keeps : (expanded : Result Expanded LineFault) (here : Here) (course : Course) →
     KeepsParts course.parts (expanded_deed expanded here course)
 expanded-keeps (Err fault) here course = tt
 expanded-keeps (Ok Nothing) here course = refl
-expanded-keeps (Ok (Ready line)) here course = found-keeps (builtin_of line.command) line here course
+expanded-keeps (Ok (Ready line)) here course = found-keeps (found_in course line.command) line here course
 
 pub line-keeps : (raw : List ℕ) (here : Here) (course : Course) → KeepsParts course.parts (line_deed raw here course)
-line-keeps raw here course = expanded-keeps (expanded_of raw) here course
+line-keeps raw here course = expanded-keeps (expanded_in course.parts.settings.aliases (variables_in course) raw) here course
 
 pub answer-keeps : (raw : List ℕ) (asking : Asking) (here : Here) (course : Course) →
     KeepsParts course.parts (answer_deed raw asking here course)

@@ -1,5 +1,5 @@
--- What each command does with its arguments.
-use Rattle.std.specs.Prelude.{ℕ, List, Bool, true, Option, Some, None, Result, Ok, Err}
+-- The commands: which one a name's command is, and what each does with its arguments.
+use Rattle.std.specs.Prelude.{ℕ, List, Bool, true, Result, Ok, Err}
 use Rattle.ados_text.specs.declared.codes.Result2.{Result2}
 use Rattle.ados_text.specs.declared.errors.NoMemory.{NoMemory}
 use Rattle.ados_text.specs.declared.codes.TheConstants.Result2.{NO_FREE_STORE}
@@ -7,50 +7,76 @@ use Rattle.ados_readargs.specs.declared.args.Arg.{Arg}
 use Rattle.ados_readargs.specs.declared.errors.ArgFault.{ArgFault}
 use Rattle.ados_readargs.specs.Faults.{result2_of}
 use Rattle.ados_readargs.specs.Fill.{fill_of}
+use Rattle.ados_find.specs.declared.disk_commands.DiskCommand.{DiskCommand}
+use Rattle.ados_find.specs.declared.disk_commands.DiskCommand.TheVariants as disk
+use Rattle.ados_find.specs.declared.internal_commands.InternalCommand.{InternalCommand}
+use Rattle.ados_find.specs.declared.internal_commands.InternalCommand.TheVariants as internal
 use Rattle.ados_find.specs.Codes.{failed}
 use Rattle.ados_find.specs.Shared.{SharedState}
 use Rattle.ados_find.specs.Views.{View}
 use Rattle.ados_find.specs.Effects.{answering}
 use Rattle.ados_files.specs.declared.commands.Command.{Command as FileCommand}
-use Rattle.ados_files.specs.Commands as files
+use Rattle.ados_files.specs.declared.commands.Command.TheVariants as files
+use Rattle.ados_files.specs.Commands.{template_of_command as file_template}
 use Rattle.ados_files.specs.Rows.{row_of as file_row_of}
 use Rattle.ados_env.specs.declared.commands.Command.{Command}
-use Rattle.ados_env.specs.Commands as env
+use Rattle.ados_env.specs.declared.commands.Command.TheVariants as env
+use Rattle.ados_env.specs.Commands.{template_of_command as env_template, reads_in_use as env_reads_in_use}
 use Rattle.ados_env.specs.Rows.{row_of as env_row_of}
 use Rattle.ados_flow.specs.declared.commands.Command.{Command as FlowCommand}
-use Rattle.ados_flow.specs.Commands as flow
+use Rattle.ados_flow.specs.declared.commands.Command.TheVariants as flow
+use Rattle.ados_flow.specs.Commands.{template_of_command as flow_template, reads_in_use as flow_reads_in_use}
 use Rattle.ados_flow.specs.Actions.{Action, Does}
 use Rattle.ados_flow.specs.Rows.{row_of as flow_row_of}
 use Rattle.ados_machine.specs.declared.builtins.Builtin.{Builtin}
 use Rattle.ados_machine.specs.declared.builtins.Builtin.TheVariants.{Env, Files, Flow}
 
-abbrev pub flow_builtin : Option FlowCommand → Option Builtin
-flow_builtin (Some command) = Some (Flow command)
-flow_builtin None = None
+-- which command an internal command is
+abbrev pub internal_builtin : InternalCommand → Builtin
+internal_builtin internal.Alias = Env env.Alias
+internal_builtin internal.Cd = Env env.Cd
+internal_builtin internal.Echo = Env env.Echo
+internal_builtin internal.FailAt = Env env.FailAt
+internal_builtin internal.Fault = Env env.Fault
+internal_builtin internal.Get = Env env.Get
+internal_builtin internal.GetEnv = Env env.GetEnv
+internal_builtin internal.Path = Env env.Path
+internal_builtin internal.Quit = Flow flow.Quit
+internal_builtin internal.Set = Env env.Set
+internal_builtin internal.SetEnv = Env env.SetEnv
+internal_builtin internal.Unalias = Env env.Unalias
+internal_builtin internal.Unset = Env env.Unset
+internal_builtin internal.UnsetEnv = Env env.UnsetEnv
+internal_builtin internal.Why = Env env.Why
 
-abbrev pub file_builtin : List ℕ → Option FileCommand → Option Builtin
-file_builtin word (Some command) = Some (Files command)
-file_builtin word None = flow_builtin (flow.command_of word)
-
-abbrev pub builtin_by : List ℕ → Option Command → Option Builtin
-builtin_by word (Some command) = Some (Env command)
-builtin_by word None = file_builtin word (files.command_of word)
-
--- the command of a word, case ignored
-abbrev pub builtin_of : List ℕ → Option Builtin
-builtin_of word = builtin_by word (env.command_of word)
+-- and which one a disk command is
+abbrev pub disk_builtin : DiskCommand → Builtin
+disk_builtin disk.Assign = Env env.Assign
+disk_builtin disk.Copy = Files files.Copy
+disk_builtin disk.Delete = Files files.Delete
+disk_builtin disk.Dir = Files files.Dir
+disk_builtin disk.Eval = Env env.Eval
+disk_builtin disk.Execute = Flow flow.Execute
+disk_builtin disk.Filenote = Files files.Filenote
+disk_builtin disk.Join = Files files.Join
+disk_builtin disk.List = Files files.List
+disk_builtin disk.MakeDir = Files files.MakeDir
+disk_builtin disk.Protect = Files files.Protect
+disk_builtin disk.Rename = Files files.Rename
+disk_builtin disk.«Type» = Files files.«Type»
+disk_builtin disk.Which = Env env.Which
 
 -- the template of a command's arguments
 abbrev pub template_of : Builtin → List ℕ
-template_of (Env command) = env.template_of_command command
-template_of (Files command) = files.template_of_command command
-template_of (Flow command) = flow.template_of_command command
+template_of (Env command) = env_template command
+template_of (Files command) = file_template command
+template_of (Flow command) = flow_template command
 
 -- whether what a command does reads what is in use
 abbrev pub reads_in_use : Builtin → Bool
-reads_in_use (Env command) = env.reads_in_use command
+reads_in_use (Env command) = env_reads_in_use command
 reads_in_use (Files command) = true
-reads_in_use (Flow command) = flow.reads_in_use command
+reads_in_use (Flow command) = flow_reads_in_use command
 
 -- what a command does with its arguments; `simple` says that it stands in no script and its output is not redirected
 abbrev pub row_of : Builtin → Bool → SharedState → View → List Arg → Action

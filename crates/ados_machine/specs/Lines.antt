@@ -1,18 +1,28 @@
 -- What a line of a shell comes to.
 use Rattle.std.specs.Prelude.{ℕ, List, Bool, false, true, not, ◌&&◌, if◌then◌else◌, Option, Some, None, Result, Ok, Err}
 use Rattle.ados_text.specs.declared.codes.Result2.{Result2}
-use Rattle.ados_text.specs.declared.codes.TheConstants.Result2.{OBJECT_NOT_FOUND}
+use Rattle.ados_text.specs.Text.{Text}
+use Rattle.ados_text.specs.declared.codes.TheConstants.Result2.{TOO_MANY_ARGUMENTS, OBJECT_NOT_FOUND, NOT_IMPLEMENTED}
+use Rattle.ados_items.specs.Items.{item_at}
 use Rattle.ados_line.specs.declared.faults.LineFault.{LineFault}
 use Rattle.ados_line.specs.Faults.{result2_of}
 use Rattle.ados_line.specs.declared.lines.Line.{Line}
 use Rattle.ados_line.specs.declared.lines.Expanded.{Expanded}
 use Rattle.ados_line.specs.declared.lines.Expanded.TheVariants.{Nothing, Ready}
-use Rattle.ados_line.specs.Cut.{expanded_of}
+use Rattle.ados_line.specs.Expansion.{expanded_in}
+use Rattle.ados_line.specs.Values.{Variables, variables_of}
 use Rattle.ados_ram.specs.InUse.{InUse}
+use Rattle.ados_ram.specs.Place.{Place}
 use Rattle.ados_assign.specs.InUse.{busy_of}
 use Rattle.ados_find.specs.Changes.{changed}
-use Rattle.ados_find.specs.Codes.{erred}
-use Rattle.ados_find.specs.Effects.{Effect}
+use Rattle.ados_find.specs.Codes.{erred, failed}
+use Rattle.ados_find.specs.Effects.{Effect, answering, changing}
+use Rattle.ados_find.specs.declared.changes.Change.TheVariants.{Directory}
+use Rattle.ados_find.specs.declared.search.Found.{Found}
+use Rattle.ados_find.specs.declared.search.Found.TheVariants as found
+use Rattle.ados_find.specs.Search.{found_of}
+use Rattle.ados_find.specs.Shared.{SharedState}
+use Rattle.ados_find.specs.Parts.{locals_of}
 use Rattle.ados_find.specs.Views.{View}
 use Rattle.ados_machine.specs.declared.builtins.Builtin.{Builtin}
 use Rattle.ados_machine.specs.declared.phases.Asking.{Asking}
@@ -20,11 +30,11 @@ use Rattle.ados_machine.specs.declared.phases.Wait.TheVariants.{ForAnswer}
 use Rattle.ados_find.specs.declared.targets.Target.{Target}
 use Rattle.ados_flow.specs.Actions.{Action}
 use Rattle.ados_flow.specs.Actions as flow
-use Rattle.ados_machine.specs.Commands.{builtin_of, action_of}
+use Rattle.ados_machine.specs.Commands.{internal_builtin, disk_builtin, action_of}
 use Rattle.ados_machine.specs.Sinks.{sink_or}
 use Rattle.ados_machine.specs.Course.{Course, printing, directories_of, outputs_of, Put, put}
 use Rattle.ados_machine.specs.Opening.{Opened, opening}
-use Rattle.ados_machine.specs.Prompts.{with_args, asks, prompt, input_line}
+use Rattle.ados_machine.specs.Prompts.{with_args, asks, is_end, prompt, input_line}
 use Rattle.ados_machine.specs.Deeds.{Here, Deed, Passes, Answers, Calls, Waits, refused, line_fault}
 
 -- what is in use: what the shells that run keep, and the directories of assigns
@@ -87,20 +97,55 @@ input_deed builtin line here course (Err fault) = refused line.command fault cou
 input_deed builtin line here course (Ok args) =
     if asks line.args then prompt_deed builtin line here course args else command_deed builtin line here course
 
--- what the search found for the line's command; what is not known reads and opens nothing
-abbrev pub found_deed : Option Builtin → Line → Here → Course → Deed
-found_deed None line here course = Answers line.command (erred OBJECT_NOT_FOUND) false course
-found_deed (Some builtin) line here course = input_deed builtin line here course (input_line course line.input)
+-- a command whose input, if it has one, is read
+abbrev pub builtin_deed : Builtin → Line → Here → Course → Deed
+builtin_deed builtin line here course = input_deed builtin line here course (input_line course line.input)
+
+-- the change to a directory takes no arguments
+abbrev pub arrival : SharedState → Place → Text → Effect
+arrival shared place args =
+    if is_end (item_at true args 0) then changing shared (Directory place) else answering shared (failed TOO_MANY_ARGUMENTS)
+
+-- the change to a directory, where the output of its line leads there
+abbrev pub arrived_deed : Place → Line → Option Target → Here → Course → Deed
+arrived_deed place line target here course =
+    action_deed line.command target (flow.Does (arrival course.shared place line.args)) here course
+
+abbrev pub arriving_deed : Place → Line → Here → Course → Result Opened Result2 → Deed
+arriving_deed place line here course (Err fault) = refused line.command fault course
+arriving_deed place line here course (Ok opened) = arrived_deed place line opened.target here (record course { shared = opened.shared })
+
+-- a line whose word leads to a directory: its input is read and its output is opened, and it changes to the directory
+abbrev pub directory_deed : Place → Line → Here → Course → Result (Option (List ℕ)) Result2 → Deed
+directory_deed place line here course (Err fault) = refused line.command fault course
+directory_deed place line here course (Ok answer) = arriving_deed place line here course (opening course line.output)
+
+-- what the search found for the line's command; what is not known, or can't be run, reads and opens nothing
+abbrev pub found_deed : Found → Line → Here → Course → Deed
+found_deed (found.Internal command) line here course = builtin_deed (internal_builtin command) line here course
+found_deed (found.File program) line here course = builtin_deed (disk_builtin program.command) line here course
+found_deed (found.Script place) line here course = refused line.command NOT_IMPLEMENTED course
+found_deed (found.Directory place) line here course = directory_deed place line here course (input_line course line.input)
+found_deed (found.NotExecutable fault) line here course = Answers line.command (erred fault) false course
+found_deed found.Unknown line here course = Answers line.command (erred OBJECT_NOT_FOUND) false course
+
+-- what a word stands for
+abbrev pub found_in : Course → Text → Found
+found_in course word = found_of course.shared course.parts.directory course.parts.settings.path word
 
 -- what an expanded line comes to
 abbrev pub expanded_deed : Result Expanded LineFault → Here → Course → Deed
 expanded_deed (Err fault) here course = line_fault (result2_of fault) course
 expanded_deed (Ok Nothing) here course = Passes course
-expanded_deed (Ok (Ready line)) here course = found_deed (builtin_of line.command) line here course
+expanded_deed (Ok (Ready line)) here course = found_deed (found_in course line.command) line here course
+
+-- the variables to which a line refers: the shell's own, and the global ones
+abbrev pub variables_in : Course → Variables
+variables_in course = variables_of (locals_of course.parts) course.shared.assigns course.shared.files
 
 -- what a raw line comes to
 abbrev pub line_deed : List ℕ → Here → Course → Deed
-line_deed raw here course = expanded_deed (expanded_of raw) here course
+line_deed raw here course = expanded_deed (expanded_in course.parts.settings.aliases (variables_in course) raw) here course
 
 -- what the answer to a prompt comes to: it stands for the arguments as it is
 abbrev pub answer_deed : List ℕ → Asking → Here → Course → Deed

@@ -2,6 +2,7 @@
 use Rattle.std.specs.Prelude.{ℕ, List, []}
 use Rattle.ados_find.specs.Codes.{went_well}
 use Rattle.ados_find.specs.Parts.{Parts}
+use Rattle.ados_find.specs.Settings.{first_settings}
 use Rattle.ados_machine.specs.declared.phases.Phase.{Phase}
 use Rattle.ados_machine.specs.declared.phases.Phase.TheVariants.{Ready}
 use Rattle.ados_flow.specs.Frames.{FrameState, first_limit}
@@ -13,13 +14,13 @@ pub record ShellState : Type 0 where
   pub phase : Phase
   pub parts : Parts
 
--- a shell begins with these parts, in a directory
-abbrev pub fresh_parts : List (List ℕ) → Parts
-fresh_parts directory = record { directory = directory; limit = first_limit; codes = went_well }
+-- the shell of a number begins with these parts, in a directory
+abbrev pub fresh_parts : ℕ → List (List ℕ) → Parts
+fresh_parts number directory = record { directory = directory; limit = first_limit; codes = went_well; settings = first_settings number }
 
--- the first shell begins in the root
-abbrev pub fresh_shell : ShellState
-fresh_shell = record { frames = []; phase = Ready; parts = fresh_parts [] }
+-- a shell of a number begins in the root
+abbrev pub fresh_shell : ℕ → ShellState
+fresh_shell number = record { frames = []; phase = Ready; parts = fresh_parts number [] }
 
 -- what others see of a shell: its current directory and its open outputs
 pub record Seen : Type 0 where

@@ -29,7 +29,7 @@ pub record WorldState : Type 0 where
 -- a world begins with shell 1 alone, and the first files
 abbrev pub fresh_world : WorldState
 fresh_world = record {
-  shells = Some fresh_shell ∷ replicate 19 None;
+  shells = Some (fresh_shell 1) ∷ replicate 19 None;
   ended = replicate 20 went_well;
   queue = [];
   input_ended = false;

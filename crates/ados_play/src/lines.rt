@@ -21,7 +21,7 @@ pub enum Line {
 #[derive(Clone, Copy)]
 pub enum View {
     Shells,
-    /// A shell's current directory and its fail limit.
+    /// A shell's current directory, its fail limit, and what is set in it.
     Shell(u8),
     Codes(u8),
     Ready(u8),

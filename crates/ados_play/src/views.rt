@@ -6,6 +6,7 @@ use crate::texts::{push_all, push_count, push_lines};
 use ados_assign::Assign;
 use ados_ram::{Bits, Entry, Place, Ram};
 use ados_text::{NoMemory, push_number};
+use ados_vars::Vars;
 use ados_world::{Codes, Request, World};
 
 /// Adds what the world shows.
@@ -49,6 +50,28 @@ fn push_shell(text: &mut Vec<u8>, world: &World, number: u8) -> Result<(), NoMem
     push_all(text, &[b"= ", path.as_bytes(), b" "])?;
     push_number(text, shell.limit().0)?;
     text.push(b'\n')?;
+    let codes = shell.codes();
+    let settings = shell.settings();
+    let locals = settings.locals.list(codes.code, codes.result2)?;
+    push_pairs(text, b"= variable ", &locals)?;
+    push_pairs(text, b"= alias ", &settings.aliases)?;
+    push_path(text, settings.path.entries())
+}
+
+// Adds a line of each name with its value, behind these words.
+fn push_pairs(text: &mut Vec<u8>, words: &[u8], pairs: &Vars) -> Result<(), NoMemory> {
+    for (name, value) in pairs.list() {
+        let name = name.text().as_bytes();
+        push_all(text, &[words, name, b" ", value.as_bytes(), b"\n"])?;
+    }
+    Ok(())
+}
+
+fn push_path(text: &mut Vec<u8>, path: &[Place]) -> Result<(), NoMemory> {
+    let alloc = *text.allocator();
+    for place in path {
+        push_all(text, &[b"= path ", place.path(alloc)?.as_bytes(), b"\n"])?;
+    }
     Ok(())
 }
 

@@ -31,6 +31,10 @@ abbrev pub slashed : Place → Text
 slashed [] = []
 slashed (name ∷ rest) = name ++ slash_before rest ++ slashed rest
 
--- the full path of a place
+-- a place as a path, with its names as they are spelled
+abbrev pub spelled_path : Place → Text
+spelled_path place = codes "RAM:" ++ slashed place
+
+-- the full path of a place, with its names as they are written in the files
 abbrev pub full_path : Files → Place → Text
-full_path m place = codes "RAM:" ++ slashed (written_place m place)
+full_path m place = spelled_path (written_place m place)

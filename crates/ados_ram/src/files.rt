@@ -21,7 +21,7 @@ use crate::refusals::{
     rename_refusal, write_refusal,
 };
 use crate::table::{Table, bytes_at};
-use crate::written::{push_names, written_below};
+use crate::written::written_below;
 use ados_text::{Name, NoMemory, Result2, Text};
 use std::alloc::Global;
 use std::marker::Model;
@@ -279,9 +279,7 @@ impl Ram {
     pub fn full_path(&self, place: &Place) -> Result<Text, NoMemory>
         ensures { IfOk result (λ path. path ≡ full_path self.now place.now) }
     {
-        let mut path = Text::from_bytes(self.alloc, b"RAM:")?;
-        push_names(&mut path, self.written(place)?.names())?;
-        Ok(path)
+        self.written(place)?.path(self.alloc)
     }
 
     /// The same version once more; all of it is shared.

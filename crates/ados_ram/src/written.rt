@@ -1,12 +1,13 @@
 // Places as they are written in the files.
 ghost use Rattle.std.specs.Prelude.{◌≡◌, ◌++◌, IfOk, OnOk};
 ghost use Rattle.std.specs.Option.{option_copied};
-ghost use Rattle.ados_ram.specs.Written.{spelled, written_below, slash_before, slashed};
+ghost use Rattle.ados_ram.specs.Written.{spelled, written_below, slash_before, slashed, spelled_path};
 
 use crate::entries::Entry;
 use crate::files::Ram;
 use crate::places::Place;
 use ados_text::{Name, NoMemory, Text};
+use std::alloc::Global;
 
 /// A place with the names behind it that lead down from another, as they are written in the files.
 pub fn written_below(
@@ -35,8 +36,19 @@ fn spelled(entry: Option<&Entry>, name: &Name) -> Result<Name, NoMemory>
     }
 }
 
-/// Adds names to a text, with a slash between each two.
-pub fn push_names(text: &mut Text, names: &[Name]) -> Result<(), NoMemory>
+impl Place {
+    /// The place as a path, as `RAM:a/b`, with its names as they are spelled.
+    pub fn path(&self, alloc: Global) -> Result<Text, NoMemory>
+        ensures { IfOk result (λ path. path ≡ spelled_path self.now) }
+    {
+        let mut path = Text::from_bytes(alloc, b"RAM:")?;
+        push_names(&mut path, self.names())?;
+        Ok(path)
+    }
+}
+
+// Adds names to a text, with a slash between each two.
+fn push_names(text: &mut Text, names: &[Name]) -> Result<(), NoMemory>
     ensures { OnOk result (text.new ≡ text.old ++ slashed names.now) }
 {
     let Some((name, rest)) = names.split_first() else {

@@ -12,12 +12,22 @@ use Rattle.ados_machine.specs.declared.builtins.TheConstants.Builtin.{ALL}
 use Rattle.ados_machine.specs.Commands.{template_of}
 
 pub ascii : (builtin : Builtin) → map to_ascii (template_of builtin) ≡ template_of builtin
+ascii (Env env.Alias) = refl
 ascii (Env env.Assign) = refl
 ascii (Env env.Cd) = refl
 ascii (Env env.Echo) = refl
 ascii (Env env.Eval) = refl
 ascii (Env env.FailAt) = refl
 ascii (Env env.Fault) = refl
+ascii (Env env.Get) = refl
+ascii (Env env.GetEnv) = refl
+ascii (Env env.Path) = refl
+ascii (Env env.Set) = refl
+ascii (Env env.SetEnv) = refl
+ascii (Env env.Unalias) = refl
+ascii (Env env.Unset) = refl
+ascii (Env env.UnsetEnv) = refl
+ascii (Env env.Which) = refl
 ascii (Env env.Why) = refl
 ascii (Files files.Copy) = refl
 ascii (Files files.Delete) = refl
@@ -33,12 +43,22 @@ ascii (Flow flow.Execute) = refl
 ascii (Flow flow.Quit) = refl
 
 pub are_templates : (builtin : Builtin) → IsTemplate (template_of builtin)
+are_templates (Env env.Alias) = refl
 are_templates (Env env.Assign) = refl
 are_templates (Env env.Cd) = refl
 are_templates (Env env.Echo) = refl
 are_templates (Env env.Eval) = refl
 are_templates (Env env.FailAt) = refl
 are_templates (Env env.Fault) = refl
+are_templates (Env env.Get) = refl
+are_templates (Env env.GetEnv) = refl
+are_templates (Env env.Path) = refl
+are_templates (Env env.Set) = refl
+are_templates (Env env.SetEnv) = refl
+are_templates (Env env.Unalias) = refl
+are_templates (Env env.Unset) = refl
+are_templates (Env env.UnsetEnv) = refl
+are_templates (Env env.Which) = refl
 are_templates (Env env.Why) = refl
 are_templates (Files files.Copy) = refl
 are_templates (Files files.Delete) = refl

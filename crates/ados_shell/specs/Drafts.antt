@@ -1,9 +1,12 @@
 -- What a turn has changed so far, by the machine's definitions.
-use Rattle.std.specs.Prelude.{◌≡◌, ℕ, [], ◌∷◌, ◌++◌, List, Option, None, option_map, unwrap_or}
+use Rattle.std.specs.Prelude.{◌≡◌, ℕ, [], ◌∷◌, ◌++◌, List, Option, Some, None, option_map, unwrap_or}
 use Rattle.ados_text.specs.declared.codes.Code.{Code}
 use Rattle.ados_find.specs.declared.changes.Change.{Change}
 use Rattle.ados_find.specs.declared.codes.Codes.{Codes}
+use Rattle.ados_find.specs.declared.settings.Setting.{Setting}
+use Rattle.ados_find.specs.declared.settings.Settings.{Settings}
 use Rattle.ados_find.specs.Changes.{changed}
+use Rattle.ados_find.specs.Settings.{with_setting}
 use Rattle.ados_find.specs.declared.outcomes.Renamed.{Renamed}
 use Rattle.ados_find.specs.Shared.{SharedState, version}
 use Rattle.ados_machine.specs.declared.outs.Out.{Out}
@@ -28,6 +31,11 @@ use Rattle.ados_shell.specs.Stacks.{frames_in}
 abbrev pub phase_in : ShellDraft → Phase
 phase_in draft = phase_of (option_map (λ w. w.value) draft.waits)
 
+-- what is set behind a change, if there was one
+abbrev pub set_by : Option Setting → Settings → Settings
+set_by None settings = settings
+set_by (Some setting) settings = with_setting setting settings
+
 -- the shell behind what a turn makes of it
 abbrev pub behind : ShellDraft → ShellState → ShellState
 behind draft shell = record {
@@ -37,6 +45,7 @@ behind draft shell = record {
     directory = unwrap_or draft.directory shell.parts.directory;
     limit = draft.limit;
     codes = draft.codes;
+    settings = set_by draft.setting shell.parts.settings;
   };
 }
 
@@ -68,19 +77,26 @@ start_of scene = record {
 -- what a turn holds that the code rule does not change
 pub record Held : Type 0 where
   pub directory : Option (List (List ℕ))
+  pub setting : Option Setting
   pub shared : Option SharedState
   pub renamed : Option Renamed
 
 abbrev pub held_of : Draft → Held
 held_of draft = record {
   directory = draft.shell.directory;
+  setting = draft.shell.setting;
   shared = draft.shared;
   renamed = option_map (λ r. r.value) draft.renamed;
 }
 
 abbrev pub course_by : Scene → Held → Code → Codes → List ℕ → Course
 course_by scene held limit codes printed = record {
-  parts = record { directory = unwrap_or held.directory scene.shell.now.parts.directory; limit = limit; codes = codes };
+  parts = record {
+    directory = unwrap_or held.directory scene.shell.now.parts.directory;
+    limit = limit;
+    codes = codes;
+    settings = set_by held.setting scene.shell.now.parts.settings;
+  };
   shared = version scene.shared.now held.shared;
   seen = seen_in scene.shells.now;
   printed = printed;
@@ -91,10 +107,15 @@ course_by scene held limit codes printed = record {
 abbrev pub course_of : Scene → Draft → Course
 course_of scene draft = course_by scene (held_of draft) draft.shell.limit draft.shell.codes draft.printed.items
 
+-- nothing is set yet: a command changes what is set once at most
+abbrev pub IsUnset : Draft → Type 0
+IsUnset draft = draft.shell.setting ≡ None
+
 -- nothing is changed yet of a shell
 pub record IsUnchanged (shell : ShellState) (draft : ShellDraft) : Type 0 where
   pub frames_are : frames_in shell draft.frames ≡ shell.frames
   pub parts_are : (behind draft shell).parts ≡ shell.parts
+  pub setting_is : draft.setting ≡ None
 
 pub record IsFresh (shell : ShellState) (draft : Draft) : Type 0 where
   pub shell_is : IsUnchanged shell draft.shell

@@ -23,6 +23,7 @@ impl Shell {
             directory: self.directory.carried(&moved.from, &moved.to)?,
             limit: self.limit,
             codes: self.codes,
+            settings: self.settings.copy(alloc)?,
         })
     }
 }

@@ -1,12 +1,12 @@
 // What a turn has changed so far, ready to be moved in.
-ghost use Rattle.std.specs.Prelude.{◌≡◌, [], OnErr, OnOk, option_map};
+ghost use Rattle.std.specs.Prelude.{◌≡◌, [], None, OnErr, OnOk, option_map};
 ghost use Rattle.ados_find.specs.Shared.{version};
 ghost use Rattle.ados_machine.specs.Step.{giving};
 
 use crate::scenes::Scene;
 use crate::shells::Shell;
 use crate::stacks::Stack;
-use ados_find::{Change, Codes, Renamed, Shared, ShellView};
+use ados_find::{Change, Codes, Renamed, Setting, Shared, ShellView};
 use ados_flow::FIRST_LIMIT;
 use ados_machine::{EndReport, Out, Wait};
 use ados_ram::{Busy, Place};
@@ -43,6 +43,8 @@ pub struct ShellDraft {
     pub codes: Codes,
     /// The current directory, where it is a new one.
     pub directory: Option<Place>,
+    /// What the command set in the shell, if it set something.
+    pub setting: Option<Setting>,
 }
 
 // Written out, so that for whoever drops a draft it is one step, and not one for each of its parts.
@@ -67,12 +69,13 @@ impl Drop for ShellDraft {
             limit: _limit,
             codes: _codes,
             directory: _directory,
+            setting: _setting,
         } = self;
     }
 }
 
 impl Draft {
-    ghost use Rattle.ados_shell.specs.Drafts.{HoldsEffect, IsFresh, out_of, parts_of};
+    ghost use Rattle.ados_shell.specs.Drafts.{HoldsEffect, IsFresh, IsUnset, out_of, parts_of};
 
     /// A draft in which nothing is changed yet.
     pub fn new(alloc: Global) -> Draft
@@ -85,6 +88,7 @@ impl Draft {
                 limit: FIRST_LIMIT,
                 codes: Codes::NONE,
                 directory: None,
+                setting: None,
             },
             shared: None,
             renamed: None,
@@ -153,6 +157,7 @@ impl Draft {
         shared: Option<Shared>,
         renamed: Option<Box<Renamed>>,
     )
+        requires { IsUnset self.old }
         ensures { HoldsEffect self.old self.new (option_map (λ c. c.value) change) shared (option_map (λ r. r.value) renamed) }
     {
         if let Some(change) = change {
@@ -180,16 +185,19 @@ impl ShellDraft {
         self.limit = shell.limit;
         self.codes = shell.codes;
         self.directory = None;
+        self.setting = None;
     }
 
     /// What commands read of the shell as it stands; this is in use.
     pub fn view<'b>(&'b self, shell: &'b Shell, busy: Busy) -> ShellView<'b>
+        requires { self.now.setting ≡ None }
         ensures { result ≡ seen (behind self.now shell.now).parts busy }
     {
         ShellView {
             directory: self.directory(shell),
             limit: self.limit,
             codes: self.codes,
+            settings: shell.settings(),
             busy,
         }
     }
@@ -206,6 +214,7 @@ impl ShellDraft {
 
     /// A command changed one of the shell's parts.
     fn change(&mut self, change: Change)
+        requires { self.old.setting ≡ None }
         ensures parts { (shell : ShellState) → (behind self.new shell).parts ≡ changed_by change (behind self.old shell).parts }
         ensures frames { self.new.frames ≡ self.old.frames }
         ensures waits { self.new.waits ≡ self.old.waits }
@@ -213,18 +222,22 @@ impl ShellDraft {
         match change {
             Change::Limit(limit) => self.limit = limit,
             Change::Directory(directory) => self.directory = Some(directory),
+            Change::Set(setting) => self.setting = Some(setting),
         }
     }
 
     /// Moves in what a turn makes of its shell.
     ///
-    /// `NoMemory` where there is no room for the frames; the shell is then as it was.
+    /// `NoMemory` where there is no room for the frames or for a new name; the shell is then as it was.
     pub fn move_in(&mut self, shell: &mut Shell) -> Result<(), NoMemory>
         ensures ok { OnOk result (shell.new ≡ behind self.old shell.old) }
         ensures err { OnErr result (shell.new ≡ shell.old) }
     {
         let Stack { kept, own } = &mut self.frames;
         shell.frames.reserve(own.len())?;
+        if let Some(setting) = self.setting.take() {
+            shell.settings.set(setting)?;
+        }
         shell.frames.truncate(*kept);
         let Ok(()) = shell.frames.append(own) else {
             unreachable!();

@@ -66,7 +66,8 @@ fn is_question(args: &[u8], item: Item) -> bool
     }
 }
 
-fn is_end(item: Item) -> bool
+/// Nothing more stands there.
+pub fn is_end(item: Item) -> bool
     ensures { result ≡ is_end item }
 {
     match item {

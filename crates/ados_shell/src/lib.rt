@@ -1,6 +1,7 @@
 #![tactic(auto)]
 //! One shell: its frames, what it waits for and its parts; and a turn of it, which fills a draft with what it changes.
 
+mod arrivals;
 mod carrying;
 mod code_rule;
 mod commands;

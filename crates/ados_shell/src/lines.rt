@@ -1,24 +1,26 @@
 // Taking a raw line.
-ghost use Rattle.std.specs.Prelude.{◌≡◌, OnOk};
-ghost use Rattle.ados_machine.specs.Lines.{found_deed, line_deed};
-ghost use Rattle.ados_machine.specs.Commands.{builtin_of};
+ghost use Rattle.std.specs.Prelude.{◌≡◌, IfOk, OnOk};
+ghost use Rattle.ados_machine.specs.Lines.{found_deed, found_in, line_deed};
 
 use crate::drafts::Draft;
 use crate::scenes::Scene;
-use ados_find::Codes;
-use ados_line::{Expanded, Line, LineFault, expand};
+use ados_find::{Codes, Found, find};
+use ados_line::{Expanded, Line, LineFault, Scope, expand_in};
 use ados_machine::Builtin;
 use ados_text::{NoMemory, Result2, Text};
 
 impl Draft {
-    ghost use Rattle.ados_shell.specs.Drafts.{Settles, course_of, here};
+    ghost use Rattle.ados_shell.specs.Drafts.{IsUnset, Settles, course_of, here};
+    ghost use Rattle.ados_line.specs.Values.{variables_in as variables_by};
+    ghost use Rattle.ados_machine.specs.Lines.{variables_in};
 
     /// Takes a raw line.
     pub fn obey(&mut self, scene: &Scene, raw: &Text) -> Result<(), NoMemory>
+        requires { IsUnset self.old }
         ensures { OnOk result (Settles scene.now self.old self.new
             (line_deed raw.now (here scene.now self.old) (course_of scene.now self.old))) }
     {
-        match expand(scene.alloc, raw) {
+        match expand_in(&self.scope(scene), raw) {
             Err(LineFault::NoMemory) => Err(NoMemory),
             Err(fault) => self.answer(scene, b"Shell", Codes::failed(fault.result2()), false),
             Ok(Expanded::Nothing) => self.pass(scene),
@@ -26,19 +28,58 @@ impl Draft {
         }
     }
 
-    /// Seeks the command of a line. What is not known reads and opens nothing.
-    fn seek(&mut self, scene: &Scene, line: &Line) -> Result<(), NoMemory>
-        ensures { OnOk result (Settles scene.now self.old self.new
-            (found_deed (builtin_of line.now.command) line.now (here scene.now self.old) (course_of scene.now self.old))) }
+    // Where the words of a line have their meanings, as the shell and the shared parts stand.
+    fn scope<'b>(&'b self, scene: &'b Scene) -> Scope<'b>
+        requires { IsUnset self.now }
+        ensures aliases { result.aliases.now ≡ (course_of scene.now self.now).parts.settings.aliases }
+        ensures variables { variables_by result ≡ variables_in (course_of scene.now self.now) }
     {
-        match Builtin::named(&line.command) {
-            None => self.answer(
-                scene,
-                line.command.as_bytes(),
-                Codes::erred(Result2::OBJECT_NOT_FOUND),
-                false,
-            ),
-            Some(builtin) => self.prepare(scene, builtin, line),
+        let shared = self.current(scene);
+        let settings = scene.shell.settings();
+        let codes = self.shell.codes;
+        Scope {
+            alloc: scene.alloc,
+            aliases: &settings.aliases,
+            locals: &settings.locals,
+            code: codes.code,
+            result2: codes.result2,
+            assigns: &shared.assigns,
+            ram: &shared.ram,
         }
+    }
+
+    /// Seeks the command of a line. What is not known, or can't be run, reads and opens nothing.
+    fn seek(&mut self, scene: &Scene, line: &Line) -> Result<(), NoMemory>
+        requires { IsUnset self.old }
+        ensures { OnOk result (Settles scene.now self.old self.new
+            (found_deed (found_in (course_of scene.now self.old) line.now.command) line.now (here scene.now self.old) (course_of scene.now self.old))) }
+    {
+        let word = line.command.as_bytes();
+        match self.find(scene, &line.command)? {
+            Found::Internal(command) => self.prepare(scene, Builtin::from(command), line),
+            Found::File(program) => self.prepare(scene, Builtin::from(program.command), line),
+            Found::Script(_) => self.refuse(scene, &line.command, Result2::NOT_IMPLEMENTED),
+            Found::Directory(place) => self.arrive(scene, place, line),
+            Found::NotExecutable(fault) => self.answer(scene, word, Codes::erred(fault), false),
+            Found::Unknown => {
+                let codes = Codes::erred(Result2::OBJECT_NOT_FOUND);
+                self.answer(scene, word, codes, false)
+            }
+        }
+    }
+
+    /// What a word stands for, as the shell and the shared parts stand.
+    fn find(&self, scene: &Scene, word: &Text) -> Result<Found, NoMemory>
+        requires { IsUnset self.now }
+        ensures { IfOk result (λ found. found ≡ found_in (course_of scene.now self.now) word.now) }
+    {
+        let path = scene.shell.settings().path.entries();
+        find(
+            scene.alloc,
+            word,
+            self.current(scene),
+            self.directory(scene),
+            path,
+        )
     }
 }

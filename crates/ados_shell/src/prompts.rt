@@ -15,10 +15,11 @@ use ados_ram::FsFault;
 use ados_text::{NoMemory, Text};
 
 impl Draft {
-    ghost use Rattle.ados_shell.specs.Drafts.{Settles, course_of, here};
+    ghost use Rattle.ados_shell.specs.Drafts.{IsUnset, Settles, course_of, here};
 
     /// Reads the input of a command, if it has one, and asks for its arguments where they are `?`.
     pub fn prepare(&mut self, scene: &Scene, builtin: Builtin, line: &Line) -> Result<(), NoMemory>
+        requires { IsUnset self.old }
         ensures { OnOk result (Settles scene.now self.old self.new
             (input_deed builtin line.now (here scene.now self.old) (course_of scene.now self.old)
             (input_line (course_of scene.now self.old) line.now.input))) }
@@ -37,7 +38,7 @@ impl Draft {
     }
 
     /// The line that an input answers a prompt with, as the shell and the shared parts stand.
-    fn input(&self, scene: &Scene, name: Option<&Text>) -> Result<Option<Text>, FsFault>
+    pub fn input(&self, scene: &Scene, name: Option<&Text>) -> Result<Option<Text>, FsFault>
         ensures { Gives result (input_line (course_of scene.now self.now) (option_copied name.entry)) }
     {
         match name {
@@ -58,6 +59,7 @@ impl Draft {
         line: &Line,
         answer: Option<Text>,
     ) -> Result<(), NoMemory>
+        requires { IsUnset self.old }
         ensures { OnOk result (Settles scene.now self.old self.new
             (prompt_deed builtin line.now (here scene.now self.old) (course_of scene.now self.old) answer)) }
     {
@@ -77,6 +79,7 @@ impl Draft {
 
     /// Takes the answer to a prompt: it stands for the arguments as it is.
     pub fn resume(&mut self, scene: &Scene, asking: &Asking, answer: &Text) -> Result<(), NoMemory>
+        requires { IsUnset self.old }
         ensures { OnOk result (Settles scene.now self.old self.new
             (answer_deed answer.now asking.now (here scene.now self.old) (course_of scene.now self.old))) }
     {

@@ -18,11 +18,12 @@ use ados_ram::{Busy, FsFault};
 use ados_text::{NoMemory, Text};
 
 impl Draft {
-    ghost use Rattle.ados_shell.specs.Drafts.{Settles, course_of, here, parts_of};
+    ghost use Rattle.ados_shell.specs.Drafts.{IsUnset, Settles, course_of, here, parts_of};
     ghost use Rattle.ados_shell.specs.Views.{Serves, seen};
 
     /// Opens a command's output, and lets it do its work.
     pub fn begin(&mut self, scene: &Scene, builtin: Builtin, line: &Line) -> Result<(), NoMemory>
+        requires { IsUnset self.old }
         ensures { OnOk result (Settles scene.now self.old self.new
             (command_deed builtin line.now (here scene.now self.old) (course_of scene.now self.old))) }
     {
@@ -46,6 +47,7 @@ impl Draft {
         line: &Line,
         target: Option<Target>,
     ) -> Result<(), NoMemory>
+        requires { IsUnset self.old }
         ensures { OnOk result (Settles scene.now self.old self.new
             (work_deed builtin line.now target (here scene.now self.old) (course_of scene.now self.old))) }
     {
@@ -65,6 +67,7 @@ impl Draft {
         line: &Line,
         simple: bool,
     ) -> Result<Action, NoMemory>
+        requires { IsUnset self.old }
         ensures action { IfOk result (λ action. acting (course_of scene.now self.old).shared action
             ≡ action_of builtin simple (course_of scene.now self.old).shared (view_of (course_of scene.now self.old)) line.now.args) }
         ensures same { self.new ≡ record self.old { args = self.new.args } }
@@ -99,13 +102,14 @@ impl Draft {
     }
 
     /// What a command made is moved in, its output is put, and it answers.
-    fn apply(
+    pub fn apply(
         &mut self,
         scene: &Scene,
         word: &Text,
         target: Option<&Target>,
         outcome: Outcome,
     ) -> Result<(), NoMemory>
+        requires { IsUnset self.old }
         ensures { OnOk result (Settles scene.now self.old self.new
             (action_deed word.now (option_copied target.entry) (Does (effect_of (course_of scene.now self.old).shared outcome))
             (here scene.now self.old) (course_of scene.now self.old))) }

@@ -1,12 +1,12 @@
 // A shell: its frames, what it waits for, its parts.
-ghost use Rattle.std.specs.Prelude.{◌≡◌};
+ghost use Rattle.std.specs.Prelude.{◌≡◌, IfOk};
 ghost use Rattle.ados_machine.specs.Shells.{fresh_shell};
 
-use ados_find::Codes;
+use ados_find::{Codes, Settings};
 use ados_flow::{FIRST_LIMIT, Frame};
 use ados_machine::Wait;
 use ados_ram::Place;
-use ados_text::Code;
+use ados_text::{Code, NoMemory};
 use std::alloc::Global;
 use std::marker::Model;
 
@@ -19,6 +19,7 @@ pub struct Shell {
     pub(crate) directory: Place,
     pub(crate) limit: Code,
     pub(crate) codes: Codes,
+    pub(crate) settings: Settings,
 }
 
 // Written out, so that for whoever drops a shell it is one step, and not one for each of its parts.
@@ -30,6 +31,7 @@ impl Drop for Shell {
             directory: _directory,
             limit: _limit,
             codes: _codes,
+            settings: _settings,
         } = self;
     }
 }
@@ -44,7 +46,7 @@ impl Model for Shell {
     ghost view = { λ s. record {
       frames = reverse s.frames.items;
       phase = phase_of (option_map (λ w. w.value) s.waits);
-      parts = record { directory = s.directory; limit = s.limit; codes = s.codes };
+      parts = record { directory = s.directory; limit = s.limit; codes = s.codes; settings = s.settings };
     } };
 }
 
@@ -52,17 +54,18 @@ impl Shell {
     ghost use Rattle.ados_machine.specs.Turning.{Input};
     ghost use Rattle.ados_machine.specs.World.{can_take, has_input};
 
-    /// A shell in which nothing has answered yet, in the root.
-    pub fn new(alloc: Global) -> Shell
-        ensures { result ≡ fresh_shell }
+    /// The shell of a number in which nothing has answered yet, in the root.
+    pub fn new(alloc: Global, number: u8) -> Result<Shell, NoMemory>
+        ensures { IfOk result (λ shell. shell ≡ fresh_shell number) }
     {
-        Shell {
+        Ok(Shell {
             frames: Vec::new(alloc),
             waits: None,
             directory: Place::root(alloc),
             limit: FIRST_LIMIT,
             codes: Codes::NONE,
-        }
+            settings: Settings::first(alloc, number)?,
+        })
     }
 
     /// What the last command answered.
@@ -84,6 +87,13 @@ impl Shell {
         ensures { result.now ≡ self.now.parts.directory }
     {
         &self.directory
+    }
+
+    /// What is set in it.
+    pub fn settings(&self) -> &Settings
+        ensures { result.now ≡ self.now.parts.settings }
+    {
+        &self.settings
     }
 
     /// It can take a turn: it is ready and runs a frame, or has input to take, as `has_lines` says.

@@ -1,14 +1,14 @@
 -- the pairs of which RC and Result2 are set at last
-use Rattle.std.proofs.Common.{◌≡◌, ◌∙◌, ℕ, codes, [], ◌∷◌, true, false, Some, IsSome, ap, sym, refl, cond}
+use Rattle.std.proofs.Common.{◌≡◌, ◌∙◌, [], true, false, Some, IsSome, ap, sym, refl, cond, inl, inr}
+use Rattle.std.specs.Prelude.{if◌then◌else◌}
 use Rattle.std.specs.Fmt.{decimal, signed_decimal}
+use Rattle.std.proofs.lemmas.Bool.{cases_Bool, or_parts}
 use Rattle.ados_text.specs.Text.{Text, is_same}
 use Rattle.ados_text.specs.declared.codes.Code.{Code}
 use Rattle.ados_text.specs.declared.codes.Result2.{Result2}
-use Rattle.ados_text.specs.declared.codes.TheConstants.Code.{OK}
-use Rattle.ados_text.specs.declared.codes.TheConstants.Result2.{NONE}
 use Rattle.ados_vars.specs.Vars.{Pairs, set_pair, value_in, without}
-use Rattle.ados_vars.specs.Locals.{code_name, fault_name, with_codes, shown, own_pairs, HasCodes}
-use Rattle.ados_vars.proofs.VarsLemmas.{value-set, value-without, set-there, set-keeps, set-again, set-swaps, set-over, without-over}
+use Rattle.ados_vars.specs.Locals.{code_name, fault_name, is_of_codes, with_codes, shown, unset_in, HasCodes, AnswerIsSeen, SettingIsSeen, UnsettingIsSeen, CodesStay}
+use Rattle.ados_vars.proofs.VarsLemmas.{value-set, value-without, set-there, set-keeps, set-again, set-swaps, set-over, without-over, without-set}
 
 apart : is_same code_name fault_name ≡ false
 apart = refl
@@ -74,16 +74,6 @@ without-below-codes pairs code fault name next last other h =
     (λ ps there. rw (value-without ps name fault_name other) there)
     (λ ps own old new there. without-over ps own old name new there)
 
--- the same of what a command answered
-pub shown-is : (pairs copy : Pairs) (code : Code) (result2 : Result2) (text fault : Text) → copy ≡ pairs → text ≡ signed_decimal code.0 → fault ≡ decimal result2.0
-    → with_codes copy text fault ≡ shown pairs code result2
-unfolding shown
-shown-is pairs copy code result2 text fault e f g = ap (λ ps. with_codes ps text fault) e ∙ ap (λ t. with_codes pairs t fault) f ∙ ap (λ t. with_codes pairs (signed_decimal code.0) t) g
-
-pub shown-has : (pairs : Pairs) (code : Code) (result2 : Result2) → HasCodes (shown pairs code result2)
-unfolding shown
-shown-has pairs code result2 = has-codes pairs (signed_decimal code.0) (decimal result2.0)
-
 pub shown-again : (pairs : Pairs) (code next : Code) (result2 last : Result2) → shown (shown pairs code result2) next last ≡ shown pairs next last
 unfolding shown
 shown-again pairs code next result2 last = codes-again pairs (signed_decimal code.0) (decimal result2.0) (signed_decimal next.0) (decimal last.0)
@@ -97,12 +87,6 @@ pub shown-set : (pairs : Pairs) (code next : Code) (result2 last : Result2) (nam
 unfolding shown
 shown-set pairs code next result2 last name value h =
     sym (set-below-codes pairs (signed_decimal code.0) (decimal result2.0) name value (signed_decimal next.0) (decimal last.0) h)
-
-pub shown-without : (pairs : Pairs) (code next : Code) (result2 last : Result2) (name : Text) → is_same name fault_name ≡ false → HasCodes pairs
-    → shown (without pairs name) next last ≡ shown (without (shown pairs code result2) name) next last
-unfolding shown
-shown-without pairs code next result2 last name other h =
-    sym (without-below-codes pairs (signed_decimal code.0) (decimal result2.0) name (signed_decimal next.0) (decimal last.0) other h)
 
 -- the values of both, and of others
 value-shown : (pairs : Pairs) (code : Code) (result2 : Result2) (name : Text)
@@ -125,10 +109,46 @@ pub other-value : (pairs : Pairs) (code : Code) (result2 : Result2) (name : Text
     → value_in (shown pairs code result2) name ≡ value_in pairs name
 other-value pairs code result2 name e f = value-shown pairs code result2 name ∙ simp (e, f) refl
 
--- the variables of a shell at first
-pub first-pairs : (number : ℕ) (none vars new : Pairs) (name value text fault : Text) → none ≡ [] → name ≡ codes "Process" → value ≡ decimal number → vars ≡ set_pair none name value
-    → text ≡ [] → fault ≡ [] → new ≡ with_codes vars text fault → shown new OK NONE ≡ own_pairs number
-unfolding own_pairs set_pair
-first-pairs number none vars new name value text fault e f g put x y h =
-    ap (λ ps. shown ps OK NONE) h ∙ shown-over vars OK NONE text fault
-    ∙ ap (λ ps. shown ps OK NONE) (put ∙ ap (λ ps. set_pair ps name value) e ∙ ap (λ n. (n, value) ∷ []) f ∙ ap (λ v. (codes "Process", v) ∷ []) g)
+-- what is taken away below an answer
+without-fault : (pairs : Pairs) (code fault name next last : Text) → is_same name fault_name ≡ true → HasCodes pairs
+    → with_codes (without (with_codes pairs code fault) name) next last ≡ with_codes (without pairs name) next last
+unfolding with_codes
+without-fault pairs code fault name next last same h =
+    ap (λ ps. set_pair (set_pair ps code_name next) fault_name last) (without-set (set_pair pairs code_name code) fault_name name fault same)
+    ∙ ap (λ ps. set_pair ps fault_name last) (without-over pairs code_name code name next h.code)
+
+without-seen : (pairs : Pairs) (old code : Code) (before result2 : Result2) (name : Text) → HasCodes pairs
+    → shown (without (shown pairs old before) name) code result2 ≡ shown (without pairs name) code result2
+unfolding shown
+without-seen pairs old code before result2 name h =
+    elim (cases_Bool (is_same name fault_name)) [
+      | inl e ↦ without-fault pairs (signed_decimal old.0) (decimal before.0) name (signed_decimal code.0) (decimal result2.0) e h
+      | inr e ↦ without-below-codes pairs (signed_decimal old.0) (decimal before.0) name (signed_decimal code.0) (decimal result2.0) e h
+    ]
+
+-- The laws.
+pub answer-seen : AnswerIsSeen
+answer-seen pairs old code before result2 = shown-again pairs old code before result2
+
+pub setting-seen : SettingIsSeen
+setting-seen pairs old code before result2 name value h = sym (shown-set pairs old code before result2 name value h)
+
+pub unsetting-seen : UnsettingIsSeen
+unfolding unset_in
+unsetting-seen pairs old code before result2 name h =
+    without-seen pairs old code before result2 name h
+    ∙ elim (cases_Bool (is_of_codes name)) [
+      | inl e ↦ rw e (sym (shown-over (without pairs name) code result2 [] []))
+      | inr e ↦ rw e refl
+    ]
+
+unset-keeps-codes : (pairs : Pairs) (name : Text) → HasCodes pairs → HasCodes (unset_in pairs name)
+unfolding unset_in
+unset-keeps-codes pairs name h =
+    elim (cases_Bool (is_of_codes name)) [
+      | inl e ↦ rw e (has-codes (without pairs name) [] [])
+      | inr e ↦ rw e (let other = or_parts _ _ e in without-keeps-codes pairs name other.0 other.1 h)
+    ]
+
+pub codes-stay : CodesStay
+codes-stay pairs name value h = (set-keeps-codes pairs name value h, unset-keeps-codes pairs name h)

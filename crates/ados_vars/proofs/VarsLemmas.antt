@@ -1,10 +1,10 @@
 -- what is set, taken away and looked up, one after another
 use Rattle.std.proofs.Common.{◌≡◌, ◌∙◌, [], ◌∷◌, Bool, true, false, Some, IsSome, ap, sym, refl, subst, cond}
 use Rattle.std.proofs.lemmas.Cmp.{on_equiv, nat_list_eq_equiv}
-use Rattle.std.specs.Map.{lookup, remove_entry}
+use Rattle.std.specs.Map.{lookup, lookup_key, remove_entry}
 use Rattle.indexmap.specs.IndexMap.{insert_entry}
 use Rattle.ados_text.specs.Text.{Text, folded, is_same}
-use Rattle.ados_vars.specs.Vars.{Pairs, set_pair, value_in, without}
+use Rattle.ados_vars.specs.Vars.{Pairs, set_pair, value_in, name_in, without}
 
 -- the same in the words of the map
 pub insert_entry-is : (pairs : Pairs) (name value : Text) → insert_entry is_same pairs name value ≡ set_pair pairs name value
@@ -16,6 +16,11 @@ pub lookup-is : (pairs : Pairs) (name : Text) → lookup (is_same name) pairs �
 unfolding value_in
 lookup-is [] name = refl
 lookup-is (p ∷ ps) name = ap (cond (is_same name p.0) _) (lookup-is ps name)
+
+pub lookup_key-is : (pairs : Pairs) (name : Text) → lookup_key (is_same name) pairs ≡ name_in pairs name
+unfolding name_in
+lookup_key-is [] name = refl
+lookup_key-is (p ∷ ps) name = ap (cond (is_same name p.0) _) (lookup_key-is ps name)
 
 pub remove_entry-is : (pairs : Pairs) (name : Text) → remove_entry (is_same name) pairs ≡ without pairs name
 unfolding without
@@ -131,3 +136,15 @@ without-over (p ∷ ps) own old name new there = by (is_same own p.0) (is_same n
     by true false e f rest = simp (e, f) refl
     by false true e f rest = simp (e, f) (set-again ps own old new)
     by false false e f rest = simp (e, f) (ap (λ l. p ∷ l) (rest (subst (λ it. IsSome (cond it (Some p.1) (value_in ps own))) e there)))
+
+-- what was set is taken away with its name
+pub without-set : (pairs : Pairs) (own name value : Text) → is_same name own ≡ true → without (set_pair pairs own value) name ≡ without pairs name
+unfolding set_pair without
+without-set [] own name value same = simp same refl
+without-set (p ∷ ps) own name value same =
+    by (is_same own p.0) refl ((on_equiv folded nat_list_eq_equiv).congr name own p.0 same) (without-set ps own name value same)
+  where
+    by : (b : Bool) → is_same own p.0 ≡ b → is_same name p.0 ≡ is_same own p.0 → without (set_pair ps own value) name ≡ without ps name
+        → without (set_pair (p ∷ ps) own value) name ≡ without (p ∷ ps) name
+    by true e f rest = let g : is_same name p.0 ≡ true = f ∙ e in simp (e, g) refl
+    by false e f rest = let g : is_same name p.0 ≡ false = f ∙ e in simp (e, g) (ap (λ l. p ∷ l) rest)

@@ -16,6 +16,11 @@ unfoldable pub value_in : Pairs → Text → Option Text
 value_in [] name = None
 value_in (p ∷ ps) name = if is_same name p.0 then Some p.1 else value_in ps name
 
+-- a name as it was first spelled
+unfoldable pub name_in : Pairs → Text → Option Text
+name_in [] name = None
+name_in (p ∷ ps) name = if is_same name p.0 then Some p.0 else name_in ps name
+
 -- the pairs without that of a name; the others keep their order
 unfoldable pub without : Pairs → Text → Pairs
 without [] name = []

@@ -1,8 +1,8 @@
-ghost use Rattle.std.specs.Prelude.{◌≡◌, ◌||◌, IfOk, OnOk, OnErr};
+ghost use Rattle.std.specs.Prelude.{◌≡◌, IfOk, OnOk, OnErr};
 ghost use Rattle.std.specs.Fmt.{decimal, signed_decimal};
-ghost use Rattle.ados_text.specs.Text.{is_same, IsText};
-ghost use Rattle.ados_vars.specs.Vars.{set_pair, value_in, without};
-ghost use Rattle.ados_vars.specs.Locals.{code_name, fault_name, shown, own_pairs, with_codes};
+ghost use Rattle.ados_text.specs.Text.{IsText};
+ghost use Rattle.ados_vars.specs.Vars.{set_pair, value_in};
+ghost use Rattle.ados_vars.specs.Locals.{is_of_codes, own_pairs, shown, unset_in, with_codes};
 
 use crate::vars::Vars;
 use ados_text::{Code, Name, NoMemory, Result2, Text};
@@ -14,102 +14,82 @@ const CODE: &str = "RC";
 
 const FAULT: &str = "Result2";
 
-/// The local variables of a shell. RC and Result2 are always among them, and show what its last command answered.
-///
-/// The two are kept as numbers, so that a command sets them without memory; among `vars` only their places count.
-#[derive(Drop)]
+/// The local variables of a shell. RC and Result2 have places among them, and show what its last command answered: who
+/// asks for them says what that was, so that an answer takes no memory.
 pub struct Locals {
     alloc: Global,
+    // The values at the places of RC and Result2 are not seen.
     vars: Vars,
-    code: Code,
-    result2: Result2,
+}
+
+// Written out, so that for whoever drops variables it is one step, and not one for each of its parts.
+impl Drop for Locals {
+    fn drop(self) {
+        let Locals {
+            alloc: _alloc,
+            vars: _vars,
+        } = self;
+    }
 }
 
 impl Model for Locals {
     ghost use Rattle.ados_vars.specs.Vars.{Pairs};
-    ghost use Rattle.ados_vars.specs.Locals.{shown, HasCodes};
 
     ghost Value = { Pairs };
 
-    ghost view = { λ l. shown l.vars l.code l.result2 };
-
-    ghost invariant = { λ l. HasCodes l.vars };
+    ghost view = { λ l. l.vars };
 }
 
 impl Locals {
-    /// The variables with which the shell of a number begins: Process, which is its number, RC and Result2, which are 0.
+    /// The variables with which the shell of a number begins: Process, which is its number, RC and Result2.
     pub fn first(alloc: Global, number: u8) -> Result<Locals, NoMemory>
         ensures { IfOk result (λ locals. locals ≡ own_pairs number) }
     {
         let mut vars = Vars::new(alloc);
         vars.set(name(alloc, "Process")?, digits(alloc, u16::from(number))?)?;
-        Ok(Locals {
-            alloc,
-            vars: with_codes(alloc, vars, Text::new(alloc), Text::new(alloc))?,
-            code: Code::OK,
-            result2: Result2::NONE,
-        })
+        vars.set(name(alloc, CODE)?, Text::new(alloc))?;
+        vars.set(name(alloc, FAULT)?, Text::new(alloc))?;
+        Ok(Locals { alloc, vars })
     }
 
-    /// A command has answered: RC and Result2 are set. Takes no memory.
-    pub fn answer(&mut self, code: Code, result2: Result2)
-        ensures { self.new ≡ shown self.old code result2 }
-    {
-        self.code = code;
-        self.result2 = result2;
-    }
-
-    /// Sets the value of a name by a command that answers this. RC and Result2 are set behind it.
+    /// Sets the value of a name: a new name goes last, and one that is there keeps its place and its first spelling.
     ///
-    /// At `NoMemory` nothing is changed.
-    pub fn set(
-        &mut self,
-        name: Name,
-        value: Text,
-        code: Code,
-        result2: Result2,
-    ) -> Result<(), NoMemory>
-        ensures ok { OnOk result (self.new ≡ shown (set_pair self.old name value) code result2) }
+    /// `NoMemory` only for a new name; nothing is changed then.
+    pub fn set(&mut self, name: Name, value: Text) -> Result<(), NoMemory>
+        ensures ok { OnOk result (self.new ≡ set_pair self.old name value) }
         ensures err { OnErr result (self.new ≡ self.old) }
     {
-        self.vars.set(name, value)?;
-        self.answer(code, result2);
-        Ok(())
+        self.vars.set(name, value)
     }
 
-    /// Takes a name away, where it is there, by a command that answers this. RC and Result2 are set behind it: one of
-    /// them that was taken away goes last.
+    /// Takes a name away, where it is there. RC and Result2 are set again by each answer: one of them goes last.
     ///
     /// At `NoMemory` nothing is changed; only RC and Result2 ask for memory.
-    pub fn unset(&mut self, name: &Name, code: Code, result2: Result2) -> Result<(), NoMemory>
-        ensures ok { OnOk result (self.new ≡ shown (without self.old name.now) code result2) }
+    #[tactic(auto, unfolding(crate::specs::Locals::unset_in))]
+    pub fn unset(&mut self, name: &Name) -> Result<(), NoMemory>
+        ensures ok { OnOk result (self.new ≡ unset_in self.old name.now) }
         ensures err { OnErr result (self.new ≡ self.old) }
     {
-        if is_code(name) {
-            let mut vars = self.list()?;
+        if is_of_codes(name) {
+            let mut vars = self.vars.copy()?;
             vars.unset(name);
-            self.vars = with_codes(
-                self.alloc,
-                vars,
-                Text::new(self.alloc),
-                Text::new(self.alloc),
-            )?;
+            let empty = Text::new(self.alloc);
+            self.vars = with_codes(self.alloc, vars, empty, Text::new(self.alloc))?;
         } else {
             self.vars.unset(name);
         }
-        self.answer(code, result2);
         Ok(())
     }
 
-    /// The value of a name, if it has one.
-    pub fn get(&self, name: &Name) -> Result<Option<Text>, NoMemory>
-        ensures { IfOk result (λ value. value ≡ value_in self.now name.now) }
+    /// The value of a name, if it has one, where the last command answered this.
+    pub fn get(&self, name: &Name, code: Code, result2: Result2) -> Result<Option<Text>, NoMemory>
+        ensures { IfOk result (λ value. value ≡ value_in (shown self.now code result2) name.now) }
     {
         if name.text().is(FAULT) {
-            return Ok(Some(digits(self.alloc, self.result2.0)?));
+            return Ok(Some(digits(self.alloc, result2.0)?));
         }
         if name.text().is(CODE) {
-            return Ok(Some(code_text(self.alloc, self.code)?));
+            return Ok(Some(code_text(self.alloc, code)?));
         }
         match self.vars.get(name) {
             None => Ok(None),
@@ -117,12 +97,13 @@ impl Locals {
         }
     }
 
-    /// All names with their values, in order.
-    pub fn list(&self) -> Result<Vars, NoMemory>
-        ensures { IfOk result (λ vars. vars ≡ self.now) }
+    /// All names with their values, in order, where the last command answered this.
+    #[tactic(auto, unfolding(crate::specs::Locals::shown))]
+    pub fn list(&self, code: Code, result2: Result2) -> Result<Vars, NoMemory>
+        ensures { IfOk result (λ vars. vars ≡ shown self.now code result2) }
     {
-        let code = code_text(self.alloc, self.code)?;
-        let fault = digits(self.alloc, self.result2.0)?;
+        let code = code_text(self.alloc, code)?;
+        let fault = digits(self.alloc, result2.0)?;
         with_codes(self.alloc, self.vars.copy()?, code, fault)
     }
 
@@ -133,15 +114,13 @@ impl Locals {
         Ok(Locals {
             alloc: self.alloc,
             vars: self.vars.copy()?,
-            code: self.code,
-            result2: self.result2,
         })
     }
 }
 
 // The name is RC or Result2.
-fn is_code(name: &Name) -> bool
-    ensures { result ≡ (is_same name.now code_name || is_same name.now fault_name) }
+fn is_of_codes(name: &Name) -> bool
+    ensures { result ≡ is_of_codes name.now }
 {
     name.text().is(CODE) || name.text().is(FAULT)
 }

@@ -1,6 +1,6 @@
-ghost use Rattle.std.specs.Prelude.{◌≡◌, [], None, IfOk, OnOk, OnErr};
+ghost use Rattle.std.specs.Prelude.{◌≡◌, [], None, option_map, IfOk, OnOk, OnErr};
 ghost use Rattle.std.specs.Option.{option_copied};
-ghost use Rattle.ados_vars.specs.Vars.{set_pair, value_in, without};
+ghost use Rattle.ados_vars.specs.Vars.{name_in, set_pair, value_in, without};
 
 use ados_text::{Name, NoMemory, Text};
 use indexmap::IndexMap;
@@ -59,6 +59,14 @@ impl Vars {
         ensures { option_copied result ≡ value_in self.now name.now }
     {
         self.map.get(name)
+    }
+
+    /// A name as it was first spelled, with its value, if it has one. Takes no memory.
+    pub fn pair(&self, name: &Name) -> Option<(&Name, &Text)>
+        ensures name { option_map (λ p. p.0.now) result ≡ name_in self.now name.now }
+        ensures value { option_map (λ p. p.1.now) result ≡ value_in self.now name.now }
+    {
+        self.map.get_key_value(name)
     }
 
     /// Takes a name away, where it is there; the others keep their order. Takes no memory.

@@ -64,8 +64,11 @@ impl World {
         let Ok(shared) = Shared::first(alloc) else {
             return Err(NewFault::NoMemory);
         };
+        let Ok(first) = Shell::new(alloc, 1) else {
+            return Err(NewFault::NoMemory);
+        };
         let mut shells = no_shells();
-        shells[0] = Some(Shell::new(alloc));
+        shells[0] = Some(first);
         Ok(World {
             alloc,
             commands,

@@ -1,0 +1,82 @@
+// A line whose word leads to a directory: the change to it.
+ghost use Rattle.std.specs.Prelude.{◌≡◌, IfOk, OnOk};
+ghost use Rattle.ados_find.specs.Effects.{DoesTo};
+ghost use Rattle.ados_machine.specs.Lines.{arrival, arrived_deed, arriving_deed, directory_deed};
+ghost use Rattle.ados_machine.specs.Opening.{opening};
+ghost use Rattle.ados_machine.specs.Prompts.{input_line};
+
+use crate::drafts::Draft;
+use crate::inputs::is_end;
+use crate::outputs::Opened;
+use crate::scenes::Scene;
+use ados_find::{Change, Codes, Outcome, Target};
+use ados_items::next_item;
+use ados_line::Line;
+use ados_ram::{FsFault, Place};
+use ados_text::{NoMemory, Result2, Text};
+use std::alloc::Global;
+
+impl Draft {
+    ghost use Rattle.ados_shell.specs.Drafts.{IsUnset, Settles, course_of, here};
+
+    /// Reads the input of a line whose word leads to a directory, if it has one, and changes to the directory.
+    pub fn arrive(&mut self, scene: &Scene, place: Place, line: &Line) -> Result<(), NoMemory>
+        requires { IsUnset self.old }
+        ensures { OnOk result (Settles scene.now self.old self.new
+            (directory_deed place line.now (here scene.now self.old) (course_of scene.now self.old)
+            (input_line (course_of scene.now self.old) line.now.input))) }
+    {
+        match self.input(scene, line.input.as_ref()) {
+            Err(FsFault::NoMemory) => Err(NoMemory),
+            Err(FsFault::Refused(fault)) => self.refuse(scene, &line.command, fault),
+            Ok(_) => self.change_to(scene, place, line),
+        }
+    }
+
+    /// Opens the output of the line, and changes to the directory.
+    fn change_to(&mut self, scene: &Scene, place: Place, line: &Line) -> Result<(), NoMemory>
+        requires { IsUnset self.old }
+        ensures { OnOk result (Settles scene.now self.old self.new
+            (arriving_deed place line.now (here scene.now self.old) (course_of scene.now self.old)
+            (opening (course_of scene.now self.old) line.now.output))) }
+    {
+        match self.open(scene, line.output.as_ref()) {
+            Err(FsFault::NoMemory) => Err(NoMemory),
+            Err(FsFault::Refused(fault)) => self.refuse(scene, &line.command, fault),
+            Ok(Opened::Nothing) => self.be_at(scene, place, line, None),
+            Ok(Opened::Nil) => self.be_at(scene, place, line, Some(Target::Nil)),
+            Ok(Opened::File(new, at)) => {
+                self.shared = Some(new);
+                self.be_at(scene, place, line, Some(Target::At(at)))
+            }
+        }
+    }
+
+    /// Changes to the directory.
+    fn be_at(
+        &mut self,
+        scene: &Scene,
+        place: Place,
+        line: &Line,
+        target: Option<Target>,
+    ) -> Result<(), NoMemory>
+        requires { IsUnset self.old }
+        ensures { OnOk result (Settles scene.now self.old self.new
+            (arrived_deed place line.now target (here scene.now self.old) (course_of scene.now self.old))) }
+    {
+        let outcome = arrival(scene.alloc, place, &line.args)?;
+        self.apply(scene, &line.command, target.as_ref(), outcome)
+    }
+}
+
+/// What the change to a directory makes: it takes no arguments.
+fn arrival(alloc: Global, place: Place, args: &Text) -> Result<Outcome, NoMemory>
+    ensures { IfOk result (λ outcome. DoesTo outcome (λ shared. arrival shared place args.now)) }
+{
+    if is_end(next_item(args.as_bytes(), 0)) {
+        Outcome::changing(alloc, Change::Directory(place))
+    } else {
+        let codes = Codes::failed(Result2::TOO_MANY_ARGUMENTS);
+        Ok(Outcome::answering(alloc, codes))
+    }
+}

@@ -1,0 +1,11 @@
+-- Texts in columns of a line.
+use Rattle.std.specs.Prelude.{ℕ, ◌-◌, ◌++◌, length}
+use Rattle.std.proofs.Math.ListN.{replicate}
+use Rattle.ados_text.specs.Text.{Bytes}
+
+-- a text left in so many places, and right
+abbrev pub left_in : ℕ → Bytes → Bytes
+left_in width text = text ++ replicate (width - length text) 32
+
+abbrev pub right_in : ℕ → Bytes → Bytes
+right_in width text = replicate (width - length text) 32 ++ text

@@ -1,0 +1,33 @@
+// Texts in columns of a line.
+ghost use Rattle.std.specs.Prelude.{◌≡◌, ◌++◌, ◌-◌, OnOk};
+ghost use Rattle.std.proofs.Math.ListN.{replicate};
+ghost use Rattle.ados_text.specs.Columns.{left_in, right_in};
+
+use crate::errors::NoMemory;
+
+/// Puts out a text left in so many places: blanks fill them up, and a longer text stands as it is.
+pub fn push_left(output: &mut Vec<u8>, width: usize, text: &[u8]) -> Result<(), NoMemory>
+    ensures { OnOk result (output.new.items ≡ output.old.items ++ left_in width text.now) }
+{
+    output.extend_from_slice(text)?;
+    push_blanks(output, width, text.len())
+}
+
+/// Puts out a text right in so many places: blanks fill them up, and a longer text stands as it is.
+pub fn push_right(output: &mut Vec<u8>, width: usize, text: &[u8]) -> Result<(), NoMemory>
+    ensures { OnOk result (output.new.items ≡ output.old.items ++ right_in width text.now) }
+{
+    push_blanks(output, width, text.len())?;
+    output.extend_from_slice(text)?;
+    Ok(())
+}
+
+// Puts out the blanks of so many places of which some are taken.
+fn push_blanks(output: &mut Vec<u8>, width: usize, taken: usize) -> Result<(), NoMemory>
+    ensures { OnOk result (output.new.items ≡ output.old.items ++ replicate (width - taken) 32) }
+{
+    for _ in 0..width.saturating_sub(taken) {
+        output.push(b' ')?;
+    }
+    Ok(())
+}
