@@ -1,5 +1,5 @@
 -- the pairs of which RC and Result2 are set at last
-use Rattle.std.proofs.Common.{◌≡◌, ◌∙◌, [], true, false, Some, IsSome, ap, sym, refl, cond, inl, inr}
+use Rattle.std.proofs.Common.{◌≡◌, ◌∙◌, ℕ, codes, [], true, false, Some, IsSome, ap, sym, refl, cond, inl, inr}
 use Rattle.std.specs.Prelude.{if◌then◌else◌}
 use Rattle.std.specs.Fmt.{decimal, signed_decimal}
 use Rattle.std.proofs.lemmas.Bool.{cases_Bool, or_parts}
@@ -7,7 +7,7 @@ use Rattle.ados_text.specs.Text.{Text, is_same}
 use Rattle.ados_text.specs.declared.codes.Code.{Code}
 use Rattle.ados_text.specs.declared.codes.Result2.{Result2}
 use Rattle.ados_vars.specs.Vars.{Pairs, set_pair, value_in, without}
-use Rattle.ados_vars.specs.Locals.{code_name, fault_name, is_of_codes, with_codes, shown, unset_in, HasCodes, AnswerIsSeen, SettingIsSeen, UnsettingIsSeen, CodesStay}
+use Rattle.ados_vars.specs.Locals.{code_name, fault_name, is_of_codes, with_codes, shown, unset_in, own_pairs, HasCodes, AnswerIsSeen, SettingIsSeen, UnsettingIsSeen, CodesStay}
 use Rattle.ados_vars.proofs.VarsLemmas.{value-set, value-without, set-there, set-keeps, set-again, set-swaps, set-over, without-over, without-set}
 
 apart : is_same code_name fault_name ≡ false
@@ -152,3 +152,17 @@ unset-keeps-codes pairs name h =
 
 pub codes-stay : CodesStay
 codes-stay pairs name value h = (set-keeps-codes pairs name value h, unset-keeps-codes pairs name h)
+
+-- the variables of a shell at first, set one after another
+pub first-pairs : (number : ℕ) (p0 p1 p2 p3 : Pairs) (process value code empty fault nothing : Text)
+    → p0 ≡ [] → process ≡ codes "Process" → value ≡ decimal number → p1 ≡ set_pair p0 process value
+    → code ≡ code_name → empty ≡ [] → p2 ≡ set_pair p1 code empty
+    → fault ≡ fault_name → nothing ≡ [] → p3 ≡ set_pair p2 fault nothing → p3 ≡ own_pairs number
+unfolding set_pair
+first-pairs number p0 p1 p2 p3 process value code empty fault nothing e0 e1 f1 q1 e2 f2 q2 e3 f3 q3 =
+    q3 ∙ ap (λ n. set_pair p2 n nothing) e3 ∙ ap (λ v. set_pair p2 fault_name v) f3
+    ∙ ap (λ p. set_pair p fault_name [])
+        (q2 ∙ ap (λ n. set_pair p1 n empty) e2 ∙ ap (λ v. set_pair p1 code_name v) f2
+        ∙ ap (λ p. set_pair p code_name [])
+            (q1 ∙ ap (λ n. set_pair p0 n value) e1 ∙ ap (λ v. set_pair p0 (codes "Process") v) f1
+            ∙ ap (λ p. set_pair p (codes "Process") (decimal number)) e0))
