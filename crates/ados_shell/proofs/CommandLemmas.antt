@@ -1,6 +1,6 @@
 -- The texts of the templates are ASCII, and templates; each stands at its command's place.
-use Rattle.std.proofs.Common.{◌≡◌, ℕ, [], Some, map, option_map, get_or, slice_get, refl, ap, ◌∙◌}
-use Rattle.std.proofs.lemmas.Option.{slice_get-map, get_or_from_slice_get}
+use Rattle.std.proofs.Common.{◌≡◌, ◌<◌, ℕ, List, Some, map, option_map, length, get_or, slice_get, refl, ap, ◌∙◌}
+use Rattle.std.proofs.lemmas.Option.{slice_get-map, slice_get_within, get_or_from_slice_get}
 use Rattle.ados_text.specs.Text.{to_ascii}
 use Rattle.ados_readargs.specs.Template.{IsTemplate}
 use Rattle.ados_env.specs.declared.commands.Command.TheVariants as env
@@ -73,6 +73,11 @@ are_templates (Files files.«Type») = refl
 are_templates (Flow flow.Execute) = refl
 are_templates (Flow flow.Quit) = refl
 
-pub at_place : (builtin : Builtin) (place : ℕ) → slice_get ALL place ≡ Some builtin → get_or (map template_of ALL) place [] ≡ template_of builtin
-at_place builtin place h =
-    get_or_from_slice_get (map template_of ALL) place (template_of builtin) [] (slice_get-map template_of ALL place ∙ ap (option_map template_of) h)
+found : (builtin : Builtin) (place : ℕ) → slice_get ALL place ≡ Some builtin → slice_get (map template_of ALL) place ≡ Some (template_of builtin)
+found builtin place h = slice_get-map template_of ALL place ∙ ap (option_map template_of) h
+
+pub within : (builtin : Builtin) (place : ℕ) → slice_get ALL place ≡ Some builtin → place < length (map template_of ALL)
+within builtin place h = slice_get_within (map template_of ALL) place (template_of builtin) (found builtin place h)
+
+pub at_place : (builtin : Builtin) (place : ℕ) (other : List ℕ) → slice_get ALL place ≡ Some builtin → get_or (map template_of ALL) place other ≡ template_of builtin
+at_place builtin place other h = get_or_from_slice_get (map template_of ALL) place (template_of builtin) other (found builtin place h)

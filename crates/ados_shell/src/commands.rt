@@ -40,7 +40,6 @@ impl Commands {
     }
 
     /// The template of a command.
-    #[tactic(auto, using(crate::proofs::CommandLemmas::at_place))]
     pub fn template(&self, builtin: Builtin) -> &Template
         ensures { result.now ≡ template_of builtin }
     {

@@ -11,6 +11,8 @@ use ados_text::{NoMemory, Result2, Text};
 
 impl Draft {
     ghost use Rattle.ados_shell.specs.Drafts.{IsUnset, Settles, course_of, here};
+    ghost use Rattle.ados_line.specs.Answers.{Gives};
+    ghost use Rattle.ados_line.specs.Expansion.{expanded_in};
     ghost use Rattle.ados_line.specs.Values.{variables_in as variables_by};
     ghost use Rattle.ados_machine.specs.Lines.{variables_in};
 
@@ -20,7 +22,7 @@ impl Draft {
         ensures { OnOk result (Settles scene.now self.old self.new
             (line_deed raw.now (here scene.now self.old) (course_of scene.now self.old))) }
     {
-        match expand_in(&self.scope(scene), raw) {
+        match self.expanded(scene, raw) {
             Err(LineFault::NoMemory) => Err(NoMemory),
             Err(fault) => self.answer(scene, b"Shell", Codes::failed(fault.result2()), false),
             Ok(Expanded::Nothing) => self.pass(scene),
@@ -28,7 +30,16 @@ impl Draft {
         }
     }
 
-    // Where the words of a line have their meanings, as the shell and the shared parts stand.
+    /// What a raw line comes to, as the shell and the shared parts stand.
+    fn expanded(&self, scene: &Scene, raw: &Text) -> Result<Expanded, LineFault>
+        requires { IsUnset self.now }
+        ensures { Gives result (expanded_in (course_of scene.now self.now).parts.settings.aliases (variables_in (course_of scene.now self.now)) raw.now) }
+    {
+        let scope = self.scope(scene);
+        expand_in(&scope, raw)
+    }
+
+    /// Where the words of a line have their meanings, as the shell and the shared parts stand.
     fn scope<'b>(&'b self, scene: &'b Scene) -> Scope<'b>
         requires { IsUnset self.now }
         ensures aliases { result.aliases.now ≡ (course_of scene.now self.now).parts.settings.aliases }
