@@ -68,11 +68,15 @@ fn push_pairs(text: &mut Vec<u8>, words: &[u8], pairs: &Vars) -> Result<(), NoMe
 }
 
 fn push_path(text: &mut Vec<u8>, path: &[Place]) -> Result<(), NoMemory> {
-    let alloc = *text.allocator();
     for place in path {
-        push_all(text, &[b"= path ", place.path(alloc)?.as_bytes(), b"\n"])?;
+        push_place(text, place)?;
     }
     Ok(())
+}
+
+fn push_place(text: &mut Vec<u8>, place: &Place) -> Result<(), NoMemory> {
+    let path = place.path(*text.allocator())?;
+    push_all(text, &[b"= path ", path.as_bytes(), b"\n"])
 }
 
 fn push_codes(text: &mut Vec<u8>, codes: Codes) -> Result<(), NoMemory> {

@@ -117,6 +117,53 @@ fn half_copied_file(rt: HostRuntime) -> Result<(), Wrong> {
     dialogue(rt.alloc(), HALF_COPIED)
 }
 
+const SETTINGS: &[Row] = &[
+    (Some("Set n 1"), ""),
+    (None, ""),
+    (Some("Unset RC"), ""),
+    (None, ""),
+    (Some("Alias z Echo [] $n"), ""),
+    (None, ""),
+    (Some("z x"), ""),
+    (None, "x 1\n"),
+    (Some("SetEnv v 7"), ""),
+    (None, ""),
+    (Some("Echo $v"), ""),
+    (None, "7\n"),
+    (Some("GetEnv v"), ""),
+    (None, "7\n"),
+    (Some("SetEnv"), ""),
+    (None, "v\n"),
+    (Some("UnsetEnv v"), ""),
+    (None, ""),
+    (Some("MakeDir d"), ""),
+    (None, ""),
+    (Some("Path d"), ""),
+    (None, ""),
+    (Some("d"), ""),
+    (None, ""),
+    (Some("Path SHOW"), ""),
+    (None, "Current directory\nRAM:d\nC:\n"),
+    (Some("Which Copy"), ""),
+    (None, "RAM:C/Copy\n"),
+    (Some("Alias z"), ""),
+    (None, "z                    Echo [] 1\n"),
+    (Some("Unalias z"), ""),
+    (None, ""),
+    (Some("Get n"), ""),
+    (None, "1\n"),
+    (Some("Set"), ""),
+    (
+        None,
+        "Process              1\nResult2              0\nn                    1\nRC                   0\n",
+    ),
+];
+
+#[test]
+fn want_of_memory_sets_nothing(rt: HostRuntime) -> Result<(), Wrong> {
+    dialogue(rt.alloc(), SETTINGS)
+}
+
 fn host(alloc: Global) -> Result<HostEntry, NoMemory> {
     Ok(HostEntry {
         name: Text::from_bytes(alloc, b"h")?,
