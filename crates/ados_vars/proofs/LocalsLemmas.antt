@@ -162,7 +162,7 @@ unfolding set_pair
 first-pairs number p0 p1 p2 p3 process value code empty fault nothing e0 e1 f1 q1 e2 f2 q2 e3 f3 q3 =
     q3 ∙ ap (λ n. set_pair p2 n nothing) e3 ∙ ap (λ v. set_pair p2 fault_name v) f3
     ∙ ap (λ p. set_pair p fault_name [])
-        (q2 ∙ ap (λ n. set_pair p1 n empty) e2 ∙ ap (λ v. set_pair p1 code_name v) f2
-        ∙ ap (λ p. set_pair p code_name [])
-            (q1 ∙ ap (λ n. set_pair p0 n value) e1 ∙ ap (λ v. set_pair p0 (codes "Process") v) f1
-            ∙ ap (λ p. set_pair p (codes "Process") (decimal number)) e0))
+    (q2 ∙ ap (λ n. set_pair p1 n empty) e2 ∙ ap (λ v. set_pair p1 code_name v) f2
+    ∙ ap (λ p. set_pair p code_name [])
+    (q1 ∙ ap (λ n. set_pair p0 n value) e1 ∙ ap (λ v. set_pair p0 (codes "Process") v) f1
+    ∙ ap (λ p. set_pair p (codes "Process") (decimal number)) e0))
