@@ -76,15 +76,4 @@ impl Settings {
             }
         }
     }
-
-    /// The same settings once more.
-    pub fn copy(&self, alloc: Global) -> Result<Settings, NoMemory>
-        ensures { IfOk result (λ settings. settings ≡ self.now) }
-    {
-        Ok(Settings {
-            locals: self.locals.copy()?,
-            aliases: self.aliases.copy()?,
-            path: self.path.copy(alloc)?,
-        })
-    }
 }

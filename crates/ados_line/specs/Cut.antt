@@ -1,18 +1,17 @@
 -- The cut of a line: its command, its arguments, and the redirections of its input and its output. The pieces
 -- that are no redirection stay, as they stand, in the arguments.
-use Rattle.std.specs.Prelude.{◌≡◌, ◌⊎◌, ℕ, zero, suc, ◌+◌, [], ◌∷◌, ◌++◌, Bool, true, false, nat_lt, Option, Some, None, is_some, Result, Ok, Err, length, drop, if◌then◌else◌}
+use Rattle.std.specs.Prelude.{ℕ, zero, suc, ◌+◌, [], ◌∷◌, ◌++◌, Bool, true, false, Option, Some, None, is_some, Result, Ok, Err, length, drop, if◌then◌else◌}
 use Rattle.ados_text.specs.Text.{Text}
 use Rattle.ados_items.specs.declared.items.Item.{Item}
 use Rattle.ados_items.specs.declared.items.Item.TheVariants.{Word, Quoted, Equal, End, Unmatched}
 use Rattle.ados_items.specs.Items.{item_at, value_of, bytes_between}
 use Rattle.ados_line.specs.declared.faults.LineFault.{LineFault}
-use Rattle.ados_line.specs.declared.faults.LineFault.TheVariants.{ArgumentMissing, TooManyArguments, UnmatchedQuotes, LineTooLong, NotImplemented, NoMemory}
+use Rattle.ados_line.specs.declared.faults.LineFault.TheVariants.{ArgumentMissing, TooManyArguments, UnmatchedQuotes, NotImplemented}
 use Rattle.ados_line.specs.declared.signs.Sign.{Sign}
 use Rattle.ados_line.specs.declared.signs.Sign.TheVariants.{Input, Output, Append}
 use Rattle.ados_line.specs.declared.cuts.Cut.{Cut}
 use Rattle.ados_line.specs.declared.lines.Expanded.{Expanded}
 use Rattle.ados_line.specs.declared.lines.Expanded.TheVariants.{Nothing, Ready}
-use Rattle.ados_line.specs.Comment.{without_comment}
 use Rattle.ados_line.specs.Signs.{is_both, sign_at, width_of}
 
 -- how the cut goes on from a place, behind what was read
@@ -97,11 +96,3 @@ expanded_by (Err fault) = Err fault
 -- a line has at most so many bytes
 abbrev pub line_limit : ℕ
 line_limit = 512
-
--- What a raw line comes to: it has at most 512 bytes, its comment is dropped, and the rest is cut.
-abbrev pub expanded_of : Text → Result Expanded LineFault
-expanded_of raw = if nat_lt line_limit (length raw) then Err LineTooLong else expanded_by (cut_of (without_comment raw))
-
--- The answer is the definition's, or memory was wanting.
-abbrev pub IsExpanded : Result Expanded LineFault → Text → Type 0
-IsExpanded result raw = (result ≡ Err NoMemory) ⊎ (result ≡ expanded_of raw)

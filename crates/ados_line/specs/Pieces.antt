@@ -11,7 +11,6 @@ use Rattle.ados_line.specs.declared.lines.Redirection.{Redirection}
 use Rattle.ados_line.specs.declared.lines.Line.{Line}
 use Rattle.ados_line.specs.declared.lines.Expanded.{Expanded}
 use Rattle.ados_line.specs.declared.lines.Expanded.TheVariants.{Nothing, Ready}
-use Rattle.ados_line.specs.Comment.{without_comment}
 use Rattle.ados_line.specs.Signs.{begins, is_both, sign_at, width_of}
 
 -- A piece of a line, as it is written: bytes in which no item begins; an item with the blanks in front of it, and its
@@ -131,7 +130,3 @@ pub record IsSaid (line : Line) (pieces : List Piece) : Type 0 where
 abbrev pub IsOfPieces : Text → Expanded → Type 0
 IsOfPieces line Nothing = (pieces : List Piece) × ArePieces line pieces × (command_of pieces ≡ None)
 IsOfPieces line (Ready said) = (pieces : List Piece) × ArePieces line pieces × IsSaid said pieces
-
--- What a raw line came to is made of the pieces of it without its comment.
-abbrev pub IsInPieces : Text → Expanded → Type 0
-IsInPieces raw found = IsOfPieces (without_comment raw) found

@@ -21,9 +21,9 @@ use ados_text::{LINE_BYTES, Text};
 ///
 /// Quotes are judged before values are put in, and no value is read again: what came out is the segments of the line,
 /// in order, each a character of it or the value of one variable. `LineTooLong` comes first; the other faults are those
-/// of `expand`, in what came out.
+/// of the cut, in what came out, the first one in it.
 #[tactic(auto, unfolding(crate::specs::Expansion::expanded_in))]
-pub fn expand_in(scope: &Scope, raw: &Text) -> Result<Expanded, LineFault>
+pub fn expand(scope: &Scope, raw: &Text) -> Result<Expanded, LineFault>
     ensures value { Gives result (expanded_in scope.now.aliases.now (variables_in scope.now) raw.now) }
     ensures long { 512 < length raw.now → result ≡ Err LineFault.LineTooLong }
     ensures made { IfOk result (IsMade (variables_in scope.now) (with_alias scope.now.aliases.now (without_comment raw.now))) }

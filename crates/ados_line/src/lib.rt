@@ -15,7 +15,7 @@ mod signs;
 mod spelling;
 mod values;
 
-pub use expansion::expand_in;
+pub use expansion::expand;
 pub use faults::LineFault;
-pub use lines::{Expanded, Line, Redirection, expand};
+pub use lines::{Expanded, Line, Redirection};
 pub use scopes::Scope;

@@ -1,13 +1,12 @@
-ghost use Rattle.std.specs.Prelude.{◌≡◌, ◌<◌, Err, IfOk, length};
+ghost use Rattle.std.specs.Prelude.{◌≡◌, IfOk};
 ghost use Rattle.ados_text.specs.Text.{IsText};
 ghost use Rattle.ados_line.specs.Answers.{Gives};
-ghost use Rattle.ados_line.specs.Cut.{cut_of, expanded_by, IsExpanded};
-ghost use Rattle.ados_line.specs.Pieces.{IsInPieces, IsOfPieces};
+ghost use Rattle.ados_line.specs.Cut.{cut_of, expanded_by};
+ghost use Rattle.ados_line.specs.Pieces.{IsOfPieces};
 
-use crate::comments::without_comment;
 use crate::cuts::{Cut, cut_line};
 use crate::faults::LineFault;
-use ados_text::{LINE_BYTES, NoMemory, Text};
+use ados_text::{NoMemory, Text};
 use std::alloc::Global;
 
 /// Where a command's output goes in place of the console.
@@ -59,26 +58,13 @@ pub enum Expanded {
     Ready(Line),
 }
 
-/// What a raw line comes to: it has at most 512 bytes, its comment is dropped, and the rest is cut.
-///
-/// `LineTooLong` comes first; of the other faults the one that stands first in the line. At one
-/// place a second input or output comes before a missing name, and that before an open quote; `<>`
-/// counts as neither and is not implemented. The line is its pieces, in order: the items that are
-/// kept, of which none begins with the sign of a redirection, the blanks between them, and the
-/// redirections, each a sign with the item behind it, whose text is the name. The first item that is
-/// kept is the command, and what is kept behind it the arguments, as it stands.
-pub fn expand(alloc: Global, raw: &Text) -> Result<Expanded, LineFault>
-    ensures value { IsExpanded result raw.now }
-    ensures long { 512 < length raw.now → result ≡ Err LineFault.LineTooLong }
-    ensures pieces { IfOk result (IsInPieces raw.now) }
-{
-    if raw.as_bytes().len() > LINE_BYTES {
-        return Err(LineFault::LineTooLong);
-    }
-    cut_text(alloc, without_comment(raw.as_bytes()))
-}
-
 /// What a line without comment, alias and variables comes to: the cut of it.
+///
+/// Of the faults the one that stands first in the line is told. At one place a second input or output comes before a
+/// missing name, and that before an open quote; `<>` counts as neither and is not implemented. The line is its pieces,
+/// in order: the items that are kept, of which none begins with the sign of a redirection, the blanks between them, and
+/// the redirections, each a sign with the item behind it, whose text is the name. The first item that is kept is the
+/// command, and what is kept behind it the arguments, as it stands.
 pub fn cut_text(alloc: Global, line: &[u8]) -> Result<Expanded, LineFault>
     requires { IsText line.now }
     ensures value { Gives result (expanded_by (cut_of line.now)) }

@@ -5,7 +5,7 @@ ghost use Rattle.ados_machine.specs.Lines.{found_deed, found_in, line_deed};
 use crate::drafts::Draft;
 use crate::scenes::Scene;
 use ados_find::{Codes, Found, find};
-use ados_line::{Expanded, Line, LineFault, Scope, expand_in};
+use ados_line::{Expanded, Line, LineFault, Scope, expand};
 use ados_machine::Builtin;
 use ados_text::{NoMemory, Result2, Text};
 
@@ -36,7 +36,7 @@ impl Draft {
         ensures { Gives result (expanded_in (course_of scene.now self.now).parts.settings.aliases (variables_in (course_of scene.now self.now)) raw.now) }
     {
         let scope = self.scope(scene);
-        expand_in(&scope, raw)
+        expand(&scope, raw)
     }
 
     /// Where the words of a line have their meanings, as the shell and the shared parts stand.

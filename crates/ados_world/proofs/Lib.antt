@@ -1,2 +1,3 @@
+mod CarryingLemmas
 mod FillLemmas
 mod StepLemmas

@@ -1,8 +1,9 @@
 -- The shells of a world, by their numbers.
-use Rattle.std.specs.Prelude.{◌≤◌, ◌-◌, ℕ, List, Option, Some, option_map, slice_set}
+use Rattle.std.specs.Prelude.{◌≤◌, ◌-◌, ℕ, List, [], ◌∷◌, Option, Some, None, map, option_map, slice_set}
+use Rattle.ados_ram.specs.Place.{Place}
 use Rattle.ados_find.specs.declared.outcomes.Renamed.{Renamed}
 use Rattle.ados_machine.specs.Shells.{ShellState}
-use Rattle.ados_machine.specs.Carrying.{carried_shell, carried_shells}
+use Rattle.ados_machine.specs.Carrying.{carried_directory, carried_shell, carried_shells, in_directory}
 use Rattle.ados_machine.specs.World.{flatten, numbered}
 use Rattle.ados_shell.specs.declared.drafts.ShellDraft.{ShellDraft}
 use Rattle.ados_shell.specs.Drafts.{behind}
@@ -23,3 +24,18 @@ moved_in number draft shells = with_shell number (behind draft) shells shells
 abbrev pub carried_in : ℕ → Renamed → ShellDraft → List (Option ShellState) → List (Option ShellState)
 carried_in number moved draft shells =
     with_shell number (λ shell. carried_shell moved (behind draft shell)) shells (carried_shells (Some moved) shells)
+
+-- the current directories of all shells, where what was moved has gone along
+abbrev pub carried_directories : Renamed → List (Option ShellState) → List (Option Place)
+carried_directories moved shells = map (option_map (carried_directory moved)) shells
+
+-- a shell is in the directory that is there for it
+abbrev pub placed : Option Place → Option ShellState → Option ShellState
+placed None shell = shell
+placed (Some directory) shell = option_map (in_directory directory) shell
+
+-- the same of all shells, by their numbers
+abbrev pub all_placed : List (Option Place) → List (Option ShellState) → List (Option ShellState)
+all_placed [] shells = shells
+all_placed (directory ∷ directories) [] = []
+all_placed (directory ∷ directories) (shell ∷ shells) = placed directory shell ∷ all_placed directories shells

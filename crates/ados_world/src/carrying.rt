@@ -1,11 +1,12 @@
 // Carrying: the current directories of all shells move with an object that was moved.
-ghost use Rattle.std.specs.Prelude.{◌≡◌, IfOk, Some};
+ghost use Rattle.std.specs.Prelude.{◌≡◌, IfOk, None, option_map, replicate};
 ghost use Rattle.std.specs.Option.{option_copied};
 ghost use Rattle.ados_find.specs.Shared.{version};
-ghost use Rattle.ados_machine.specs.Carrying.{carried_place, carried_shells, has_moved, moved_by};
+ghost use Rattle.ados_machine.specs.Carrying.{carried_directory, has_moved, moved_by};
+ghost use Rattle.ados_world.specs.Shells.{all_placed, carried_directories, placed};
 
-use crate::shells::no_shells;
 use ados_find::{Renamed, Shared};
+use ados_ram::Place;
 use ados_shell::Shell;
 use ados_text::NoMemory;
 
@@ -29,25 +30,56 @@ fn has_moved(old: &Shared, new: &Shared, renamed: &Renamed) -> bool
     old.ram.look(&renamed.from).is_some() && new.ram.look(&renamed.from).is_none()
 }
 
-/// All shells, with their current directories carried.
-pub fn carried_places(
+/// The current directories of all shells, where what was moved has gone along; none for a number without a shell.
+pub fn carried_directories(
     shells: &[Option<Shell>; 20],
     moved: &Renamed,
-) -> Result<[Option<Shell>; 20], NoMemory>
-    ensures { IfOk result (λ new. new ≡ carried_shells (Some moved.now) shells.now) }
+) -> Result<[Option<Place>; 20], NoMemory>
+    ensures { IfOk result (λ places. places ≡ carried_directories moved.now shells.now) }
 {
-    let mut new = no_shells();
+    let mut directories = no_directories();
     for place in 0..20 {
-        new[place] = carried_place(&shells[place], moved)?;
+        directories[place] = carried_directory(&shells[place], moved)?;
     }
-    Ok(new)
+    Ok(directories)
 }
 
-fn carried_place(shell: &Option<Shell>, moved: &Renamed) -> Result<Option<Shell>, NoMemory>
-    ensures { IfOk result (λ new. new ≡ carried_place moved.now shell.now) }
+fn carried_directory(
+    shell: &Option<Shell>,
+    moved: &Renamed,
+) -> Result<Option<Place>, NoMemory>
+    ensures { IfOk result (λ place. place ≡ option_map (carried_directory moved.now) shell.now) }
 {
     match shell {
         None => Ok(None),
-        Some(shell) => Ok(Some(shell.carried(moved)?)),
+        Some(shell) => Ok(Some(shell.carried_directory(moved)?)),
     }
+}
+
+/// From now on these are the current directories of the shells.
+pub fn place_all(shells: &mut [Option<Shell>; 20], directories: [Option<Place>; 20])
+    ensures { shells.new ≡ all_placed directories shells.old }
+{
+    let mut left = directories;
+    for place in 0..20 {
+        move_to(&mut shells[place], left[place].take());
+    }
+}
+
+fn move_to(shell: &mut Option<Shell>, directory: Option<Place>)
+    ensures { shell.new ≡ placed directory shell.old }
+{
+    if let (Some(shell), Some(directory)) = (shell, directory) {
+        shell.move_to(directory);
+    }
+}
+
+// A place for each number, and no directory.
+fn no_directories() -> [Option<Place>; 20]
+    ensures { result ≡ replicate 20 None }
+{
+    [
+        None, None, None, None, None, None, None, None, None, None, None, None, None, None, None,
+        None, None, None, None, None,
+    ]
 }

@@ -5,7 +5,7 @@ ghost use Rattle.std.specs.Option.{option_copied};
 ghost use Rattle.ados_machine.specs.World.{flatten, numbered};
 ghost use Rattle.ados_world.specs.Shells.{IsShellNumber, carried_in, moved_in};
 
-use crate::carrying::carried_places;
+use crate::carrying::{carried_directories, place_all};
 use ados_find::Renamed;
 use ados_shell::{Shell, ShellDraft};
 use ados_text::NoMemory;
@@ -85,9 +85,10 @@ pub fn carry_in(
     let Some(shell) = find_shell(shells, number) else {
         return Ok(());
     };
-    draft.carry(shell, moved)?;
-    let mut carried = carried_places(shells, moved)?;
-    move_in(&mut carried, number, draft)?;
-    *shells = carried;
+    let own = draft.carried_directory(shell, moved)?;
+    let mut directories = carried_directories(shells, moved)?;
+    directories[number as usize - 1] = Some(own);
+    move_in(shells, number, draft)?;
+    place_all(shells, directories);
     Ok(())
 }

@@ -1,10 +1,10 @@
 use Rattle.std.proofs.Common.{◌≡◌, ◌∙◌, ◌-◌, Some, ap, sym}
 use Rattle.std.specs.Prelude.{option_map, slice_set}
-use Rattle.ados_machine.specs.Carrying.{carried_shell, carried_shells}
+use Rattle.ados_machine.specs.Carrying.{carried_directory, carried_shell, carried_shells}
 use Rattle.ados_machine.specs.World.{flatten, numbered}
-use Rattle.ados_machine.proofs.Shells.{carried-runs, found, found-carried}
 use Rattle.ados_shell.specs.Drafts.{behind}
-use Rattle.ados_world.specs.Shells.{moved_in}
+use Rattle.ados_world.specs.Shells.{all_placed, carried_directories, moved_in}
+use Rattle.ados_world.proofs.CarryingLemmas.{placed-set}
 use Rattle.ados_world.proofs.shells.carry_in.Goals as goal
 
 pub returns-clause-ok : goal.returns-clause-ok
@@ -13,11 +13,13 @@ returns-clause-ok c =
     let moved = c.args.moved.now in
     let shells = c.args.shells.now in
     let shell = c.in-Some.shell.now in
-    let all = carried_shells (Some moved) shells in
-    let draft = c.carry.new.self in
+    let draft = c.args.draft.now in
+    let new = behind draft shell in
     let here : flatten (numbered shells n) ≡ Some shell = sym c.in-Some.ensures.shell in
-    c.in_ok-move_in.ensures.ok
-    ∙ ap (moved_in n draft) c.in_ok-carried.ensures
-    ∙ ap (λ o. slice_set all (n - 1) (option_map (behind draft) o)) (found-carried (Some moved) shells n ∙ carried-runs (Some moved) (found shells n) shell here)
-    ∙ ap (λ s. slice_set all (n - 1) (Some s)) c.in_ok-carry.ensures
-    ∙ ap (λ o. slice_set all (n - 1) (option_map (λ s. carried_shell moved (behind c.args.draft.now s)) o)) (sym here)
+    c.place_all.ensures
+    ∙ ap (λ l. all_placed (slice_set l (n - 1) (Some c.in_ok-own.field-0)) c.move_in.new.shells) c.in_ok-directories.ensures
+    ∙ ap (λ d. all_placed (slice_set (carried_directories moved shells) (n - 1) (Some d)) c.move_in.new.shells) c.in_ok-own.ensures
+    ∙ ap (all_placed (slice_set (carried_directories moved shells) (n - 1) (Some (carried_directory moved new))))
+    (c.in_ok-move_in.ensures.ok ∙ ap (λ o. slice_set shells (n - 1) (option_map (behind draft) o)) here)
+    ∙ placed-set moved new shells (n - 1)
+    ∙ ap (λ o. slice_set (carried_shells (Some moved) shells) (n - 1) (option_map (λ s. carried_shell moved (behind draft s)) o)) (sym here)

@@ -2,7 +2,7 @@ use Rattle.std.proofs.Common.{rules}
 use Rattle.ados_line.specs.Expansion.{expanded_in}
 use Rattle.ados_line.specs.Values.{variables_in}
 use Rattle.ados_line.proofs.ExpansionLemmas.{made}
-use Rattle.ados_line.proofs.expansion.expand_in.Goals as goal
+use Rattle.ados_line.proofs.expansion.expand.Goals as goal
 
 pub returns-in-None-clause-made : goal.returns-in-None-clause-made
 unfolding expanded_in
