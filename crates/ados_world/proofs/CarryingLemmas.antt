@@ -1,6 +1,7 @@
 -- the shells, placed in their directories where what was moved has gone along
-use Rattle.std.proofs.Common.{◌≡◌, ◌<◌, ◌+◌, ℕ, zero, suc, List, [], ◌∷◌, Option, Some, None, length, take, map, get_or, ap, refl}
+use Rattle.std.proofs.Common.{◌≡◌, ◌<◌, ◌+◌, ℕ, zero, suc, List, [], ◌∷◌, Option, Some, None, ◌∙◌, drop, length, take, map, get_or, ap, arith, refl, sym}
 use Rattle.std.specs.Prelude.{slice_set}
+use Rattle.std.proofs.lemmas.List.{drop-drop, drop-set-lt, get_or-drop}
 use Rattle.ados_ram.specs.Place.{Place}
 use Rattle.ados_find.specs.declared.outcomes.Renamed.{Renamed}
 use Rattle.ados_machine.specs.Carrying.{carried_directory, carried_place, carried_shell}
@@ -23,12 +24,35 @@ placed-set moved new (None ∷ shells) (suc i) = ap (λ l. None ∷ l) (placed-s
 placed-set moved new (Some shell ∷ shells) (suc i) = ap (λ l. Some (carried_shell moved shell) ∷ l) (placed-set moved new shells i)
 
 -- one shell more is placed
-pub place-more : (directories : List (Option Place)) (old : List (Option ShellState)) (i : ℕ) (d : Option Place) (s : Option ShellState)
+place-suc : (directories : List (Option Place)) (old : List (Option ShellState)) (i : ℕ) (d : Option Place) (s : Option ShellState)
     → i < length directories → i < length old
     → slice_set (all_placed (take i directories) old) i (placed (get_or directories i d) (get_or (all_placed (take i directories) old) i s))
-    ≡ all_placed (take (i + 1) directories) old
-place-more [] old i d s a b = absurd a
-place-more (directory ∷ directories) [] i d s a b = absurd b
-place-more (directory ∷ directories) (shell ∷ old) zero d s a b = refl
-place-more (directory ∷ directories) (shell ∷ old) (suc i) d s a b =
-    ap (λ l. placed directory shell ∷ l) (place-more directories old i d s a b)
+    ≡ all_placed (take (suc i) directories) old
+place-suc [] old i d s a b = (let none : ⊥ = omega (arith, a) in absurd none)
+place-suc (directory ∷ directories) [] i d s a b = (let none : ⊥ = omega (arith, b) in absurd none)
+place-suc (directory ∷ directories) (shell ∷ old) zero d s a b = refl
+place-suc (directory ∷ directories) (shell ∷ old) (suc i) d s a b =
+    ap (λ l. placed directory shell ∷ l) (place-suc directories old i d s (omega (arith, a)) (omega (arith, b)))
+
+-- the first of what is left of a list
+first-left : {X : Type 0} (left all : List X) (i : ℕ) (d : X) → drop i left ≡ drop i all → get_or left i d ≡ get_or all i d
+first-left left all i d h =
+    ap (λ n. get_or left n d) (sym (zero-behind i)) ∙ sym (get_or-drop i left 0 d) ∙ ap (λ l. get_or l 0 d) h
+    ∙ get_or-drop i all 0 d ∙ ap (λ n. get_or all n d) (zero-behind i)
+  where
+    zero-behind : (n : ℕ) → n + 0 ≡ n
+    zero-behind n = omega arith
+
+pub place-more : (directories left : List (Option Place)) (old new : List (Option ShellState)) (i : ℕ) (x d : Option Place) (s : Option ShellState)
+    → new ≡ all_placed (take i directories) old → drop i left ≡ drop i directories → i < length directories → i < length old
+    → x ≡ get_or left i d → slice_set new i (placed x (get_or new i s)) ≡ all_placed (take (i + 1) directories) old
+place-more directories left old new i x d s n l a b e =
+    ap (λ x. slice_set new i (placed x (get_or new i s))) (e ∙ first-left left directories i d l)
+    ∙ ap (λ l. slice_set l i (placed (get_or directories i d) (get_or l i s))) n
+    ∙ place-suc directories old i d s a b
+    ∙ (let next : suc i ≡ i + 1 = omega arith in ap (λ n. all_placed (take n directories) old) next)
+
+-- one directory more is taken
+pub left-more : (left all : List (Option Place)) (i : ℕ) (x : Option Place) → drop i left ≡ drop i all
+    → drop (i + 1) (slice_set left i x) ≡ drop (i + 1) all
+left-more left all i x h = drop-set-lt (i + 1) left i x (omega arith) ∙ sym (drop-drop 1 i left) ∙ ap (drop 1) h ∙ drop-drop 1 i all

@@ -44,10 +44,7 @@ pub fn carried_directories(
     Ok(directories)
 }
 
-fn carried_directory(
-    shell: &Option<Shell>,
-    moved: &Renamed,
-) -> Result<Option<Place>, NoMemory>
+fn carried_directory(shell: &Option<Shell>, moved: &Renamed) -> Result<Option<Place>, NoMemory>
     ensures { IfOk result (λ place. place ≡ option_map (carried_directory moved.now) shell.now) }
 {
     match shell {

@@ -3,7 +3,7 @@ use Rattle.std.specs.Prelude.{option_map, slice_set}
 use Rattle.ados_machine.specs.Carrying.{carried_directory, carried_shell, carried_shells}
 use Rattle.ados_machine.specs.World.{flatten, numbered}
 use Rattle.ados_shell.specs.Drafts.{behind}
-use Rattle.ados_world.specs.Shells.{all_placed, carried_directories, moved_in}
+use Rattle.ados_world.specs.Shells.{all_placed, carried_directories}
 use Rattle.ados_world.proofs.CarryingLemmas.{placed-set}
 use Rattle.ados_world.proofs.shells.carry_in.Goals as goal
 
@@ -17,7 +17,7 @@ returns-clause-ok c =
     let new = behind draft shell in
     let here : flatten (numbered shells n) ≡ Some shell = sym c.in-Some.ensures.shell in
     c.place_all.ensures
-    ∙ ap (λ l. all_placed (slice_set l (n - 1) (Some c.in_ok-own.field-0)) c.move_in.new.shells) c.in_ok-directories.ensures
+    ∙ ap (λ l. all_placed (slice_set l (n - 1) (Some c.in_ok-own.own)) c.move_in.new.shells) c.in_ok-directories.ensures
     ∙ ap (λ d. all_placed (slice_set (carried_directories moved shells) (n - 1) (Some d)) c.move_in.new.shells) c.in_ok-own.ensures
     ∙ ap (all_placed (slice_set (carried_directories moved shells) (n - 1) (Some (carried_directory moved new))))
     (c.in_ok-move_in.ensures.ok ∙ ap (λ o. slice_set shells (n - 1) (option_map (behind draft) o)) here)
