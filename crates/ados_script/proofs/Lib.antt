@@ -1,0 +1,4 @@
+pub mod BlockLemmas
+pub mod LabelLemmas
+mod LineLemmas
+pub mod SkipLemmas

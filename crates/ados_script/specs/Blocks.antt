@@ -1,0 +1,46 @@
+-- Where an If that fails goes on, and an Else. Depth is counted from the line that jumps, so that it is right also for
+-- a script whose If and EndIf lines do not match.
+use Rattle.std.specs.Prelude.{ℕ, List, map, Bool, true, false, ◌==◌, ◌&&◌}
+use Rattle.std.specs.List.{count_by, find}
+use Rattle.ados_text.specs.Text.{Text}
+use Rattle.ados_script.specs.declared.heads.Head.{Head}
+use Rattle.ados_script.specs.declared.heads.Head.TheVariants.{If, Else, EndIf}
+use Rattle.ados_script.specs.declared.jumps.Jump.{Jump}
+use Rattle.ados_script.specs.Heads.{head_of}
+use Rattle.ados_script.specs.Lines.{line_of, is_some_and, below, between}
+use Rattle.ados_script.specs.Jumps.{behind}
+
+abbrev pub is_if : Head → Bool
+is_if If = true
+is_if _ = false
+
+abbrev pub is_end_if : Head → Bool
+is_end_if EndIf = true
+is_end_if _ = false
+
+-- an EndIf, and for an If an Else too
+abbrev pub ends : Bool → Head → Bool
+ends at_else EndIf = true
+ends at_else Else = at_else
+ends at_else _ = false
+
+-- depth 0 behind these lines: as many of them are If lines as EndIf lines
+abbrev pub is_level : List Head → Bool
+is_level lines = count_by is_if lines == count_by is_end_if lines
+
+-- line j ends the block of line i: it is such a line, at depth 0
+abbrev pub ends_block : Bool → List Head → ℕ → ℕ → Bool
+ends_block at_else lines i j = is_some_and (ends at_else) (line_of lines j) && is_level (between lines i j)
+
+-- behind the first line below line i that ends its block
+abbrev pub after : Bool → List Text → ℕ → Jump
+after at_else lines i =
+    let heads = map head_of lines in
+    behind (find (ends_block at_else heads i) (below heads i))
+
+-- an If that fails goes on behind its Else or EndIf, and an Else behind its EndIf
+abbrev pub after_if : List Text → ℕ → Jump
+after_if = after true
+
+abbrev pub after_else : List Text → ℕ → Jump
+after_else = after false

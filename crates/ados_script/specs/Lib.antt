@@ -1,0 +1,5 @@
+pub mod Blocks
+pub mod Heads
+pub mod Jumps
+pub mod Lines
+pub mod Skips

@@ -1,0 +1,65 @@
+// What the lines of a script are to a search.
+ghost use Rattle.std.specs.Prelude.{◌≡◌, map, IfOk};
+ghost use Rattle.ados_script.specs.Heads.{head_of, head_of_word};
+
+use ados_items::{Item, next_item};
+use ados_text::{NoMemory, Text};
+use std::alloc::Global;
+
+/// What a line of a script is to a search.
+#[derive(Clone, Copy)]
+pub enum Head {
+    /// It begins a block.
+    If,
+    /// It ends what runs where the If of its block holds.
+    Else,
+    /// It ends a block.
+    EndIf,
+    /// It stops each Skip.
+    EndSkip,
+    /// It has a label.
+    Lab,
+    /// It is nothing to a search.
+    Other,
+}
+
+/// What each line is. `NoMemory` only where the room for them, one byte each, was refused.
+pub fn read_heads(alloc: Global, lines: &[Text]) -> Result<Vec<Head>, NoMemory>
+    ensures { IfOk result (λ heads. heads.items ≡ map head_of lines.now) }
+{
+    Ok(
+        lines
+            .iter()
+            .map(|line| read_head(line.as_bytes()))
+            .collect(alloc)?,
+    )
+}
+
+// What a line is by its first item, where that is an unquoted word.
+fn read_head(line: &[u8]) -> Head
+    ensures { result ≡ head_of line.now }
+{
+    match next_item(line, 0) {
+        Item::Word { from, to } => head_of_word(&line[from..to]),
+        _ => Head::Other,
+    }
+}
+
+// What a line with this first word is. Words of other lengths are told apart without reading them.
+fn head_of_word(word: &[u8]) -> Head
+    ensures { result ≡ head_of_word word.now }
+{
+    if word.eq_ignore_ascii_case(b"If") {
+        Head::If
+    } else if word.eq_ignore_ascii_case(b"Else") {
+        Head::Else
+    } else if word.eq_ignore_ascii_case(b"EndIf") {
+        Head::EndIf
+    } else if word.eq_ignore_ascii_case(b"EndSkip") {
+        Head::EndSkip
+    } else if word.eq_ignore_ascii_case(b"Lab") {
+        Head::Lab
+    } else {
+        Head::Other
+    }
+}

@@ -1,0 +1,24 @@
+ghost use Rattle.std.specs.Prelude.{◌≡◌, ◌+◌, ◌<◌, ◌^◌, IfSome};
+ghost use Rattle.ados_script.specs.Jumps.{behind};
+
+/// Where a jump leads. Lines are numbered from 1.
+#[derive(Clone, Copy, Debug, PartialEq, Eq)]
+pub enum Jump {
+    /// To the line of this number, which may be the one behind the last.
+    To(usize),
+    /// The same, but it stands behind an EndSkip.
+    EndSkip(usize),
+    /// What is sought is not there.
+    None,
+}
+
+/// To the line behind a line that was found.
+pub fn behind(line: Option<usize>) -> Jump
+    requires { IfSome line (λ line. line + 1 < 2 ^ 64) }
+    ensures { result ≡ behind line }
+{
+    match line {
+        None => Jump::None,
+        Some(line) => Jump::To(line + 1),
+    }
+}

@@ -1,0 +1,90 @@
+ghost use Rattle.std.specs.Prelude.{◌≡◌, IfOk};
+ghost use Rattle.std.specs.Option.{option_copied, option_map};
+ghost use Rattle.ados_script.specs.Blocks.{after_if, after_else};
+ghost use Rattle.ados_script.specs.Jumps.{LeadsWithin};
+ghost use Rattle.ados_script.specs.Lines.{line_of};
+ghost use Rattle.ados_script.specs.Skips.{skip};
+
+use crate::blocks::block_end;
+use crate::heads::{Head, read_heads};
+use crate::jumps::{Jump, behind};
+use crate::skips::skip_below;
+use ados_text::{NoMemory, Text};
+use std::alloc::Global;
+use std::marker::Model;
+
+/// The lines of a script, numbered from 1.
+///
+/// A jump goes by the lines as they stand, takes no memory, and leads to the line behind the one that it finds. Below
+/// line 0 stand all lines, and below the last or a number past it none.
+#[derive(Drop)]
+pub struct Script {
+    lines: Vec<Text>,
+    // What each line is to a search.
+    heads: Vec<Head>,
+}
+
+impl Model for Script {
+    ghost use Rattle.std.specs.Prelude.{List, ◌≡◌, map};
+    ghost use Rattle.ados_text.specs.Text.{Text};
+    ghost use Rattle.ados_script.specs.Heads.{head_of};
+
+    ghost Value = { List Text };
+
+    ghost view = { λ s. s.lines.items };
+
+    ghost invariant = { λ s. s.heads.items ≡ map head_of s.lines.items };
+}
+
+impl Script {
+    /// A script of these lines. At `NoMemory`, where the room of one byte for each line was refused, they are dropped.
+    pub fn of(alloc: Global, lines: Vec<Text>) -> Result<Script, NoMemory>
+        ensures { IfOk result (λ script. script ≡ lines.items) }
+    {
+        let heads = read_heads(alloc, &lines)?;
+        Ok(Script { lines, heads })
+    }
+
+    /// All lines, in order.
+    pub fn lines(&self) -> &[Text]
+        ensures { result.now ≡ self.now }
+    {
+        &self.lines
+    }
+
+    /// The line of a number; `None` at 0 and past the last.
+    pub fn line(&self, i: usize) -> Option<&Text>
+        ensures { option_copied result ≡ line_of self.now i }
+    {
+        self.lines.get(i.checked_sub(1)?)
+    }
+
+    /// Where an If that fails goes on from line `i`: behind the first Else or EndIf below it at depth 0, with as many
+    /// If lines as EndIf lines between. `None` where there is no such line.
+    pub fn after_if(&self, i: usize) -> Jump
+        ensures jump { result ≡ after_if self.now i }
+        ensures within { LeadsWithin self.now result }
+    {
+        behind(block_end(&self.heads, i, true))
+    }
+
+    /// Where an Else goes on from line `i`: behind the first EndIf below it at depth 0. `None` where there is no such
+    /// line.
+    pub fn after_else(&self, i: usize) -> Jump
+        ensures jump { result ≡ after_else self.now i }
+        ensures within { LeadsWithin self.now result }
+    {
+        behind(block_end(&self.heads, i, false))
+    }
+
+    /// Where a Skip goes on from line `i`: behind the first Lab below it that has the label, where case is ignored, or
+    /// behind the first Lab where no label is given; with `back` the search begins at line 1. A Lab with no second
+    /// item, or with an open quote there, has the empty label. `EndSkip` where an EndSkip comes first, `None` where
+    /// neither is there.
+    pub fn skip(&self, i: usize, label: Option<&[u8]>, back: bool) -> Jump
+        ensures jump { result ≡ skip self.now i (option_map (λ t. t.now) label.entry) back }
+        ensures within { LeadsWithin self.now result }
+    {
+        skip_below(&self.lines, &self.heads, if back { 0 } else { i }, label)
+    }
+}
