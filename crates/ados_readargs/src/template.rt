@@ -101,6 +101,13 @@ impl Template {
     {
         args.refill(&self.options, line)
     }
+
+    /// Its options, in order.
+    pub fn options(&self) -> &[TemplateOption]
+        ensures { result.now ≡ options_of self.now }
+    {
+        self.options.as_slice()
+    }
 }
 
 // The qualifiers with one more; none where it is unknown or there already.

@@ -1,0 +1,4 @@
+mod LineLemmas
+mod ReferenceLemmas
+mod ScriptLemmas
+mod SlotLemmas

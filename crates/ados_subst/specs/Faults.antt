@@ -1,0 +1,29 @@
+-- The faults of a script, and what a call answers by a definition that knows no want of memory.
+use Rattle.std.specs.Prelude.{◌≡◌, ◌⊎◌, Result, Ok, Err}
+use Rattle.ados_text.specs.declared.codes.Result2.{Result2}
+use Rattle.ados_text.specs.declared.errors.NoMemory.{NoMemory}
+use Rattle.ados_readargs.specs.declared.errors.ArgFault.{ArgFault}
+use Rattle.ados_readargs.specs.declared.errors.ArgFault.TheVariants as arg
+use Rattle.ados_readargs.specs.Faults.{result2_of as result2_of_args}
+use Rattle.ados_subst.specs.declared.faults.SubstFault.{SubstFault}
+use Rattle.ados_subst.specs.declared.faults.SubstFault.TheVariants as fault
+
+-- the fault of a script whose template is bad, or is not filled
+abbrev pub unfilled : ArgFault → SubstFault
+unfilled arg.BadTemplate = fault.Args arg.BadTemplate
+unfilled arg.BadNumber = fault.Args arg.BadNumber
+unfilled arg.ArgumentMissing = fault.Args arg.ArgumentMissing
+unfilled arg.ValueMissing = fault.Args arg.ValueMissing
+unfilled arg.TooMany = fault.Args arg.TooMany
+unfilled arg.Unmatched = fault.Args arg.Unmatched
+unfilled arg.NoMemory = fault.NoMemory
+
+-- the number by which a command answers the fault; want of memory has none
+abbrev pub result2_of : SubstFault → Result Result2 NoMemory
+result2_of (fault.Args of_args) = result2_of_args of_args
+result2_of (fault.BadDirective line) = Ok (record { 0 = 114 })
+result2_of fault.NoMemory = Err (record {})
+
+-- the answer is the definition's, or memory was wanting
+abbrev pub Gives : {X : Type 0} → Result X SubstFault → Result X SubstFault → Type 0
+Gives result whole = (result ≡ Err fault.NoMemory) ⊎ (result ≡ whole)

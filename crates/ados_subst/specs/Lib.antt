@@ -1,0 +1,9 @@
+pub mod Above
+pub mod Directives
+pub mod Faults
+pub mod Lines
+pub mod Marks
+pub mod References
+pub mod Scripts
+pub mod Slots
+pub mod Words

@@ -1,0 +1,31 @@
+-- What the text between a bra and a ket stands for.
+use Rattle.std.specs.Prelude.{ℕ, ◌+◌, [], ◌∷◌, Bool, ◌==◌, Option, Some, take, drop, position, if◌then◌else◌}
+use Rattle.std.specs.Option.{option_or, option_map, option_and_then}
+use Rattle.std.specs.Str.{bytes_eq}
+use Rattle.ados_text.specs.Text.{Text}
+use Rattle.ados_subst.specs.declared.above.Above.{Above}
+use Rattle.ados_subst.specs.Above.{slot_in}
+use Rattle.ados_subst.specs.Slots.{value_of, value_or}
+
+-- what texts stand for, those that refer to something
+abbrev pub References : Type 0
+References = Text → Option Text
+
+-- the byte is the one
+abbrev pub is_byte : ℕ → ℕ → Bool
+is_byte c b = b == c
+
+-- the name of an option stands for its value
+abbrev pub by_name : Above → Text → Option Text
+by_name above name = option_map value_of (slot_in above name)
+
+-- the name of an option, the dollar at a place and a text stand for what the option was given, or else for that text
+abbrev pub by_dollar : Above → Text → ℕ → Option Text
+by_dollar above text place = option_map (value_or (drop (place + 1) text)) (slot_in above (take place text))
+
+-- what a text stands for, if it refers to something: two dollars to the shell's number
+abbrev pub referred : Above → Text → References
+referred above process text =
+    let dollar = above.marks.dollar in
+    if bytes_eq text (dollar ∷ dollar ∷ []) then Some process
+    else option_or (by_name above text) (option_and_then (by_dollar above text) (position (is_byte dollar) text))

@@ -1,0 +1,38 @@
+ghost use Rattle.std.specs.Prelude.{◌≡◌};
+ghost use Rattle.std.specs.Option.{option_copied};
+
+use crate::marks::Marks;
+use crate::slots::{Slot, Slots};
+
+/// What the directives above a line say.
+#[derive(Drop)]
+pub struct Above {
+    /// The characters of directives and of references.
+    pub marks: Marks,
+    /// The options of the template, once there was one.
+    pub slots: Option<Slots>,
+}
+
+impl Above {
+    ghost use Rattle.ados_subst.specs.Above.{at_first, slot_in};
+
+    /// What stands above the first line.
+    pub fn first() -> Above
+        ensures { result ≡ at_first }
+    {
+        Above {
+            marks: Marks::first(),
+            slots: None,
+        }
+    }
+
+    /// The option of a name; where there was no template yet, none.
+    pub fn slot(&self, name: &[u8]) -> Option<&Slot>
+        ensures { option_copied result ≡ slot_in self.now name.now }
+    {
+        match &self.slots {
+            None => None,
+            Some(slots) => slots.get(name),
+        }
+    }
+}

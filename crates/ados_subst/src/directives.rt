@@ -1,0 +1,179 @@
+ghost use Rattle.std.specs.Prelude.{◌≡◌, Ok, IfOk};
+ghost use Rattle.ados_text.specs.Text.{IsText, is_same};
+ghost use Rattle.ados_subst.specs.Faults.{Gives};
+ghost use Rattle.ados_subst.specs.Directives.{default_of, defaulted, directed, directive_named, is_remark, keyed, mark_named, marked, slots_for};
+
+use crate::above::Above;
+use crate::faults::SubstFault;
+use crate::marks::Mark;
+use crate::slots::Slots;
+use crate::words::{first_word, rest_of};
+use ados_items::{Item, next_item, value};
+use ados_readargs::Template;
+use ados_text::{NoMemory, Text};
+use std::alloc::Global;
+
+/// What a directive sets, by its word.
+#[derive(Clone, Copy)]
+pub enum Directive {
+    /// `KEY`: the template.
+    Key,
+    /// `DEF`: the default of an option.
+    Default,
+    /// `BRA` and its kin: another character for a mark.
+    Sets(Mark),
+}
+
+/// What stands above the next line, by what stands above a directive, the arguments of the script, the directive's line
+/// number, from 1, and what stands behind its dot.
+///
+/// `BadDirective` where there is no such directive, at a second `KEY`, at a default of an unknown option, and where
+/// `BRA` or its kin does not name one character; `Args` where the template is bad or is not filled by the arguments.
+pub fn directed(
+    alloc: Global,
+    above: Above,
+    args: &[u8],
+    number: usize,
+    body: &[u8],
+) -> Result<Above, SubstFault>
+    requires { IsText body.now }
+    ensures { Gives result (directed above args.now number body.now) }
+{
+    if is_remark(body) {
+        return Ok(above);
+    }
+    let rest = rest_of(body);
+    match directive_named(first_word(body)) {
+        None => Err(SubstFault::BadDirective(number)),
+        Some(Directive::Key) => keyed(alloc, above, args, number, rest),
+        Some(Directive::Default) => defaulted(alloc, above, number, rest),
+        Some(Directive::Sets(mark)) => marked(above, number, mark, rest),
+    }
+}
+
+// The directive is a comment: nothing stands behind its dot, or a blank or a `\` does.
+fn is_remark(body: &[u8]) -> bool
+    ensures { result ≡ is_remark body.now }
+{
+    match body {
+        [] => true,
+        [first, ..] => *first == b' ' || *first == b'\t' || *first == b'\\',
+    }
+}
+
+// The two are one word: alike where case is ignored.
+fn is_same(word: &[u8], name: &[u8]) -> bool
+    ensures { result ≡ is_same word.now name.now }
+{
+    word.eq_ignore_ascii_case(name)
+}
+
+fn directive_named(word: &[u8]) -> Option<Directive>
+    ensures { result ≡ directive_named word.now }
+{
+    if is_same(word, b"KEY") || is_same(word, b"K") {
+        Some(Directive::Key)
+    } else if is_same(word, b"DEF") {
+        Some(Directive::Default)
+    } else {
+        mark_named(word).map(Directive::Sets)
+    }
+}
+
+fn mark_named(word: &[u8]) -> Option<Mark>
+    ensures { result ≡ mark_named word.now }
+{
+    if is_same(word, b"BRA") {
+        Some(Mark::Bra)
+    } else if is_same(word, b"KET") {
+        Some(Mark::Ket)
+    } else if is_same(word, b"DOLLAR") || is_same(word, b"DOL") {
+        Some(Mark::Dollar)
+    } else if is_same(word, b"DOT") {
+        Some(Mark::Dot)
+    } else {
+        None
+    }
+}
+
+// `.KEY`: the template, which is filled at once.
+fn keyed(
+    alloc: Global,
+    above: Above,
+    args: &[u8],
+    number: usize,
+    text: &[u8],
+) -> Result<Above, SubstFault>
+    requires { IsText text.now }
+    ensures { Gives result (keyed above args.now number text.now) }
+{
+    if above.slots.is_some() {
+        return Err(SubstFault::BadDirective(number));
+    }
+    Ok(Above {
+        marks: above.marks,
+        slots: Some(slots_for(alloc, &made_text(alloc, text)?, args)?),
+    })
+}
+
+// The options of a template's text, filled with the arguments.
+fn slots_for(alloc: Global, text: &Text, args: &[u8]) -> Result<Slots, SubstFault>
+    ensures { Gives result (slots_for text.now args.now) }
+{
+    let template = Template::parse(alloc, text)?;
+    let args = template.fill(alloc, args)?;
+    Ok(Slots::filled(alloc, &template, &args)?)
+}
+
+// `.DEF`: the default of an option.
+fn defaulted(alloc: Global, above: Above, number: usize, text: &[u8]) -> Result<Above, SubstFault>
+    requires { IsText text.now }
+    ensures { Gives result (defaulted above number text.now) }
+{
+    let default = default_of(alloc, rest_of(text))?;
+    match above
+        .slots
+        .and_then(|slots| slots.with_default(first_word(text), default))
+    {
+        None => Err(SubstFault::BadDirective(number)),
+        Some(slots) => Ok(Above {
+            marks: above.marks,
+            slots: Some(slots),
+        }),
+    }
+}
+
+// The default that a text says: a quoted item's text, or the text as it stands.
+fn default_of(alloc: Global, text: &[u8]) -> Result<Text, NoMemory>
+    requires { IsText text.now }
+    ensures { IfOk result (λ default. default ≡ default_of text.now) }
+{
+    let item = next_item(text, 0);
+    match item {
+        Item::Quoted { .. } => value(alloc, text, &item),
+        _ => made_text(alloc, text),
+    }
+}
+
+// `.BRA` and its kin: one other character.
+fn marked(above: Above, number: usize, mark: Mark, text: &[u8]) -> Result<Above, SubstFault>
+    ensures { result ≡ marked above number mark text.now }
+{
+    match text {
+        [byte] => Ok(Above {
+            marks: above.marks.with(mark, *byte),
+            ..above
+        }),
+        _ => Err(SubstFault::BadDirective(number)),
+    }
+}
+
+// The text of ASCII bytes.
+fn made_text(alloc: Global, bytes: &[u8]) -> Result<Text, NoMemory>
+    requires { IsText bytes.now }
+    ensures { IfOk result (λ text. text ≡ bytes.now) }
+{
+    let mut text = Text::new(alloc);
+    text.push_bytes(bytes)?;
+    Ok(text)
+}

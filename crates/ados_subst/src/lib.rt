@@ -1,0 +1,15 @@
+#![tactic(auto)]
+//! The lines of a script, with its arguments put in.
+
+mod above;
+mod directives;
+mod faults;
+mod lines;
+mod marks;
+mod references;
+mod scripts;
+mod slots;
+mod words;
+
+pub use faults::SubstFault;
+pub use scripts::script;

@@ -1,0 +1,90 @@
+ghost use Rattle.std.specs.Prelude.{◌≡◌, IfOk, IfSome};
+ghost use Rattle.std.specs.Fmt.{decimal};
+ghost use Rattle.std.specs.Option.{option_copied};
+ghost use Rattle.ados_text.specs.Lines.{lines_of};
+ghost use Rattle.ados_text.specs.Text.{IsText};
+ghost use Rattle.ados_subst.specs.Above.{at_first};
+ghost use Rattle.ados_subst.specs.Faults.{Gives};
+ghost use Rattle.ados_subst.specs.Scripts.{ScriptBecomes, directive_in, is_dotted, lines_below, script_of};
+
+use crate::above::Above;
+use crate::directives::directed;
+use crate::faults::SubstFault;
+use crate::lines::substituted;
+use ados_text::{NoMemory, Text, Texts, lines_of};
+use itoa::Buffer;
+use std::alloc::Global;
+
+/// The lines of a script, from the bytes of its file, with its arguments put in; `process` is the shell's number.
+///
+/// Where the first line begins with `.`, each line that begins with the dot character is a directive and leaves an
+/// empty line, and in each other one the references are replaced, by the directives that stand above it. In any other
+/// script the lines stay and the arguments are not looked at.
+///
+/// The fault is that of the first directive that has one: `BadDirective` with its line's number, or `Args`.
+/// `NoMemory` only where a growth was refused.
+pub fn script(alloc: Global, bytes: &[u8], args: &[u8], process: u8) -> Result<Texts, SubstFault>
+    ensures value { Gives result (script_of (lines_of bytes.now) args.now (decimal process)) }
+    ensures said { IfOk result (ScriptBecomes (lines_of bytes.now) args.now (decimal process)) }
+{
+    let lines = lines_of(alloc, bytes)?;
+    if !is_dotted(lines.as_slice()) {
+        return Ok(lines);
+    }
+    lines_below(alloc, args, &digits(alloc, process)?, lines.as_slice())
+}
+
+// The first line begins with a dot.
+fn is_dotted(lines: &[Text]) -> bool
+    ensures { result ≡ is_dotted lines.now }
+{
+    match lines.first() {
+        None => false,
+        Some(line) => directive_in(b'.', line.as_bytes()).is_some(),
+    }
+}
+
+// What stands behind the dot, where the line is a directive.
+#[tactic(auto, using(ados_text::proofs::TextLemmas::parts))]
+fn directive_in(dot: u8, line: &[u8]) -> Option<&[u8]>
+    requires { IsText line.now }
+    ensures value { option_copied result ≡ directive_in dot line.now }
+    ensures ascii { IfSome result (λ body. IsText body.now) }
+{
+    match line {
+        [first, body @ ..] if *first == dot => Some(body),
+        _ => None,
+    }
+}
+
+// The lines of a script with directives.
+fn lines_below(
+    alloc: Global,
+    args: &[u8],
+    process: &Text,
+    lines: &[Text],
+) -> Result<Texts, SubstFault>
+    ensures { Gives result (lines_below args.now process.now at_first 1 lines.now) }
+{
+    let mut above = Above::first();
+    let mut texts = Texts::new(alloc);
+    for place in 0..lines.len() {
+        let line = lines[place].as_bytes();
+        match directive_in(above.marks.dot, line) {
+            None => texts.push(substituted(alloc, &above, process, line)?)?,
+            Some(body) => {
+                above = directed(alloc, above, args, place + 1, body)?;
+                texts.push(Text::new(alloc))?;
+            }
+        }
+    }
+    Ok(texts)
+}
+
+// A number in decimal.
+fn digits(alloc: Global, number: u8) -> Result<Text, NoMemory>
+    ensures { IfOk result (λ text. text ≡ decimal number) }
+{
+    let mut buffer = Buffer::new();
+    Text::from_bytes(alloc, buffer.format(number).as_bytes())
+}
