@@ -7,6 +7,8 @@ use std::marker::Model;
 /// What commands read of their shell, and of the others. The shell lends its parts.
 #[derive(Drop)]
 pub struct ShellView<'a> {
+    /// Its number.
+    pub number: u8,
     /// Its current directory.
     pub directory: &'a Place,
     /// Its fail limit.
@@ -25,5 +27,5 @@ impl<'a> Model for ShellView<'a> {
 
     ghost Value = { View };
 
-    ghost view = { λ v. record { parts = record { directory = v.directory.now; limit = v.limit; codes = v.codes; settings = v.settings.now }; busy = v.busy } };
+    ghost view = { λ v. record { parts = record { number = v.number; directory = v.directory.now; limit = v.limit; codes = v.codes; settings = v.settings.now }; busy = v.busy } };
 }

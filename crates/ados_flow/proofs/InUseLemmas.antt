@@ -1,14 +1,51 @@
 -- Commands that do not read what is in use.
-use Rattle.std.proofs.Common.{◌≡◌, List, Bool, false, refl}
+use Rattle.std.proofs.Common.{◌≡◌, ℕ, List, Option, Some, None, Result, Ok, Err, false, refl}
 use Rattle.ados_readargs.specs.declared.args.Arg.{Arg}
 use Rattle.ados_find.specs.Shared.{SharedState}
 use Rattle.ados_find.specs.Views.{IgnoresInUse}
 use Rattle.ados_flow.specs.declared.commands.Command.{Command}
-use Rattle.ados_flow.specs.declared.commands.Command.TheVariants.{Execute, Quit}
+use Rattle.ados_flow.specs.declared.commands.Command.TheVariants.{Ask, Else, EndIf, EndSkip, Execute, If, Lab, Quit, Skip}
+use Rattle.ados_flow.specs.declared.tests.Test.{Test}
+use Rattle.ados_flow.specs.declared.tests.Test.TheVariants.{Warn, Error, Fail, Equal, Greater, GreaterOrEqual, Exists}
+use Rattle.ados_flow.specs.Branches.{decided, if_row}
 use Rattle.ados_flow.specs.Commands.{reads_in_use}
+use Rattle.ados_flow.specs.Frames.{ScriptLine}
 use Rattle.ados_flow.specs.Rows.{row_of}
+use Rattle.ados_flow.specs.Tests.{exists, holds, tested_by, test_of}
+use Rattle.std.proofs.Common.{ap}
+use Rattle.ados_find.specs.declared.codes.Codes.{Codes}
+use Rattle.ados_readargs.specs.Args.{is_on, text_at}
 
-pub ignores : (command : Command) (simple : Bool) (shared : SharedState) (args : List Arg) → reads_in_use command ≡ false
-    → IgnoresInUse (λ view. row_of command simple shared view args)
-ignores Execute simple shared args e = cc
-ignores Quit simple shared args e = λ view busy. refl
+exists-ignores : (shared : SharedState) (word : Option (List ℕ)) → IgnoresInUse (λ view. exists shared view word)
+exists-ignores shared None = λ view busy. refl
+exists-ignores shared (Some word) = λ view busy. refl
+
+holds-ignores : (shared : SharedState) (args : List Arg) (test : Test) → IgnoresInUse (λ view. holds shared view args test)
+holds-ignores shared args Warn = λ view busy. refl
+holds-ignores shared args Error = λ view busy. refl
+holds-ignores shared args Fail = λ view busy. refl
+holds-ignores shared args Equal = λ view busy. refl
+holds-ignores shared args Greater = λ view busy. refl
+holds-ignores shared args GreaterOrEqual = λ view busy. refl
+holds-ignores shared args Exists = λ view busy. ap Ok (exists-ignores shared (text_at args 9) view busy)
+
+tested-ignores : (shared : SharedState) (args : List Arg) (test : Result Test Codes) → IgnoresInUse (λ view. tested_by shared view args test)
+tested-ignores shared args (Err codes) = λ view busy. refl
+tested-ignores shared args (Ok test) = holds-ignores shared args test
+
+if-ignores : (shared : SharedState) (script_line : Option ScriptLine) (args : List Arg) → IgnoresInUse (λ view. if_row shared script_line view args)
+if-ignores shared None args = λ view busy. refl
+if-ignores shared (Some here) args = λ view busy.
+    ap (decided shared (is_on args 0) here) (tested-ignores shared args (test_of args) view busy)
+
+pub ignores : (command : Command) (shared : SharedState) (script_line : Option ScriptLine) (args : List Arg) → reads_in_use command ≡ false
+    → IgnoresInUse (λ view. row_of command shared script_line view args)
+ignores Ask shared script_line args e = λ view busy. refl
+ignores Else shared script_line args e = λ view busy. refl
+ignores EndIf shared script_line args e = λ view busy. refl
+ignores EndSkip shared script_line args e = λ view busy. refl
+ignores Execute shared script_line args e = cc
+ignores If shared script_line args e = if-ignores shared script_line args
+ignores Lab shared script_line args e = λ view busy. refl
+ignores Quit shared script_line args e = λ view busy. refl
+ignores Skip shared script_line args e = λ view busy. refl

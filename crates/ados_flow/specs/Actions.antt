@@ -1,4 +1,6 @@
 -- What a command does to its shell.
+use Rattle.std.specs.Prelude.{ℕ}
+use Rattle.ados_text.specs.Text.{Text}
 use Rattle.ados_find.specs.declared.codes.Codes.{Codes}
 use Rattle.ados_find.specs.Effects.{Effect, effect_of}
 use Rattle.ados_find.specs.Shared.{SharedState}
@@ -6,14 +8,19 @@ pub use Rattle.ados_flow.specs.declared.called.Called.{Called}
 use Rattle.ados_flow.specs.declared.actions.Action as code
 use Rattle.ados_flow.specs.declared.actions.Action.TheVariants as made
 
--- it answers; it ends its script with these codes, and elsewhere answers them; or it calls a script
+-- it answers; it ends its script with these codes, and elsewhere answers them; it answers, and its script goes on at
+-- this line; it calls a script; or it asks for yes or no
 pub data Action : Type 0 where
   Does : Effect → Action
   Quits : Codes → Action
+  Jumps : (line : ℕ) (codes : Codes) → Action
   Calls : Called → Action
+  Asks : (prompt : Text) → Action
 
 -- what an action is to the shared parts as they were
 abbrev pub acting : SharedState → code.Action → Action
 acting shared (made.Does outcome) = Does (effect_of shared outcome)
 acting shared (made.Quits codes) = Quits codes
+acting shared (made.Jumps line codes) = Jumps line codes
 acting shared (made.Calls script) = Calls script
+acting shared (made.Asks prompt) = Asks prompt

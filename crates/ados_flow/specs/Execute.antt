@@ -1,10 +1,13 @@
 -- Execute: the call of a script.
-use Rattle.std.specs.Prelude.{ℕ, List, [], ◌∷◌, ◌++◌, Bool, false, ◌==◌, ◌&&◌, ◌||◌, Option, Some, None, Result, Ok, Err, codes, position, is_none, if◌then◌else◌}
+use Rattle.std.specs.Prelude.{ℕ, List, [], ◌∷◌, ◌++◌, Bool, ◌==◌, ◌&&◌, ◌||◌, Option, Some, None, Result, Ok, Err, codes, position, is_none, unwrap_or, if◌then◌else◌}
 use Rattle.std.specs.FinMap as finite
+use Rattle.std.specs.Fmt.{decimal}
 use Rattle.ados_text.specs.Lines.{lines_of}
+use Rattle.ados_text.specs.Text.{Bytes, Text}
 use Rattle.ados_text.specs.declared.codes.Result2.{Result2}
-use Rattle.ados_text.specs.declared.codes.TheConstants.Result2.{ARGUMENT_MISSING, NOT_IMPLEMENTED}
-use Rattle.ados_ram.specs.Place.{key_of}
+use Rattle.ados_text.specs.declared.codes.TheConstants.Result2.{ARGUMENT_MISSING, NO_FREE_STORE}
+use Rattle.ados_text.specs.declared.errors.NoMemory.{NoMemory}
+use Rattle.ados_ram.specs.Place.{Place, key_of}
 use Rattle.ados_ram.specs.FileOperations.{read_at}
 use Rattle.ados_ram.specs.Written.{full_path}
 use Rattle.ados_readargs.specs.declared.args.Arg.{Arg}
@@ -15,48 +18,53 @@ use Rattle.ados_find.specs.Effects.{answering}
 use Rattle.ados_find.specs.Paths.{place_of}
 use Rattle.ados_find.specs.Shared.{SharedState}
 use Rattle.ados_find.specs.Views.{View}
+use Rattle.ados_subst.specs.declared.faults.SubstFault.{SubstFault}
+use Rattle.ados_subst.specs.Faults.{result2_of}
+use Rattle.ados_subst.specs.Scripts.{script_of}
 use Rattle.ados_flow.specs.Actions.{Action, Does, Calls}
 
 abbrev pub is_separator : ℕ → Bool
 is_separator byte = byte == 58 || byte == 47
 
 -- a word without a colon and a slash
-abbrev pub is_plain : List ℕ → Bool
+abbrev pub is_plain : Text → Bool
 is_plain word = is_none (position is_separator word)
 
 -- a script is sought in S: where its name is plain and nothing has it
-abbrev pub script_place : SharedState → List (List ℕ) → List ℕ → List (List ℕ) → Result (List (List ℕ)) Codes
+abbrev pub script_place : SharedState → Place → Text → Place → Result Place Codes
 script_place shared directory word place =
     if is_plain word && is_none (finite.get shared.files (key_of place)) then place_of shared directory (codes "S:" ++ word) else Ok place
 
--- a first line that begins with a dot asks for what is not there yet
-abbrev pub is_dotted : List (List ℕ) → Bool
-is_dotted [] = false
-is_dotted ([] ∷ lines) = false
-is_dotted ((byte ∷ bytes) ∷ lines) = byte == 46
+-- the lines of a script, with its arguments put in
+abbrev pub fault_answer : SharedState → Result Result2 NoMemory → Action
+fault_answer shared (Ok number) = Does (answering shared (failed number))
+fault_answer shared (Err none) = Does (answering shared (failed NO_FREE_STORE))
 
-abbrev pub calls : SharedState → List ℕ → List (List ℕ) → Action
-calls shared name lines =
-    if is_dotted lines then Does (answering shared (failed NOT_IMPLEMENTED)) else Calls (record { name = name; lines = lines })
+abbrev pub calls : SharedState → Text → Result (List Text) SubstFault → Action
+calls shared name (Err fault) = fault_answer shared (result2_of fault)
+calls shared name (Ok lines) = Calls (record { name = name; script = lines })
 
-abbrev pub script_read : SharedState → List (List ℕ) → Result (List ℕ) Result2 → Action
-script_read shared place (Err fault) = Does (answering shared (erred fault))
-script_read shared place (Ok bytes) = calls shared (full_path shared.files place) (lines_of bytes)
+abbrev pub script_read : SharedState → View → Place → Text → Result Bytes Result2 → Action
+script_read shared view place args (Err fault) = Does (answering shared (erred fault))
+script_read shared view place args (Ok bytes) = calls shared (full_path shared.files place) (script_of (lines_of bytes) args (decimal view.parts.number))
+
+-- the call of the script at a place, with these arguments: it is read, and its arguments are put in
+unfoldable pub script_row : SharedState → View → Place → Text → Action
+script_row shared view place args = script_read shared view place args (read_at shared.files view.busy.outputs place)
 
 -- the script at a place, if there is one
-abbrev pub script_at : SharedState → View → Result (List (List ℕ)) Codes → Action
-script_at shared view (Err codes) = Does (answering shared codes)
-script_at shared view (Ok place) = script_read shared place (read_at shared.files view.busy.outputs place)
+abbrev pub script_at : SharedState → View → Text → Result Place Codes → Action
+script_at shared view args (Err codes) = Does (answering shared codes)
+script_at shared view args (Ok place) = script_row shared view place args
 
-abbrev pub script_by : SharedState → View → List ℕ → Result (List (List ℕ)) Codes → Action
-script_by shared view word (Err codes) = Does (answering shared codes)
-script_by shared view word (Ok place) = script_at shared view (script_place shared view.parts.directory word place)
+abbrev pub script_by : SharedState → View → Text → Text → Result Place Codes → Action
+script_by shared view word args (Err codes) = Does (answering shared codes)
+script_by shared view word args (Ok place) = script_at shared view args (script_place shared view.parts.directory word place)
 
-abbrev pub execute_file : SharedState → View → Option (List ℕ) → Action
-execute_file shared view None = Does (answering shared (failed ARGUMENT_MISSING))
-execute_file shared view (Some word) = script_by shared view word (place_of shared view.parts.directory word)
+abbrev pub execute_file : SharedState → View → Option Text → Text → Action
+execute_file shared view None args = Does (answering shared (failed ARGUMENT_MISSING))
+execute_file shared view (Some word) args = script_by shared view word args (place_of shared view.parts.directory word)
 
--- Execute calls a script; `simple` says that it stands in no script and its output is not redirected
-abbrev pub execute_row : Bool → SharedState → View → List Arg → Action
-execute_row simple shared view args =
-    if simple then execute_file shared view (text_at args 0) else Does (answering shared (failed NOT_IMPLEMENTED))
+-- Execute calls the script FILE with ARGS
+abbrev pub execute_row : SharedState → View → List Arg → Action
+execute_row shared view args = execute_file shared view (text_at args 0) (unwrap_or (text_at args 1) [])

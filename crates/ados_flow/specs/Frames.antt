@@ -1,5 +1,6 @@
 -- Frames, and the code rule: when a frame ends, and which limit stands behind its end.
-use Rattle.std.specs.Prelude.{ℕ, zero, suc, pos, List, [], ◌∷◌, length, ◌+◌, Bool, true, false, ◌||◌, ◌&&◌, nat_le, Option, Some, None, if◌then◌else◌}
+use Rattle.std.specs.Prelude.{ℕ, zero, suc, pos, List, [], ◌∷◌, length, ◌+◌, ◌-◌, Bool, true, false, ◌||◌, ◌&&◌, nat_le, Option, Some, None, if◌then◌else◌}
+use Rattle.ados_text.specs.Text.{Text}
 use Rattle.ados_text.specs.declared.codes.Code.{Code}
 use Rattle.ados_find.specs.declared.codes.Codes.{Codes}
 use Rattle.ados_find.specs.Codes.{went_well}
@@ -17,15 +18,36 @@ is_script (Script name command) = true
 -- that stood at its beginning, its own output, which is open until it ends, and its last record
 pub record FrameState : Type 0 where
   pub kind : Kind
-  pub lines : List (List ℕ)
+  pub lines : List Text
   pub position : ℕ
   pub line : ℕ
   pub limit : Code
   pub output : Option Target
   pub last : Option Record
 
+-- where a command of a script stands: the script's lines, and the line at which it began
+pub record ScriptLine : Type 0 where
+  pub lines : List Text
+  pub line : ℕ
+
+abbrev pub script_line_by : Kind → FrameState → Option ScriptLine
+script_line_by (Script name command) frame = Some (record { lines = frame.lines; line = frame.line })
+
+-- where a command of a frame stands, if the frame is a script
+abbrev pub script_line_of : Option FrameState → Option ScriptLine
+script_line_of None = None
+script_line_of (Some frame) = script_line_by frame.kind frame
+
+-- a frame that goes on at a line
+abbrev pub jumped : ℕ → FrameState → FrameState
+jumped line frame = record frame { position = line - 1 }
+
+-- so many frames a shell has at most
+abbrev pub frame_limit : ℕ
+frame_limit = 32
+
 -- a frame that begins
-abbrev pub began : Kind → List (List ℕ) → Code → Option Target → FrameState
+abbrev pub began : Kind → List Text → Code → Option Target → FrameState
 began kind lines limit output = record { kind = kind; lines = lines; position = 0; line = 0; limit = limit; output = output; last = None }
 
 -- a frame takes a line: its position moves on before the command runs
@@ -91,5 +113,5 @@ abbrev pub is_ended : Bool → Codes → Code → FrameState → Bool
 is_ended quits answered limit frame = is_over frame || (is_script frame.kind && (quits || is_reached limit answered.code))
 
 -- the word of the command that made a script
-abbrev pub maker : Kind → List ℕ
+abbrev pub maker : Kind → Text
 maker (Script name command) = command

@@ -2,6 +2,9 @@ pub mod CodeRule
 pub mod Frames
 pub mod Commands
 pub mod Actions
+pub mod Ask
+pub mod Branches
 pub mod Execute
 pub mod Quit
+pub mod Tests
 pub mod Rows

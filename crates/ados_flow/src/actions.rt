@@ -2,6 +2,7 @@ ghost use Rattle.std.specs.Prelude.{◌≡◌};
 
 use crate::called::Called;
 use ados_find::{Codes, Outcome};
+use ados_text::Text;
 use std::alloc::Global;
 
 /// What a command does to its shell.
@@ -11,8 +12,12 @@ pub enum Action {
     Does(Outcome),
     /// It ends its script with these codes, and elsewhere answers them.
     Quits(Codes),
+    /// It answers these codes, and its script goes on at this line, counted from 1.
+    Jumps { line: usize, codes: Codes },
     /// It calls a script.
     Calls(Called),
+    /// It asks for yes or no with this prompt.
+    Asks(Text),
 }
 
 impl Action {

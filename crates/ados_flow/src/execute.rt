@@ -1,45 +1,54 @@
 // Execute: the call of a script.
 ghost use Rattle.std.specs.Prelude.{◌≡◌, ◌<◌, ◌++◌, IfOk, IfSome, codes, length, position};
+ghost use Rattle.std.specs.Fmt.{decimal};
+ghost use Rattle.ados_text.specs.Lines.{lines_of};
 ghost use Rattle.ados_find.specs.Paths.{place_of, Gives};
-ghost use Rattle.ados_ram.specs.FileOperations.{read_at};
+ghost use Rattle.ados_find.specs.Shared.{SharedState};
+ghost use Rattle.ados_subst.specs.Scripts.{script_of};
 ghost use Rattle.ados_flow.specs.Actions.{acting};
-ghost use Rattle.ados_flow.specs.Execute.{is_separator, is_plain, script_place, is_dotted, script_by, script_at, script_read, execute_row};
+ghost use Rattle.ados_flow.specs.Execute.{is_separator, is_plain, calls, script_place, script_by, script_at, script_row, execute_row};
 
 use crate::actions::Action;
 use crate::called::Called;
 use ados_find::{Codes, Refusal, Shared, ShellView, place_of};
 use ados_ram::Place;
 use ados_readargs::Args;
-use ados_text::{NoMemory, Result2, Text, lines_of};
+use ados_script::Script;
+use ados_text::{NoMemory, Result2, Text};
 use std::alloc::Global;
 
-/// Calls a script; `simple` says that the command stands in no script and that its output is not
-/// redirected.
+/// Execute calls the script FILE with ARGS. It is sought as the path, and where that is a plain name that nothing has,
+/// in S:.
+///
+/// What finding, reading and substituting refuse: 202 for an open output, 204, 205, 210, 212, 218, 224 with 10; 114 to
+/// 119 with 20.
 pub fn execute(
     alloc: Global,
-    simple: bool,
     shared: &Shared,
     view: &ShellView,
     args: &Args,
 ) -> Result<Action, NoMemory>
-    ensures { IfOk result (λ action. acting shared.now action ≡ execute_row simple shared.now view.now args.now) }
+    ensures { IfOk result (λ action. acting shared.now action ≡ execute_row shared.now view.now args.now) }
 {
-    if !simple {
-        return Ok(Action::answering(alloc, Codes::failed(Result2::NOT_IMPLEMENTED)));
-    }
     match args.made_text(alloc, 0)? {
         None => Ok(Action::answering(alloc, Codes::failed(Result2::ARGUMENT_MISSING))),
-        Some(word) => call(alloc, shared, view, &word),
+        Some(word) => call(alloc, shared, view, &word, args.text(1).unwrap_or(&[])),
     }
 }
 
-fn call(alloc: Global, shared: &Shared, view: &ShellView, word: &Text) -> Result<Action, NoMemory>
-    ensures { IfOk result (λ action. acting shared.now action ≡ script_by shared.now view.now word.now (place_of shared.now view.now.parts.directory word.now)) }
+fn call(
+    alloc: Global,
+    shared: &Shared,
+    view: &ShellView,
+    word: &Text,
+    args: &[u8],
+) -> Result<Action, NoMemory>
+    ensures { IfOk result (λ action. acting shared.now action ≡ script_by shared.now view.now word.now args.now (place_of shared.now view.now.parts.directory word.now)) }
 {
     match place_of(alloc, shared, view.directory, word) {
         Err(Refusal::NoMemory) => Err(NoMemory),
         Err(Refusal::Stopped(codes)) => Ok(Action::answering(alloc, codes)),
-        Ok(place) => call_found(alloc, shared, view, word, place),
+        Ok(place) => call_found(alloc, shared, view, word, place, args),
     }
 }
 
@@ -50,13 +59,14 @@ fn call_found(
     view: &ShellView,
     word: &Text,
     place: Place,
+    args: &[u8],
 ) -> Result<Action, NoMemory>
-    ensures { IfOk result (λ action. acting shared.now action ≡ script_at shared.now view.now (script_place shared.now view.now.parts.directory word.now place)) }
+    ensures { IfOk result (λ action. acting shared.now action ≡ script_at shared.now view.now args.now (script_place shared.now view.now.parts.directory word.now place)) }
 {
     match script_place(alloc, shared, view.directory, word, place) {
         Err(Refusal::NoMemory) => Err(NoMemory),
         Err(Refusal::Stopped(codes)) => Ok(Action::answering(alloc, codes)),
-        Ok(found) => call_at(alloc, shared, view, &found),
+        Ok(found) => call_script(alloc, shared, view, &found, args),
     }
 }
 
@@ -105,34 +115,43 @@ fn separator(text: &[u8]) -> Option<usize>
     text.iter().position(|byte| *byte == b':' || *byte == b'/')
 }
 
-/// Reads a script and calls it.
-fn call_at(
+/// Calls the script at a place with these arguments: it is read, and its arguments are put in.
+///
+/// What reading refuses (202 for an open output, 205, 212, 224) with 10; what substituting refuses (114 to 119) with 20.
+#[tactic(auto, unfolding(crate::specs::Execute::script_row))]
+pub fn call_script(
     alloc: Global,
     shared: &Shared,
     view: &ShellView,
     place: &Place,
+    args: &[u8],
 ) -> Result<Action, NoMemory>
-    ensures { IfOk result (λ action. acting shared.now action ≡ script_read shared.now place.now (read_at shared.now.files view.now.busy.outputs place.now)) }
+    ensures { IfOk result (λ action. acting shared.now action ≡ script_row shared.now view.now place.now args.now) }
 {
     match shared.ram.read(&view.busy, place) {
         Err(fault) => Ok(Action::answering(alloc, Codes::erred(fault))),
         Ok(bytes) => {
-            let lines = lines_of(alloc, bytes)?;
-            if is_dotted(lines.as_slice()) {
-                return Ok(Action::answering(alloc, Codes::failed(Result2::NOT_IMPLEMENTED)));
-            }
             let name = shared.ram.full_path(place)?;
-            Ok(Action::Calls(Called { name, lines }))
+            call_lines(alloc, name, bytes, args, view.number)
         }
     }
 }
 
-/// The first line begins with a dot.
-fn is_dotted(lines: &[Text]) -> bool
-    ensures { result ≡ is_dotted lines.now }
+/// Calls the script of a file's bytes, with these arguments put in.
+fn call_lines(
+    alloc: Global,
+    name: Text,
+    bytes: &[u8],
+    args: &[u8],
+    number: u8,
+) -> Result<Action, NoMemory>
+    ensures { IfOk result (λ action. (shared : SharedState) → acting shared action ≡ calls shared name (script_of (lines_of bytes.now) args.now (decimal number))) }
 {
-    match lines.first() {
-        None => false,
-        Some(line) => line.as_bytes().first() == Some(&b'.'),
+    match ados_subst::script(alloc, bytes, args, number) {
+        Err(fault) => Ok(Action::answering(alloc, Codes::failed(fault.result2()?))),
+        Ok(lines) => {
+            let script = Script::of(alloc, lines.into_vec())?;
+            Ok(Action::Calls(Called { name, script }))
+        }
     }
 }

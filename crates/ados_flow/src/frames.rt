@@ -1,21 +1,25 @@
 // Frames.
-ghost use Rattle.std.specs.Prelude.{◌≡◌, ◌+◌, ◌<◌, ◌^◌, List, IfOk, OnSome, slice_get};
-ghost use Rattle.std.specs.Option.{option_copied};
+ghost use Rattle.std.specs.Prelude.{◌≡◌, ◌+◌, ◌<◌, ◌^◌, List, Some, IfOk, OnSome, slice_get};
+ghost use Rattle.std.specs.Option.{option_copied, option_map};
 
 use crate::code_rule::is_reached;
 use crate::kinds::Kind;
 use crate::records::Record;
 use ados_find::{Codes, Target};
-use ados_text::{Code, NoMemory, Text, Texts};
+use ados_script::Script;
+use ados_text::{Code, NoMemory, Text};
 use std::alloc::Global;
 use std::marker::Model;
 use std::rc::Rc;
+
+/// So many frames a shell has at most.
+pub const FRAME_LIMIT: usize = 32;
 
 /// What stays of a frame while it runs.
 #[derive(Drop)]
 struct Fixed {
     kind: Kind,
-    lines: Texts,
+    script: Script,
     output: Option<Target>,
 }
 
@@ -36,7 +40,7 @@ impl Model for Frame {
 
     ghost view = { λ f. record {
       kind = f.fixed.value.kind;
-      lines = f.fixed.value.lines;
+      lines = f.fixed.value.script;
       position = f.position;
       line = f.line;
       limit = f.limit;
@@ -46,21 +50,21 @@ impl Model for Frame {
 }
 
 impl Frame {
-    ghost use Rattle.ados_flow.specs.Frames.{FrameState, began, moved, answered_frame, is_over, is_ended, is_script, last_line, last_codes, is_early};
+    ghost use Rattle.ados_flow.specs.Frames.{FrameState, began, moved, jumped, script_line_of, answered_frame, is_over, is_ended, is_script, last_line, last_codes, is_early};
 
     /// A frame that begins: what it is, its lines, the limit that stands, and its own output, if it has one.
     pub fn new(
         alloc: Global,
         kind: Kind,
-        lines: Texts,
+        script: Script,
         limit: Code,
         output: Option<Target>,
     ) -> Result<Frame, NoMemory>
-        ensures { IfOk result (λ frame. frame ≡ began kind lines limit output) }
+        ensures { IfOk result (λ frame. frame ≡ began kind script limit output) }
     {
         let fixed = Fixed {
             kind,
-            lines,
+            script,
             output,
         };
         Ok(Frame {
@@ -90,11 +94,7 @@ impl Frame {
         ensures line { option_copied result ≡ slice_get self.now.lines self.now.position }
         ensures below { OnSome result (self.now.position + 1 < 2 ^ 64) }
     {
-        if self.position < self.fixed.lines.len() {
-            self.fixed.lines.get(self.position)
-        } else {
-            None
-        }
+        self.fixed.script.lines().get(self.position)
     }
 
     /// The line that is due was taken.
@@ -104,6 +104,22 @@ impl Frame {
     {
         self.position += 1;
         self.line = self.position;
+    }
+
+    /// It goes on at a line, counted from 1.
+    pub fn jump_to(&mut self, line: usize)
+        ensures { self.new ≡ jumped line self.old }
+    {
+        self.position = line.saturating_sub(1);
+    }
+
+    /// Where its command stands, if it is a script: the script, and the line at which the command began.
+    pub fn script_line(&self) -> Option<(&Script, usize)>
+        ensures { option_map (λ here. record { lines = here.0.now; line = here.1 }) result ≡ script_line_of (Some self.now) }
+    {
+        match &self.fixed.kind {
+            Kind::Script { .. } => Some((&self.fixed.script, self.line)),
+        }
     }
 
     /// A command of it answered, with this limit behind it.
@@ -121,7 +137,7 @@ impl Frame {
     pub fn is_over(&self) -> bool
         ensures { result ≡ is_over self.now }
     {
-        self.fixed.lines.len() <= self.position
+        self.fixed.script.lines().len() <= self.position
     }
 
     /// The code rule: behind a command that answered this, with this limit behind it, the frame ends where no line is

@@ -1,7 +1,9 @@
 #![tactic(auto)]
-//! What flows: frames, the rule by which they end, and the commands Execute and Quit.
+//! What flows: frames, the rule by which they end, and the commands that call scripts, end them, and lead on in them.
 
 mod actions;
+mod ask;
+mod branches;
 mod called;
 mod code_rule;
 mod commands;
@@ -11,12 +13,15 @@ mod kinds;
 mod quit;
 mod records;
 mod rows;
+mod tests;
 
 pub use actions::Action;
+pub use ask::reply_of;
 pub use called::Called;
 pub use code_rule::{FIRST_LIMIT, is_reached};
 pub use commands::Command;
-pub use frames::Frame;
+pub use execute::call_script;
+pub use frames::{FRAME_LIMIT, Frame};
 pub use kinds::Kind;
 pub use records::Record;
 pub use rows::run;

@@ -1,31 +1,43 @@
 // What each command does.
 ghost use Rattle.std.specs.Prelude.{◌≡◌, IfOk};
+ghost use Rattle.std.specs.Option.{option_copied};
 ghost use Rattle.ados_flow.specs.Actions.{acting};
+ghost use Rattle.ados_flow.specs.Frames.{script_line_of};
 ghost use Rattle.ados_flow.specs.Rows.{row_of};
 
 use crate::actions::Action;
+use crate::ask::ask;
+use crate::branches::{branch, pass_block, skip};
 use crate::commands::Command;
 use crate::execute::execute;
+use crate::frames::Frame;
 use crate::quit::quit;
-use ados_find::{Shared, ShellView};
+use ados_find::{Codes, Shared, ShellView};
 use ados_readargs::Args;
 use ados_text::NoMemory;
 use std::alloc::Global;
 
-/// What a command does, by the shared parts, its shell's view, and the arguments that its template gave; `simple` says
-/// that it stands in no script and that its output is not redirected.
+/// What a command does, by the shared parts, the newest frame, its shell's view, and the arguments that its template
+/// gave.
 pub fn run(
     alloc: Global,
     command: Command,
-    simple: bool,
     shared: &Shared,
+    frame: Option<&Frame>,
     view: &ShellView,
     args: &Args,
 ) -> Result<Action, NoMemory>
-    ensures { IfOk result (λ action. acting shared.now action ≡ row_of command simple shared.now view.now args.now) }
+    ensures { IfOk result (λ action. acting shared.now action ≡ row_of command shared.now (script_line_of (option_copied frame.entry)) view.now args.now) }
 {
     match command {
-        Command::Execute => execute(alloc, simple, shared, view, args),
+        Command::Ask => ask(alloc, shared, args),
+        Command::Else => Ok(pass_block(alloc, frame)),
+        Command::EndIf | Command::EndSkip | Command::Lab => {
+            Ok(Action::answering(alloc, Codes::NONE))
+        }
+        Command::Execute => execute(alloc, shared, view, args),
+        Command::If => branch(alloc, shared, frame, view, args),
         Command::Quit => Ok(quit(args)),
+        Command::Skip => Ok(skip(alloc, frame, args)),
     }
 }

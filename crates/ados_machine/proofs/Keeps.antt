@@ -1,6 +1,7 @@
 -- A line that no command answers keeps its shell's parts.
-use Rattle.std.proofs.Common.{◌≡◌, ℕ, List, Option, Some, None, Result, Ok, Err, refl, inl, inr}
+use Rattle.std.proofs.Common.{◌≡◌, ℕ, List, [], ◌∷◌, drop, Option, Some, None, Result, Ok, Err, refl, inl, inr}
 use Rattle.std.proofs.lemmas.Bool.{cases_Bool}
+use Rattle.ados_text.specs.Text.{Text}
 use Rattle.ados_text.specs.declared.codes.Result2.{Result2}
 use Rattle.ados_line.specs.declared.faults.LineFault.{LineFault}
 use Rattle.ados_line.specs.declared.lines.Line.{Line}
@@ -8,78 +9,108 @@ use Rattle.ados_line.specs.declared.lines.Expanded.{Expanded}
 use Rattle.ados_line.specs.declared.lines.Expanded.TheVariants.{Nothing, Ready}
 use Rattle.ados_line.specs.Expansion.{expanded_in}
 use Rattle.ados_ram.specs.Place.{Place}
+use Rattle.ados_find.specs.declared.codes.Codes.{Codes}
 use Rattle.ados_find.specs.declared.search.Found.{Found}
 use Rattle.ados_find.specs.declared.search.Found.TheVariants as found
 use Rattle.ados_find.specs.declared.targets.Target.{Target}
 use Rattle.ados_flow.specs.Actions.{Action}
 use Rattle.ados_flow.specs.Actions as flow
+use Rattle.ados_flow.specs.Ask.{reply_of}
+use Rattle.ados_flow.specs.Execute.{script_row}
 use Rattle.ados_machine.specs.declared.builtins.Builtin.{Builtin}
 use Rattle.ados_machine.specs.declared.phases.Asking.{Asking}
+use Rattle.ados_machine.specs.declared.phases.Asking.TheVariants.{Arguments, Reply}
+use Rattle.ados_machine.specs.declared.phases.Question.{Question}
 use Rattle.ados_machine.specs.Commands.{internal_builtin, disk_builtin}
 use Rattle.ados_find.specs.Parts.{Parts}
 use Rattle.ados_machine.specs.Course.{Course, printing}
 use Rattle.ados_machine.specs.Opening.{Opened, opening}
-use Rattle.ados_machine.specs.Prompts.{with_args, asks, prompt, input_line}
-use Rattle.ados_machine.specs.Deeds.{Here, Deed, Passes, Answers, Calls, Waits}
-use Rattle.ados_machine.specs.Lines.{action_in, action_deed, opened_deed, command_deed, prompt_deed, input_deed, builtin_deed, arriving_deed, directory_deed, found_in, found_deed, expanded_deed, variables_in, line_deed, answer_deed}
+use Rattle.ados_machine.specs.Prompts.{with_args, asks, first_of, prompt, input_lines}
+use Rattle.ados_machine.specs.Deeds.{Here, Deed, Passes, Answers, Jumps, Calls, Waits}
+use Rattle.ados_machine.specs.Questions.{ask_deed, replied}
+use Rattle.ados_machine.specs.Lines.{action_in, action_deed, opened_deed, command_deed, prompt_deed, input_deed, builtin_deed, arriving_deed, directory_deed, calling_deed, script_deed, view_of, found_in, found_deed, expanded_deed, variables_in, line_deed, answer_deed}
 
 -- where no command answers, these parts stand on
 abbrev pub KeepsParts : Parts → Deed → Type 0
 KeepsParts parts (Passes course) = course.parts ≡ parts
 KeepsParts parts (Answers word codes quits course) = Unit {0}
+KeepsParts parts (Jumps word codes line course) = Unit {0}
 KeepsParts parts (Calls word output script course) = course.parts ≡ parts
 KeepsParts parts (Waits wait course) = course.parts ≡ parts
 
-action-keeps : (word : List ℕ) (target : Option Target) (action : Action) (here : Here) (course : Course) →
-    KeepsParts course.parts (action_deed word target action here course)
-action-keeps word target (flow.Does effect) here course = tt
-action-keeps word target (flow.Quits codes) here course = tt
-action-keeps word target (flow.Calls script) here course = refl
+replied-keeps : (answered : Option Codes) (question : Question) (course : Course) → KeepsParts course.parts (replied answered question course)
+replied-keeps None question course = refl
+replied-keeps (Some answered) question course = tt
 
-opened-keeps : (builtin : Builtin) (line : Line) (here : Here) (course : Course) (opened : Result Opened Result2) →
-    KeepsParts course.parts (opened_deed builtin line here course opened)
-opened-keeps builtin line here course (Err fault) = tt
-opened-keeps builtin line here course (Ok opened) =
+ask-keeps : (question : Question) (input : Option (List Text)) (course : Course) → KeepsParts course.parts (ask_deed question input course)
+ask-keeps question None course = refl
+ask-keeps question (Some lines) course = tt
+
+action-keeps : (word : Text) (target : Option Target) (input : Option (List Text)) (action : Action) (here : Here) (course : Course) →
+    KeepsParts course.parts (action_deed word target input action here course)
+action-keeps word target input (flow.Does effect) here course = tt
+action-keeps word target input (flow.Quits codes) here course = tt
+action-keeps word target input (flow.Jumps line codes) here course = tt
+action-keeps word target input (flow.Calls script) here course = refl
+action-keeps word target input (flow.Asks prompt) here course = ask-keeps (record { word = word; prompt = prompt; output = target }) input course
+
+opened-keeps : (builtin : Builtin) (line : Line) (input : Option (List Text)) (here : Here) (course : Course) (opened : Result Opened Result2) →
+    KeepsParts course.parts (opened_deed builtin line input here course opened)
+opened-keeps builtin line input here course (Err fault) = tt
+opened-keeps builtin line input here course (Ok opened) =
     let further : Course = record course { shared = opened.shared } in
-    action-keeps line.command opened.target (action_in builtin line opened.target here further) here further
+    action-keeps line.command opened.target input (action_in builtin line opened.target here further) here further
 
-command-keeps : (builtin : Builtin) (line : Line) (here : Here) (course : Course) →
-    KeepsParts course.parts (command_deed builtin line here course)
-command-keeps builtin line here course = opened-keeps builtin line here course (opening course line.output)
+command-keeps : (builtin : Builtin) (line : Line) (input : Option (List Text)) (here : Here) (course : Course) →
+    KeepsParts course.parts (command_deed builtin line input here course)
+command-keeps builtin line input here course = opened-keeps builtin line input here course (opening course line.output)
 
-prompt-keeps : (builtin : Builtin) (line : Line) (here : Here) (course : Course) (args : Option (List ℕ)) →
-    KeepsParts course.parts (prompt_deed builtin line here course args)
+prompt-keeps : (builtin : Builtin) (line : Line) (here : Here) (course : Course) (input : Option (List Text)) →
+    KeepsParts course.parts (prompt_deed builtin line here course input)
 prompt-keeps builtin line here course None = refl
-prompt-keeps builtin line here course (Some args) = command-keeps builtin (with_args line args) here (printing (prompt builtin) course)
+prompt-keeps builtin line here course (Some lines) =
+    command-keeps builtin (with_args line (first_of lines)) (Some (drop 1 lines)) here (printing (prompt builtin) course)
 
-input-keeps : (builtin : Builtin) (line : Line) (here : Here) (course : Course) (read : Result (Option (List ℕ)) Result2) →
+input-keeps : (builtin : Builtin) (line : Line) (here : Here) (course : Course) (read : Result (Option (List Text)) Result2) →
     KeepsParts course.parts (input_deed builtin line here course read)
 input-keeps builtin line here course (Err fault) = tt
-input-keeps builtin line here course (Ok args) =
+input-keeps builtin line here course (Ok input) =
     elim (cases_Bool (asks line.args)) [
-      | inl e ↦ rw e (prompt-keeps builtin line here course args)
-      | inr e ↦ rw e (command-keeps builtin line here course)
+      | inl e ↦ rw e (prompt-keeps builtin line here course input)
+      | inr e ↦ rw e (command-keeps builtin line input here course)
     ]
 
 builtin-keeps : (builtin : Builtin) (line : Line) (here : Here) (course : Course) →
     KeepsParts course.parts (builtin_deed builtin line here course)
-builtin-keeps builtin line here course = input-keeps builtin line here course (input_line course line.input)
+builtin-keeps builtin line here course = input-keeps builtin line here course (input_lines course line.input)
 
 arriving-keeps : (place : Place) (line : Line) (here : Here) (course : Course) (opened : Result Opened Result2) →
     KeepsParts course.parts (arriving_deed place line here course opened)
 arriving-keeps place line here course (Err fault) = tt
 arriving-keeps place line here course (Ok opened) = tt
 
-directory-keeps : (place : Place) (line : Line) (here : Here) (course : Course) (read : Result (Option (List ℕ)) Result2) →
+directory-keeps : (place : Place) (line : Line) (here : Here) (course : Course) (read : Result (Option (List Text)) Result2) →
     KeepsParts course.parts (directory_deed place line here course read)
 directory-keeps place line here course (Err fault) = tt
-directory-keeps place line here course (Ok answer) = arriving-keeps place line here course (opening course line.output)
+directory-keeps place line here course (Ok input) = arriving-keeps place line here course (opening course line.output)
+
+calling-keeps : (place : Place) (line : Line) (here : Here) (course : Course) (opened : Result Opened Result2) →
+    KeepsParts course.parts (calling_deed place line here course opened)
+calling-keeps place line here course (Err fault) = tt
+calling-keeps place line here course (Ok opened) =
+    let further : Course = record course { shared = opened.shared } in
+    action-keeps line.command opened.target None (script_row opened.shared (view_of opened.target further) place line.args) here further
+
+script-keeps : (place : Place) (line : Line) (here : Here) (course : Course) (read : Result (Option (List Text)) Result2) →
+    KeepsParts course.parts (script_deed place line here course read)
+script-keeps place line here course (Err fault) = tt
+script-keeps place line here course (Ok input) = calling-keeps place line here course (opening course line.output)
 
 found-keeps : (word : Found) (line : Line) (here : Here) (course : Course) → KeepsParts course.parts (found_deed word line here course)
 found-keeps (found.Internal command) line here course = builtin-keeps (internal_builtin command) line here course
 found-keeps (found.File program) line here course = builtin-keeps (disk_builtin program.command) line here course
-found-keeps (found.Script place) line here course = tt
-found-keeps (found.Directory place) line here course = directory-keeps place line here course (input_line course line.input)
+found-keeps (found.Script place) line here course = script-keeps place line here course (input_lines course line.input)
+found-keeps (found.Directory place) line here course = directory-keeps place line here course (input_lines course line.input)
 found-keeps (found.NotExecutable fault) line here course = tt
 found-keeps found.Unknown line here course = tt
 
@@ -94,4 +125,5 @@ line-keeps raw here course = expanded-keeps (expanded_in course.parts.settings.a
 
 pub answer-keeps : (raw : List ℕ) (asking : Asking) (here : Here) (course : Course) →
     KeepsParts course.parts (answer_deed raw asking here course)
-answer-keeps raw asking here course = command-keeps asking.builtin (with_args asking.line raw) here course
+answer-keeps raw (Arguments builtin line) here course = command-keeps builtin (with_args line raw) None here course
+answer-keeps raw (Reply question) here course = replied-keeps (reply_of raw) question course

@@ -1,22 +1,24 @@
 -- A turn's trace moves the stack as the turn moves the frames, and no script that it leaves has a last record at its limit.
-use Rattle.std.proofs.Common.{if◌then◌else◌, ◌&&◌, ◌≡◌, ℕ, suc, List, [], ◌∷◌, Bool, false, ◌||◌, Option, Some, length, refl, sym, ap, inl, inr}
+use Rattle.std.proofs.Common.{if◌then◌else◌, ◌&&◌, ◌≡◌, ℕ, suc, List, [], ◌∷◌, Bool, false, ◌||◌, Option, Some, length, nat_le, refl, sym, ap, inl, inr}
 use Rattle.std.specs.List.{AllByRecursion}
 use Rattle.std.proofs.lemmas.Bool.{or_parts, cases_Bool}
 use Rattle.ados_text.specs.declared.codes.Code.{Code}
+use Rattle.ados_text.specs.declared.codes.TheConstants.Result2.{TOO_MANY_LEVELS}
 use Rattle.ados_find.specs.declared.codes.Codes.{Codes}
+use Rattle.ados_find.specs.Codes.{failed}
 use Rattle.ados_find.specs.declared.targets.Target.{Target}
 use Rattle.ados_flow.specs.CodeRule.{is_reached}
 use Rattle.ados_flow.specs.declared.called.Called.{Called}
 use Rattle.ados_flow.specs.declared.kinds.Kind.{Kind}
 use Rattle.ados_flow.specs.declared.kinds.Kind.TheVariants.{Script}
 use Rattle.ados_flow.specs.declared.records.Record.{Record}
-use Rattle.ados_flow.specs.Frames.{FrameState, is_script, scripts_in, began, is_over, is_ended, maker, limit_behind, entry_of, last_codes}
+use Rattle.ados_flow.specs.Frames.{FrameState, is_script, scripts_in, began, jumped, frame_limit, is_over, is_ended, maker, limit_behind, entry_of, last_codes}
 use Rattle.ados_machine.specs.Items.{Began}
 use Rattle.ados_find.specs.Parts.{Parts}
 use Rattle.ados_machine.specs.Course.{Course}
-use Rattle.ados_machine.specs.Deeds.{Deed, Passes, Answers, Calls, Waits}
+use Rattle.ados_machine.specs.Deeds.{Deed, Passes, Answers, Jumps, Calls, Waits}
 use Rattle.ados_machine.specs.Settled.{Said, Settled, behind, told, faulted, with_limit, finish, passed, finished}
-use Rattle.ados_machine.specs.Settle.{called, Turned, said_of, by_rule, settle}
+use Rattle.ados_machine.specs.Settle.{begun, called, jumped_in, Turned, said_of, by_rule, settle}
 use Rattle.ados_machine.specs.Limits.{RunsOn, AllRunOn, GoesOnAt}
 use Rattle.ados_machine.specs.Stacks.{Entry, stack_of, opened, scripts_on, Standing, standing_of}
 use Rattle.ados_machine.specs.Step.{shell_of_turn}
@@ -104,12 +106,27 @@ begins-goes : (frames : List FrameState) (kind : Kind) (limit : Code) (codes : C
     GoesBy limit codes (stack_of frames) (behind (Began (suc (length frames)) kind limit ∷ []) settled)
 begins-goes frames kind limit codes settled goes = record { follows = (ap suc (length-stack frames), refl, goes.follows); runs = goes.runs }
 
+begun-goes : (word : List ℕ) (output : Option Target) (script : Called) (frames : List FrameState) (said : Said) →
+    AllRunOn frames → GoesBy said.parts.limit said.parts.codes (stack_of frames) (begun word output script frames said)
+begun-goes word output script frames said runs =
+    let kind = Script script.name word in
+    let frame = began kind script.script said.parts.limit output in
+    begins-goes frames kind said.parts.limit said.parts.codes (passed (frame ∷ frames) said) (passed-goes (frame ∷ frames) said (tt, runs))
+
 called-goes : (word : List ℕ) (output : Option Target) (script : Called) (frames : List FrameState) (said : Said) →
     AllRunOn frames → GoesBy said.parts.limit said.parts.codes (stack_of frames) (called word output script frames said)
 called-goes word output script frames said runs =
-    let kind = Script script.name word in
-    let frame = began kind script.lines said.parts.limit output in
-    begins-goes frames kind said.parts.limit said.parts.codes (passed (frame ∷ frames) said) (passed-goes (frame ∷ frames) said (tt, runs))
+    elim (cases_Bool (nat_le frame_limit (length frames))) [
+      | inl e ↦ rw e (finished-goes said.parts.limit said.parts.codes word (failed TOO_MANY_LEVELS) false frames said runs)
+      | inr e ↦ rw e (begun-goes word output script frames said runs)
+    ]
+
+-- the newest frame goes on at another line
+jumped-goes : (limit : Code) (codes : Codes) (word : List ℕ) (answer : Codes) (line : ℕ) (frames : List FrameState) (said : Said) →
+    AllRunOn frames → GoesBy limit codes (stack_of frames) (finished word answer false (jumped_in line frames) said)
+jumped-goes limit codes word answer line [] said runs = finished-goes limit codes word answer false [] said runs
+jumped-goes limit codes word answer line (frame ∷ frames) said runs =
+    finished-goes limit codes word answer false (jumped line frame ∷ frames) said runs
 
 -- the same for what an event leaves of a shell that had these parts
 pub record Goes (parts : Parts) (frames : List FrameState) (turned : Turned) : Type 0 where
@@ -127,6 +144,8 @@ settle-goes parts (Passes course) frames keeps runs =
     rw (sym keeps) (by_rule-goes course.parts frames course _ (passed-goes frames (said_of course) runs))
 settle-goes parts (Answers word answer quits course) frames keeps runs =
     by_rule-goes parts frames course _ (finished-goes parts.limit parts.codes word answer quits frames (said_of course) runs)
+settle-goes parts (Jumps word answer line course) frames keeps runs =
+    by_rule-goes parts frames course _ (jumped-goes parts.limit parts.codes word answer line frames (said_of course) runs)
 settle-goes parts (Calls word output script course) frames keeps runs =
     rw (sym keeps) (by_rule-goes course.parts frames course _ (called-goes word output script frames (said_of course) runs))
 settle-goes parts (Waits wait course) frames keeps runs = rw (sym keeps) (record { follows = refl; runs = runs })

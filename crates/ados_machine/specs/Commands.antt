@@ -1,5 +1,5 @@
 -- The commands: which one a name's command is, and what each does with its arguments.
-use Rattle.std.specs.Prelude.{ℕ, List, Bool, true, Result, Ok, Err}
+use Rattle.std.specs.Prelude.{ℕ, List, Bool, true, Option, Result, Ok, Err}
 use Rattle.ados_text.specs.declared.codes.Result2.{Result2}
 use Rattle.ados_text.specs.declared.errors.NoMemory.{NoMemory}
 use Rattle.ados_text.specs.declared.codes.TheConstants.Result2.{NO_FREE_STORE}
@@ -27,6 +27,7 @@ use Rattle.ados_flow.specs.declared.commands.Command.{Command as FlowCommand}
 use Rattle.ados_flow.specs.declared.commands.Command.TheVariants as flow
 use Rattle.ados_flow.specs.Commands.{template_of_command as flow_template, reads_in_use as flow_reads_in_use}
 use Rattle.ados_flow.specs.Actions.{Action, Does}
+use Rattle.ados_flow.specs.Frames.{ScriptLine}
 use Rattle.ados_flow.specs.Rows.{row_of as flow_row_of}
 use Rattle.ados_machine.specs.declared.builtins.Builtin.{Builtin}
 use Rattle.ados_machine.specs.declared.builtins.Builtin.TheVariants.{Env, Files, Flow}
@@ -34,16 +35,23 @@ use Rattle.ados_machine.specs.declared.builtins.Builtin.TheVariants.{Env, Files,
 -- which command an internal command is
 abbrev pub internal_builtin : InternalCommand → Builtin
 internal_builtin internal.Alias = Env env.Alias
+internal_builtin internal.Ask = Flow flow.Ask
 internal_builtin internal.Cd = Env env.Cd
 internal_builtin internal.Echo = Env env.Echo
+internal_builtin internal.Else = Flow flow.Else
+internal_builtin internal.EndIf = Flow flow.EndIf
+internal_builtin internal.EndSkip = Flow flow.EndSkip
 internal_builtin internal.FailAt = Env env.FailAt
 internal_builtin internal.Fault = Env env.Fault
 internal_builtin internal.Get = Env env.Get
 internal_builtin internal.GetEnv = Env env.GetEnv
+internal_builtin internal.If = Flow flow.If
+internal_builtin internal.Lab = Flow flow.Lab
 internal_builtin internal.Path = Env env.Path
 internal_builtin internal.Quit = Flow flow.Quit
 internal_builtin internal.Set = Env env.Set
 internal_builtin internal.SetEnv = Env env.SetEnv
+internal_builtin internal.Skip = Flow flow.Skip
 internal_builtin internal.Unalias = Env env.Unalias
 internal_builtin internal.Unset = Env env.Unset
 internal_builtin internal.UnsetEnv = Env env.UnsetEnv
@@ -78,11 +86,11 @@ reads_in_use (Env command) = env_reads_in_use command
 reads_in_use (Files command) = true
 reads_in_use (Flow command) = flow_reads_in_use command
 
--- what a command does with its arguments; `simple` says that it stands in no script and its output is not redirected
-abbrev pub row_of : Builtin → Bool → SharedState → View → List Arg → Action
-row_of (Env command) simple shared view args = Does (env_row_of command shared view args)
-row_of (Files command) simple shared view args = Does (file_row_of command shared view args)
-row_of (Flow command) simple shared view args = flow_row_of command simple shared view args
+-- what a command does with its arguments, which stands at a line of a script or in none
+abbrev pub row_of : Builtin → SharedState → Option ScriptLine → View → List Arg → Action
+row_of (Env command) shared script_line view args = Does (env_row_of command shared view args)
+row_of (Files command) shared script_line view args = Does (file_row_of command shared view args)
+row_of (Flow command) shared script_line view args = flow_row_of command shared script_line view args
 
 -- the answer to a fault of arguments; want of memory has no number, and what a line fills never comes to it
 abbrev pub fault_answer : SharedState → Result Result2 NoMemory → Action
@@ -90,10 +98,10 @@ fault_answer shared (Ok number) = Does (answering shared (failed number))
 fault_answer shared (Err none) = Does (answering shared (failed NO_FREE_STORE))
 
 -- the arguments are filled first, and their fault is the command's
-abbrev pub action_by : Builtin → Bool → SharedState → View → Result (List Arg) ArgFault → Action
-action_by builtin simple shared view (Err fault) = fault_answer shared (result2_of fault)
-action_by builtin simple shared view (Ok args) = row_of builtin simple shared view args
+abbrev pub action_by : Builtin → SharedState → Option ScriptLine → View → Result (List Arg) ArgFault → Action
+action_by builtin shared script_line view (Err fault) = fault_answer shared (result2_of fault)
+action_by builtin shared script_line view (Ok args) = row_of builtin shared script_line view args
 
 -- what a command does with the text of its arguments
-unfoldable pub action_of : Builtin → Bool → SharedState → View → List ℕ → Action
-action_of builtin simple shared view args = action_by builtin simple shared view (fill_of (template_of builtin) args)
+unfoldable pub action_of : Builtin → SharedState → Option ScriptLine → View → List ℕ → Action
+action_of builtin shared script_line view args = action_by builtin shared script_line view (fill_of (template_of builtin) args)

@@ -6,19 +6,22 @@ use Rattle.ados_find.specs.Codes.{failed}
 use Rattle.ados_machine.specs.declared.phases.Wait.{Wait}
 use Rattle.ados_find.specs.declared.targets.Target.{Target}
 use Rattle.ados_flow.specs.declared.called.Called.{Called}
+use Rattle.ados_flow.specs.Frames.{ScriptLine}
 use Rattle.ados_machine.specs.Course.{Course}
 use Rattle.ados_machine.specs.Sinks.{Sink}
 
--- all that a line knows of frames: where its output goes, and whether it stands in a script
+-- all that a line knows of frames: where its output goes, and where it stands in a script, if it does
 pub record Here : Type 0 where
   pub sink : Sink
-  pub in_script : Bool
+  pub script_line : Option ScriptLine
 
 -- What a line, or the answer to a prompt, comes to: nothing was there to answer; a command answered, and may quit its
--- script; a script is called, with its output; or the shell waits. Each hands the event's course on.
+-- script; it answered, and its script goes on at a line; a script is called, with its output; or the shell waits. Each
+-- hands the event's course on.
 pub data Deed : Type 0 where
   Passes : (course : Course) → Deed
   Answers : (word : List ℕ) (codes : Codes) (quits : Bool) (course : Course) → Deed
+  Jumps : (word : List ℕ) (codes : Codes) (line : ℕ) (course : Course) → Deed
   Calls : (word : List ℕ) (output : Option Target) (script : Called) (course : Course) → Deed
   Waits : (wait : Wait) (course : Course) → Deed
 
@@ -34,5 +37,6 @@ line_fault fault course = refused (codes "Shell") fault course
 abbrev pub course_of : Deed → Course
 course_of (Passes course) = course
 course_of (Answers word codes quits course) = course
+course_of (Jumps word codes line course) = course
 course_of (Calls word output script course) = course
 course_of (Waits wait course) = course

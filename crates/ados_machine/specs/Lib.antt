@@ -7,6 +7,7 @@ pub mod Course
 pub mod Deeds
 pub mod Opening
 pub mod Prompts
+pub mod Questions
 pub mod Lines
 pub mod Settled
 pub mod Settle

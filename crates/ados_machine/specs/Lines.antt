@@ -1,8 +1,8 @@
 -- What a line of a shell comes to.
-use Rattle.std.specs.Prelude.{ℕ, List, Bool, false, true, not, ◌&&◌, if◌then◌else◌, Option, Some, None, Result, Ok, Err}
+use Rattle.std.specs.Prelude.{ℕ, List, ◌++◌, drop, false, true, if◌then◌else◌, Option, Some, None, Result, Ok, Err}
 use Rattle.ados_text.specs.declared.codes.Result2.{Result2}
 use Rattle.ados_text.specs.Text.{Text}
-use Rattle.ados_text.specs.declared.codes.TheConstants.Result2.{TOO_MANY_ARGUMENTS, OBJECT_NOT_FOUND, NOT_IMPLEMENTED}
+use Rattle.ados_text.specs.declared.codes.TheConstants.Result2.{TOO_MANY_ARGUMENTS, OBJECT_NOT_FOUND}
 use Rattle.ados_items.specs.Items.{item_at}
 use Rattle.ados_line.specs.declared.faults.LineFault.{LineFault}
 use Rattle.ados_line.specs.Faults.{result2_of}
@@ -26,24 +26,29 @@ use Rattle.ados_find.specs.Parts.{locals_of}
 use Rattle.ados_find.specs.Views.{View}
 use Rattle.ados_machine.specs.declared.builtins.Builtin.{Builtin}
 use Rattle.ados_machine.specs.declared.phases.Asking.{Asking}
+use Rattle.ados_machine.specs.declared.phases.Asking.TheVariants.{Arguments, Reply}
 use Rattle.ados_machine.specs.declared.phases.Wait.TheVariants.{ForAnswer}
 use Rattle.ados_find.specs.declared.targets.Target.{Target}
+use Rattle.ados_find.specs.Targets.{open_at}
 use Rattle.ados_flow.specs.Actions.{Action}
 use Rattle.ados_flow.specs.Actions as flow
+use Rattle.ados_flow.specs.Execute.{script_row}
 use Rattle.ados_machine.specs.Commands.{internal_builtin, disk_builtin, action_of}
 use Rattle.ados_machine.specs.Sinks.{sink_or}
 use Rattle.ados_machine.specs.Course.{Course, printing, directories_of, outputs_of, Put, put}
 use Rattle.ados_machine.specs.Opening.{Opened, opening}
-use Rattle.ados_machine.specs.Prompts.{with_args, asks, is_end, prompt, input_line}
-use Rattle.ados_machine.specs.Deeds.{Here, Deed, Passes, Answers, Calls, Waits, refused, line_fault}
+use Rattle.ados_machine.specs.Prompts.{with_args, asks, first_of, is_end, prompt, input_lines}
+use Rattle.ados_machine.specs.Deeds.{Here, Deed, Passes, Answers, Jumps, Calls, Waits, refused, line_fault}
+use Rattle.ados_machine.specs.Questions.{ask_deed, reply_deed}
 
--- what is in use: what the shells that run keep, and the directories of assigns
-abbrev pub busy_in : Course → InUse
-busy_in course = busy_of (directories_of course.seen) (outputs_of course.seen) course.shared.assigns
+-- what is in use while a command runs whose output leads there: that output, what the shells that run keep, and the
+-- directories of assigns
+abbrev pub busy_in : Option Target → Course → InUse
+busy_in target course = busy_of (directories_of course.seen) (open_at target ++ outputs_of course.seen) course.shared.assigns
 
 -- what commands read of their shell, and of the others
-abbrev pub view_of : Course → View
-view_of course = record { parts = course.parts; busy = busy_in course }
+abbrev pub view_of : Option Target → Course → View
+view_of target course = record { parts = course.parts; busy = busy_in target course }
 
 -- what a command's effect leaves of the course: its change of the shell's parts, the shared parts, and what was renamed
 abbrev pub with_effect : Effect → Course → Course
@@ -57,49 +62,46 @@ with_effect effect course = record course {
 abbrev pub put_deed : List ℕ → Put → Deed
 put_deed word done = Answers word done.codes false done.course
 
--- what a command did, whose output leads there
-abbrev pub action_deed : List ℕ → Option Target → Action → Here → Course → Deed
-action_deed word target (flow.Does effect) here course =
+-- what a command did, whose output leads there, and whose input has these lines
+abbrev pub action_deed : List ℕ → Option Target → Option (List Text) → Action → Here → Course → Deed
+action_deed word target input (flow.Does effect) here course =
     put_deed word (put (sink_or target here.sink) effect.output effect.codes (with_effect effect course))
-action_deed word target (flow.Quits codes) here course = Answers word codes true course
-action_deed word target (flow.Calls script) here course = Calls word target script course
+action_deed word target input (flow.Quits codes) here course = Answers word codes true course
+action_deed word target input (flow.Jumps line codes) here course = Jumps word codes line course
+action_deed word target input (flow.Calls script) here course = Calls word target script course
+action_deed word target input (flow.Asks prompt) here course = ask_deed (record { word = word; prompt = prompt; output = target }) input course
 
--- the line names no output
-abbrev pub has_none : Option Target → Bool
-has_none None = true
-has_none (Some target) = false
-
--- what a command does whose output leads there; Execute calls a script only outside scripts, and where the line names no output
+-- what a command does whose output leads there
 abbrev pub action_in : Builtin → Line → Option Target → Here → Course → Action
-action_in builtin line target here course =
-    action_of builtin (not here.in_script && has_none target) course.shared (view_of course) line.args
+action_in builtin line target here course = action_of builtin course.shared here.script_line (view_of target course) line.args
 
 -- a command whose output leads there does its work
-abbrev pub work_deed : Builtin → Line → Option Target → Here → Course → Deed
-work_deed builtin line target here course = action_deed line.command target (action_in builtin line target here course) here course
+abbrev pub work_deed : Builtin → Line → Option Target → Option (List Text) → Here → Course → Deed
+work_deed builtin line target input here course = action_deed line.command target input (action_in builtin line target here course) here course
 
-abbrev pub opened_deed : Builtin → Line → Here → Course → Result Opened Result2 → Deed
-opened_deed builtin line here course (Err fault) = refused line.command fault course
-opened_deed builtin line here course (Ok opened) = work_deed builtin line opened.target here (record course { shared = opened.shared })
+abbrev pub opened_deed : Builtin → Line → Option (List Text) → Here → Course → Result Opened Result2 → Deed
+opened_deed builtin line input here course (Err fault) = refused line.command fault course
+opened_deed builtin line input here course (Ok opened) = work_deed builtin line opened.target input here (record course { shared = opened.shared })
 
 -- a command whose arguments are there: its output is opened, and it does its work
-abbrev pub command_deed : Builtin → Line → Here → Course → Deed
-command_deed builtin line here course = opened_deed builtin line here course (opening course line.output)
+abbrev pub command_deed : Builtin → Line → Option (List Text) → Here → Course → Deed
+command_deed builtin line input here course = opened_deed builtin line input here course (opening course line.output)
 
--- the prompt is printed, and the input's line stands for the arguments; without an input the shell waits for one
-abbrev pub prompt_deed : Builtin → Line → Here → Course → Option (List ℕ) → Deed
-prompt_deed builtin line here course None = Waits (ForAnswer (record { builtin = builtin; line = line })) (printing (prompt builtin) course)
-prompt_deed builtin line here course (Some args) = command_deed builtin (with_args line args) here (printing (prompt builtin) course)
+-- the prompt is printed, and the input's first line stands for the arguments; without an input the shell waits for one
+abbrev pub prompt_deed : Builtin → Line → Here → Course → Option (List Text) → Deed
+prompt_deed builtin line here course None = Waits (ForAnswer (Arguments builtin line)) (printing (prompt builtin) course)
+prompt_deed builtin line here course (Some lines) =
+    command_deed builtin (with_args line (first_of lines)) (Some (drop 1 lines)) here (printing (prompt builtin) course)
 
 -- a command whose input, if it has one, was read
-abbrev pub input_deed : Builtin → Line → Here → Course → Result (Option (List ℕ)) Result2 → Deed
+abbrev pub input_deed : Builtin → Line → Here → Course → Result (Option (List Text)) Result2 → Deed
 input_deed builtin line here course (Err fault) = refused line.command fault course
-input_deed builtin line here course (Ok args) =
-    if asks line.args then prompt_deed builtin line here course args else command_deed builtin line here course
+input_deed builtin line here course (Ok input) =
+    if asks line.args then prompt_deed builtin line here course input else command_deed builtin line input here course
 
 -- a command whose input, if it has one, is read
 abbrev pub builtin_deed : Builtin → Line → Here → Course → Deed
-builtin_deed builtin line here course = input_deed builtin line here course (input_line course line.input)
+builtin_deed builtin line here course = input_deed builtin line here course (input_lines course line.input)
 
 -- the change to a directory takes no arguments
 abbrev pub arrival : SharedState → Place → Text → Effect
@@ -109,23 +111,37 @@ arrival shared place args =
 -- the change to a directory, where the output of its line leads there
 abbrev pub arrived_deed : Place → Line → Option Target → Here → Course → Deed
 arrived_deed place line target here course =
-    action_deed line.command target (flow.Does (arrival course.shared place line.args)) here course
+    action_deed line.command target None (flow.Does (arrival course.shared place line.args)) here course
 
 abbrev pub arriving_deed : Place → Line → Here → Course → Result Opened Result2 → Deed
 arriving_deed place line here course (Err fault) = refused line.command fault course
 arriving_deed place line here course (Ok opened) = arrived_deed place line opened.target here (record course { shared = opened.shared })
 
 -- a line whose word leads to a directory: its input is read and its output is opened, and it changes to the directory
-abbrev pub directory_deed : Place → Line → Here → Course → Result (Option (List ℕ)) Result2 → Deed
+abbrev pub directory_deed : Place → Line → Here → Course → Result (Option (List Text)) Result2 → Deed
 directory_deed place line here course (Err fault) = refused line.command fault course
-directory_deed place line here course (Ok answer) = arriving_deed place line here course (opening course line.output)
+directory_deed place line here course (Ok input) = arriving_deed place line here course (opening course line.output)
+
+-- a script of a line, whose output leads there, is called
+abbrev pub called_deed : Place → Line → Option Target → Here → Course → Deed
+called_deed place line target here course =
+    action_deed line.command target None (script_row course.shared (view_of target course) place line.args) here course
+
+abbrev pub calling_deed : Place → Line → Here → Course → Result Opened Result2 → Deed
+calling_deed place line here course (Err fault) = refused line.command fault course
+calling_deed place line here course (Ok opened) = called_deed place line opened.target here (record course { shared = opened.shared })
+
+-- a line whose word is a script: its input is read and its output is opened, and the script is called
+abbrev pub script_deed : Place → Line → Here → Course → Result (Option (List Text)) Result2 → Deed
+script_deed place line here course (Err fault) = refused line.command fault course
+script_deed place line here course (Ok input) = calling_deed place line here course (opening course line.output)
 
 -- what the search found for the line's command; what is not known, or can't be run, reads and opens nothing
 abbrev pub found_deed : Found → Line → Here → Course → Deed
 found_deed (found.Internal command) line here course = builtin_deed (internal_builtin command) line here course
 found_deed (found.File program) line here course = builtin_deed (disk_builtin program.command) line here course
-found_deed (found.Script place) line here course = refused line.command NOT_IMPLEMENTED course
-found_deed (found.Directory place) line here course = directory_deed place line here course (input_line course line.input)
+found_deed (found.Script place) line here course = script_deed place line here course (input_lines course line.input)
+found_deed (found.Directory place) line here course = directory_deed place line here course (input_lines course line.input)
 found_deed (found.NotExecutable fault) line here course = Answers line.command (erred fault) false course
 found_deed found.Unknown line here course = Answers line.command (erred OBJECT_NOT_FOUND) false course
 
@@ -147,6 +163,7 @@ variables_in course = variables_of (locals_of course.parts) course.shared.assign
 abbrev pub line_deed : List ℕ → Here → Course → Deed
 line_deed raw here course = expanded_deed (expanded_in course.parts.settings.aliases (variables_in course) raw) here course
 
--- what the answer to a prompt comes to: it stands for the arguments as it is
-abbrev pub answer_deed : List ℕ → Asking → Here → Course → Deed
-answer_deed raw asking here course = command_deed asking.builtin (with_args asking.line raw) here course
+-- what the answer to a prompt comes to: it stands for the arguments as it is, or replies to the question
+abbrev pub answer_deed : Text → Asking → Here → Course → Deed
+answer_deed raw (Arguments builtin line) here course = command_deed builtin (with_args line raw) None here course
+answer_deed raw (Reply question) here course = reply_deed raw question course

@@ -1,36 +1,50 @@
 -- What a deed is to the frames of its shell.
-use Rattle.std.specs.Prelude.{ℕ, suc, List, [], ◌∷◌, Bool, false, Option, length}
+use Rattle.std.specs.Prelude.{ℕ, suc, List, [], ◌∷◌, false, Option, Some, None, length, nat_le, if◌then◌else◌}
 use Rattle.ados_machine.specs.declared.phases.Phase.{Phase}
 use Rattle.ados_machine.specs.declared.phases.Phase.TheVariants.{Waiting}
+use Rattle.ados_text.specs.declared.codes.TheConstants.Result2.{TOO_MANY_LEVELS}
+use Rattle.ados_find.specs.Codes.{failed}
 use Rattle.ados_find.specs.declared.targets.Target.{Target}
 use Rattle.ados_flow.specs.declared.called.Called.{Called}
 use Rattle.ados_flow.specs.declared.kinds.Kind.TheVariants.{Script}
-use Rattle.ados_flow.specs.Frames.{FrameState, began, is_script}
+use Rattle.ados_flow.specs.Frames.{FrameState, began, jumped, script_line_of, frame_limit}
 use Rattle.ados_machine.specs.Items.{Item, Began}
 use Rattle.ados_machine.specs.Course.{Course}
 use Rattle.ados_machine.specs.Sinks.{sink_in}
-use Rattle.ados_machine.specs.Deeds.{Here, Deed, Passes, Answers, Calls, Waits, course_of}
+use Rattle.ados_machine.specs.Deeds.{Here, Deed, Passes, Answers, Jumps, Calls, Waits, course_of}
 use Rattle.ados_machine.specs.Settled.{Said, Settled, behind, rests, passed, finished}
 
--- the newest frame is a script
-abbrev pub is_in_script : List FrameState → Bool
-is_in_script [] = false
-is_in_script (frame ∷ frames) = is_script frame.kind
+-- the newest of frames
+abbrev pub newest : List FrameState → Option FrameState
+newest [] = None
+newest (frame ∷ frames) = Some frame
 
 -- where the next line of these frames stands
 abbrev pub here_of : List FrameState → Here
-here_of frames = record { sink = sink_in frames; in_script = is_in_script frames }
+here_of frames = record { sink = sink_in frames; script_line = script_line_of (newest frames) }
 
 -- a script begins, with the limit that stands, and ends at once where it has no line
+abbrev pub begun : List ℕ → Option Target → Called → List FrameState → Said → Settled
+begun word output called frames said =
+    behind (Began (suc (length frames)) (Script called.name word) said.parts.limit ∷ [])
+    (passed (began (Script called.name word) called.script said.parts.limit output ∷ frames) said)
+
+-- a script is called: where there are as many frames as a shell may have, that is the command's fault
 abbrev pub called : List ℕ → Option Target → Called → List FrameState → Said → Settled
 called word output script frames said =
-    behind (Began (suc (length frames)) (Script script.name word) said.parts.limit ∷ [])
-    (passed (began (Script script.name word) script.lines said.parts.limit output ∷ frames) said)
+    if nat_le frame_limit (length frames) then finished word (failed TOO_MANY_LEVELS) false frames said
+    else begun word output script frames said
+
+-- the newest frame goes on at a line
+abbrev pub jumped_in : ℕ → List FrameState → List FrameState
+jumped_in line [] = []
+jumped_in line (frame ∷ frames) = jumped line frame ∷ frames
 
 -- what the code rule makes of a deed
 abbrev pub ruled : Deed → List FrameState → Said → Settled
 ruled (Passes course) frames said = passed frames said
 ruled (Answers word codes quits course) frames said = finished word codes quits frames said
+ruled (Jumps word codes line course) frames said = finished word codes false (jumped_in line frames) said
 ruled (Calls word output script course) frames said = called word output script frames said
 ruled (Waits wait course) frames said = rests frames (Waiting wait) said
 

@@ -1,5 +1,7 @@
 use crate::builtins::Builtin;
+use ados_find::Target;
 use ados_line::Line;
+use ados_text::Text;
 
 /// What a shell does next.
 #[derive(Drop)]
@@ -13,15 +15,26 @@ pub enum Phase {
 /// What a shell waits for.
 #[derive(Drop)]
 pub enum Wait {
-    /// A line of the console, which stands for a command's arguments.
+    /// A line of the console, for a command that asked.
     ForAnswer(Asking),
 }
 
-/// A command that asked for its arguments.
+/// What a command asked for.
 #[derive(Drop)]
-pub struct Asking {
-    /// The command.
-    pub builtin: Builtin,
-    /// Its line.
-    pub line: Line,
+pub enum Asking {
+    /// Its arguments, for which the line stands as it is.
+    Arguments { builtin: Builtin, line: Line },
+    /// Yes or no.
+    Reply(Question),
+}
+
+/// A question of Ask.
+#[derive(Drop)]
+pub struct Question {
+    /// The word of its command.
+    pub word: Text,
+    /// What is asked.
+    pub prompt: Text,
+    /// The output that its line names, which is open until the question is answered.
+    pub output: Option<Target>,
 }

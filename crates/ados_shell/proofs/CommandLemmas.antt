@@ -39,8 +39,15 @@ ascii (Files files.MakeDir) = refl
 ascii (Files files.Protect) = refl
 ascii (Files files.Rename) = refl
 ascii (Files files.«Type») = refl
+ascii (Flow flow.Ask) = refl
+ascii (Flow flow.Else) = refl
+ascii (Flow flow.EndIf) = refl
+ascii (Flow flow.EndSkip) = refl
 ascii (Flow flow.Execute) = refl
+ascii (Flow flow.If) = refl
+ascii (Flow flow.Lab) = refl
 ascii (Flow flow.Quit) = refl
+ascii (Flow flow.Skip) = refl
 
 pub are_templates : (builtin : Builtin) → IsTemplate (template_of builtin)
 are_templates (Env env.Alias) = refl
@@ -70,8 +77,15 @@ are_templates (Files files.MakeDir) = refl
 are_templates (Files files.Protect) = refl
 are_templates (Files files.Rename) = refl
 are_templates (Files files.«Type») = refl
+are_templates (Flow flow.Ask) = refl
+are_templates (Flow flow.Else) = refl
+are_templates (Flow flow.EndIf) = refl
+are_templates (Flow flow.EndSkip) = refl
 are_templates (Flow flow.Execute) = refl
+are_templates (Flow flow.If) = refl
+are_templates (Flow flow.Lab) = refl
 are_templates (Flow flow.Quit) = refl
+are_templates (Flow flow.Skip) = refl
 
 found : (builtin : Builtin) (place : ℕ) → slice_get ALL place ≡ Some builtin → slice_get (map template_of ALL) place ≡ Some (template_of builtin)
 found builtin place h = slice_get-map template_of ALL place ∙ ap (option_map template_of) h

@@ -1,3 +1,4 @@
+mod LineLemmas
 pub mod CommandLemmas
 pub mod StackLemmas
 pub mod TurnLemmas

@@ -1,22 +1,23 @@
 -- How a turn goes on: what is left to do from a middle of it on does what the whole does from its beginning on.
-use Rattle.std.proofs.Common.{◌≡◌, ◌∙◌, ◌++◌, ◌∷◌, [], List, ℕ, Bool, true, false, Option, length, suc, ap, sym, refl, append_assoc}
+use Rattle.std.proofs.Common.{◌≡◌, ◌∙◌, ◌++◌, ◌∷◌, [], List, ℕ, Bool, true, false, Option, length, nat_le, suc, ap, sym, refl, append_assoc}
 use Rattle.std.proofs.lemmas.List.{append-nil}
 use Rattle.std.specs.Prelude.{if◌then◌else◌}
 use Rattle.ados_text.specs.declared.codes.Code.{Code}
+use Rattle.ados_text.specs.declared.codes.TheConstants.Result2.{TOO_MANY_LEVELS}
 use Rattle.ados_find.specs.declared.codes.Codes.{Codes}
 use Rattle.ados_find.specs.declared.targets.Target.{Target}
 use Rattle.ados_flow.specs.declared.called.Called.{Called}
 use Rattle.ados_flow.specs.declared.kinds.Kind.{Kind}
 use Rattle.ados_flow.specs.declared.kinds.Kind.TheVariants.{Script}
-use Rattle.ados_flow.specs.Frames.{FrameState, began, is_over, is_ended, limit_behind, last_codes, maker, answered_frame}
+use Rattle.ados_flow.specs.Frames.{FrameState, began, frame_limit, is_over, is_ended, limit_behind, last_codes, maker, answered_frame}
 use Rattle.ados_machine.specs.declared.outs.EndReport.{EndReport}
 use Rattle.ados_machine.specs.declared.phases.Phase.TheVariants.{Ready}
 use Rattle.ados_machine.specs.CodeRule.{fault_line, failed_line}
 use Rattle.ados_machine.specs.Items.{Item, Ended, noted, end_of, reports_of}
 use Rattle.ados_machine.specs.Course.{Course}
-use Rattle.ados_machine.specs.Deeds.{Answers, Calls, Passes}
-use Rattle.ados_machine.specs.Settled.{Said, Settled, behind, rests, told, with_limit, finish, passed}
-use Rattle.ados_machine.specs.Settle.{Turned, by_rule, said_of}
+use Rattle.ados_machine.specs.Deeds.{Answers, Calls, Jumps, Passes, refused}
+use Rattle.ados_machine.specs.Settled.{Said, Settled, behind, rests, told, with_limit, finish, finished, passed}
+use Rattle.ados_machine.specs.Settle.{Turned, begun, by_rule, jumped_in, said_of}
 use Rattle.ados_shell.specs.declared.scenes.Scene.{Scene}
 use Rattle.ados_shell.specs.declared.drafts.Draft.{Draft}
 use Rattle.ados_shell.specs.Reports.{name_of, report_of}
@@ -225,16 +226,44 @@ answer-goes scene before mid after word codes quits f h l c r p g =
     g
 
 -- a script begins
-pub call-goes : (scene : Scene) (before mid after : Draft) (word : List ℕ) (output : Option Target) (script : Called)
-    → frames_of scene mid ≡ began (Script script.name word) script.lines before.shell.limit output ∷ frames_of scene before
+pub begin-goes : (scene : Scene) (before mid after : Draft) (word : List ℕ) (output : Option Target) (script : Called)
+    → frames_of scene mid ≡ began (Script script.name word) script.script before.shell.limit output ∷ frames_of scene before
     → IsStill before mid
     → Settles scene mid after (Passes (course_of scene mid))
-    → Settles scene before after (Calls word output script (course_of scene before))
-call-goes scene before mid after word output script f s g =
-    let frames = began (Script script.name word) script.lines before.shell.limit output ∷ frames_of scene before in
+    → IsRuled scene before after (begun word output script (frames_of scene before) (said_in scene before))
+begin-goes scene before mid after word output script f s g =
+    let frames = began (Script script.name word) script.script before.shell.limit output ∷ frames_of scene before in
     let e : by_rule (course_of scene mid) (passed (frames_of scene mid) (said_in scene mid)) ≡ by_rule (course_of scene before) (passed frames (said_in scene before)) =
     ap (λ x. by_rule x (passed (frames_of scene mid) (said_of x))) (still-course scene before mid s)
     ∙ ap (λ x. by_rule (course_of scene before) (passed x (said_in scene before))) f in
     let t = by_rule (course_of scene before) (passed frames (said_in scene before)) in
     let on : GoesOn scene before after t = goes-same scene before mid after _ t s.reports e g in
     record { frames = on.frames; phase = on.phase; course = on.course; reports = on.reports }
+
+-- a script is called where a frame more may stand
+pub call-begins : (scene : Scene) (before after : Draft) (word : List ℕ) (output : Option Target) (script : Called)
+    → nat_le frame_limit (length (frames_of scene before)) ≡ false
+    → IsRuled scene before after (begun word output script (frames_of scene before) (said_in scene before))
+    → Settles scene before after (Calls word output script (course_of scene before))
+call-begins scene before after word output script e g =
+    goes-same scene before before after _ _ refl (ap (by_rule (course_of scene before)) (sym (else-is _ _ _ e))) g
+
+-- and where none may
+pub call-refused : (scene : Scene) (before after : Draft) (word : List ℕ) (output : Option Target) (script : Called)
+    → nat_le frame_limit (length (frames_of scene before)) ≡ true
+    → Settles scene before after (refused word TOO_MANY_LEVELS (course_of scene before))
+    → Settles scene before after (Calls word output script (course_of scene before))
+call-refused scene before after word output script e g =
+    goes-same scene before before after _ _ refl (ap (by_rule (course_of scene before)) (sym (then-is _ _ _ e))) g
+
+-- the newest frame goes on at a line, and a command answers
+pub jump-goes : (scene : Scene) (before mid after : Draft) (word : List ℕ) (codes : Codes) (line : ℕ)
+    → frames_of scene mid ≡ jumped_in line (frames_of scene before)
+    → IsStill before mid
+    → Settles scene mid after (Answers word codes false (course_of scene mid))
+    → Settles scene before after (Jumps word codes line (course_of scene before))
+jump-goes scene before mid after word codes line f s g =
+    goes-same scene before mid after _ _ s.reports
+    (ap (λ x. by_rule x (finished word codes false (frames_of scene mid) (said_of x))) (still-course scene before mid s)
+    ∙ ap (λ x. by_rule (course_of scene before) (finished word codes false x (said_in scene before))) f)
+    g

@@ -42,6 +42,7 @@ behind draft shell = record {
   frames = frames_in shell draft.frames;
   phase = phase_in draft;
   parts = record {
+    number = shell.parts.number;
     directory = unwrap_or draft.directory shell.parts.directory;
     limit = draft.limit;
     codes = draft.codes;
@@ -92,6 +93,7 @@ held_of draft = record {
 abbrev pub course_by : Scene → Held → Code → Codes → List ℕ → Course
 course_by scene held limit codes printed = record {
   parts = record {
+    number = scene.shell.now.parts.number;
     directory = unwrap_or held.directory scene.shell.now.parts.directory;
     limit = limit;
     codes = codes;

@@ -3,7 +3,7 @@ ghost use Rattle.std.specs.Prelude.{◌≡◌, IfOk, OnOk};
 ghost use Rattle.ados_find.specs.Effects.{DoesTo};
 ghost use Rattle.ados_machine.specs.Lines.{arrival, arrived_deed, arriving_deed, directory_deed};
 ghost use Rattle.ados_machine.specs.Opening.{opening};
-ghost use Rattle.ados_machine.specs.Prompts.{input_line};
+ghost use Rattle.ados_machine.specs.Prompts.{input_lines};
 
 use crate::drafts::Draft;
 use crate::inputs::is_end;
@@ -24,7 +24,7 @@ impl Draft {
         requires { IsUnset self.old }
         ensures { OnOk result (Settles scene.now self.old self.new
             (directory_deed place line.now (here scene.now self.old) (course_of scene.now self.old)
-            (input_line (course_of scene.now self.old) line.now.input))) }
+            (input_lines (course_of scene.now self.old) line.now.input))) }
     {
         match self.input(scene, line.input.as_ref()) {
             Err(FsFault::NoMemory) => Err(NoMemory),

@@ -2,8 +2,8 @@
 ghost use Rattle.std.specs.Prelude.{◌≡◌, IfOk, OnOk};
 ghost use Rattle.ados_flow.specs.Frames.{maker};
 ghost use Rattle.ados_machine.specs.Settled.{finish, passed};
-ghost use Rattle.ados_machine.specs.Deeds.{Answers, Calls, Passes, refused};
-ghost use Rattle.ados_machine.specs.Settle.{said_of};
+ghost use Rattle.ados_machine.specs.Deeds.{Answers, Calls, Jumps, Passes, refused};
+ghost use Rattle.ados_machine.specs.Settle.{begun, said_of};
 ghost use Rattle.ados_shell.specs.Reports.{name_of, report_of};
 
 use crate::console::{push_failed, push_fault};
@@ -59,7 +59,21 @@ impl Draft {
         self.answer(scene, word.as_bytes(), Codes::failed(fault), false)
     }
 
-    /// A script begins, with the limit that stands, and ends at once where it has no line.
+    /// A command answered, and the newest frame goes on at a line.
+    pub fn jump(
+        &mut self,
+        scene: &Scene,
+        word: &Text,
+        codes: Codes,
+        line: usize,
+    ) -> Result<(), NoMemory>
+        ensures { OnOk result (Settles scene.now self.old self.new (Jumps word.now codes line (course_of scene.now self.old))) }
+    {
+        self.shell.frames.jump_to(scene.shell, line)?;
+        self.answer(scene, word.as_bytes(), codes, false)
+    }
+
+    /// A script is called: where there are as many frames as a shell may have, that is the command's fault.
     pub fn call(
         &mut self,
         scene: &Scene,
@@ -69,11 +83,29 @@ impl Draft {
     ) -> Result<(), NoMemory>
         ensures { OnOk result (Settles scene.now self.old self.new (Calls word.now output script (course_of scene.now self.old))) }
     {
+        if self.shell.frames.is_full(scene.shell) {
+            self.refuse(scene, word, Result2::TOO_MANY_LEVELS)
+        } else {
+            self.begin_script(scene, word, output, script)
+        }
+    }
+
+    /// A script begins, with the limit that stands, and ends at once where it has no line.
+    fn begin_script(
+        &mut self,
+        scene: &Scene,
+        word: &Text,
+        output: Option<Target>,
+        called: Called,
+    ) -> Result<(), NoMemory>
+        ensures { OnOk result (IsRuled scene.now self.old self.new
+            (begun word.now output called (frames_of scene.now self.old) (said_of (course_of scene.now self.old)))) }
+    {
         let kind = Kind::Script {
-            name: script.name,
+            name: called.name,
             command: word.copy()?,
         };
-        let frame = Frame::new(scene.alloc, kind, script.lines, self.shell.limit, output)?;
+        let frame = Frame::new(scene.alloc, kind, called.script, self.shell.limit, output)?;
         self.shell.frames.push(frame)?;
         self.pass(scene)
     }

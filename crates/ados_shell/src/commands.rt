@@ -2,10 +2,12 @@
 ghost use Rattle.std.specs.Prelude.{◌≡◌, map, IfOk};
 ghost use Rattle.ados_find.specs.Shared.{SharedState};
 ghost use Rattle.ados_machine.specs.Commands.{action_of, row_of, template_of};
+ghost use Rattle.std.specs.Option.{option_copied};
 ghost use Rattle.ados_flow.specs.Actions.{acting};
+ghost use Rattle.ados_flow.specs.Frames.{script_line_of};
 
 use ados_find::{Codes, Shared, ShellView};
-use ados_flow::Action;
+use ados_flow::{Action, Frame};
 use ados_machine::Builtin;
 use ados_readargs::{Args, Template};
 use ados_text::{NoMemory, Text};
@@ -46,23 +48,23 @@ impl Commands {
         &self.templates[builtin.place()]
     }
 
-    /// What a command does with the text of its arguments, which are filled into those that are lent; `simple` says
-    /// that it stands in no script and that its output is not redirected.
+    /// What a command of the newest frame does with the text of its arguments, which are filled into those that are
+    /// lent.
     #[tactic(auto, unfolding(ados_machine::specs::Commands::action_of))]
     pub fn perform(
         &self,
         alloc: Global,
         builtin: Builtin,
-        simple: bool,
         shared: &Shared,
+        frame: Option<&Frame>,
         view: &ShellView,
         text: &Text,
         args: &mut Args,
     ) -> Result<Action, NoMemory>
-        ensures { IfOk result (λ action. acting shared.now action ≡ action_of builtin simple shared.now view.now text.now) }
+        ensures { IfOk result (λ action. acting shared.now action ≡ action_of builtin shared.now (script_line_of (option_copied frame.entry)) view.now text.now) }
     {
         match self.template(builtin).fill_into(text.as_bytes(), args) {
-            Ok(()) => row(alloc, builtin, simple, shared, view, args),
+            Ok(()) => row(alloc, builtin, shared, frame, view, args),
             Err(fault) => Ok(Action::answering(alloc, Codes::failed(fault.result2()?))),
         }
     }
@@ -87,12 +89,12 @@ fn template(alloc: Global, builtin: Builtin) -> Result<Template, NoMemory>
 fn row(
     alloc: Global,
     builtin: Builtin,
-    simple: bool,
     shared: &Shared,
+    frame: Option<&Frame>,
     view: &ShellView,
     args: &Args,
 ) -> Result<Action, NoMemory>
-    ensures { IfOk result (λ action. acting shared.now action ≡ row_of builtin simple shared.now view.now args.now) }
+    ensures { IfOk result (λ action. acting shared.now action ≡ row_of builtin shared.now (script_line_of (option_copied frame.entry)) view.now args.now) }
 {
     match builtin {
         Builtin::Env(command) => Ok(Action::Does(ados_env::run(
@@ -101,6 +103,6 @@ fn row(
         Builtin::Files(command) => Ok(Action::Does(ados_files::run(
             alloc, command, shared, view, args,
         )?)),
-        Builtin::Flow(command) => ados_flow::run(alloc, command, simple, shared, view, args),
+        Builtin::Flow(command) => ados_flow::run(alloc, command, shared, frame, view, args),
     }
 }

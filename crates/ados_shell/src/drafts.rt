@@ -194,6 +194,7 @@ impl ShellDraft {
         ensures { result ≡ seen (behind self.now shell.now).parts busy }
     {
         ShellView {
+            number: shell.number,
             directory: self.directory(shell),
             limit: self.limit,
             codes: self.codes,

@@ -1,48 +1,48 @@
 // The input of a command, and the arguments that it is asked for.
 ghost use Rattle.std.specs.Prelude.{◌≡◌};
 ghost use Rattle.ados_items.specs.Items.{IsWithin};
-ghost use Rattle.ados_machine.specs.Prompts.{asks, first_of, is_question, is_end};
+ghost use Rattle.ados_machine.specs.Prompts.{asks, is_question, is_end, lines_in};
 ghost use Rattle.ados_find.specs.Targets.{read_by, target_of};
 ghost use Rattle.ados_ram.specs.FileOperations.{Gives, read_at};
 
 use ados_find::{Shared, Target, target_of};
 use ados_items::{Item, next_item};
 use ados_ram::{Busy, FsFault, Place};
-use ados_text::{Text, first_line};
+use ados_text::{Text, Texts, lines_of};
 use std::alloc::Global;
 
-/// The line that an input answers a prompt with: its first, from a current directory, where these outputs are open.
+/// The lines of an input, from a current directory, where these outputs are open; NIL: has none.
 ///
 /// 210 for a name that is no path, what resolving refuses (204, 205, 212, 218), and what reading refuses (202, 205,
 /// 212, 224).
-pub fn input_line(
+pub fn input_lines(
     alloc: Global,
     shared: &Shared,
     busy: &Busy,
     directory: &Place,
     name: &Text,
-) -> Result<Option<Text>, FsFault>
-    ensures { Gives result (first_of (read_by shared.now.files busy.now.outputs (target_of shared.now directory.now name.now))) }
+) -> Result<Option<Texts>, FsFault>
+    ensures { Gives result (lines_in (read_by shared.now.files busy.now.outputs (target_of shared.now directory.now name.now))) }
 {
     match target_of(alloc, shared, directory, name) {
         Err(fault) => Err(fault),
-        Ok(Target::Nil) => Ok(Some(Text::new(alloc))),
-        Ok(Target::At(place)) => first_line_at(alloc, shared, busy, &place),
+        Ok(Target::Nil) => Ok(Some(Texts::new(alloc))),
+        Ok(Target::At(place)) => lines_at(alloc, shared, busy, &place),
     }
 }
 
-/// The first line of the file at a place.
-fn first_line_at(
+/// The lines of the file at a place.
+fn lines_at(
     alloc: Global,
     shared: &Shared,
     busy: &Busy,
     place: &Place,
-) -> Result<Option<Text>, FsFault>
-    ensures { Gives result (first_of (read_at shared.now.files busy.now.outputs place.now)) }
+) -> Result<Option<Texts>, FsFault>
+    ensures { Gives result (lines_in (read_at shared.now.files busy.now.outputs place.now)) }
 {
     match shared.ram.read(busy, place) {
         Err(fault) => Err(FsFault::Refused(fault)),
-        Ok(bytes) => Ok(Some(first_line(alloc, bytes)?)),
+        Ok(bytes) => Ok(Some(lines_of(alloc, bytes)?)),
     }
 }
 

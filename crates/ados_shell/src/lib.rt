@@ -2,6 +2,7 @@
 //! One shell: its frames, what it waits for and its parts; and a turn of it, which fills a draft with what it changes.
 
 mod arrivals;
+mod calls;
 mod carrying;
 mod code_rule;
 mod commands;
@@ -11,6 +12,7 @@ mod inputs;
 mod lines;
 mod outputs;
 mod prompts;
+mod questions;
 mod rows;
 mod scenes;
 mod seen;

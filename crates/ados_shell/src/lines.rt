@@ -69,7 +69,7 @@ impl Draft {
         match self.find(scene, &line.command)? {
             Found::Internal(command) => self.prepare(scene, Builtin::from(command), line),
             Found::File(program) => self.prepare(scene, Builtin::from(program.command), line),
-            Found::Script(_) => self.refuse(scene, &line.command, Result2::NOT_IMPLEMENTED),
+            Found::Script(place) => self.run_script(scene, place, line),
             Found::Directory(place) => self.arrive(scene, place, line),
             Found::NotExecutable(fault) => self.answer(scene, word, Codes::erred(fault), false),
             Found::Unknown => {

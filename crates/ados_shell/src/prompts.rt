@@ -1,18 +1,19 @@
 // Prompts: a command that asks for its arguments.
-ghost use Rattle.std.specs.Prelude.{◌≡◌, ◌++◌, OnOk};
-ghost use Rattle.std.specs.Option.{option_copied};
-ghost use Rattle.ados_machine.specs.Lines.{answer_deed, input_deed, prompt_deed};
-ghost use Rattle.ados_machine.specs.Prompts.{input_line, prompt};
+ghost use Rattle.std.specs.Prelude.{◌≡◌, ◌++◌, Ok, Some, IfOk, OnOk, drop};
+ghost use Rattle.std.specs.Option.{option_copied, option_map};
+ghost use Rattle.ados_machine.specs.Lines.{answer_deed, command_deed, input_deed, prompt_deed};
+ghost use Rattle.ados_machine.specs.Prompts.{first_of, input_lines, prompt, with_args};
 ghost use Rattle.ados_ram.specs.FileOperations.{Gives};
 
 use crate::drafts::Draft;
-use crate::inputs::{asks, input_line};
+use crate::inputs::{asks, input_lines};
 use crate::scenes::Scene;
 use crate::seen::open_outputs;
 use ados_line::Line;
 use ados_machine::{Asking, Builtin, Wait};
 use ados_ram::FsFault;
-use ados_text::{NoMemory, Text};
+use ados_text::{NoMemory, Text, Texts};
+use std::alloc::Global;
 
 impl Draft {
     ghost use Rattle.ados_shell.specs.Drafts.{IsUnset, Settles, course_of, here};
@@ -22,69 +23,124 @@ impl Draft {
         requires { IsUnset self.old }
         ensures { OnOk result (Settles scene.now self.old self.new
             (input_deed builtin line.now (here scene.now self.old) (course_of scene.now self.old)
-            (input_line (course_of scene.now self.old) line.now.input))) }
+            (input_lines (course_of scene.now self.old) line.now.input))) }
     {
         match self.input(scene, line.input.as_ref()) {
             Err(FsFault::NoMemory) => Err(NoMemory),
             Err(FsFault::Refused(fault)) => self.refuse(scene, &line.command, fault),
-            Ok(answer) => {
-                if asks(&line.args) {
-                    self.ask(scene, builtin, line, answer)
-                } else {
-                    self.begin(scene, builtin, line)
-                }
-            }
+            Ok(None) => self.proceed(scene, builtin, line, None),
+            Ok(Some(lines)) => self.proceed(scene, builtin, line, Some(lines.as_slice())),
         }
     }
 
-    /// The line that an input answers a prompt with, as the shell and the shared parts stand.
-    pub fn input(&self, scene: &Scene, name: Option<&Text>) -> Result<Option<Text>, FsFault>
-        ensures { Gives result (input_line (course_of scene.now self.now) (option_copied name.entry)) }
+    /// The lines of an input, if there is one, as the shell and the shared parts stand.
+    pub fn input(&self, scene: &Scene, name: Option<&Text>) -> Result<Option<Texts>, FsFault>
+        ensures { Gives result (input_lines (course_of scene.now self.now) (option_copied name.entry)) }
     {
         match name {
             None => Ok(None),
             Some(name) => {
                 let busy = open_outputs(scene.alloc, scene.shells)?;
                 let shared = self.current(scene);
-                input_line(scene.alloc, shared, &busy, self.directory(scene), name)
+                input_lines(scene.alloc, shared, &busy, self.directory(scene), name)
             }
         }
     }
 
-    /// Prints a prompt; its answer stands for the arguments. Without one the shell waits for it.
+    /// Asks for a command's arguments where they are `?`, and lets it begin; its input has these lines, if there is one.
+    fn proceed(
+        &mut self,
+        scene: &Scene,
+        builtin: Builtin,
+        line: &Line,
+        input: Option<&[Text]>,
+    ) -> Result<(), NoMemory>
+        requires { IsUnset self.old }
+        ensures { OnOk result (Settles scene.now self.old self.new
+            (input_deed builtin line.now (here scene.now self.old) (course_of scene.now self.old) (Ok (option_map (λ l. l.now) input.entry)))) }
+    {
+        if asks(&line.args) {
+            self.ask(scene, builtin, line, input)
+        } else {
+            self.begin(scene, builtin, line, input)
+        }
+    }
+
+    /// Prints a prompt; the input's first line stands for the arguments. Without an input the shell waits for a line.
     fn ask(
         &mut self,
         scene: &Scene,
         builtin: Builtin,
         line: &Line,
-        answer: Option<Text>,
+        input: Option<&[Text]>,
     ) -> Result<(), NoMemory>
         requires { IsUnset self.old }
         ensures { OnOk result (Settles scene.now self.old self.new
-            (prompt_deed builtin line.now (here scene.now self.old) (course_of scene.now self.old) answer)) }
+            (prompt_deed builtin line.now (here scene.now self.old) (course_of scene.now self.old) (option_map (λ l. l.now) input.entry))) }
     {
         push_prompt(&mut self.printed, builtin)?;
-        match answer {
+        match input {
             None => {
-                let asking = Asking {
+                let asking = Asking::Arguments {
                     builtin,
                     line: line.copy()?,
                 };
                 self.shell.waits = Some(Box::new(scene.alloc, Wait::ForAnswer(asking))?);
                 Ok(())
             }
-            Some(args) => self.begin(scene, builtin, &line.with_args(args)?),
+            Some(lines) => self.begin_with(scene, builtin, line, lines),
         }
     }
 
-    /// Takes the answer to a prompt: it stands for the arguments as it is.
+    /// Lets a command begin for whose arguments the first of these lines stands.
+    fn begin_with(
+        &mut self,
+        scene: &Scene,
+        builtin: Builtin,
+        line: &Line,
+        lines: &[Text],
+    ) -> Result<(), NoMemory>
+        requires { IsUnset self.old }
+        ensures { OnOk result (Settles scene.now self.old self.new
+            (command_deed builtin (with_args line.now (first_of lines.now)) (Some (drop 1 lines.now)) (here scene.now self.old) (course_of scene.now self.old))) }
+    {
+        let line = line.with_args(first_of(scene.alloc, lines)?)?;
+        self.begin(scene, builtin, &line, Some(behind_first(lines)))
+    }
+
+    /// Takes the answer to a prompt: it stands for the arguments as it is, or replies to a question.
     pub fn resume(&mut self, scene: &Scene, asking: &Asking, answer: &Text) -> Result<(), NoMemory>
         requires { IsUnset self.old }
         ensures { OnOk result (Settles scene.now self.old self.new
             (answer_deed answer.now asking.now (here scene.now self.old) (course_of scene.now self.old))) }
     {
-        let line = asking.line.with_args(answer.copy()?)?;
-        self.begin(scene, asking.builtin, &line)
+        match asking {
+            Asking::Arguments { builtin, line } => {
+                let line = line.with_args(answer.copy()?)?;
+                self.begin(scene, *builtin, &line, None)
+            }
+            Asking::Reply(question) => self.reply(scene, question, answer),
+        }
+    }
+}
+
+/// The lines behind the first.
+fn behind_first(lines: &[Text]) -> &[Text]
+    ensures { result.now ≡ drop 1 lines.now }
+{
+    match lines.split_first() {
+        None => &[],
+        Some((_, lines)) => lines,
+    }
+}
+
+/// A copy of the first line; an empty one where there is none.
+fn first_of(alloc: Global, lines: &[Text]) -> Result<Text, NoMemory>
+    ensures { IfOk result (λ line. line ≡ first_of lines.now) }
+{
+    match lines.first() {
+        None => Ok(Text::new(alloc)),
+        Some(line) => line.copy(),
     }
 }
 

@@ -1,40 +1,46 @@
 // What a command does: its output is opened, its row is worked, and what it made is moved in.
-ghost use Rattle.std.specs.Prelude.{◌≡◌, ◌&&◌, not, IfOk, OnOk};
-ghost use Rattle.std.specs.Option.{option_copied};
+ghost use Rattle.std.specs.Prelude.{◌≡◌, None, IfOk, OnOk};
+ghost use Rattle.std.specs.Option.{option_copied, option_map};
 ghost use Rattle.ados_find.specs.Effects.{effect_of};
-ghost use Rattle.ados_machine.specs.Commands.{action_of};
 ghost use Rattle.ados_flow.specs.Actions.{Does, acting};
-ghost use Rattle.ados_machine.specs.Lines.{action_deed, action_in, command_deed, has_none, view_of, work_deed};
+ghost use Rattle.ados_machine.specs.Lines.{action_deed, action_in, busy_in, command_deed, view_of, work_deed};
 
-use crate::drafts::Draft;
+use crate::drafts::{Draft, ShellDraft};
 use crate::outputs::Opened;
 use crate::scenes::Scene;
 use crate::seen::in_use;
-use ados_find::{Outcome, Target};
+use ados_find::{Outcome, Shared, Target};
 use ados_flow::Action;
 use ados_line::Line;
-use ados_machine::Builtin;
+use ados_machine::{Builtin, Question};
 use ados_ram::{Busy, FsFault};
+use ados_readargs::Args;
 use ados_text::{NoMemory, Text};
 
 impl Draft {
     ghost use Rattle.ados_shell.specs.Drafts.{IsUnset, Settles, course_of, here, parts_of};
     ghost use Rattle.ados_shell.specs.Views.{Serves, seen};
 
-    /// Opens a command's output, and lets it do its work.
-    pub fn begin(&mut self, scene: &Scene, builtin: Builtin, line: &Line) -> Result<(), NoMemory>
+    /// Opens a command's output, and lets it do its work; its input has these lines, if there is one.
+    pub fn begin(
+        &mut self,
+        scene: &Scene,
+        builtin: Builtin,
+        line: &Line,
+        input: Option<&[Text]>,
+    ) -> Result<(), NoMemory>
         requires { IsUnset self.old }
         ensures { OnOk result (Settles scene.now self.old self.new
-            (command_deed builtin line.now (here scene.now self.old) (course_of scene.now self.old))) }
+            (command_deed builtin line.now (option_map (λ l. l.now) input.entry) (here scene.now self.old) (course_of scene.now self.old))) }
     {
         match self.open(scene, line.output.as_ref()) {
             Err(FsFault::NoMemory) => Err(NoMemory),
             Err(FsFault::Refused(fault)) => self.refuse(scene, &line.command, fault),
-            Ok(Opened::Nothing) => self.work(scene, builtin, line, None),
-            Ok(Opened::Nil) => self.work(scene, builtin, line, Some(Target::Nil)),
+            Ok(Opened::Nothing) => self.work(scene, builtin, line, None, input),
+            Ok(Opened::Nil) => self.work(scene, builtin, line, Some(Target::Nil), input),
             Ok(Opened::File(new, place)) => {
                 self.shared = Some(new);
-                self.work(scene, builtin, line, Some(Target::At(place)))
+                self.work(scene, builtin, line, Some(Target::At(place)), input)
             }
         }
     }
@@ -46,59 +52,95 @@ impl Draft {
         builtin: Builtin,
         line: &Line,
         target: Option<Target>,
+        input: Option<&[Text]>,
     ) -> Result<(), NoMemory>
         requires { IsUnset self.old }
         ensures { OnOk result (Settles scene.now self.old self.new
-            (work_deed builtin line.now target (here scene.now self.old) (course_of scene.now self.old))) }
+            (work_deed builtin line.now target (option_map (λ l. l.now) input.entry) (here scene.now self.old) (course_of scene.now self.old))) }
     {
-        let simple = self.shell.frames.is_free(scene.shell) && target.is_none();
-        match self.action(scene, builtin, line, simple)? {
-            Action::Does(outcome) => self.apply(scene, &line.command, target.as_ref(), outcome),
-            Action::Quits(codes) => self.answer(scene, line.command.as_bytes(), codes, true),
-            Action::Calls(script) => self.call(scene, &line.command, target, script),
+        let action = self.action(scene, builtin, line, target.as_ref())?;
+        self.act(scene, &line.command, target, input, action)
+    }
+
+    /// Moves in what a command does, whose output leads there, and whose input has these lines.
+    pub fn act(
+        &mut self,
+        scene: &Scene,
+        word: &Text,
+        target: Option<Target>,
+        input: Option<&[Text]>,
+        action: Action,
+    ) -> Result<(), NoMemory>
+        requires { IsUnset self.old }
+        ensures { OnOk result (Settles scene.now self.old self.new
+            (action_deed word.now target (option_map (λ l. l.now) input.entry) (acting (course_of scene.now self.old).shared action)
+            (here scene.now self.old) (course_of scene.now self.old))) }
+    {
+        match action {
+            Action::Does(outcome) => self.apply(scene, word, target.as_ref(), outcome),
+            Action::Quits(codes) => self.answer(scene, word.as_bytes(), codes, true),
+            Action::Jumps { line, codes } => self.jump(scene, word, codes, line),
+            Action::Calls(script) => self.call(scene, word, target, script),
+            Action::Asks(prompt) => {
+                let question = Question {
+                    word: word.copy()?,
+                    prompt,
+                    output: target,
+                };
+                self.inquire(scene, question, input)
+            }
         }
     }
 
-    /// What a command does, as the shell and the shared parts stand. Of the draft only the room for arguments changes.
+    /// What a command does whose output leads there, as the shell and the shared parts stand. Of the draft only the
+    /// room for arguments changes.
     fn action(
         &mut self,
         scene: &Scene,
         builtin: Builtin,
         line: &Line,
-        simple: bool,
+        target: Option<&Target>,
     ) -> Result<Action, NoMemory>
         requires { IsUnset self.old }
         ensures action { IfOk result (λ action. acting (course_of scene.now self.old).shared action
-            ≡ action_of builtin simple (course_of scene.now self.old).shared (view_of (course_of scene.now self.old)) line.now.args) }
+            ≡ action_in builtin line.now (option_copied target.entry) (here scene.now self.old) (course_of scene.now self.old)) }
         ensures same { self.new ≡ record self.old { args = self.new.args } }
     {
-        let busy = self.busy_for(scene, builtin)?;
-        let view = self.shell.view(scene.shell, busy);
+        let busy = self.busy_for(scene, builtin, target)?;
         let shared = match &self.shared {
             None => scene.shared,
             Some(new) => new,
         };
         let args = &mut self.args;
-        scene.commands.perform(
-            scene.alloc,
-            builtin,
-            simple,
-            shared,
-            &view,
-            &line.args,
-            args,
-        )
+        self.shell.perform(scene, builtin, line, shared, busy, args)
     }
 
-    /// What is in use, for a command. It is gathered only for those that read it.
-    fn busy_for(&self, scene: &Scene, builtin: Builtin) -> Result<Busy, NoMemory>
-        ensures { IfOk result (λ busy. Serves builtin (seen (parts_of scene.now self.now) busy) (view_of (course_of scene.now self.now))) }
+    /// What is in use, for a command whose output leads there. It is gathered only for those that read it.
+    fn busy_for(
+        &self,
+        scene: &Scene,
+        builtin: Builtin,
+        target: Option<&Target>,
+    ) -> Result<Busy, NoMemory>
+        ensures { IfOk result (λ busy. Serves builtin (seen (parts_of scene.now self.now) busy) (view_of (option_copied target.entry) (course_of scene.now self.now))) }
     {
         if builtin.reads_in_use() {
-            in_use(scene.alloc, scene.shells, &self.current(scene).assigns)
+            self.in_use(scene, target)
         } else {
             Ok(Busy::none(scene.alloc))
         }
+    }
+
+    /// What is in use while a command runs whose output leads there.
+    pub fn in_use(&self, scene: &Scene, target: Option<&Target>) -> Result<Busy, NoMemory>
+        ensures { IfOk result (λ busy. busy ≡ busy_in (option_copied target.entry) (course_of scene.now self.now)) }
+    {
+        in_use(
+            scene.alloc,
+            scene.shells,
+            target,
+            &self.current(scene).assigns,
+        )
     }
 
     /// What a command made is moved in, its output is put, and it answers.
@@ -111,7 +153,7 @@ impl Draft {
     ) -> Result<(), NoMemory>
         requires { IsUnset self.old }
         ensures { OnOk result (Settles scene.now self.old self.new
-            (action_deed word.now (option_copied target.entry) (Does (effect_of (course_of scene.now self.old).shared outcome))
+            (action_deed word.now (option_copied target.entry) None (Does (effect_of (course_of scene.now self.old).shared outcome))
             (here scene.now self.old) (course_of scene.now self.old))) }
     {
         let Outcome {
@@ -124,5 +166,34 @@ impl Draft {
         self.affect(change, shared, renamed);
         let answered = self.put(scene, target, output, codes)?;
         self.answer(scene, word.as_bytes(), answered, false)
+    }
+}
+
+impl ShellDraft {
+    ghost use Rattle.ados_flow.specs.Frames.{script_line_of};
+    ghost use Rattle.ados_machine.specs.Commands.{action_of};
+    ghost use Rattle.ados_machine.specs.Settle.{newest};
+    ghost use Rattle.ados_shell.specs.Drafts.{behind};
+    ghost use Rattle.ados_shell.specs.Stacks.{frames_in};
+    ghost use Rattle.ados_shell.specs.Views.{seen};
+
+    /// What a command of the newest frame does, where this is in use; its arguments are filled into those that are lent.
+    fn perform(
+        &self,
+        scene: &Scene,
+        builtin: Builtin,
+        line: &Line,
+        shared: &Shared,
+        busy: Busy,
+        args: &mut Args,
+    ) -> Result<Action, NoMemory>
+        requires { self.now.setting ≡ None }
+        ensures { IfOk result (λ action. acting shared.now action ≡ action_of builtin shared.now
+            (script_line_of (newest (frames_in scene.now.shell.now self.now.frames))) (seen (behind self.now scene.now.shell.now).parts busy) line.now.args) }
+    {
+        let view = self.view(scene.shell, busy);
+        let frame = self.frames.newest(scene.shell);
+        let commands = scene.commands;
+        commands.perform(scene.alloc, builtin, shared, frame, &view, &line.args, args)
     }
 }

@@ -16,6 +16,7 @@ pub struct Shell {
     pub(crate) frames: Vec<Frame>,
     // Where it is not ready.
     pub(crate) waits: Option<Box<Wait>>,
+    pub(crate) number: u8,
     pub(crate) directory: Place,
     pub(crate) limit: Code,
     pub(crate) codes: Codes,
@@ -28,6 +29,7 @@ impl Drop for Shell {
         let Shell {
             frames: _frames,
             waits: _waits,
+            number: _number,
             directory: _directory,
             limit: _limit,
             codes: _codes,
@@ -46,7 +48,7 @@ impl Model for Shell {
     ghost view = { λ s. record {
       frames = reverse s.frames.items;
       phase = phase_of (option_map (λ w. w.value) s.waits);
-      parts = record { directory = s.directory; limit = s.limit; codes = s.codes; settings = s.settings };
+      parts = record { number = s.number; directory = s.directory; limit = s.limit; codes = s.codes; settings = s.settings };
     } };
 }
 
@@ -61,6 +63,7 @@ impl Shell {
         Ok(Shell {
             frames: Vec::new(alloc),
             waits: None,
+            number,
             directory: Place::root(alloc),
             limit: FIRST_LIMIT,
             codes: Codes::NONE,

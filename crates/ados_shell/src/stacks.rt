@@ -1,14 +1,14 @@
 // The frames of a shell, as a turn changes them.
-ghost use Rattle.std.specs.Prelude.{◌≡◌, ◌∷◌, ◌++◌, [], List, not, reverse, IfOk, OnOk};
+ghost use Rattle.std.specs.Prelude.{◌≡◌, ◌∷◌, ◌++◌, [], List, length, nat_le, reverse, IfOk, OnOk};
 ghost use Rattle.std.specs.Option.{option_copied};
-ghost use Rattle.ados_flow.specs.Frames.{FrameState, limit_behind};
+ghost use Rattle.ados_flow.specs.Frames.{FrameState, frame_limit, limit_behind};
 ghost use Rattle.ados_machine.specs.Shells.{ShellState};
 ghost use Rattle.ados_machine.specs.Sinks.{sink_in};
 ghost use Rattle.ados_shell.specs.Stacks.{sink_of, sink_above};
 
 use crate::shells::Shell;
 use ados_find::Target;
-use ados_flow::{FIRST_LIMIT, Frame};
+use ados_flow::{FIRST_LIMIT, FRAME_LIMIT, Frame};
 use ados_text::{Code, NoMemory};
 use std::alloc::Global;
 
@@ -23,7 +23,7 @@ pub struct Stack {
 }
 
 impl Stack {
-    ghost use Rattle.ados_machine.specs.Settle.{is_in_script};
+    ghost use Rattle.ados_machine.specs.Settle.{jumped_in, newest};
     ghost use Rattle.ados_shell.specs.Stacks.{frames_in, oldest, HasRoom, IsMovedOn, IsPopped};
 
     /// No frame.
@@ -51,11 +51,21 @@ impl Stack {
         &frames[..self.kept.min(frames.len())]
     }
 
-    /// No script runs.
-    pub fn is_free(&self, shell: &Shell) -> bool
-        ensures { result ≡ not (is_in_script (frames_in shell.now self.now)) }
+    /// The newest frame; `None` where none runs.
+    pub fn newest<'b>(&'b self, shell: &'b Shell) -> Option<&'b Frame>
+        ensures { option_copied result ≡ newest (frames_in shell.now self.now) }
     {
-        self.own.is_empty() && self.lent(shell).is_empty()
+        match self.own.last() {
+            Some(frame) => Some(frame),
+            None => self.lent(shell).last(),
+        }
+    }
+
+    /// There are as many frames as a shell may have.
+    pub fn is_full(&self, shell: &Shell) -> bool
+        ensures { result ≡ nat_le frame_limit (length (frames_in shell.now self.now)) }
+    {
+        FRAME_LIMIT <= self.own.len().saturating_add(self.lent(shell).len())
     }
 
     /// Takes the newest frame off.
@@ -97,12 +107,25 @@ impl Stack {
         }
     }
 
+    /// The newest frame goes on at a line, counted from 1.
+    pub fn jump_to(&mut self, shell: &Shell, line: usize) -> Result<(), NoMemory>
+        ensures { OnOk result (frames_in shell.now self.new ≡ jumped_in line (frames_in shell.now self.old)) }
+    {
+        match self.pop(shell)? {
+            None => Ok(()),
+            Some(mut frame) => {
+                frame.jump_to(line);
+                self.push(frame)
+            }
+        }
+    }
+
     /// The limit behind the end of a script above these frames that began at a limit: it comes back, and it is the
     /// first one where no script is left.
     pub fn limit_behind(&self, shell: &Shell, limit: Code) -> Code
         ensures { result ≡ limit_behind (frames_in shell.now self.now) limit }
     {
-        if self.is_free(shell) {
+        if self.newest(shell).is_none() {
             FIRST_LIMIT
         } else {
             limit
@@ -135,7 +158,7 @@ fn output_above<'f>(frames: &'f [Frame], below: Option<&'f Target>) -> Option<&'
 }
 
 /// The same target.
-fn copy(target: &Target) -> Result<Target, NoMemory>
+pub fn copy(target: &Target) -> Result<Target, NoMemory>
     ensures { IfOk result (λ copy. copy ≡ target.now) }
 {
     match target {

@@ -50,7 +50,7 @@ impl World {
     /// A world with shell 1 alone, in which nothing was typed, and the files of the beginning.
     ///
     /// `TooMany` for any host, since no host's program can be started yet; without one, `NoMemory` where there is
-    /// none for the templates of the commands or for the first files.
+    /// none for the templates of the commands, the first files or the variables of shell 1.
     pub fn new(alloc: Global, hosts: &[HostEntry]) -> Result<World, NewFault>
         ensures world { IfOk result (λ world. (world ≡ fresh_world) × (hosts.now ≡ [])) }
         ensures too_many { IfErr result (λ fault. MatchBool (is_nil hosts.now) (fault ≡ NewFault.NoMemory) (fault ≡ NewFault.TooMany)) }

@@ -1,20 +1,18 @@
-use Rattle.std.proofs.Common.{◌∙◌, ◌∷◌, refl, ap}
+use Rattle.std.proofs.Common.{◌∙◌, sym}
 use Rattle.std.proofs.lemmas.Result.{on_ok_weaker}
-use Rattle.ados_flow.specs.declared.kinds.Kind.TheVariants.{Script}
-use Rattle.ados_flow.specs.Frames.{began}
-use Rattle.ados_shell.specs.Drafts.{frames_of}
-use Rattle.ados_shell.proofs.TurnLemmas.{call-goes}
+use Rattle.ados_shell.proofs.TurnLemmas.{call-begins, call-refused}
 use Rattle.ados_shell.proofs.drafts.Draft.call.Goals as goal
 
-pub returns : goal.returns
-returns c =
-    let scene = c.args.scene.now in
-    let before = c.args.self.now in
-    let script = c.args.script in
-    on_ok_weaker c.pass.result
-    (λ g. call-goes scene before _ c.pass.new.self c.args.word.now c.args.output script
-    (c.in_ok-push.ensures scene.shell.now ∙ ap (λ x. x ∷ frames_of scene before)
-    (c.in_ok-frame.ensures ∙ ap (λ w. began (Script script.name w) script.lines before.shell.limit c.args.output) c.in_ok-copy.ensures))
-    (record { held = refl; limit = refl; codes = refl; printed = refl; reports = refl })
-    g)
-    c.pass.ensures
+pub returns-then-is_full : goal.returns-then-is_full
+returns-then-is_full c =
+    on_ok_weaker c.refuse.result
+    (λ g. call-refused c.args.scene.now c.args.self.now c.refuse.new.self c.args.word.now c.args.output c.args.script
+    (sym c.is_full.ensures ∙ c.if-is_full.true) g)
+    c.refuse.ensures
+
+pub returns-else-is_full : goal.returns-else-is_full
+returns-else-is_full c =
+    on_ok_weaker c.begin_script.result
+    (λ g. call-begins c.args.scene.now c.args.self.now c.begin_script.new.self c.args.word.now c.args.output c.args.script
+    (sym c.is_full.ensures ∙ c.if-is_full.false) g)
+    c.begin_script.ensures

@@ -1,0 +1,5 @@
+use Rattle.std.proofs.Common.{length}
+use Rattle.ados_flow.proofs.tests.+only.Given as goal
+
+abbrev pub decreases-only : goal.decreases-only
+decreases-only l = length l.tests.now

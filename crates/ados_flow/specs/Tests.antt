@@ -1,0 +1,112 @@
+-- The tests of If: which one is asked for, and whether it holds.
+use Rattle.std.specs.Prelude.{ℕ, ℤ, List, [], ◌∷◌, filter, Bool, true, false, Option, Some, None, is_some, Result, Ok, Err, if◌then◌else◌}
+use Rattle.std.specs.FinMap as finite
+use Rattle.std.specs.declared.cmp.Ordering.{Ordering}
+use Rattle.std.specs.declared.cmp.Ordering.TheVariants as order
+use Rattle.std.specs.Ordering.{int_cmp}
+use Rattle.ados_text.specs.Text.{Text, folded}
+use Rattle.ados_text.specs.Name.{name_cmp}
+use Rattle.ados_text.specs.Number.{number_of}
+use Rattle.ados_text.specs.declared.codes.Code.{Code}
+use Rattle.ados_text.specs.declared.codes.TheConstants.Code.{WARN, ERROR, FAIL}
+use Rattle.ados_text.specs.declared.codes.TheConstants.Result2.{ARGUMENT_MISSING, BAD_NUMBER, TOO_MANY_ARGUMENTS}
+use Rattle.ados_ram.specs.Place.{Place, key_of}
+use Rattle.ados_readargs.specs.declared.args.Arg.{Arg}
+use Rattle.ados_readargs.specs.Args.{is_on, text_at}
+use Rattle.ados_find.specs.declared.codes.Codes.{Codes}
+use Rattle.ados_find.specs.Codes.{failed}
+use Rattle.ados_find.specs.Paths.{place_of}
+use Rattle.ados_find.specs.Shared.{SharedState}
+use Rattle.ados_find.specs.Views.{View}
+use Rattle.ados_flow.specs.CodeRule.{is_reached}
+use Rattle.ados_flow.specs.declared.tests.Test.{Test}
+use Rattle.ados_flow.specs.declared.tests.Test.TheVariants.{Warn, Error, Fail, Equal, Greater, GreaterOrEqual, Exists}
+use Rattle.ados_flow.specs.declared.tests.TheConstants.Test.{ALL}
+
+-- the arguments ask for a test
+abbrev pub is_given : List Arg → Test → Bool
+is_given args Warn = is_on args 1
+is_given args Error = is_on args 2
+is_given args Fail = is_on args 3
+is_given args Equal = is_some (text_at args 5)
+is_given args Greater = is_some (text_at args 6)
+is_given args GreaterOrEqual = is_some (text_at args 7)
+is_given args Exists = is_some (text_at args 9)
+
+-- just one is asked for
+abbrev pub only : List Test → Result Test Codes
+only [] = Err (failed ARGUMENT_MISSING)
+only (test ∷ []) = Ok test
+only (test ∷ more ∷ tests) = Err (failed TOO_MANY_ARGUMENTS)
+
+-- the test that the arguments ask for
+abbrev pub test_of : List Arg → Result Test Codes
+test_of args = only (filter (is_given args) ALL)
+
+-- the order of two numbers
+abbrev pub by_numbers : Option ℤ → Option ℤ → Result Ordering Codes
+by_numbers None right = Err (failed BAD_NUMBER)
+by_numbers (Some left) None = Err (failed BAD_NUMBER)
+by_numbers (Some left) (Some right) = Ok (int_cmp left right)
+
+-- the order of two words: of their numbers with VAL, else of their bytes in lower case
+abbrev pub order_of : Bool → Text → Text → Result Ordering Codes
+order_of by_value left right =
+    if by_value then by_numbers (number_of left) (number_of right) else Ok (name_cmp (folded left) (folded right))
+
+abbrev pub is_equal : Ordering → Bool
+is_equal order.Equal = true
+is_equal _ = false
+
+abbrev pub is_greater : Ordering → Bool
+is_greater order.Greater = true
+is_greater _ = false
+
+abbrev pub is_not_less : Ordering → Bool
+is_not_less order.Less = false
+is_not_less _ = true
+
+abbrev pub judged : (Ordering → Bool) → Result Ordering Codes → Result Bool Codes
+judged holds (Err codes) = Err codes
+judged holds (Ok ordering) = Ok (holds ordering)
+
+-- the order of two words, where both are there
+abbrev pub order_by : Bool → Option Text → Option Text → Result Ordering Codes
+order_by by_value None right = Err (failed ARGUMENT_MISSING)
+order_by by_value (Some left) None = Err (failed ARGUMENT_MISSING)
+order_by by_value (Some left) (Some right) = order_of by_value left right
+
+-- the order of the unnamed word and the value of the option at a place
+abbrev pub order_at : List Arg → ℕ → Result Ordering Codes
+order_at args place = order_by (is_on args 8) (text_at args 4) (text_at args place)
+
+abbrev pub is_there : SharedState → Result Place Codes → Bool
+is_there shared (Err codes) = false
+is_there shared (Ok place) = is_some (finite.get shared.files (key_of place))
+
+-- a path leads to an object
+abbrev pub exists : SharedState → View → Option Text → Bool
+exists shared view None = false
+exists shared view (Some word) = is_there shared (place_of shared view.parts.directory word)
+
+-- the last command's code is at a level, or above
+abbrev pub is_at : Code → View → Bool
+is_at level view = is_reached level view.parts.codes.code
+
+-- a test holds
+abbrev pub holds : SharedState → View → List Arg → Test → Result Bool Codes
+holds shared view args Warn = Ok (is_at WARN view)
+holds shared view args Error = Ok (is_at ERROR view)
+holds shared view args Fail = Ok (is_at FAIL view)
+holds shared view args Equal = judged is_equal (order_at args 5)
+holds shared view args Greater = judged is_greater (order_at args 6)
+holds shared view args GreaterOrEqual = judged is_not_less (order_at args 7)
+holds shared view args Exists = Ok (exists shared view (text_at args 9))
+
+abbrev pub tested_by : SharedState → View → List Arg → Result Test Codes → Result Bool Codes
+tested_by shared view args (Err codes) = Err codes
+tested_by shared view args (Ok test) = holds shared view args test
+
+-- the one test that is asked for holds, or what If answers where that can't be told
+abbrev pub tested : SharedState → View → List Arg → Result Bool Codes
+tested shared view args = tested_by shared view args (test_of args)

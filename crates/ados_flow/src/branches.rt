@@ -1,0 +1,110 @@
+// Branches: If, Else and Skip, by which a script goes on at another line.
+ghost use Rattle.std.specs.Prelude.{◌≡◌, IfOk};
+ghost use Rattle.std.specs.Option.{option_copied, option_map};
+ghost use Rattle.ados_text.specs.declared.codes.TheConstants.Result2.{WRONG_TYPE};
+ghost use Rattle.ados_find.specs.Codes.{failed};
+ghost use Rattle.ados_find.specs.Effects.{answering};
+ghost use Rattle.ados_find.specs.Shared.{SharedState};
+ghost use Rattle.ados_readargs.specs.Args.{is_on, text_at};
+ghost use Rattle.ados_script.specs.Skips.{skip as skip_of};
+ghost use Rattle.ados_flow.specs.Actions.{Does, acting};
+ghost use Rattle.ados_flow.specs.Branches.{decided, else_row, if_row, jumped, skip_row};
+ghost use Rattle.ados_flow.specs.Frames.{script_line_of};
+
+use crate::actions::Action;
+use crate::frames::Frame;
+use crate::tests::tested;
+use ados_find::{Codes, Refusal, Shared, ShellView};
+use ados_readargs::Args;
+use ados_script::{Jump, Script};
+use ados_text::{NoMemory, Result2};
+use std::alloc::Global;
+
+/// If goes on, or behind its Else or EndIf where its test fails. NOT turns the test round.
+///
+/// 212 where the newest frame is no script; then what `tested` refuses.
+pub fn branch(
+    alloc: Global,
+    shared: &Shared,
+    frame: Option<&Frame>,
+    view: &ShellView,
+    args: &Args,
+) -> Result<Action, NoMemory>
+    ensures { IfOk result (λ action. acting shared.now action ≡ if_row shared.now (script_line_of (option_copied frame.entry)) view.now args.now) }
+{
+    let Some((script, line)) = script_line(frame) else {
+        return Ok(wrong_type(alloc));
+    };
+    match tested(alloc, shared, view, args) {
+        Err(Refusal::NoMemory) => Err(NoMemory),
+        Err(Refusal::Stopped(codes)) => Ok(Action::answering(alloc, codes)),
+        Ok(held) if held != args.is_on(0) => Ok(Action::answering(alloc, Codes::NONE)),
+        Ok(_) => Ok(jumped(script.after_if(line))),
+    }
+}
+
+/// Else goes on behind its EndIf.
+///
+/// 212 where the newest frame is no script.
+pub fn pass_block(alloc: Global, frame: Option<&Frame>) -> Action
+    ensures { (shared : SharedState) → acting shared result ≡ else_row shared (script_line_of (option_copied frame.entry)) }
+{
+    match script_line(frame) {
+        None => wrong_type(alloc),
+        Some((script, line)) => jumped(script.after_else(line)),
+    }
+}
+
+/// Skip goes on behind the Lab with its LABEL, below it or with BACK from the first line on, or behind an EndSkip that
+/// stands before that.
+///
+/// 212 where the newest frame is no script.
+pub fn skip(alloc: Global, frame: Option<&Frame>, args: &Args) -> Action
+    ensures { (shared : SharedState) → acting shared result ≡ skip_row shared (script_line_of (option_copied frame.entry)) args.now }
+{
+    match script_line(frame) {
+        None => wrong_type(alloc),
+        Some((script, line)) => jumped(skip_from(script, line, args)),
+    }
+}
+
+// Where a Skip leads that stands at a line.
+fn skip_from(script: &Script, line: usize, args: &Args) -> Jump
+    ensures { result ≡ skip_of script.now line (text_at args.now 0) (is_on args.now 1) }
+{
+    script.skip(line, args.text(0), args.is_on(1))
+}
+
+// Where a command of the newest frame stands, if that is a script.
+fn script_line(frame: Option<&Frame>) -> Option<(&Script, usize)>
+    ensures { option_map (λ here. record { lines = here.0.now; line = here.1 }) result ≡ script_line_of (option_copied frame.entry) }
+{
+    match frame {
+        None => None,
+        Some(frame) => frame.script_line(),
+    }
+}
+
+// A script goes on where its jump leads, with 5 behind an EndSkip; where nothing is found it ends.
+fn jumped(jump: Jump) -> Action
+    ensures { (shared : SharedState) → acting shared result ≡ jumped jump }
+{
+    match jump {
+        Jump::To(line) => Action::Jumps {
+            line,
+            codes: Codes::NONE,
+        },
+        Jump::EndSkip(line) => Action::Jumps {
+            line,
+            codes: Codes::warned(Result2::NONE),
+        },
+        Jump::None => Action::Quits(Codes::failed(Result2::OBJECT_NOT_FOUND)),
+    }
+}
+
+// What a branch answers that stands in no script.
+fn wrong_type(alloc: Global) -> Action
+    ensures { (shared : SharedState) → acting shared result ≡ Does (answering shared (failed WRONG_TYPE)) }
+{
+    Action::answering(alloc, Codes::failed(Result2::WRONG_TYPE))
+}

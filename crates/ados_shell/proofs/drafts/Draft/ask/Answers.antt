@@ -1,0 +1,16 @@
+use Rattle.std.proofs.Common.{Some, ap, refl, subst, Option, List}
+use Rattle.std.specs.Option.{option_map}
+use Rattle.std.proofs.lemmas.Result.{on_ok_weaker}
+use Rattle.ados_shell.specs.Drafts.{course_by, held_of}
+use Rattle.ados_shell.proofs.LineLemmas.{prompt-goes}
+use Rattle.ados_shell.proofs.drafts.Draft.ask.Goals as goal
+
+pub returns-in-Some : goal.returns-in-Some
+returns-in-Some c =
+    let scene = c.args.scene.now in
+    let before = c.args.self.now in
+    let mid = record before { printed = c.push_prompt.new.out } in
+    rw c.in-Some.is (on_ok_weaker c.begin_with.result
+    (λ g. prompt-goes scene before mid c.begin_with.new.self c.args.builtin c.args.line.now c.in-Some.lines.now refl
+    (ap (λ p. course_by scene (held_of before) before.shell.limit before.shell.codes p) c.in_ok-push_prompt.ensures) refl g)
+    c.begin_with.ensures)

@@ -1,0 +1,10 @@
+use Rattle.std.proofs.Common.{◌≡◌, ◌++◌, drop}
+use Rattle.ados_machine.specs.Questions.{inquiry}
+use Rattle.ados_shell.proofs.questions.inquire.Given as goal
+
+-- the lines that are left answer as all do, behind what was printed
+abbrev pub invariant-loop-line : goal.invariant-loop-line
+invariant-loop-line l = record {
+  answered : (inquiry l.prompt (drop l.line-index l.lines)).answered ≡ (inquiry l.prompt l.lines).answered;
+  printed : l.printed.items ++ (inquiry l.prompt (drop l.line-index l.lines)).printed ≡ l.fn.printed.items ++ (inquiry l.prompt l.lines).printed;
+}

@@ -1,0 +1,94 @@
+// A line whose word is a script: its call.
+ghost use Rattle.std.specs.Prelude.{◌≡◌, OnOk};
+ghost use Rattle.ados_machine.specs.Lines.{called_deed, calling_deed, script_deed};
+ghost use Rattle.ados_machine.specs.Opening.{opening};
+ghost use Rattle.ados_machine.specs.Prompts.{input_lines};
+
+use crate::drafts::Draft;
+use crate::outputs::Opened;
+use crate::scenes::Scene;
+use ados_find::Target;
+use ados_flow::{Action, call_script};
+use ados_line::Line;
+use ados_ram::{FsFault, Place};
+use ados_text::NoMemory;
+
+impl Draft {
+    ghost use Rattle.std.specs.Prelude.{IfOk};
+    ghost use Rattle.std.specs.Option.{option_copied};
+    ghost use Rattle.ados_flow.specs.Actions.{acting};
+    ghost use Rattle.ados_flow.specs.Execute.{script_row};
+    ghost use Rattle.ados_machine.specs.Lines.{view_of};
+    ghost use Rattle.ados_shell.specs.Drafts.{IsUnset, Settles, course_of, here};
+
+    /// Reads the input of a line whose word is a script, if it has one, and calls the script.
+    pub fn run_script(&mut self, scene: &Scene, place: Place, line: &Line) -> Result<(), NoMemory>
+        requires { IsUnset self.old }
+        ensures { OnOk result (Settles scene.now self.old self.new
+            (script_deed place line.now (here scene.now self.old) (course_of scene.now self.old)
+            (input_lines (course_of scene.now self.old) line.now.input))) }
+    {
+        match self.input(scene, line.input.as_ref()) {
+            Err(FsFault::NoMemory) => Err(NoMemory),
+            Err(FsFault::Refused(fault)) => self.refuse(scene, &line.command, fault),
+            Ok(_) => self.call_into(scene, &place, line),
+        }
+    }
+
+    /// Opens the output of the line, and calls the script.
+    fn call_into(&mut self, scene: &Scene, place: &Place, line: &Line) -> Result<(), NoMemory>
+        requires { IsUnset self.old }
+        ensures { OnOk result (Settles scene.now self.old self.new
+            (calling_deed place.now line.now (here scene.now self.old) (course_of scene.now self.old)
+            (opening (course_of scene.now self.old) line.now.output))) }
+    {
+        match self.open(scene, line.output.as_ref()) {
+            Err(FsFault::NoMemory) => Err(NoMemory),
+            Err(FsFault::Refused(fault)) => self.refuse(scene, &line.command, fault),
+            Ok(Opened::Nothing) => self.call_at(scene, place, line, None),
+            Ok(Opened::Nil) => self.call_at(scene, place, line, Some(Target::Nil)),
+            Ok(Opened::File(new, at)) => {
+                self.shared = Some(new);
+                self.call_at(scene, place, line, Some(Target::At(at)))
+            }
+        }
+    }
+
+    /// Calls the script, whose output leads there.
+    fn call_at(
+        &mut self,
+        scene: &Scene,
+        place: &Place,
+        line: &Line,
+        target: Option<Target>,
+    ) -> Result<(), NoMemory>
+        requires { IsUnset self.old }
+        ensures { OnOk result (Settles scene.now self.old self.new
+            (called_deed place.now line.now target (here scene.now self.old) (course_of scene.now self.old))) }
+    {
+        let action = self.script(scene, place, line, target.as_ref())?;
+        self.act(scene, &line.command, target, None, action)
+    }
+
+    /// What the call of a script does whose output leads there, as the shell and the shared parts stand.
+    fn script(
+        &self,
+        scene: &Scene,
+        place: &Place,
+        line: &Line,
+        target: Option<&Target>,
+    ) -> Result<Action, NoMemory>
+        requires { IsUnset self.now }
+        ensures { IfOk result (λ action. acting (course_of scene.now self.now).shared action
+            ≡ script_row (course_of scene.now self.now).shared (view_of (option_copied target.entry) (course_of scene.now self.now)) place.now line.now.args) }
+    {
+        let view = self.shell.view(scene.shell, self.in_use(scene, target)?);
+        call_script(
+            scene.alloc,
+            self.current(scene),
+            &view,
+            place,
+            line.args.as_bytes(),
+        )
+    }
+}

@@ -1,0 +1,94 @@
+// Questions: what Ask comes to, and what a reply does.
+ghost use Rattle.std.specs.Prelude.{◌≡◌, ◌++◌, IfOk, OnOk};
+ghost use Rattle.std.specs.Option.{option_map};
+ghost use Rattle.ados_machine.specs.Questions.{ask_deed, inquiry, question_deed, question_text, reply_deed};
+
+use crate::drafts::Draft;
+use crate::scenes::Scene;
+use crate::stacks::copy;
+use ados_find::Codes;
+use ados_flow::reply_of;
+use ados_machine::{Asking, Question, Wait};
+use ados_text::{NoMemory, Text};
+
+impl Draft {
+    ghost use Rattle.ados_shell.specs.Drafts.{Settles, course_of};
+
+    /// Ask asks its input, and where it has none its shell waits.
+    pub fn inquire(
+        &mut self,
+        scene: &Scene,
+        question: Question,
+        input: Option<&[Text]>,
+    ) -> Result<(), NoMemory>
+        ensures { OnOk result (Settles scene.now self.old self.new
+            (ask_deed question (option_map (λ l. l.now) input.entry) (course_of scene.now self.old))) }
+    {
+        match input {
+            None => self.question(scene, question),
+            Some(lines) => {
+                let codes = inquire(&mut self.printed, &question.prompt, lines)?;
+                self.answer(scene, question.word.as_bytes(), codes, false)
+            }
+        }
+    }
+
+    /// The question is asked, and its shell waits for a line.
+    fn question(&mut self, scene: &Scene, question: Question) -> Result<(), NoMemory>
+        ensures { OnOk result (Settles scene.now self.old self.new (question_deed question (course_of scene.now self.old))) }
+    {
+        push_question(&mut self.printed, &question.prompt)?;
+        let wait = Wait::ForAnswer(Asking::Reply(question));
+        self.shell.waits = Some(Box::new(scene.alloc, wait)?);
+        Ok(())
+    }
+
+    /// Takes a reply to a question that waited; where it is none, the question is asked again.
+    pub fn reply(&mut self, scene: &Scene, question: &Question, line: &Text) -> Result<(), NoMemory>
+        ensures { OnOk result (Settles scene.now self.old self.new (reply_deed line.now question.now (course_of scene.now self.old))) }
+    {
+        match reply_of(line) {
+            Some(codes) => self.answer(scene, question.word.as_bytes(), codes, false),
+            None => self.question(scene, copied(question)?),
+        }
+    }
+}
+
+/// An equal question.
+fn copied(question: &Question) -> Result<Question, NoMemory>
+    ensures { IfOk result (λ copy. copy ≡ question.now) }
+{
+    let output = match &question.output {
+        None => None,
+        Some(target) => Some(copy(target)?),
+    };
+    Ok(Question {
+        word: question.word.copy()?,
+        prompt: question.prompt.copy()?,
+        output,
+    })
+}
+
+/// Asks lines, one after another, up to the first that replies; their end is no.
+fn inquire(printed: &mut Vec<u8>, prompt: &Text, lines: &[Text]) -> Result<Codes, NoMemory>
+    ensures { IfOk result (λ codes. (codes ≡ (inquiry prompt.now lines.now).answered)
+        × (printed.new.items ≡ printed.old.items ++ (inquiry prompt.now lines.now).printed)) }
+{
+    for line in lines {
+        push_question(printed, prompt)?;
+        if let Some(codes) = reply_of(line) {
+            return Ok(codes);
+        }
+    }
+    push_question(printed, prompt)?;
+    Ok(Codes::NONE)
+}
+
+/// Prints a question.
+fn push_question(printed: &mut Vec<u8>, prompt: &Text) -> Result<(), NoMemory>
+    ensures { OnOk result (printed.new.items ≡ printed.old.items ++ question_text prompt.now) }
+{
+    printed.extend_from_slice(prompt.as_bytes())?;
+    printed.push(b' ')?;
+    Ok(())
+}
