@@ -35,11 +35,12 @@ abbrev pub script_place : SharedState → Place → Text → Place → Result Pl
 script_place shared directory word place =
     if is_plain word && is_none (finite.get shared.files (key_of place)) then place_of shared directory (codes "S:" ++ word) else Ok place
 
--- the lines of a script, with its arguments put in
+-- the answer to a fault of substitution; want of memory has no number, and no script comes to it
 abbrev pub fault_answer : SharedState → Result Result2 NoMemory → Action
 fault_answer shared (Ok number) = Does (answering shared (failed number))
 fault_answer shared (Err none) = Does (answering shared (failed NO_FREE_STORE))
 
+-- the call of a script whose lines have its arguments put in
 abbrev pub calls : SharedState → Text → Result (List Text) SubstFault → Action
 calls shared name (Err fault) = fault_answer shared (result2_of fault)
 calls shared name (Ok lines) = Calls (record { name = name; script = lines })
