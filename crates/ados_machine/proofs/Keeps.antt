@@ -1,13 +1,13 @@
 -- A line that no command answers keeps its shell's parts.
-use Rattle.std.proofs.Common.{◌≡◌, ℕ, List, [], ◌∷◌, drop, Option, Some, None, Result, Ok, Err, refl, inl, inr}
+use Rattle.std.proofs.Common.{◌≡◌, ℕ, ◌-◌, List, [], ◌∷◌, length, nat_le, drop, Option, Some, None, Result, Ok, Err, refl, inl, inr}
 use Rattle.std.proofs.lemmas.Bool.{cases_Bool}
 use Rattle.ados_text.specs.Text.{Text}
 use Rattle.ados_text.specs.declared.codes.Result2.{Result2}
 use Rattle.ados_line.specs.declared.faults.LineFault.{LineFault}
 use Rattle.ados_line.specs.declared.lines.Line.{Line}
 use Rattle.ados_line.specs.declared.lines.Expanded.{Expanded}
-use Rattle.ados_line.specs.declared.lines.Expanded.TheVariants.{Nothing, Ready}
-use Rattle.ados_line.specs.Expansion.{expanded_in}
+use Rattle.ados_line.specs.declared.lines.Expanded.TheVariants.{Nothing, Ready, Tick}
+use Rattle.ados_line.specs.Expansion.{expanded_in, resumed_of}
 use Rattle.ados_ram.specs.Place.{Place}
 use Rattle.ados_find.specs.declared.codes.Codes.{Codes}
 use Rattle.ados_find.specs.declared.search.Found.{Found}
@@ -26,9 +26,14 @@ use Rattle.ados_find.specs.Parts.{Parts}
 use Rattle.ados_machine.specs.Course.{Course, printing}
 use Rattle.ados_machine.specs.Opening.{Opened, opening}
 use Rattle.ados_machine.specs.Prompts.{with_args, asks, first_of, prompt, input_lines}
-use Rattle.ados_machine.specs.Deeds.{Here, Deed, Passes, Answers, Jumps, Calls, Waits}
+use Rattle.ados_machine.specs.Deeds.{FrameLines, Here, Deed, Passes, Answers, Jumps, Calls, Ticks, Waits}
 use Rattle.ados_machine.specs.Questions.{ask_deed, replied}
-use Rattle.ados_machine.specs.Lines.{action_in, action_deed, opened_deed, command_deed, prompt_deed, input_deed, builtin_deed, arriving_deed, directory_deed, calling_deed, script_deed, view_of, found_in, found_deed, expanded_deed, variables_in, line_deed, answer_deed}
+use Rattle.ados_flow.specs.Gathering.{run_limit, before_plus, asks_nothing}
+use Rattle.ados_machine.specs.Sinks.{Sink}
+use Rattle.ados_machine.specs.declared.phases.Gathering.{Gathering}
+use Rattle.ados_machine.specs.declared.phases.Parted.{Parted}
+use Rattle.ados_machine.specs.NewShells.{console_run, run_at, run_opened, run_deed, joined_by, joined_deed}
+use Rattle.ados_machine.specs.Lines.{action_in, action_deed, opened_deed, command_deed, prompt_deed, input_deed, builtin_deed, arriving_deed, directory_deed, calling_deed, script_deed, view_of, found_in, found_deed, expanded_deed, variables_in, line_deed, parted_deed, answer_deed, internal_deed}
 
 -- where no command answers, these parts stand on
 abbrev pub KeepsParts : Parts → Deed → Type 0
@@ -36,6 +41,7 @@ KeepsParts parts (Passes course) = course.parts ≡ parts
 KeepsParts parts (Answers word codes quits course) = Unit {0}
 KeepsParts parts (Jumps word codes line course) = Unit {0}
 KeepsParts parts (Calls word output script course) = course.parts ≡ parts
+KeepsParts parts (Ticks before command after course) = course.parts ≡ parts
 KeepsParts parts (Waits wait course) = course.parts ≡ parts
 
 replied-keeps : (answered : Option Codes) (question : Question) (course : Course) → KeepsParts course.parts (replied answered question course)
@@ -99,15 +105,58 @@ calling-keeps : (place : Place) (line : Line) (here : Here) (course : Course) (o
 calling-keeps place line here course (Err fault) = tt
 calling-keeps place line here course (Ok opened) =
     let further : Course = record course { shared = opened.shared } in
-    action-keeps line.command opened.target None (script_row opened.shared (view_of opened.target further) place line.args) here further
+    action-keeps line.command opened.target None (script_row opened.shared (view_of line.command opened.target further) place line.args) here further
 
 script-keeps : (place : Place) (line : Line) (here : Here) (course : Course) (read : Result (Option (List Text)) Result2) →
     KeepsParts course.parts (script_deed place line here course read)
 script-keeps place line here course (Err fault) = tt
 script-keeps place line here course (Ok input) = calling-keeps place line here course (opening course line.output)
 
+console_run-keeps : (word : Text) (output : Option Target) (text : Text) (sink : Sink) (course : Course) (command : Option Text) →
+    KeepsParts course.parts (console_run word output text sink course command)
+console_run-keeps word output text sink course None = tt
+console_run-keeps word output text sink course (Some command) = refl
+
+run_at-keeps : (word : Text) (output : Option Target) (text : Text) (sink : Sink) (course : Course) (frame : Option FrameLines) →
+    KeepsParts course.parts (run_at word output text sink course frame)
+run_at-keeps word output text sink course None = console_run-keeps word output text sink course (before_plus text)
+run_at-keeps word output text sink course (Some frame) = tt
+
+run_opened-keeps : (line : Line) (here : Here) (course : Course) (opened : Result Opened Result2) →
+    KeepsParts course.parts (run_opened line here course opened)
+run_opened-keeps line here course (Err fault) = tt
+run_opened-keeps line here course (Ok opened) =
+    let further : Course = record course { shared = opened.shared } in
+    elim (cases_Bool (asks_nothing line.args)) [
+      | inl e ↦ rw e tt
+      | inr e ↦ rw e (run_at-keeps line.command opened.target line.args here.sink further here.frame_lines)
+    ]
+
+run-keeps : (line : Line) (here : Here) (course : Course) (read : Result (Option (List Text)) Result2) →
+    KeepsParts course.parts (run_deed line here course read)
+run-keeps line here course (Err fault) = tt
+run-keeps line here course (Ok input) = run_opened-keeps line here course (opening course line.output)
+
+joined_by-keeps : (gathering : Gathering) (line : Text) (sink : Sink) (course : Course) (command : Option Text) →
+    KeepsParts course.parts (joined_by gathering line sink course command)
+joined_by-keeps gathering line sink course None = tt
+joined_by-keeps gathering line sink course (Some command) =
+    elim (cases_Bool (nat_le (run_limit - 1) (length gathering.commands))) [
+      | inl e ↦ rw e tt
+      | inr e ↦ rw e refl
+    ]
+
+pub joined-keeps : (gathering : Gathering) (line : Text) (sink : Sink) (course : Course) →
+    KeepsParts course.parts (joined_deed gathering line sink course)
+joined-keeps gathering line sink course = joined_by-keeps gathering line sink course (before_plus line)
+
+internal-keeps : (builtin : Option Builtin) (line : Line) (here : Here) (course : Course) →
+    KeepsParts course.parts (internal_deed builtin line here course)
+internal-keeps None line here course = run-keeps line here course (input_lines course line.input)
+internal-keeps (Some builtin) line here course = builtin-keeps builtin line here course
+
 found-keeps : (word : Found) (line : Line) (here : Here) (course : Course) → KeepsParts course.parts (found_deed word line here course)
-found-keeps (found.Internal command) line here course = builtin-keeps (internal_builtin command) line here course
+found-keeps (found.Internal command) line here course = internal-keeps (internal_builtin command) line here course
 found-keeps (found.File program) line here course = builtin-keeps (disk_builtin program.command) line here course
 found-keeps (found.Script place) line here course = script-keeps place line here course (input_lines course line.input)
 found-keeps (found.Directory place) line here course = directory-keeps place line here course (input_lines course line.input)
@@ -119,9 +168,13 @@ expanded-keeps : (expanded : Result Expanded LineFault) (here : Here) (course : 
 expanded-keeps (Err fault) here course = tt
 expanded-keeps (Ok Nothing) here course = refl
 expanded-keeps (Ok (Ready line)) here course = found-keeps (found_in course line.command) line here course
+expanded-keeps (Ok (Tick tick)) here course = refl
 
 pub line-keeps : (raw : List ℕ) (here : Here) (course : Course) → KeepsParts course.parts (line_deed raw here course)
 line-keeps raw here course = expanded-keeps (expanded_in course.parts.settings.aliases (variables_in course) raw) here course
+
+pub parted-keeps : (parted : Parted) (here : Here) (course : Course) → KeepsParts course.parts (parted_deed parted here course)
+parted-keeps parted here course = expanded-keeps (resumed_of parted.before parted.output parted.after) here course
 
 pub answer-keeps : (raw : List ℕ) (asking : Asking) (here : Here) (course : Course) →
     KeepsParts course.parts (answer_deed raw asking here course)

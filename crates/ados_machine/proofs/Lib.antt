@@ -1,4 +1,5 @@
 pub mod InUseLemmas
+pub mod NamesLemmas
 pub mod RunLemmas
 pub mod Follows
 pub mod Keeps

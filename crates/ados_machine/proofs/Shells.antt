@@ -1,14 +1,15 @@
 -- The shells behind a turn: at each number.
-use Rattle.std.proofs.Common.{◌≡◌, ◌≢◌, ℕ, ◌<◌, zero, suc, ◌-◌, List, [], ◌∷◌, ◌++◌, Option, Some, None, length, refl, ap, arith, inl, inr, ◌==◌, map}
+use Rattle.std.proofs.Common.{◌≡◌, ◌≢◌, ◌∙◌, ℕ, ◌+◌, ◌<◌, zero, suc, ◌-◌, List, [], ◌∷◌, ◌++◌, Option, Some, None, length, refl, ap, arith, inl, inr, ◌==◌, map}
 use Rattle.std.specs.List.{slice_get, slice_set}
-use Rattle.std.proofs.lemmas.Bool.{eq-eqb, ne_eqb, cases_Bool}
+use Rattle.std.proofs.lemmas.Bool.{eq-eqb, ne_eqb, cases_eq, cases_Bool}
 use Rattle.std.proofs.lemmas.Grind.{common_steps}
 use Rattle.std.proofs.lemmas.Option.{gets, slice_get_within}
 use Rattle.ados_find.specs.declared.outcomes.Renamed.{Renamed}
 use Rattle.ados_machine.specs.Items.{Item}
-use Rattle.ados_machine.specs.Shells.{ShellState}
+use Rattle.ados_machine.specs.Shells.{Begun, begun_shell, ShellState}
+use Rattle.ados_machine.specs.Numbers.{free_from, free_number}
 use Rattle.ados_machine.specs.World.{flatten, numbered}
-use Rattle.ados_machine.specs.Step.{of_shell}
+use Rattle.ados_machine.specs.Step.{of_shell, with_begun}
 use Rattle.ados_machine.specs.Carrying.{carried_place, carried_shells, carried_by}
 use Rattle.ados_machine.specs.Trace.{own, frames_in}
 
@@ -66,7 +67,45 @@ pub found-set_other : (shells : List (Option ShellState)) (k : ℕ) (now : Optio
 found-set_other shells k now zero ne pos = refl
 found-set_other shells k now (suc m) ne pos = ap flatten (slice_get-set_other shells (k - 1) now m (not_before m k ne pos))
 
+-- a number that is free: within the list, without a shell
+abbrev pub IsFree : List (Option ShellState) → Option ℕ → Type 0
+IsFree shells None = Unit {0}
+IsFree shells (Some n) = (i : ℕ) × (n ≡ suc i) × (slice_get shells i ≡ Some None)
+
+abbrev FreeFrom : ℕ → List (Option ShellState) → Option ℕ → Type 0
+FreeFrom n shells None = Unit {0}
+FreeFrom n shells (Some m) = (i : ℕ) × (m ≡ n + i) × (slice_get shells i ≡ Some None)
+
+free-next : (n : ℕ) (first : Option ShellState) (shells : List (Option ShellState)) (m : Option ℕ) → FreeFrom (suc n) shells m → FreeFrom n (first ∷ shells) m
+free-next n first shells None free = tt
+free-next n first shells (Some m) free = (suc free.0, omega (arith, free.1), free.2)
+
+free-from : (n : ℕ) (shells : List (Option ShellState)) → FreeFrom n shells (free_from n shells)
+free-from n [] = tt
+free-from n (None ∷ shells) = (0, omega arith, refl)
+free-from n (Some shell ∷ shells) = free-next n (Some shell) shells (free_from (suc n) shells) (free-from (suc n) shells)
+
+free-second : (first : Option ShellState) (shells : List (Option ShellState)) (m : Option ℕ) → FreeFrom 2 shells m → IsFree (first ∷ shells) m
+free-second first shells None free = tt
+free-second first shells (Some m) free = (suc free.0, omega (arith, free.1), free.2)
+
+pub free-number : (shells : List (Option ShellState)) → IsFree shells (free_number shells)
+free-number [] = tt
+free-number (first ∷ shells) = free-second first shells (free_from 2 shells) (free-from 2 shells)
+
 -- the frames of all shells stay where their current directories move with what was renamed
+carried-none : (renamed : Renamed) (shells : List (Option ShellState)) (i : ℕ) →
+    slice_get shells i ≡ Some None → slice_get (map (carried_place renamed) shells) i ≡ Some None
+carried-none renamed [] i e = cc
+carried-none renamed (None ∷ shells) zero e = refl
+carried-none renamed (Some shell ∷ shells) zero e = cc
+carried-none renamed (first ∷ shells) (suc i) e = carried-none renamed shells i e
+
+pub carried-free : (renamed : Option Renamed) (shells : List (Option ShellState)) (n : Option ℕ) → IsFree shells n → IsFree (carried_shells renamed shells) n
+carried-free None shells n free = free
+carried-free (Some renamed) shells None free = tt
+carried-free (Some renamed) shells (Some n) free = (free.0, free.1, carried-none renamed shells free.0 free.2)
+
 carried-at : (renamed : Renamed) (shells : List (Option ShellState)) (i : ℕ) →
     flatten (slice_get (map (carried_place renamed) shells) i) ≡ carried_place renamed (flatten (slice_get shells i))
 carried-at renamed [] i = refl
@@ -93,3 +132,17 @@ pub carried-runs : (renamed : Option Renamed) (o : Option ShellState) (shell : S
     carried_found renamed o ≡ Some (carried_by renamed shell)
 carried-runs None o shell e = e
 carried-runs (Some renamed) o shell e = rw e refl
+
+-- where a shell begins
+pub found-placed_other : (shells : List (Option ShellState)) (begun : Option Begun) (n : Option ℕ) (j : ℕ) (shell : ShellState) →
+    IsFree shells n → found shells j ≡ Some shell → found (with_begun begun n shells) j ≡ Some shell
+found-placed_other shells None n j shell free e = e
+found-placed_other shells (Some begun) None j shell free e = e
+found-placed_other shells (Some begun) (Some n) j shell free e =
+    elim (cases_eq j n) [
+      | inl same ↦ absurd (never same)
+      | inr differ ↦ found-set_other shells n (Some (begun_shell n begun)) j differ (omega (arith, free.1)) ∙ e
+    ]
+  where
+    never : j ≡ n → ⊥
+    never same = cc

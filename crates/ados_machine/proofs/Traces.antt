@@ -16,7 +16,7 @@ use Rattle.ados_machine.specs.Runs.{world_after, Runs}
 use Rattle.ados_machine.specs.Trace.{items_after, trace, own, frames_in, frames_of}
 use Rattle.ados_machine.specs.Limits.{AllRunOn, IsSane, LimitsHold}
 use Rattle.ados_machine.specs.Stacks.{stack_of, entry_of_frame, Standing, standing_of, standing_at, FramesHold}
-use Rattle.ados_machine.proofs.Follows.{Follows, ShellFollows, shell-goes, ShellFollows-append, LeftRuns, obeys, obeys_begun}
+use Rattle.ados_machine.proofs.Follows.{Follows, ShellFollows, behind_end, shell-goes, ShellFollows-append, LeftRuns, obeys, obeys_begun}
 use Rattle.ados_machine.proofs.Turns.{length-stack, scripts-stack, stack-runs}
 use Rattle.ados_machine.proofs.Shells.{own-append}
 use Rattle.ados_machine.proofs.Moves.{stays-follows, Moves, step-moves}
@@ -58,7 +58,7 @@ codes_in (Some shell) = shell.parts.codes
 
 frames-follow : (o : Option ShellState) (log : List Item) (left : Option Standing) → ShellFollows (option_map standing_of o) log left →
     Follows (limit_in o) (codes_in o) (stack_of (frames_in o)) log left
-frames-follow None log left h = rw (h.0, h.1) refl
+frames-follow None log left h = behind_end first_limit went_well log left h
 frames-follow (Some shell) log left h = h
 
 pub limits-hold : (w : WorldState) (events : List Event) (outs : List (Result Out Refusal)) (last : WorldState) →

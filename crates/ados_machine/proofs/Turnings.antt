@@ -1,17 +1,18 @@
 -- Every turn of a shell moves its stack by its trace.
 use Rattle.std.proofs.Common.{◌≡◌, ℕ, List, [], ◌∷◌, Bool, true, false, Option, Some, None, refl, slice_get}
 use Rattle.ados_machine.specs.declared.phases.Phase.{Phase}
-use Rattle.ados_machine.specs.declared.phases.Phase.TheVariants.{Ready, Waiting}
-use Rattle.ados_machine.specs.declared.phases.Wait.TheVariants.{ForAnswer}
+use Rattle.ados_machine.specs.declared.phases.Phase.TheVariants.{Ready, GoingOn, Waiting}
+use Rattle.ados_machine.specs.declared.phases.Wait.TheVariants.{ForAnswer, ForLines}
 use Rattle.ados_flow.specs.Frames.{FrameState, moved}
 use Rattle.ados_find.specs.Parts.{Parts}
 use Rattle.ados_machine.specs.Course.{Course}
 use Rattle.ados_machine.specs.Deeds.{Deed, Passes}
-use Rattle.ados_machine.specs.Lines.{line_deed, answer_deed}
+use Rattle.ados_machine.specs.Lines.{line_deed, parted_deed, answer_deed}
+use Rattle.ados_machine.specs.NewShells.{gathered_deed, joined_deed}
 use Rattle.ados_machine.specs.Settle.{here_of, settle}
 use Rattle.ados_machine.specs.Turning.{Input, Turning, Refuses, Ends, Takes, frame_turned, at_end, console_turning, ready_turning, input_turning, turning}
 use Rattle.ados_machine.specs.Limits.{AllRunOn}
-use Rattle.ados_machine.proofs.Keeps.{KeepsParts, line-keeps, answer-keeps}
+use Rattle.ados_machine.proofs.Keeps.{KeepsParts, line-keeps, parted-keeps, answer-keeps, joined-keeps}
 use Rattle.ados_machine.proofs.Turns.{Goes, settle-goes}
 
 -- a turn of a shell with these parts and frames moves them; it ends only where there are no frames
@@ -54,6 +55,12 @@ input-goes parts frames (line ∷ rest) is_ended by_line by_end line_keeps end_k
 pub turning-goes : (input : Input) (frames : List FrameState) (course : Course) (phase : Phase) → AllRunOn frames →
     TurningGoes course.parts frames (turning input frames course phase)
 turning-goes input frames course Ready runs = ready-goes input frames course runs
+turning-goes input frames course (GoingOn parted) runs =
+    settle-goes course.parts (parted_deed parted (here_of frames) course) frames (parted-keeps parted (here_of frames) course) runs
+turning-goes input frames course (Waiting (ForLines gathering)) runs =
+    let sink = (here_of frames).sink in
+    input-goes course.parts frames input.queue input.is_ended (λ line. joined_deed gathering line sink course) (gathered_deed gathering sink course)
+    (λ line. joined-keeps gathering line sink course) tt runs
 turning-goes input frames course (Waiting (ForAnswer asking)) runs =
     let here = here_of frames in
     input-goes course.parts frames input.queue input.is_ended (λ line. answer_deed line asking here course) (answer_deed [] asking here course)

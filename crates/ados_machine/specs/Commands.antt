@@ -1,5 +1,5 @@
 -- The commands: which one a name's command is, and what each does with its arguments.
-use Rattle.std.specs.Prelude.{ℕ, List, Bool, true, Option, Result, Ok, Err}
+use Rattle.std.specs.Prelude.{ℕ, List, Bool, true, false, Option, Some, None, Result, Ok, Err}
 use Rattle.ados_text.specs.declared.codes.Result2.{Result2}
 use Rattle.ados_text.specs.declared.errors.NoMemory.{NoMemory}
 use Rattle.ados_text.specs.declared.codes.TheConstants.Result2.{NO_FREE_STORE}
@@ -21,7 +21,7 @@ use Rattle.ados_files.specs.Commands.{template_of_command as file_template}
 use Rattle.ados_files.specs.Rows.{row_of as file_row_of}
 use Rattle.ados_env.specs.declared.commands.Command.{Command}
 use Rattle.ados_env.specs.declared.commands.Command.TheVariants as env
-use Rattle.ados_env.specs.Commands.{template_of_command as env_template, reads_in_use as env_reads_in_use}
+use Rattle.ados_env.specs.Commands.{template_of_command as env_template, reads_in_use as env_reads_in_use, reads_names as env_reads_names}
 use Rattle.ados_env.specs.Rows.{row_of as env_row_of}
 use Rattle.ados_flow.specs.declared.commands.Command.{Command as FlowCommand}
 use Rattle.ados_flow.specs.declared.commands.Command.TheVariants as flow
@@ -32,30 +32,31 @@ use Rattle.ados_flow.specs.Rows.{row_of as flow_row_of}
 use Rattle.ados_machine.specs.declared.builtins.Builtin.{Builtin}
 use Rattle.ados_machine.specs.declared.builtins.Builtin.TheVariants.{Env, Files, Flow}
 
--- which command an internal command is
-abbrev pub internal_builtin : InternalCommand → Builtin
-internal_builtin internal.Alias = Env env.Alias
-internal_builtin internal.Ask = Flow flow.Ask
-internal_builtin internal.Cd = Env env.Cd
-internal_builtin internal.Echo = Env env.Echo
-internal_builtin internal.Else = Flow flow.Else
-internal_builtin internal.EndIf = Flow flow.EndIf
-internal_builtin internal.EndSkip = Flow flow.EndSkip
-internal_builtin internal.FailAt = Env env.FailAt
-internal_builtin internal.Fault = Env env.Fault
-internal_builtin internal.Get = Env env.Get
-internal_builtin internal.GetEnv = Env env.GetEnv
-internal_builtin internal.If = Flow flow.If
-internal_builtin internal.Lab = Flow flow.Lab
-internal_builtin internal.Path = Env env.Path
-internal_builtin internal.Quit = Flow flow.Quit
-internal_builtin internal.Set = Env env.Set
-internal_builtin internal.SetEnv = Env env.SetEnv
-internal_builtin internal.Skip = Flow flow.Skip
-internal_builtin internal.Unalias = Env env.Unalias
-internal_builtin internal.Unset = Env env.Unset
-internal_builtin internal.UnsetEnv = Env env.UnsetEnv
-internal_builtin internal.Why = Env env.Why
+-- which command an internal command is; Run alone is none of those that take a template
+abbrev pub internal_builtin : InternalCommand → Option Builtin
+internal_builtin internal.Alias = Some (Env env.Alias)
+internal_builtin internal.Ask = Some (Flow flow.Ask)
+internal_builtin internal.Cd = Some (Env env.Cd)
+internal_builtin internal.Echo = Some (Env env.Echo)
+internal_builtin internal.Else = Some (Flow flow.Else)
+internal_builtin internal.EndIf = Some (Flow flow.EndIf)
+internal_builtin internal.EndSkip = Some (Flow flow.EndSkip)
+internal_builtin internal.FailAt = Some (Env env.FailAt)
+internal_builtin internal.Fault = Some (Env env.Fault)
+internal_builtin internal.Get = Some (Env env.Get)
+internal_builtin internal.GetEnv = Some (Env env.GetEnv)
+internal_builtin internal.If = Some (Flow flow.If)
+internal_builtin internal.Lab = Some (Flow flow.Lab)
+internal_builtin internal.Path = Some (Env env.Path)
+internal_builtin internal.Quit = Some (Flow flow.Quit)
+internal_builtin internal.Run = None
+internal_builtin internal.Set = Some (Env env.Set)
+internal_builtin internal.SetEnv = Some (Env env.SetEnv)
+internal_builtin internal.Skip = Some (Flow flow.Skip)
+internal_builtin internal.Unalias = Some (Env env.Unalias)
+internal_builtin internal.Unset = Some (Env env.Unset)
+internal_builtin internal.UnsetEnv = Some (Env env.UnsetEnv)
+internal_builtin internal.Why = Some (Env env.Why)
 
 -- and which one a disk command is
 abbrev pub disk_builtin : DiskCommand → Builtin
@@ -71,6 +72,7 @@ disk_builtin disk.List = Files files.List
 disk_builtin disk.MakeDir = Files files.MakeDir
 disk_builtin disk.Protect = Files files.Protect
 disk_builtin disk.Rename = Files files.Rename
+disk_builtin disk.Status = Env env.Status
 disk_builtin disk.«Type» = Files files.«Type»
 disk_builtin disk.Which = Env env.Which
 
@@ -85,6 +87,12 @@ abbrev pub reads_in_use : Builtin → Bool
 reads_in_use (Env command) = env_reads_in_use command
 reads_in_use (Files command) = true
 reads_in_use (Flow command) = flow_reads_in_use command
+
+-- whether what a command does reads the names of the shells that run
+abbrev pub reads_names : Builtin → Bool
+reads_names (Env command) = env_reads_names command
+reads_names (Files command) = false
+reads_names (Flow command) = false
 
 -- what a command does with its arguments, which stands at a line of a script or in none
 abbrev pub row_of : Builtin → SharedState → Option ScriptLine → View → List Arg → Action

@@ -1,13 +1,16 @@
 pub mod CodeRule
 pub mod Commands
 pub mod Items
+pub mod Numbers
 pub mod Sinks
+pub mod Names
 pub mod Shells
 pub mod Course
 pub mod Deeds
 pub mod Opening
 pub mod Prompts
 pub mod Questions
+pub mod NewShells
 pub mod Lines
 pub mod Settled
 pub mod Settle

@@ -69,11 +69,14 @@ GoesOnAt limit codes _ = ⊥
 
 -- A script's records before the last are below their limits, and so is the last one of a script that still runs. A script
 -- that ended has the line and the codes of its last record, and is early exactly where that one reaches its limit; behind
--- its end the command that called it answers with these codes, at the limit that the end brings back.
+-- its end the command that called it answers with these codes, at the limit that the end brings back. The commands of a
+-- Run and those of a tick have no limit of their own: they end with their last record, and never early.
 abbrev pub ObeysLimit : Kind → Code → List Record → Option End → Type 0
 ObeysLimit (Script name command) limit records end =
     BelowLimits records end × IfSome end (λ e.
     EndsAs (Script name command) (last_line (last_of records)) (last_codes (last_of records)) (is_at_limit (last_of records)) e × GoesOnAt limit e.codes e.further)
+ObeysLimit kind limit records end =
+    IfSome end (λ e. EndsAs kind (last_line (last_of records)) (last_codes (last_of records)) false e)
 
 -- a frame's last record, as a list
 abbrev pub kept : Option Record → List Record
@@ -98,6 +101,7 @@ pub record ObeyLimits (frames : List FrameState) (log : List Item) : Type 0 wher
 abbrev pub RunsOn : Kind → Option Record → Type 0
 RunsOn (Script name command) None = Unit {0}
 RunsOn (Script name command) (Some entry) = IsBelow entry
+RunsOn kind last = Unit {0}
 
 -- no script of these has one
 abbrev pub AllRunOn : List FrameState → Type 0

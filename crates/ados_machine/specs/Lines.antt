@@ -1,5 +1,6 @@
 -- What a line of a shell comes to.
-use Rattle.std.specs.Prelude.{ℕ, List, ◌++◌, drop, false, true, if◌then◌else◌, Option, Some, None, Result, Ok, Err}
+use Rattle.std.specs.Prelude.{ℕ, ◌-◌, List, ◌++◌, drop, map, false, true, if◌then◌else◌, Option, Some, None, option_map, Result, Ok, Err}
+use Rattle.std.specs.List.{slice_set}
 use Rattle.ados_text.specs.declared.codes.Result2.{Result2}
 use Rattle.ados_text.specs.Text.{Text}
 use Rattle.ados_text.specs.declared.codes.TheConstants.Result2.{TOO_MANY_ARGUMENTS, OBJECT_NOT_FOUND}
@@ -8,8 +9,8 @@ use Rattle.ados_line.specs.declared.faults.LineFault.{LineFault}
 use Rattle.ados_line.specs.Faults.{result2_of}
 use Rattle.ados_line.specs.declared.lines.Line.{Line}
 use Rattle.ados_line.specs.declared.lines.Expanded.{Expanded}
-use Rattle.ados_line.specs.declared.lines.Expanded.TheVariants.{Nothing, Ready}
-use Rattle.ados_line.specs.Expansion.{expanded_in}
+use Rattle.ados_line.specs.declared.lines.Expanded.TheVariants.{Nothing, Ready, Tick}
+use Rattle.ados_line.specs.Expansion.{expanded_in, resumed_of}
 use Rattle.ados_line.specs.Values.{Variables, variables_of}
 use Rattle.ados_ram.specs.InUse.{InUse}
 use Rattle.ados_ram.specs.Place.{Place}
@@ -27,6 +28,7 @@ use Rattle.ados_find.specs.Views.{View}
 use Rattle.ados_machine.specs.declared.builtins.Builtin.{Builtin}
 use Rattle.ados_machine.specs.declared.phases.Asking.{Asking}
 use Rattle.ados_machine.specs.declared.phases.Asking.TheVariants.{Arguments, Reply}
+use Rattle.ados_machine.specs.declared.phases.Parted.{Parted}
 use Rattle.ados_machine.specs.declared.phases.Wait.TheVariants.{ForAnswer}
 use Rattle.ados_find.specs.declared.targets.Target.{Target}
 use Rattle.ados_find.specs.Targets.{open_at}
@@ -35,10 +37,12 @@ use Rattle.ados_flow.specs.Actions as flow
 use Rattle.ados_flow.specs.Execute.{script_row}
 use Rattle.ados_machine.specs.Commands.{internal_builtin, disk_builtin, action_of}
 use Rattle.ados_machine.specs.Sinks.{sink_or}
+use Rattle.ados_machine.specs.Shells.{Seen}
 use Rattle.ados_machine.specs.Course.{Course, printing, directories_of, outputs_of, Put, put}
 use Rattle.ados_machine.specs.Opening.{Opened, opening}
 use Rattle.ados_machine.specs.Prompts.{with_args, asks, first_of, is_end, prompt, input_lines}
-use Rattle.ados_machine.specs.Deeds.{Here, Deed, Passes, Answers, Jumps, Calls, Waits, refused, line_fault}
+use Rattle.ados_machine.specs.Deeds.{Here, Deed, Passes, Answers, Jumps, Calls, Ticks, Waits, refused, line_fault}
+use Rattle.ados_machine.specs.NewShells.{run_deed}
 use Rattle.ados_machine.specs.Questions.{ask_deed, reply_deed}
 
 -- what is in use while a command runs whose output leads there: that output, what the shells that run keep, and the
@@ -46,9 +50,16 @@ use Rattle.ados_machine.specs.Questions.{ask_deed, reply_deed}
 abbrev pub busy_in : Option Target → Course → InUse
 busy_in target course = busy_of (directories_of course.seen) (open_at target ++ outputs_of course.seen) course.shared.assigns
 
--- what commands read of their shell, and of the others
-abbrev pub view_of : Option Target → Course → View
-view_of target course = record { parts = course.parts; busy = busy_in target course }
+abbrev pub name_seen : Option Seen → Option Text
+name_seen seen = option_map (λ s. s.name) seen
+
+-- the names of the shells that run, from number 1; that of the shell itself is the word of its command
+abbrev pub names_in : Text → Course → List (Option Text)
+names_in word course = slice_set (map name_seen course.seen) (course.parts.number - 1) (Some word)
+
+-- what the command of a word, whose output leads there, reads of its shell and of the others
+abbrev pub view_of : Text → Option Target → Course → View
+view_of word target course = record { parts = course.parts; busy = busy_in target course; names = names_in word course }
 
 -- what a command's effect leaves of the course: its change of the shell's parts, the shared parts, and what was renamed
 abbrev pub with_effect : Effect → Course → Course
@@ -73,7 +84,7 @@ action_deed word target input (flow.Asks prompt) here course = ask_deed (record 
 
 -- what a command does whose output leads there
 abbrev pub action_in : Builtin → Line → Option Target → Here → Course → Action
-action_in builtin line target here course = action_of builtin course.shared here.script_line (view_of target course) line.args
+action_in builtin line target here course = action_of builtin course.shared here.script_line (view_of line.command target course) line.args
 
 -- a command whose output leads there does its work
 abbrev pub work_deed : Builtin → Line → Option Target → Option (List Text) → Here → Course → Deed
@@ -125,7 +136,7 @@ directory_deed place line here course (Ok input) = arriving_deed place line here
 -- a script of a line, whose output leads there, is called
 abbrev pub called_deed : Place → Line → Option Target → Here → Course → Deed
 called_deed place line target here course =
-    action_deed line.command target None (script_row course.shared (view_of target course) place line.args) here course
+    action_deed line.command target None (script_row course.shared (view_of line.command target course) place line.args) here course
 
 abbrev pub calling_deed : Place → Line → Here → Course → Result Opened Result2 → Deed
 calling_deed place line here course (Err fault) = refused line.command fault course
@@ -136,9 +147,14 @@ abbrev pub script_deed : Place → Line → Here → Course → Result (Option (
 script_deed place line here course (Err fault) = refused line.command fault course
 script_deed place line here course (Ok input) = calling_deed place line here course (opening course line.output)
 
+-- an internal command, which may be Run
+abbrev pub internal_deed : Option Builtin → Line → Here → Course → Deed
+internal_deed None line here course = run_deed line here course (input_lines course line.input)
+internal_deed (Some builtin) line here course = builtin_deed builtin line here course
+
 -- what the search found for the line's command; what is not known, or can't be run, reads and opens nothing
 abbrev pub found_deed : Found → Line → Here → Course → Deed
-found_deed (found.Internal command) line here course = builtin_deed (internal_builtin command) line here course
+found_deed (found.Internal command) line here course = internal_deed (internal_builtin command) line here course
 found_deed (found.File program) line here course = builtin_deed (disk_builtin program.command) line here course
 found_deed (found.Script place) line here course = script_deed place line here course (input_lines course line.input)
 found_deed (found.Directory place) line here course = directory_deed place line here course (input_lines course line.input)
@@ -154,6 +170,7 @@ abbrev pub expanded_deed : Result Expanded LineFault → Here → Course → Dee
 expanded_deed (Err fault) here course = line_fault (result2_of fault) course
 expanded_deed (Ok Nothing) here course = Passes course
 expanded_deed (Ok (Ready line)) here course = found_deed (found_in course line.command) line here course
+expanded_deed (Ok (Tick tick)) here course = Ticks tick.before tick.command tick.after course
 
 -- the variables to which a line refers: the shell's own, and the global ones
 abbrev pub variables_in : Course → Variables
@@ -162,6 +179,10 @@ variables_in course = variables_of (locals_of course.parts) course.shared.assign
 -- what a raw line comes to
 abbrev pub line_deed : List ℕ → Here → Course → Deed
 line_deed raw here course = expanded_deed (expanded_in course.parts.settings.aliases (variables_in course) raw) here course
+
+-- what a line comes to whose tick has ended
+abbrev pub parted_deed : Parted → Here → Course → Deed
+parted_deed parted here course = expanded_deed (resumed_of parted.before parted.output parted.after) here course
 
 -- what the answer to a prompt comes to: it stands for the arguments as it is, or replies to the question
 abbrev pub answer_deed : Text → Asking → Here → Course → Deed

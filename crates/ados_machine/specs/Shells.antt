@@ -1,32 +1,60 @@
 -- A shell, and what the others see of it.
-use Rattle.std.specs.Prelude.{ℕ, List, [], ◌++◌}
+use Rattle.std.specs.Prelude.{ℕ, List, [], ◌∷◌, ◌++◌, Option, Some, None}
+use Rattle.ados_text.specs.Text.{Text, Bytes}
+use Rattle.ados_ram.specs.Place.{Place}
 use Rattle.ados_find.specs.Codes.{went_well}
 use Rattle.ados_find.specs.Parts.{Parts}
-use Rattle.ados_find.specs.Settings.{first_settings}
+use Rattle.ados_find.specs.Settings.{first_settings, copied_settings}
+use Rattle.ados_find.specs.declared.settings.Settings.{Settings}
+use Rattle.ados_find.specs.declared.targets.Target.{Target}
+use Rattle.ados_flow.specs.declared.kinds.Kind.TheVariants.{Lines}
+use Rattle.ados_flow.specs.Frames.{FrameState, began, first_limit}
 use Rattle.ados_machine.specs.declared.phases.Phase.{Phase}
 use Rattle.ados_machine.specs.declared.phases.Phase.TheVariants.{Ready}
-use Rattle.ados_flow.specs.Frames.{FrameState, first_limit}
 use Rattle.ados_machine.specs.Sinks.{outputs_in, held_by}
+use Rattle.ados_machine.specs.Names.{name_in, named_by}
 
--- a shell; the newest frame is the first
+-- a shell; the newest frame is the first, and `kept` is what its ticks put out so far, that of the newest first
 pub record ShellState : Type 0 where
   pub frames : List FrameState
   pub phase : Phase
   pub parts : Parts
+  pub kept : List Bytes
 
--- the shell of a number begins with these parts, in a directory
-abbrev pub fresh_parts : ℕ → List (List ℕ) → Parts
-fresh_parts number directory = record { number = number; directory = directory; limit = first_limit; codes = went_well; settings = first_settings number }
+-- the shell of a number begins with these parts, in a directory, and with what is set there
+abbrev pub parts_in : ℕ → Place → Settings → Parts
+parts_in number directory settings = record { number = number; directory = directory; limit = first_limit; codes = went_well; settings = settings }
 
 -- a shell of a number begins in the root
 abbrev pub fresh_shell : ℕ → ShellState
-fresh_shell number = record { frames = []; phase = Ready; parts = fresh_parts number [] }
+fresh_shell number = record { frames = []; phase = Ready; parts = parts_in number [] (first_settings number); kept = [] }
 
--- what others see of a shell: its current directory and its open outputs
+-- a shell that another one makes: where that one is, what is set there, its commands, and its output, if it has one
+pub record Begun : Type 0 where
+  pub directory : Place
+  pub settings : Settings
+  pub commands : List Text
+  pub output : Option Target
+
+-- it begins there under its own number, with copies of what is set; its commands are its one frame
+abbrev pub begun_shell : ℕ → Begun → ShellState
+begun_shell number begun = record {
+  frames = began Lines begun.commands first_limit begun.output ∷ [];
+  phase = Ready;
+  parts = parts_in number begun.directory (copied_settings number begun.settings);
+  kept = [];
+}
+
+-- what others see of a shell: its current directory, its open outputs, and its name in Status
 pub record Seen : Type 0 where
-  pub directory : List (List ℕ)
-  pub outputs : List (List (List ℕ))
+  pub directory : Place
+  pub outputs : List Place
+  pub name : Text
 
 -- what is seen of a shell
 abbrev pub seen_of : ShellState → Seen
-seen_of shell = record { directory = shell.parts.directory; outputs = outputs_in shell.frames ++ held_by shell.phase }
+seen_of shell = record {
+  directory = shell.parts.directory;
+  outputs = outputs_in shell.frames ++ held_by shell.phase;
+  name = named_by (name_in shell.frames) shell.phase;
+}

@@ -11,9 +11,12 @@ use Rattle.ados_machine.specs.declared.refusals.Refusal.{Refusal}
 use Rattle.ados_machine.specs.declared.refusals.Refusal.TheVariants.{Over, NoSuchShell, NotReady, WrongAnswer, QueueFull, LineTooLong}
 use Rattle.ados_machine.specs.Items.{Item, reports_of}
 use Rattle.ados_find.specs.Parts.{Parts}
-use Rattle.ados_machine.specs.Shells.{ShellState}
+use Rattle.ados_machine.specs.Shells.{Begun, begun_shell, ShellState}
 use Rattle.ados_machine.specs.Course.{Course}
 use Rattle.ados_machine.specs.Carrying.{moved_by, carried_shells, carried_by}
+use Rattle.ados_flow.specs.declared.kinds.Kind.TheVariants.{Lines}
+use Rattle.ados_flow.specs.Frames.{FrameState, first_limit}
+use Rattle.ados_machine.specs.Numbers.{free_number}
 use Rattle.ados_machine.specs.Settle.{Turned}
 use Rattle.ados_machine.specs.Turning.{Turning, Refuses, Ends, Takes, turning}
 use Rattle.ados_machine.specs.World.{WorldState, shell_at, is_over, seen_in, input_of}
@@ -35,11 +38,39 @@ of_shell k (item ∷ log) = (k, item) ∷ of_shell k log
 
 -- the shell that an event leaves
 abbrev pub shell_of_turn : Turned → ShellState
-shell_of_turn turned = record { frames = turned.frames; phase = turned.phase; parts = turned.course.parts }
+shell_of_turn turned = record { frames = turned.frames; phase = turned.phase; parts = turned.course.parts; kept = turned.course.kept }
 
--- the shells behind an event of one of them
+-- a shell begins at a number, if there is one
+abbrev pub placed : Option ℕ → Begun → List (Option ShellState) → List (Option ShellState)
+placed None begun shells = shells
+placed (Some number) begun shells = slice_set shells (number - 1) (Some (begun_shell number begun))
+
+-- the shells with the one that begins, if one does
+abbrev pub with_begun : Option Begun → Option ℕ → List (Option ShellState) → List (Option ShellState)
+with_begun None number shells = shells
+with_begun (Some begun) number shells = placed number begun shells
+
+-- what the trace gets of it: its commands begin
+abbrev pub begun_items : Option Begun → Option ℕ → List (ℕ × Item)
+begun_items (Some begun) (Some number) = (number, Began 1 Lines first_limit) ∷ []
+begun_items _ _ = []
+
+-- a background shell ends with its last line
+abbrev pub is_done : ℕ → List FrameState → Bool
+is_done k frames = not (k == 1) && not (has_frame frames)
+
+-- what an event leaves at its shell's number
+abbrev pub left : ℕ → Option Renamed → Turned → Option ShellState
+left k moved turned = if is_done k turned.frames then None else Some (carried_by moved (shell_of_turn turned))
+
+-- the shells behind an event of one of them: the one that begins has the lowest free number
 abbrev pub shells_behind : List (Option ShellState) → ℕ → Option Renamed → Turned → List (Option ShellState)
-shells_behind shells k moved turned = slice_set (carried_shells moved shells) (k - 1) (Some (carried_by moved (shell_of_turn turned)))
+shells_behind shells k moved turned =
+    slice_set (with_begun turned.course.begun (free_number shells) (carried_shells moved shells)) (k - 1) (left k moved turned)
+
+-- the codes of a shell that has ended stay
+abbrev pub ended_with : Bool → ℕ → Codes → List Codes → List Codes
+ended_with done k codes ended = if done then slice_set ended (k - 1) codes else ended
 
 -- what an event moved in a world
 abbrev pub moved_in : WorldState → Turned → Option Renamed
@@ -54,11 +85,12 @@ abbrev pub took : WorldState → ℕ → List (List ℕ) → Turned → Response
 took w k queue turned =
     Accepted (record w {
       shells = shells_behind w.shells k (moved_in w turned) turned;
+      ended = ended_with (is_done k turned.frames) k turned.course.parts.codes w.ended;
       queue = queue_behind k w.queue queue;
       shared = turned.course.shared;
     })
     (giving turned.course.printed (reports_of k turned.log))
-    (of_shell k turned.log)
+    (of_shell k turned.log ++ begun_items turned.course.begun (free_number w.shells))
 
 -- the shell of this number ended; its codes stay
 abbrev pub shell_ended : WorldState → ℕ → Codes → Response
@@ -66,8 +98,16 @@ shell_ended w k codes =
     Accepted (record w { shells = slice_set w.shells (k - 1) None; ended = slice_set w.ended (k - 1) codes }) (giving [] []) []
 
 -- an event of a shell begins: nothing is done yet
-abbrev pub start : WorldState → Parts → Course
-start w parts = record { parts = parts; shared = w.shared; seen = seen_in w.shells; printed = []; renamed = None }
+abbrev pub start : WorldState → ShellState → Course
+start w shell = record {
+  parts = shell.parts;
+  kept = shell.kept;
+  shared = w.shared;
+  seen = seen_in w.shells;
+  printed = [];
+  renamed = None;
+  begun = None;
+}
 
 -- what an event of a shell, whose codes are these, makes of the world
 abbrev pub applied : WorldState → ℕ → Codes → Turning → Response
@@ -78,7 +118,7 @@ applied w k codes (Takes queue turned) = took w k queue turned
 -- a turn of the shell of this number, if it runs
 abbrev pub turned : WorldState → ℕ → Option ShellState → Response
 turned w k None = Refused NoSuchShell
-turned w k (Some shell) = applied w k shell.parts.codes (turning (input_of w k) shell.frames (start w shell.parts) shell.phase)
+turned w k (Some shell) = applied w k shell.parts.codes (turning (input_of w k) shell.frames (start w shell) shell.phase)
 
 -- an answer for the shell of this number, if it runs: no shell waits for one yet
 abbrev pub replied : Option ShellState → Response

@@ -3,12 +3,13 @@ use Rattle.std.specs.Prelude.{ℕ, List, [], ◌∷◌, Bool, Option, Some, None
 use Rattle.ados_machine.specs.declared.refusals.Refusal.{Refusal}
 use Rattle.ados_machine.specs.declared.refusals.Refusal.TheVariants.{NotReady}
 use Rattle.ados_machine.specs.declared.phases.Phase.{Phase}
-use Rattle.ados_machine.specs.declared.phases.Phase.TheVariants.{Ready, Waiting}
-use Rattle.ados_machine.specs.declared.phases.Wait.TheVariants.{ForAnswer}
+use Rattle.ados_machine.specs.declared.phases.Phase.TheVariants.{Ready, GoingOn, Waiting}
+use Rattle.ados_machine.specs.declared.phases.Wait.TheVariants.{ForAnswer, ForLines}
 use Rattle.ados_flow.specs.Frames.{FrameState, moved}
 use Rattle.ados_machine.specs.Course.{Course}
 use Rattle.ados_machine.specs.Deeds.{Deed, Passes}
-use Rattle.ados_machine.specs.Lines.{line_deed, answer_deed}
+use Rattle.ados_machine.specs.Lines.{line_deed, parted_deed, answer_deed}
+use Rattle.ados_machine.specs.NewShells.{gathered_deed, joined_deed}
 use Rattle.ados_machine.specs.Settle.{Turned, here_of, settle}
 
 -- a shell's input: the lines that wait, and whether no further one will come
@@ -46,8 +47,13 @@ abbrev pub input_turning : List (List ℕ) → Bool → List FrameState → (Lis
 input_turning [] is_ended frames by_line by_end = at_end is_ended (Takes [] (settle by_end frames))
 input_turning (line ∷ rest) is_ended frames by_line by_end = Takes rest (settle (by_line line) frames)
 
--- a turn, by the shell's phase; a prompt is answered by the first line that waits, and by an empty one at the end of input
+-- a turn, by the shell's phase: a prompt is answered by the first line that waits, and by an empty one at the end of input;
+-- a Run that gathers takes that line, and makes its shell at the end of input
 abbrev pub turning : Input → List FrameState → Course → Phase → Turning
 turning input frames course Ready = ready_turning input frames course
+turning input frames course (GoingOn parted) = Takes input.queue (settle (parted_deed parted (here_of frames) course) frames)
 turning input frames course (Waiting (ForAnswer asking)) =
     input_turning input.queue input.is_ended frames (λ line. answer_deed line asking (here_of frames) course) (answer_deed [] asking (here_of frames) course)
+turning input frames course (Waiting (ForLines gathering)) =
+    input_turning input.queue input.is_ended frames (λ line. joined_deed gathering line (here_of frames).sink course)
+    (gathered_deed gathering (here_of frames).sink course)

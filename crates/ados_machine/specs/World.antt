@@ -70,10 +70,11 @@ abbrev pub has_frame : List FrameState → Bool
 has_frame [] = false
 has_frame (frame ∷ frames) = true
 
--- something is there to take: a line of its newest frame, or input
+-- something is there to take: a line of its newest frame, or one whose tick has ended, or input
 abbrev pub can_take : Input → List FrameState → Phase → Bool
 can_take input frames Ready = has_frame frames || has_input input
-can_take input frames (Waiting (ForAnswer asking)) = has_input input
+can_take input frames (GoingOn parted) = true
+can_take input frames (Waiting wait) = has_input input
 
 abbrev pub can_turn : Input → Option ShellState → Bool
 can_turn input None = false

@@ -1,15 +1,28 @@
 use crate::builtins::Builtin;
 use ados_find::Target;
 use ados_line::Line;
-use ados_text::Text;
+use ados_text::{Octets, Text, Texts};
 
 /// What a shell does next.
 #[derive(Drop)]
 pub enum Phase {
     /// It takes the next line of its newest frame, or of the console.
     Ready,
+    /// It goes on with a line whose tick has ended.
+    GoingOn(Parted),
     /// It waits.
     Waiting(Wait),
+}
+
+/// A line that a tick parts, and what the tick put out.
+#[derive(Drop)]
+pub struct Parted {
+    /// What stands before the tick.
+    pub before: Text,
+    /// What the tick put out.
+    pub output: Octets,
+    /// What stands behind the tick.
+    pub after: Text,
 }
 
 /// What a shell waits for.
@@ -17,6 +30,8 @@ pub enum Phase {
 pub enum Wait {
     /// A line of the console, for a command that asked.
     ForAnswer(Asking),
+    /// Further lines of the console, for a Run.
+    ForLines(Gathering),
 }
 
 /// What a command asked for.
@@ -37,4 +52,15 @@ pub struct Question {
     pub prompt: Text,
     /// The output that its line names, which is open until the question is answered.
     pub output: Option<Target>,
+}
+
+/// A Run whose text goes on.
+#[derive(Drop)]
+pub struct Gathering {
+    /// The word of its command.
+    pub word: Text,
+    /// The output that its line names, which is open until the new shell ends.
+    pub output: Option<Target>,
+    /// The commands so far.
+    pub commands: Texts,
 }

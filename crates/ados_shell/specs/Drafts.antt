@@ -1,5 +1,6 @@
 -- What a turn has changed so far, by the machine's definitions.
-use Rattle.std.specs.Prelude.{◌≡◌, ℕ, [], ◌∷◌, ◌++◌, List, Option, Some, None, option_map, unwrap_or}
+use Rattle.std.specs.Prelude.{◌≡◌, ℕ, [], ◌∷◌, ◌++◌, List, drop, reverse, Option, Some, None, option_map, unwrap_or}
+use Rattle.ados_text.specs.Text.{Bytes, Text}
 use Rattle.ados_text.specs.declared.codes.Code.{Code}
 use Rattle.ados_find.specs.declared.changes.Change.{Change}
 use Rattle.ados_find.specs.declared.codes.Codes.{Codes}
@@ -11,13 +12,14 @@ use Rattle.ados_find.specs.declared.outcomes.Renamed.{Renamed}
 use Rattle.ados_find.specs.Shared.{SharedState, version}
 use Rattle.ados_machine.specs.declared.outs.Out.{Out}
 use Rattle.ados_machine.specs.declared.phases.Phase.{Phase}
+use Rattle.ados_machine.specs.declared.phases.Phase.TheVariants.{GoingOn}
 use Rattle.ados_flow.specs.Frames.{FrameState, limit_behind}
 use Rattle.ados_machine.specs.Items.{reports_of}
 use Rattle.ados_find.specs.Parts.{Parts}
-use Rattle.ados_machine.specs.Shells.{ShellState}
+use Rattle.ados_machine.specs.Shells.{Begun, ShellState}
 use Rattle.ados_machine.specs.Course.{Course}
 use Rattle.ados_machine.specs.Deeds.{Here, Deed}
-use Rattle.ados_machine.specs.Settled.{Settled}
+use Rattle.ados_machine.specs.Settled.{Settled, newest_kept}
 use Rattle.ados_machine.specs.Settle.{Turned, by_rule, here_of, settle}
 use Rattle.ados_machine.specs.Step.{giving, shell_of_turn}
 use Rattle.ados_machine.specs.World.{seen_in}
@@ -29,7 +31,11 @@ use Rattle.ados_shell.specs.Shells.{phase_of}
 use Rattle.ados_shell.specs.Stacks.{frames_in}
 
 abbrev pub phase_in : ShellDraft → Phase
-phase_in draft = phase_of (option_map (λ w. w.value) draft.waits)
+phase_in draft = phase_of (option_map (λ p. p.value) draft.phase)
+
+-- what the ticks put out, where that changed
+abbrev pub kept_in : ShellDraft → Option (List Bytes)
+kept_in draft = option_map (λ k. reverse k.items) draft.kept
 
 -- what is set behind a change, if there was one
 abbrev pub set_by : Option Setting → Settings → Settings
@@ -48,6 +54,7 @@ behind draft shell = record {
     codes = draft.codes;
     settings = set_by draft.setting shell.parts.settings;
   };
+  kept = unwrap_or (kept_in draft) shell.kept;
 }
 
 -- what an event gives that a draft holds
@@ -69,25 +76,31 @@ parts_of scene draft = (behind draft.shell scene.shell.now).parts
 abbrev pub start_of : Scene → Course
 start_of scene = record {
   parts = scene.shell.now.parts;
+  kept = scene.shell.now.kept;
   shared = scene.shared.now;
   seen = seen_in scene.shells.now;
   printed = [];
   renamed = None;
+  begun = None;
 }
 
--- what a turn holds that the code rule does not change
+-- what a turn holds that no answer changes
 pub record Held : Type 0 where
   pub directory : Option (List (List ℕ))
   pub setting : Option Setting
+  pub kept : Option (List Bytes)
   pub shared : Option SharedState
   pub renamed : Option Renamed
+  pub begun : Option Begun
 
 abbrev pub held_of : Draft → Held
 held_of draft = record {
   directory = draft.shell.directory;
   setting = draft.shell.setting;
+  kept = kept_in draft.shell;
   shared = draft.shared;
   renamed = option_map (λ r. r.value) draft.renamed;
+  begun = option_map (λ b. b.value) draft.begun;
 }
 
 abbrev pub course_by : Scene → Held → Code → Codes → List ℕ → Course
@@ -99,10 +112,12 @@ course_by scene held limit codes printed = record {
     codes = codes;
     settings = set_by held.setting scene.shell.now.parts.settings;
   };
+  kept = unwrap_or held.kept scene.shell.now.kept;
   shared = version scene.shared.now held.shared;
   seen = seen_in scene.shells.now;
   printed = printed;
   renamed = held.renamed;
+  begun = held.begun;
 }
 
 -- what a turn hands on that sees this
@@ -118,11 +133,13 @@ pub record IsUnchanged (shell : ShellState) (draft : ShellDraft) : Type 0 where
   pub frames_are : frames_in shell draft.frames ≡ shell.frames
   pub parts_are : (behind draft shell).parts ≡ shell.parts
   pub setting_is : draft.setting ≡ None
+  pub kept_is : (behind draft shell).kept ≡ shell.kept
 
 pub record IsFresh (shell : ShellState) (draft : Draft) : Type 0 where
   pub shell_is : IsUnchanged shell draft.shell
   pub shared_is : draft.shared ≡ None
   pub renamed_is : option_map (λ r. r.value) draft.renamed ≡ None
+  pub begun_is : option_map (λ b. b.value) draft.begun ≡ None
   pub printed_is : draft.printed.items ≡ []
   pub reports_are : draft.reports.items ≡ []
 
@@ -146,11 +163,12 @@ pub record IsDrafted (scene : Scene) (draft : Draft) (turned : Turned) : Type 0 
   pub shell_is : behind draft.shell scene.shell.now ≡ shell_of_turn turned
   pub shared_is : version scene.shared.now draft.shared ≡ turned.course.shared
   pub renamed_is : option_map (λ r. r.value) draft.renamed ≡ turned.course.renamed
+  pub begun_is : option_map (λ b. b.value) draft.begun ≡ turned.course.begun
   pub printed_is : draft.printed.items ≡ turned.course.printed
   pub reports_are : draft.reports.items ≡ reports_of scene.number turned.log
 
--- the end of a frame was reported, and its limit restored
-pub record IsEnded (scene : Scene) (before after : Draft) (frame : FrameState) : Type 0 where
+-- the end of a script was reported, and the limit of its beginning restored
+pub record IsReported (scene : Scene) (before after : Draft) (frame : FrameState) : Type 0 where
   pub frames : after.shell.frames ≡ before.shell.frames
   pub held : held_of after ≡ held_of before
   pub limit : after.shell.limit ≡ limit_behind (frames_of scene before) frame.limit
@@ -158,11 +176,20 @@ pub record IsEnded (scene : Scene) (before after : Draft) (frame : FrameState) :
   pub printed : after.printed.items ≡ before.printed.items
   pub reports : after.reports.items ≡ before.reports.items ++ report_of scene.number frame ∷ []
 
+-- the end of a tick left its line to go on, with what it put out
+pub record IsTicked (scene : Scene) (mid after : Draft) (front behind_it : Text) : Type 0 where
+  pub frames : after.shell.frames ≡ mid.shell.frames
+  pub phase : phase_in after.shell ≡ GoingOn (record { before = front; output = newest_kept (course_of scene mid).kept; after = behind_it })
+  pub course : course_of scene after ≡ record (course_of scene mid) { kept = drop 1 (course_of scene mid).kept }
+  pub reports : after.reports.items ≡ mid.reports.items
+
 -- what a command made was moved in
 pub record HoldsEffect (before after : Draft) (change : Option Change) (shared : Option SharedState) (renamed : Option Renamed) : Type 0 where
   pub frames : after.shell.frames ≡ before.shell.frames
   pub parts_are : (shell : ShellState) → (behind after.shell shell).parts ≡ changed change (behind before.shell shell).parts
+  pub kept : kept_in after.shell ≡ kept_in before.shell
   pub shared_is : (old : SharedState) → version old after.shared ≡ version (version old before.shared) shared
   pub renamed_is : option_map (λ r. r.value) after.renamed ≡ renamed
+  pub begun : option_map (λ b. b.value) after.begun ≡ option_map (λ b. b.value) before.begun
   pub printed : after.printed.items ≡ before.printed.items
   pub reports : after.reports.items ≡ before.reports.items

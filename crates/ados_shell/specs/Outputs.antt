@@ -1,10 +1,11 @@
 -- Outputs that are opened, and what is put there.
-use Rattle.std.specs.Prelude.{◌≡◌, Some, None, Result, Ok, Err}
+use Rattle.std.specs.Prelude.{◌≡◌, Option, Some, None, Result, Ok, Err}
 use Rattle.ados_text.specs.declared.codes.Result2.{Result2}
 use Rattle.ados_ram.specs.declared.faults.FsFault.{FsFault}
 use Rattle.ados_ram.specs.declared.faults.FsFault.TheVariants.{Refused, NoMemory}
 use Rattle.ados_find.specs.declared.codes.Codes.{Codes}
 use Rattle.ados_find.specs.Shared.{SharedState}
+use Rattle.ados_find.specs.declared.targets.Target.{Target}
 use Rattle.ados_find.specs.declared.targets.Target.TheVariants.{Nil as Null, At}
 use Rattle.ados_machine.specs.Course as course
 use Rattle.ados_machine.specs.Opening as line
@@ -22,6 +23,21 @@ IsOpened shared (Ok (File new place)) (Ok opened) = opened ≡ record { shared =
 IsOpened shared (Err (Refused fault)) (Err other) = fault ≡ other
 IsOpened shared (Err NoMemory) opened = Unit {0}
 IsOpened shared _ _ = ⊥
+
+-- a turn after what a line's redirection opens was opened: it leads there, and the shared parts are new ones; where it
+-- was refused, nothing changed
+pub record LeadsTo (scene : Scene) (before after : Draft) (target : Option Target) (opened : line.Opened) : Type 0 where
+  pub frames : after.shell.frames ≡ before.shell.frames
+  pub target_is : target ≡ opened.target
+  pub course : course_of scene after ≡ record (course_of scene before) { shared = opened.shared }
+  pub setting : after.shell.setting ≡ before.shell.setting
+  pub reports : after.reports.items ≡ before.reports.items
+
+abbrev pub HasOpened : Scene → Draft → Draft → Result (Option Target) FsFault → Result line.Opened Result2 → Type 0
+HasOpened scene before after (Ok target) (Ok opened) = LeadsTo scene before after target opened
+HasOpened scene before after (Err (Refused fault)) (Err other) = (fault ≡ other) × (after ≡ before)
+HasOpened scene before after (Err NoMemory) opened = Unit {0}
+HasOpened scene before after _ _ = ⊥
 
 -- a turn after output was put, and what the command answers then
 pub record IsPut (scene : Scene) (before after : Draft) (codes : Codes) (done : course.Put) : Type 0 where

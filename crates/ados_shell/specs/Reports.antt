@@ -5,14 +5,11 @@ use Rattle.ados_flow.specs.declared.kinds.Kind.TheVariants.{Script}
 use Rattle.ados_flow.specs.Frames.{FrameState, last_line, last_codes, is_early}
 use Rattle.ados_machine.specs.declared.outs.EndReport.{EndReport}
 
--- the full path of the file of a script
-abbrev pub name_of : Kind → List ℕ
-name_of (Script name command) = name
-
-abbrev pub report_of : ℕ → FrameState → EndReport
-report_of shell frame = record {
+-- the report of the end of a frame that is the script of a name
+abbrev pub report_of : ℕ → Text → FrameState → EndReport
+report_of shell name frame = record {
   shell = shell;
-  name = name_of frame.kind;
+  name = name;
   last_line = last_line frame.last;
   code = (last_codes frame.last).code;
   early = is_early frame.kind frame.last;

@@ -1,10 +1,9 @@
 -- The parts of a shell.
 use Rattle.std.specs.Prelude.{Option, Some, None}
 use Rattle.ados_machine.specs.declared.phases.Phase.{Phase}
-use Rattle.ados_machine.specs.declared.phases.Phase.TheVariants.{Ready, Waiting}
-use Rattle.ados_machine.specs.declared.phases.Wait.{Wait}
+use Rattle.ados_machine.specs.declared.phases.Phase.TheVariants.{Ready}
 
--- a shell that waits for nothing is ready
-abbrev pub phase_of : Option Wait → Phase
+-- a shell that has nothing else to do is ready
+abbrev pub phase_of : Option Phase → Phase
 phase_of None = Ready
-phase_of (Some wait) = Waiting wait
+phase_of (Some phase) = phase

@@ -1,9 +1,11 @@
 -- The frames of a shell, as a turn changes them.
-use Rattle.std.specs.Prelude.{◌≡◌, ℕ, ◌+◌, ◌<◌, ◌^◌, [], ◌∷◌, ◌++◌, List, Option, Some, None, reverse, take}
+use Rattle.std.specs.Prelude.{◌≡◌, ℕ, suc, ◌+◌, ◌<◌, ◌^◌, [], ◌∷◌, ◌++◌, List, Bool, false, ◌||◌, Option, Some, None, reverse, take}
 use Rattle.ados_find.specs.declared.targets.Target.{Target}
-use Rattle.ados_flow.specs.Frames.{FrameState, moved}
+use Rattle.ados_flow.specs.Frames.{FrameState, is_script, jumped, moved}
 use Rattle.ados_machine.specs.Shells.{ShellState}
-use Rattle.ados_machine.specs.Sinks.{Sink, Console, sink_or}
+use Rattle.ados_machine.specs.Sinks.{Sink, Console, Kept, To, sink_by}
+use Rattle.ados_shell.specs.declared.stacks.Sink as code
+use Rattle.ados_shell.specs.declared.stacks.Sink.TheVariants as sinks
 use Rattle.ados_shell.specs.declared.stacks.Stack.{Stack}
 
 -- so many of the oldest frames, the newest first
@@ -19,19 +21,40 @@ abbrev pub IsPopped : ShellState → Stack → Stack → Option FrameState → T
 IsPopped shell before after None = (frames_in shell before ≡ []) × (frames_in shell after ≡ [])
 IsPopped shell before after (Some frame) = frames_in shell before ≡ frame ∷ frames_in shell after
 
--- where output goes that has a target, or none
-abbrev pub sink_of : Option Target → Sink
-sink_of target = sink_or target Console
-
 -- where the output of these frames' commands goes, above frames whose output goes there
 abbrev pub sink_above : List FrameState → Sink → Sink
 sink_above [] below = below
-sink_above (frame ∷ frames) below = sink_or frame.output (sink_above frames below)
+sink_above (frame ∷ frames) below = sink_by frame.kind frame.output (sink_above frames below)
+
+-- what a sink of the code is
+abbrev pub sink_of : code.Sink → Sink
+sink_of sinks.Console = Console
+sink_of sinks.Kept = Kept
+sink_of (sinks.To target) = To target
+
+-- a sink of frames' own, or else that below them
+abbrev pub sink_by_own : Option code.Sink → Sink → Sink
+sink_by_own None below = below
+sink_by_own (Some sink) below = sink_of sink
+
+-- one of these frames is a script
+abbrev pub has_script : List FrameState → Bool
+has_script [] = false
+has_script (frame ∷ frames) = is_script frame.kind || has_script frames
 
 -- the newest frame's next line has a number
 abbrev pub HasRoom : List FrameState → Type 0
 HasRoom [] = Unit {0}
 HasRoom (frame ∷ frames) = frame.position + 1 < 2 ^ 64
+
+-- so many further lines of the newest frame are there to be taken
+abbrev pub HasTaken : ℕ → List FrameState → Type 0
+HasTaken taken [] = Unit {0}
+HasTaken taken (frame ∷ frames) = frame.position + taken < 2 ^ 64
+
+abbrev pub IsSkipped : ShellState → Stack → ℕ → List FrameState → Type 0
+IsSkipped shell after taken [] = frames_in shell after ≡ []
+IsSkipped shell after taken (frame ∷ frames) = frames_in shell after ≡ jumped (suc (frame.position + taken)) frame ∷ frames
 
 -- the line of the newest of these frames was taken
 abbrev pub IsMovedOn : ShellState → Stack → List FrameState → Type 0

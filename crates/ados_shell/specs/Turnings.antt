@@ -3,9 +3,10 @@ use Rattle.std.specs.Prelude.{◌≡◌, ℕ, List, [], ◌∷◌, Option, Some,
 use Rattle.std.specs.Option.{option_copied}
 use Rattle.ados_machine.specs.declared.refusals.Refusal.TheVariants as refusal
 use Rattle.ados_machine.specs.declared.phases.Asking.{Asking}
+use Rattle.ados_machine.specs.declared.phases.Gathering.{Gathering}
 use Rattle.ados_machine.specs.declared.phases.Phase.{Phase}
-use Rattle.ados_machine.specs.declared.phases.Phase.TheVariants.{Waiting}
-use Rattle.ados_machine.specs.declared.phases.Wait.TheVariants.{ForAnswer}
+use Rattle.ados_machine.specs.declared.phases.Phase.TheVariants.{Ready, Waiting}
+use Rattle.ados_machine.specs.declared.phases.Wait.TheVariants.{ForAnswer, ForLines}
 use Rattle.ados_flow.specs.Frames.{FrameState}
 use Rattle.ados_machine.specs.Turning as machine
 use Rattle.ados_shell.specs.declared.scenes.Input.{Input}
@@ -45,6 +46,17 @@ GivesAnswer scene asking input turn draft =
     (queue : List (List ℕ)) → IsFirst (option_copied input.line) queue →
     IsTurning scene queue turn draft (turning_in scene input (Waiting (ForAnswer asking)) queue)
 
+-- the same of a shell whose Run gathers
+abbrev pub GivesGathering : Scene → Gathering → Input → Turning → Draft → Type 0
+GivesGathering scene gathering input turn draft =
+    (queue : List (List ℕ)) → IsFirst (option_copied input.line) queue →
+    IsTurning scene queue turn draft (turning_in scene input (Waiting (ForLines gathering)) queue)
+
+-- the same of a shell that is ready
+abbrev pub GivesReady : Scene → Input → Turning → Draft → Type 0
+GivesReady scene input turn draft =
+    (queue : List (List ℕ)) → IsFirst (option_copied input.line) queue → IsTurning scene queue turn draft (turning_in scene input Ready queue)
+
 -- the same of a shell that is ready and runs no frame
 abbrev pub GivesConsole : Scene → Input → Turning → Draft → Type 0
 GivesConsole scene input turn draft =
@@ -77,6 +89,16 @@ TakesTurn scene input =
 abbrev pub TakesAnswer : Scene → Asking → Input → Type 0
 TakesAnswer scene asking input =
     (queue : List (List ℕ)) → IsFirst (option_copied input.line) queue → MayWantMemory (turning_in scene input (Waiting (ForAnswer asking)) queue)
+
+-- the same of a shell whose Run gathers
+abbrev pub TakesGathering : Scene → Gathering → Input → Type 0
+TakesGathering scene gathering input =
+    (queue : List (List ℕ)) → IsFirst (option_copied input.line) queue → MayWantMemory (turning_in scene input (Waiting (ForLines gathering)) queue)
+
+-- the same of a shell that is ready
+abbrev pub TakesReady : Scene → Input → Type 0
+TakesReady scene input =
+    (queue : List (List ℕ)) → IsFirst (option_copied input.line) queue → MayWantMemory (turning_in scene input Ready queue)
 
 -- the same of a shell that is ready and runs no frame
 abbrev pub TakesConsole : Scene → Input → Type 0

@@ -1,5 +1,6 @@
 -- What a command has to see.
 use Rattle.std.specs.Prelude.{◌≡◌, ℕ, List, Option}
+use Rattle.ados_text.specs.Text.{Text}
 use Rattle.ados_ram.specs.InUse.{InUse}
 use Rattle.ados_find.specs.Shared.{SharedState}
 use Rattle.ados_find.specs.Views.{View}
@@ -8,12 +9,18 @@ use Rattle.ados_machine.specs.declared.builtins.Builtin.{Builtin}
 use Rattle.ados_machine.specs.Commands.{action_of}
 use Rattle.ados_find.specs.Parts.{Parts}
 
--- to a command one view is as good as another
-abbrev pub Serves : Builtin → View → View → Type 0
-Serves builtin view other =
-    (shared : SharedState) (script_line : Option ScriptLine) (args : List ℕ) →
-    action_of builtin shared script_line view args ≡ action_of builtin shared script_line other args
+-- to a command what is in use may be this as well as that
+abbrev pub ServesInUse : Builtin → InUse → InUse → Type 0
+ServesInUse builtin busy other =
+    (shared : SharedState) (script_line : Option ScriptLine) (args : List ℕ) (view : View) →
+    action_of builtin shared script_line (record view { busy = busy }) args ≡ action_of builtin shared script_line (record view { busy = other }) args
 
--- what commands read of a shell with these parts, where this is in use
-abbrev pub seen : Parts → InUse → View
-seen parts busy = record { parts = parts; busy = busy }
+-- and the names of the shells that run may be these as well as those
+abbrev pub ServesNames : Builtin → List (Option Text) → List (Option Text) → Type 0
+ServesNames builtin names other =
+    (shared : SharedState) (script_line : Option ScriptLine) (args : List ℕ) (view : View) →
+    action_of builtin shared script_line (record view { names = names }) args ≡ action_of builtin shared script_line (record view { names = other }) args
+
+-- what commands read of a shell with these parts, where this is in use, and the shells that run have these names
+abbrev pub seen : Parts → InUse → List (Option Text) → View
+seen parts busy names = record { parts = parts; busy = busy; names = names }

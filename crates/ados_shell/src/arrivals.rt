@@ -7,7 +7,6 @@ ghost use Rattle.ados_machine.specs.Prompts.{input_lines};
 
 use crate::drafts::Draft;
 use crate::inputs::is_end;
-use crate::outputs::Opened;
 use crate::scenes::Scene;
 use ados_find::{Change, Codes, Outcome, Target};
 use ados_items::next_item;
@@ -40,15 +39,10 @@ impl Draft {
             (arriving_deed place line.now (here scene.now self.old) (course_of scene.now self.old)
             (opening (course_of scene.now self.old) line.now.output))) }
     {
-        match self.open(scene, line.output.as_ref()) {
+        match self.open_own(scene, line.output.as_ref()) {
             Err(FsFault::NoMemory) => Err(NoMemory),
             Err(FsFault::Refused(fault)) => self.refuse(scene, &line.command, fault),
-            Ok(Opened::Nothing) => self.be_at(scene, place, line, None),
-            Ok(Opened::Nil) => self.be_at(scene, place, line, Some(Target::Nil)),
-            Ok(Opened::File(new, at)) => {
-                self.shared = Some(new);
-                self.be_at(scene, place, line, Some(Target::At(at)))
-            }
+            Ok(target) => self.be_at(scene, place, line, target),
         }
     }
 

@@ -5,9 +5,9 @@ ghost use Rattle.ados_machine.specs.Opening.{opening};
 ghost use Rattle.ados_machine.specs.Prompts.{input_lines};
 
 use crate::drafts::Draft;
-use crate::outputs::Opened;
 use crate::scenes::Scene;
-use ados_find::Target;
+use crate::seen::Others;
+use ados_find::{ShellNames, Target};
 use ados_flow::{Action, call_script};
 use ados_line::Line;
 use ados_ram::{FsFault, Place};
@@ -42,15 +42,10 @@ impl Draft {
             (calling_deed place.now line.now (here scene.now self.old) (course_of scene.now self.old)
             (opening (course_of scene.now self.old) line.now.output))) }
     {
-        match self.open(scene, line.output.as_ref()) {
+        match self.open_own(scene, line.output.as_ref()) {
             Err(FsFault::NoMemory) => Err(NoMemory),
             Err(FsFault::Refused(fault)) => self.refuse(scene, &line.command, fault),
-            Ok(Opened::Nothing) => self.call_at(scene, place, line, None),
-            Ok(Opened::Nil) => self.call_at(scene, place, line, Some(Target::Nil)),
-            Ok(Opened::File(new, at)) => {
-                self.shared = Some(new);
-                self.call_at(scene, place, line, Some(Target::At(at)))
-            }
+            Ok(target) => self.call_at(scene, place, line, target),
         }
     }
 
@@ -80,9 +75,13 @@ impl Draft {
     ) -> Result<Action, NoMemory>
         requires { IsUnset self.now }
         ensures { IfOk result (λ action. acting (course_of scene.now self.now).shared action
-            ≡ script_row (course_of scene.now self.now).shared (view_of (option_copied target.entry) (course_of scene.now self.now)) place.now line.now.args) }
+            ≡ script_row (course_of scene.now self.now).shared (view_of line.now.command (option_copied target.entry) (course_of scene.now self.now)) place.now line.now.args) }
     {
-        let view = self.shell.view(scene.shell, self.in_use(scene, target)?);
+        let others = Others {
+            busy: self.in_use(scene, target)?,
+            names: ShellNames::new(scene.alloc),
+        };
+        let view = self.shell.view(scene.shell, others);
         call_script(
             scene.alloc,
             self.current(scene),

@@ -1,10 +1,11 @@
 // The code rule: when a frame ends, and what its end is to the command that made it.
-ghost use Rattle.std.specs.Prelude.{◌≡◌, IfOk, OnOk};
-ghost use Rattle.ados_flow.specs.Frames.{maker};
+ghost use Rattle.std.specs.Prelude.{◌≡◌, ◌+◌, ◌∷◌, List, suc, IfOk, OnOk};
+ghost use Rattle.ados_flow.specs.Frames.{FrameState};
+ghost use Rattle.ados_shell.specs.Stacks.{HasTaken};
 ghost use Rattle.ados_machine.specs.Settled.{finish, passed};
 ghost use Rattle.ados_machine.specs.Deeds.{Answers, Calls, Jumps, Passes, refused};
 ghost use Rattle.ados_machine.specs.Settle.{begun, said_of};
-ghost use Rattle.ados_shell.specs.Reports.{name_of, report_of};
+ghost use Rattle.ados_shell.specs.Reports.{report_of};
 
 use crate::console::{push_failed, push_fault};
 use crate::drafts::Draft;
@@ -15,27 +16,27 @@ use ados_machine::EndReport;
 use ados_text::{NoMemory, Result2, Text};
 
 impl Draft {
-    ghost use Rattle.ados_shell.specs.Drafts.{IsEnded, IsRuled, Settles, course_of, frames_of};
+    ghost use Rattle.ados_shell.specs.Drafts.{IsReported, IsRuled, Settles, course_of, frames_of};
 
     /// No command was there to answer: the newest frame ends where no line is left.
     pub fn pass(&mut self, scene: &Scene) -> Result<(), NoMemory>
         ensures { OnOk result (Settles scene.now self.old self.new (Passes (course_of scene.now self.old))) }
     {
+        self.shell.phase = None;
         let Some(frame) = self.shell.frames.pop(scene.shell)? else {
-            self.shell.waits = None;
             return Ok(());
         };
         if !frame.is_over() {
-            self.shell.waits = None;
             return self.shell.frames.push(frame);
         }
-        self.end(scene, &frame)?;
-        self.finish(
-            scene,
-            maker(frame.kind()).as_bytes(),
-            frame.last_codes(),
-            false,
-        )
+        match frame.kind() {
+            Kind::Script { name, command } => {
+                self.report(scene, name, &frame)?;
+                self.finish(scene, command.as_bytes(), frame.last_codes(), false)
+            }
+            Kind::Lines => Ok(()),
+            Kind::Tick { before, after } => self.end_tick(scene, before, after),
+        }
     }
 
     /// A command answered: the text of its fault is printed, and the code rule follows.
@@ -70,6 +71,22 @@ impl Draft {
         ensures { OnOk result (Settles scene.now self.old self.new (Jumps word.now codes line (course_of scene.now self.old))) }
     {
         self.shell.frames.jump_to(scene.shell, line)?;
+        self.answer(scene, word.as_bytes(), codes, false)
+    }
+
+    /// A command answered that took so many further lines of the newest frame, if there is one.
+    pub fn skip(
+        &mut self,
+        scene: &Scene,
+        word: &Text,
+        codes: Codes,
+        taken: usize,
+    ) -> Result<(), NoMemory>
+        requires { HasTaken taken (frames_of scene.now self.old) }
+        ensures { OnOk result ((frame : FrameState) (frames : List FrameState) → frames_of scene.now self.old ≡ frame ∷ frames →
+            Settles scene.now self.old self.new (Jumps word.now codes (suc (frame.position + taken)) (course_of scene.now self.old))) }
+    {
+        self.shell.frames.skip(scene.shell, taken)?;
         self.answer(scene, word.as_bytes(), codes, false)
     }
 
@@ -123,7 +140,7 @@ impl Draft {
             (finish word.now codes quits (frames_of scene.now self.old) (said_of (course_of scene.now self.old)))) }
     {
         let limit = self.shell.limit;
-        self.shell.waits = None;
+        self.shell.phase = None;
         self.shell.codes = codes;
         push_failed(&mut self.printed, word, codes.code, limit)?;
         let Some(mut frame) = self.shell.frames.pop(scene.shell)? else {
@@ -133,47 +150,35 @@ impl Draft {
         if !frame.is_ended(quits, codes, limit) {
             return self.shell.frames.push(frame);
         }
-        self.end(scene, &frame)?;
-        self.finish(scene, maker(frame.kind()).as_bytes(), codes, false)
+        match frame.kind() {
+            Kind::Script { name, command } => {
+                self.report(scene, name, &frame)?;
+                self.finish(scene, command.as_bytes(), codes, false)
+            }
+            Kind::Lines => Ok(()),
+            Kind::Tick { before, after } => self.end_tick(scene, before, after),
+        }
     }
 
-    /// Reports the end of a frame that was taken off, and restores the limit.
-    fn end(&mut self, scene: &Scene, frame: &Frame) -> Result<(), NoMemory>
-        ensures { OnOk result (IsEnded scene.now self.old self.new frame.now) }
+    /// Reports the end of the script of a name that was taken off, and restores the limit of its beginning.
+    fn report(&mut self, scene: &Scene, name: &Text, frame: &Frame) -> Result<(), NoMemory>
+        ensures { OnOk result (IsReported scene.now self.old self.new name.now frame.now) }
     {
-        self.reports.push(report_of(scene.number, frame)?)?;
+        self.reports.push(report_of(scene.number, name, frame)?)?;
         self.shell.limit = self.shell.frames.limit_behind(scene.shell, frame.limit());
         Ok(())
     }
 }
 
-/// The word of the command that made a frame.
-fn maker(kind: &Kind) -> &Text
-    ensures { result.now ≡ maker kind.now }
-{
-    match kind {
-        Kind::Script { command, .. } => command,
-    }
-}
-
-/// The report of the end of a frame, whose shell has this number.
-fn report_of(shell: u8, frame: &Frame) -> Result<EndReport, NoMemory>
-    ensures { IfOk result (λ report. report ≡ report_of shell frame.now) }
+/// The report of the end of the script of a name, whose shell has this number.
+fn report_of(shell: u8, name: &Text, frame: &Frame) -> Result<EndReport, NoMemory>
+    ensures { IfOk result (λ report. report ≡ report_of shell name.now frame.now) }
 {
     Ok(EndReport {
         shell,
-        name: name_of(frame.kind()).copy()?,
+        name: name.copy()?,
         last_line: frame.last_line(),
         code: frame.last_codes().code,
         early: frame.is_early(),
     })
-}
-
-/// The full path of the file of a script.
-fn name_of(kind: &Kind) -> &Text
-    ensures { result.now ≡ name_of kind.now }
-{
-    match kind {
-        Kind::Script { name, .. } => name,
-    }
 }

@@ -3,15 +3,17 @@ ghost use Rattle.std.specs.Prelude.{◌≡◌, [], None, OnErr, OnOk, option_map
 ghost use Rattle.ados_find.specs.Shared.{version};
 ghost use Rattle.ados_machine.specs.Step.{giving};
 
+use crate::begun::Begun;
 use crate::scenes::Scene;
+use crate::seen::Others;
 use crate::shells::Shell;
 use crate::stacks::Stack;
 use ados_find::{Change, Codes, Renamed, Setting, Shared, ShellView};
 use ados_flow::FIRST_LIMIT;
-use ados_machine::{EndReport, Out, Wait};
-use ados_ram::{Busy, Place};
+use ados_machine::{EndReport, Out, Phase};
+use ados_ram::Place;
 use ados_readargs::Args;
-use ados_text::{Code, NoMemory};
+use ados_text::{Code, NoMemory, Octets};
 use std::alloc::Global;
 
 /// What a turn has changed so far, and nothing else. One draft serves for one turn after another, so that its buffers
@@ -23,6 +25,8 @@ pub struct Draft {
     pub shared: Option<Shared>,
     /// The object that was renamed, by which the current directories of all shells are carried.
     pub renamed: Option<Box<Renamed>>,
+    /// The shell that is to begin.
+    pub begun: Option<Box<Begun>>,
     /// What is printed on the console.
     pub printed: Vec<u8>,
     /// The scripts that ended, innermost first.
@@ -35,8 +39,8 @@ pub struct Draft {
 pub struct ShellDraft {
     /// The frames.
     pub frames: Stack,
-    /// What the shell waits for, where it is not ready.
-    pub waits: Option<Box<Wait>>,
+    /// What the shell does next; `None` where it is ready.
+    pub phase: Option<Box<Phase>>,
     /// The fail limit.
     pub limit: Code,
     /// What the last command answered.
@@ -45,6 +49,8 @@ pub struct ShellDraft {
     pub directory: Option<Place>,
     /// What the command set in the shell, if it set something.
     pub setting: Option<Setting>,
+    /// What its ticks put out so far, where that changed; that of the newest is the last.
+    pub kept: Option<Vec<Octets>>,
 }
 
 // Written out, so that for whoever drops a draft it is one step, and not one for each of its parts.
@@ -54,6 +60,7 @@ impl Drop for Draft {
             shell: _shell,
             shared: _shared,
             renamed: _renamed,
+            begun: _begun,
             printed: _printed,
             reports: _reports,
             args: _args,
@@ -65,11 +72,12 @@ impl Drop for ShellDraft {
     fn drop(self) {
         let ShellDraft {
             frames: _frames,
-            waits: _waits,
+            phase: _phase,
             limit: _limit,
             codes: _codes,
             directory: _directory,
             setting: _setting,
+            kept: _kept,
         } = self;
     }
 }
@@ -84,14 +92,16 @@ impl Draft {
         Draft {
             shell: ShellDraft {
                 frames: Stack::new(alloc),
-                waits: None,
+                phase: None,
                 limit: FIRST_LIMIT,
                 codes: Codes::NONE,
                 directory: None,
                 setting: None,
+                kept: None,
             },
             shared: None,
             renamed: None,
+            begun: None,
             printed: Vec::new(alloc),
             reports: Vec::new(alloc),
             args: Args::new(alloc),
@@ -105,6 +115,7 @@ impl Draft {
         self.shell.begin_turn(shell);
         self.shared = None;
         self.renamed = None;
+        self.begun = None;
         self.printed.clear();
         self.reports.clear();
     }
@@ -125,6 +136,7 @@ impl Draft {
             shell: _,
             shared: _,
             renamed: _,
+            begun: _,
             printed,
             reports,
             args: _,
@@ -181,18 +193,20 @@ impl ShellDraft {
         ensures { IsUnchanged shell.now self.new }
     {
         self.frames.keep_all(shell);
-        self.waits = None;
+        self.phase = None;
         self.limit = shell.limit;
         self.codes = shell.codes;
         self.directory = None;
         self.setting = None;
+        self.kept = None;
     }
 
-    /// What commands read of the shell as it stands; this is in use.
-    pub fn view<'b>(&'b self, shell: &'b Shell, busy: Busy) -> ShellView<'b>
+    /// What commands read of the shell as it stands, and of the shells that run.
+    pub fn view<'b>(&'b self, shell: &'b Shell, others: Others) -> ShellView<'b>
         requires { self.now.setting ≡ None }
-        ensures { result ≡ seen (behind self.now shell.now).parts busy }
+        ensures { result ≡ seen (behind self.now shell.now).parts others.busy others.names }
     {
+        let Others { busy, names } = others;
         ShellView {
             number: shell.number,
             directory: self.directory(shell),
@@ -200,6 +214,7 @@ impl ShellDraft {
             codes: self.codes,
             settings: shell.settings(),
             busy,
+            names,
         }
     }
 
@@ -218,7 +233,8 @@ impl ShellDraft {
         requires { self.old.setting ≡ None }
         ensures parts { (shell : ShellState) → (behind self.new shell).parts ≡ changed_by change (behind self.old shell).parts }
         ensures frames { self.new.frames ≡ self.old.frames }
-        ensures waits { self.new.waits ≡ self.old.waits }
+        ensures phase { self.new.phase ≡ self.old.phase }
+        ensures kept { self.new.kept ≡ self.old.kept }
     {
         match change {
             Change::Limit(limit) => self.limit = limit,
@@ -243,9 +259,12 @@ impl ShellDraft {
         let Ok(()) = shell.frames.append(own) else {
             unreachable!();
         };
-        shell.waits = self.waits.take();
+        shell.phase = self.phase.take();
         shell.limit = self.limit;
         shell.codes = self.codes;
+        if let Some(kept) = self.kept.take() {
+            shell.kept = kept;
+        }
         if let Some(directory) = self.directory.take() {
             shell.directory = directory;
         }

@@ -2,6 +2,7 @@
 //! One shell: its frames, what it waits for and its parts; and a turn of it, which fills a draft with what it changes.
 
 mod arrivals;
+mod begun;
 mod calls;
 mod carrying;
 mod code_rule;
@@ -14,14 +15,18 @@ mod outputs;
 mod prompts;
 mod questions;
 mod rows;
+mod runs;
 mod scenes;
 mod seen;
 mod shells;
 mod stacks;
+mod ticks;
 mod turnings;
 
+pub use begun::Begun;
 pub use commands::Commands;
 pub use drafts::{Draft, ShellDraft};
 pub use scenes::{Input, Scene};
+pub use seen::free_number;
 pub use shells::Shell;
 pub use turnings::Turning;

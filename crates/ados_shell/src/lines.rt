@@ -1,6 +1,6 @@
 // Taking a raw line.
 ghost use Rattle.std.specs.Prelude.{◌≡◌, IfOk, OnOk};
-ghost use Rattle.ados_machine.specs.Lines.{found_deed, found_in, line_deed};
+ghost use Rattle.ados_machine.specs.Lines.{expanded_deed, found_deed, found_in, line_deed};
 
 use crate::drafts::Draft;
 use crate::scenes::Scene;
@@ -12,6 +12,9 @@ use ados_text::{NoMemory, Result2, Text};
 impl Draft {
     ghost use Rattle.ados_shell.specs.Drafts.{IsUnset, Settles, course_of, here};
     ghost use Rattle.ados_line.specs.Answers.{Gives};
+    ghost use Rattle.ados_line.specs.declared.faults.LineFault.{LineFault};
+    ghost use Rattle.ados_line.specs.declared.lines.Expanded.{Expanded};
+    ghost use Rattle.std.specs.Prelude.{Result};
     ghost use Rattle.ados_line.specs.Expansion.{expanded_in};
     ghost use Rattle.ados_line.specs.Values.{variables_in as variables_by};
     ghost use Rattle.ados_machine.specs.Lines.{variables_in};
@@ -22,11 +25,26 @@ impl Draft {
         ensures { OnOk result (Settles scene.now self.old self.new
             (line_deed raw.now (here scene.now self.old) (course_of scene.now self.old))) }
     {
-        match self.expanded(scene, raw) {
+        let expanded = self.expanded(scene, raw);
+        self.work_line(scene, expanded)
+    }
+
+    /// Works what a line came to.
+    pub fn work_line(
+        &mut self,
+        scene: &Scene,
+        expanded: Result<Expanded, LineFault>,
+    ) -> Result<(), NoMemory>
+        requires { IsUnset self.old }
+        ensures { OnOk result ((found : Result Expanded LineFault) → Gives expanded found →
+            Settles scene.now self.old self.new (expanded_deed found (here scene.now self.old) (course_of scene.now self.old))) }
+    {
+        match expanded {
             Err(LineFault::NoMemory) => Err(NoMemory),
             Err(fault) => self.answer(scene, b"Shell", Codes::failed(fault.result2()), false),
             Ok(Expanded::Nothing) => self.pass(scene),
             Ok(Expanded::Ready(line)) => self.seek(scene, &line),
+            Ok(Expanded::Tick(tick)) => self.tick(scene, tick),
         }
     }
 
@@ -67,7 +85,10 @@ impl Draft {
     {
         let word = line.command.as_bytes();
         match self.find(scene, &line.command)? {
-            Found::Internal(command) => self.prepare(scene, Builtin::from(command), line),
+            Found::Internal(command) => match Builtin::of_internal(command) {
+                Some(builtin) => self.prepare(scene, builtin, line),
+                None => self.run(scene, line),
+            },
             Found::File(program) => self.prepare(scene, Builtin::from(program.command), line),
             Found::Script(place) => self.run_script(scene, place, line),
             Found::Directory(place) => self.arrive(scene, place, line),

@@ -10,6 +10,7 @@ use crate::console::push_output;
 use crate::drafts::Draft;
 use crate::scenes::Scene;
 use crate::seen::open_outputs;
+use crate::stacks::Sink;
 use ados_find::{Codes, Shared, Target, target_of};
 use ados_line::Redirection;
 use ados_ram::{Busy, FsFault, Place};
@@ -62,11 +63,11 @@ impl Opened {
 }
 
 impl Draft {
-    ghost use Rattle.ados_shell.specs.Outputs.{IsOpened, IsPut};
+    ghost use Rattle.ados_shell.specs.Outputs.{HasOpened, IsOpened, IsPut};
     ghost use Rattle.ados_shell.specs.Drafts.{course_of, here};
 
     /// Opens what a redirection names, as the shell and the shared parts stand.
-    pub fn open(&self, scene: &Scene, output: Option<&Redirection>) -> Result<Opened, FsFault>
+    fn open(&self, scene: &Scene, output: Option<&Redirection>) -> Result<Opened, FsFault>
         ensures { IsOpened (course_of scene.now self.now).shared result (opening (course_of scene.now self.now) (option_copied output.entry)) }
     {
         match output {
@@ -80,6 +81,28 @@ impl Draft {
                     self.directory(scene),
                     output,
                 )
+            }
+        }
+    }
+
+    /// Opens what a redirection names, and holds what that makes of the shared parts; gives where it leads, if one is
+    /// named. Where it is refused nothing is changed.
+    ///
+    /// 210 for a name that is no path, what resolving refuses (204, 205, 212, 218), and what writing refuses (202,
+    /// 212, 221, 223).
+    pub fn open_own(
+        &mut self,
+        scene: &Scene,
+        output: Option<&Redirection>,
+    ) -> Result<Option<Target>, FsFault>
+        ensures { HasOpened scene.now self.old self.new result (opening (course_of scene.now self.old) (option_copied output.entry)) }
+    {
+        match self.open(scene, output)? {
+            Opened::Nothing => Ok(None),
+            Opened::Nil => Ok(Some(Target::Nil)),
+            Opened::File(new, place) => {
+                self.shared = Some(new);
+                Ok(Some(Target::At(place)))
             }
         }
     }
@@ -98,12 +121,13 @@ impl Draft {
     {
         match target {
             Some(target) => self.put_to(scene, target, output, codes),
-            None => match self.shell.frames.output(scene.shell)? {
-                Some(target) => self.put_to(scene, &target, output, codes),
-                None => {
+            None => match self.shell.frames.sink(scene.shell)? {
+                Sink::Console => {
                     push_output(&mut self.printed, output)?;
                     Ok(codes)
                 }
+                Sink::Kept => self.keep(scene, output.as_bytes(), codes),
+                Sink::To(target) => self.put_to(scene, &target, output, codes),
             },
         }
     }

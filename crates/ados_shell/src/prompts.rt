@@ -1,6 +1,7 @@
 // Prompts: a command that asks for its arguments.
 ghost use Rattle.std.specs.Prelude.{◌≡◌, ◌++◌, Ok, Some, IfOk, OnOk, drop};
 ghost use Rattle.std.specs.Option.{option_copied, option_map};
+ghost use Rattle.ados_machine.specs.Deeds.{Waits};
 ghost use Rattle.ados_machine.specs.Lines.{answer_deed, command_deed, input_deed, prompt_deed};
 ghost use Rattle.ados_machine.specs.Prompts.{first_of, input_lines, prompt, with_args};
 ghost use Rattle.ados_ram.specs.FileOperations.{Gives};
@@ -10,7 +11,7 @@ use crate::inputs::{asks, input_lines};
 use crate::scenes::Scene;
 use crate::seen::open_outputs;
 use ados_line::Line;
-use ados_machine::{Asking, Builtin, Wait};
+use ados_machine::{Asking, Builtin, Phase, Wait};
 use ados_ram::FsFault;
 use ados_text::{NoMemory, Text, Texts};
 use std::alloc::Global;
@@ -85,11 +86,18 @@ impl Draft {
                     builtin,
                     line: line.copy()?,
                 };
-                self.shell.waits = Some(Box::new(scene.alloc, Wait::ForAnswer(asking))?);
-                Ok(())
+                self.wait(scene, Wait::ForAnswer(asking))
             }
             Some(lines) => self.begin_with(scene, builtin, line, lines),
         }
+    }
+
+    /// The shell waits.
+    pub fn wait(&mut self, scene: &Scene, wait: Wait) -> Result<(), NoMemory>
+        ensures { OnOk result (Settles scene.now self.old self.new (Waits wait (course_of scene.now self.old))) }
+    {
+        self.shell.phase = Some(Box::new(scene.alloc, Phase::Waiting(wait))?);
+        Ok(())
     }
 
     /// Lets a command begin for whose arguments the first of these lines stands.

@@ -5,7 +5,7 @@ ghost use Rattle.ados_machine.specs.Questions.{ask_deed, inquiry, question_deed,
 
 use crate::drafts::Draft;
 use crate::scenes::Scene;
-use crate::stacks::copy;
+use crate::stacks::copy_own;
 use ados_find::Codes;
 use ados_flow::reply_of;
 use ados_machine::{Asking, Question, Wait};
@@ -38,9 +38,7 @@ impl Draft {
         ensures { OnOk result (Settles scene.now self.old self.new (question_deed question (course_of scene.now self.old))) }
     {
         push_question(&mut self.printed, &question.prompt)?;
-        let wait = Wait::ForAnswer(Asking::Reply(question));
-        self.shell.waits = Some(Box::new(scene.alloc, wait)?);
-        Ok(())
+        self.wait(scene, Wait::ForAnswer(Asking::Reply(question)))
     }
 
     /// Takes a reply to a question that waited; where it is none, the question is asked again.
@@ -58,14 +56,10 @@ impl Draft {
 fn copied(question: &Question) -> Result<Question, NoMemory>
     ensures { IfOk result (λ copy. copy ≡ question.now) }
 {
-    let output = match &question.output {
-        None => None,
-        Some(target) => Some(copy(target)?),
-    };
     Ok(Question {
         word: question.word.copy()?,
         prompt: question.prompt.copy()?,
-        output,
+        output: copy_own(question.output.as_ref())?,
     })
 }
 

@@ -3,13 +3,12 @@ ghost use Rattle.std.specs.Prelude.{◌≡◌, None, IfOk, OnOk};
 ghost use Rattle.std.specs.Option.{option_copied, option_map};
 ghost use Rattle.ados_find.specs.Effects.{effect_of};
 ghost use Rattle.ados_flow.specs.Actions.{Does, acting};
-ghost use Rattle.ados_machine.specs.Lines.{action_deed, action_in, busy_in, command_deed, view_of, work_deed};
+ghost use Rattle.ados_machine.specs.Lines.{action_deed, action_in, busy_in, command_deed, names_in, work_deed};
 
 use crate::drafts::{Draft, ShellDraft};
-use crate::outputs::Opened;
 use crate::scenes::Scene;
-use crate::seen::in_use;
-use ados_find::{Outcome, Shared, Target};
+use crate::seen::{Others, in_use, names_while};
+use ados_find::{Outcome, Shared, ShellNames, Target};
 use ados_flow::Action;
 use ados_line::Line;
 use ados_machine::{Builtin, Question};
@@ -18,8 +17,8 @@ use ados_readargs::Args;
 use ados_text::{NoMemory, Text};
 
 impl Draft {
-    ghost use Rattle.ados_shell.specs.Drafts.{IsUnset, Settles, course_of, here, parts_of};
-    ghost use Rattle.ados_shell.specs.Views.{Serves, seen};
+    ghost use Rattle.ados_shell.specs.Drafts.{IsUnset, Settles, course_of, here};
+    ghost use Rattle.ados_shell.specs.Views.{ServesInUse, ServesNames};
 
     /// Opens a command's output, and lets it do its work; its input has these lines, if there is one.
     pub fn begin(
@@ -33,15 +32,10 @@ impl Draft {
         ensures { OnOk result (Settles scene.now self.old self.new
             (command_deed builtin line.now (option_map (λ l. l.now) input.entry) (here scene.now self.old) (course_of scene.now self.old))) }
     {
-        match self.open(scene, line.output.as_ref()) {
+        match self.open_own(scene, line.output.as_ref()) {
             Err(FsFault::NoMemory) => Err(NoMemory),
             Err(FsFault::Refused(fault)) => self.refuse(scene, &line.command, fault),
-            Ok(Opened::Nothing) => self.work(scene, builtin, line, None, input),
-            Ok(Opened::Nil) => self.work(scene, builtin, line, Some(Target::Nil), input),
-            Ok(Opened::File(new, place)) => {
-                self.shared = Some(new);
-                self.work(scene, builtin, line, Some(Target::At(place)), input)
-            }
+            Ok(target) => self.work(scene, builtin, line, target, input),
         }
     }
 
@@ -106,13 +100,16 @@ impl Draft {
             ≡ action_in builtin line.now (option_copied target.entry) (here scene.now self.old) (course_of scene.now self.old)) }
         ensures same { self.new ≡ record self.old { args = self.new.args } }
     {
-        let busy = self.busy_for(scene, builtin, target)?;
+        let others = Others {
+            busy: self.busy_for(scene, builtin, target)?,
+            names: self.names_for(scene, builtin, &line.command)?,
+        };
         let shared = match &self.shared {
             None => scene.shared,
             Some(new) => new,
         };
         let args = &mut self.args;
-        self.shell.perform(scene, builtin, line, shared, busy, args)
+        self.shell.perform(scene, builtin, line, shared, others, args)
     }
 
     /// What is in use, for a command whose output leads there. It is gathered only for those that read it.
@@ -122,12 +119,28 @@ impl Draft {
         builtin: Builtin,
         target: Option<&Target>,
     ) -> Result<Busy, NoMemory>
-        ensures { IfOk result (λ busy. Serves builtin (seen (parts_of scene.now self.now) busy) (view_of (option_copied target.entry) (course_of scene.now self.now))) }
+        ensures { IfOk result (λ busy. ServesInUse builtin busy (busy_in (option_copied target.entry) (course_of scene.now self.now))) }
     {
         if builtin.reads_in_use() {
             self.in_use(scene, target)
         } else {
             Ok(Busy::none(scene.alloc))
+        }
+    }
+
+    /// The names of the shells that run, for the command of this word. They are gathered only for those that read them.
+    fn names_for(
+        &self,
+        scene: &Scene,
+        builtin: Builtin,
+        word: &Text,
+    ) -> Result<ShellNames, NoMemory>
+        ensures { IfOk result (λ names. ServesNames builtin names (names_in word.now (course_of scene.now self.now))) }
+    {
+        if builtin.reads_names() {
+            names_while(scene.alloc, scene.shells, scene.shell.number(), word)
+        } else {
+            Ok(ShellNames::new(scene.alloc))
         }
     }
 
@@ -177,21 +190,22 @@ impl ShellDraft {
     ghost use Rattle.ados_shell.specs.Stacks.{frames_in};
     ghost use Rattle.ados_shell.specs.Views.{seen};
 
-    /// What a command of the newest frame does, where this is in use; its arguments are filled into those that are lent.
+    /// What a command of the newest frame does that sees this of the shells that run; its arguments are filled into those
+    /// that are lent.
     fn perform(
         &self,
         scene: &Scene,
         builtin: Builtin,
         line: &Line,
         shared: &Shared,
-        busy: Busy,
+        others: Others,
         args: &mut Args,
     ) -> Result<Action, NoMemory>
         requires { self.now.setting ≡ None }
         ensures { IfOk result (λ action. acting shared.now action ≡ action_of builtin shared.now
-            (script_line_of (newest (frames_in scene.now.shell.now self.now.frames))) (seen (behind self.now scene.now.shell.now).parts busy) line.now.args) }
+            (script_line_of (newest (frames_in scene.now.shell.now self.now.frames))) (seen (behind self.now scene.now.shell.now).parts others.busy others.names) line.now.args) }
     {
-        let view = self.view(scene.shell, busy);
+        let view = self.view(scene.shell, others);
         let frame = self.frames.newest(scene.shell);
         let commands = scene.commands;
         commands.perform(scene.alloc, builtin, shared, frame, &view, &line.args, args)

@@ -1,21 +1,34 @@
 // What a turn knows of all shells.
-ghost use Rattle.std.specs.Prelude.{◌≡◌, ◌++◌, [], reverse, IfOk, OnOk};
+ghost use Rattle.std.specs.Prelude.{◌≡◌, ◌++◌, ◌-◌, [], Some, map, reverse, IfOk, OnOk};
+ghost use Rattle.std.specs.List.{slice_set};
 ghost use Rattle.std.specs.Option.{option_copied};
 ghost use Rattle.ados_assign.specs.InUse.{busy_of};
 ghost use Rattle.ados_machine.specs.Course.{directories_of, outputs_of};
 ghost use Rattle.ados_machine.specs.Shells.{seen_of};
-ghost use Rattle.ados_machine.specs.Sinks.{outputs_in};
+ghost use Rattle.ados_machine.specs.Sinks.{held_while, outputs_in};
+ghost use Rattle.ados_machine.specs.Lines.{name_seen};
+ghost use Rattle.ados_machine.specs.Names.{name_in, waiting_word};
+ghost use Rattle.ados_machine.specs.Numbers.{free_number};
 ghost use Rattle.ados_find.specs.Targets.{open_at};
 ghost use Rattle.ados_machine.specs.World.{seen_in};
 
 use crate::shells::Shell;
 use ados_assign::Assigns;
-use ados_find::Target;
-use ados_flow::Frame;
-use ados_machine::{Asking, Wait};
+use ados_find::{ShellNames, Target};
+use ados_flow::{Frame, Kind};
+use ados_machine::{Asking, Phase, Wait};
 use ados_ram::{Busy, Place};
-use ados_text::NoMemory;
+use ados_text::{NoMemory, Text};
 use std::alloc::Global;
+
+/// What a command reads of the shells that run.
+#[derive(Drop)]
+pub struct Others {
+    /// What is in use.
+    pub busy: Busy,
+    /// The name in Status of each number's shell.
+    pub names: ShellNames,
+}
 
 /// The open outputs of the shells that run, in order of their numbers; nothing else is in use.
 pub fn open_outputs(alloc: Global, shells: &[Option<Shell>; 20]) -> Result<Busy, NoMemory>
@@ -78,12 +91,20 @@ fn push_open(places: &mut Vec<Place>, shell: &Shell) -> Result<(), NoMemory>
     ensures { OnOk result (places.new.items ≡ places.old.items ++ (seen_of shell.now).outputs) }
 {
     push_outputs(places, shell.frames.as_slice())?;
-    match shell.waits.as_deref() {
-        Some(Wait::ForAnswer(Asking::Reply(question))) => push_output(
-            places,
-            question.output.as_ref(),
-        ),
+    match shell.phase.as_deref() {
+        Some(Phase::Waiting(wait)) => push_held(places, wait),
         _ => Ok(()),
+    }
+}
+
+/// The file that a shell keeps open which waits, behind other places.
+fn push_held(places: &mut Vec<Place>, wait: &Wait) -> Result<(), NoMemory>
+    ensures { OnOk result (places.new.items ≡ places.old.items ++ held_while wait.now) }
+{
+    match wait {
+        Wait::ForAnswer(Asking::Arguments { .. }) => Ok(()),
+        Wait::ForAnswer(Asking::Reply(question)) => push_output(places, question.output.as_ref()),
+        Wait::ForLines(gathering) => push_output(places, gathering.output.as_ref()),
     }
 }
 
@@ -109,4 +130,84 @@ fn push_output(places: &mut Vec<Place>, target: Option<&Target>) -> Result<(), N
             Ok(())
         }
     }
+}
+
+/// The names in Status of the shells that run, from number 1, while the shell of this number runs the command of a word,
+/// which is its name then.
+pub fn names_while(
+    alloc: Global,
+    shells: &[Option<Shell>; 20],
+    number: u8,
+    word: &Text,
+) -> Result<ShellNames, NoMemory>
+    ensures { IfOk result (λ names. names ≡ slice_set (map name_seen (seen_in shells.now)) (number - 1) (Some word.now)) }
+{
+    let mut names = names(alloc, shells)?;
+    if let Some(own) = names.get_mut((number as usize).saturating_sub(1)) {
+        *own = Some(word.copy()?);
+    }
+    Ok(ShellNames::from_vec(names))
+}
+
+/// The names in Status of the shells that run, from number 1.
+fn names(alloc: Global, shells: &[Option<Shell>; 20]) -> Result<Vec<Option<Text>>, NoMemory>
+    ensures { IfOk result (λ names. names.items ≡ map name_seen (seen_in shells.now)) }
+{
+    let mut names = Vec::with_capacity(alloc, 20)?;
+    for shell in shells {
+        match shell {
+            None => names.push(None)?,
+            Some(shell) => names.push(Some(name(alloc, shell)?))?,
+        }
+    }
+    Ok(names)
+}
+
+/// The name of a shell in Status: the word of its command that waits, or else its innermost script.
+fn name(alloc: Global, shell: &Shell) -> Result<Text, NoMemory>
+    ensures { IfOk result (λ name. name ≡ (seen_of shell.now).name) }
+{
+    match shell.phase.as_deref() {
+        Some(Phase::Waiting(wait)) => word(wait).copy(),
+        _ => script_name(alloc, shell.frames.as_slice()),
+    }
+}
+
+/// The word of the command that waits.
+fn word(wait: &Wait) -> &Text
+    ensures { result.now ≡ waiting_word wait.now }
+{
+    match wait {
+        Wait::ForAnswer(Asking::Arguments { line, .. }) => &line.command,
+        Wait::ForAnswer(Asking::Reply(question)) => &question.word,
+        Wait::ForLines(gathering) => &gathering.word,
+    }
+}
+
+/// The full path of the innermost script of frames, of which the newest is the last.
+fn script_name(alloc: Global, frames: &[Frame]) -> Result<Text, NoMemory>
+    ensures { IfOk result (λ name. name ≡ name_in (reverse frames.now)) }
+{
+    let Some((frame, below)) = frames.split_last() else {
+        return Text::from_bytes(alloc, b"No command");
+    };
+    match frame.kind() {
+        Kind::Script { name, .. } => name.copy(),
+        Kind::Lines | Kind::Tick { .. } => script_name(alloc, below),
+    }
+}
+
+/// The lowest free number of a shell, from 2 to 20.
+pub fn free_number(shells: &[Option<Shell>; 20]) -> Option<u8>
+    ensures shells { result ≡ free_number shells.now }
+    ensures seen { result ≡ free_number (seen_in shells.now) }
+{
+    let mut number = 2;
+    for shell in &shells[1..] {
+        if shell.is_none() {
+            return Some(number);
+        }
+        number += 1;
+    }
+    None
 }

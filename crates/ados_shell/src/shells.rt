@@ -1,12 +1,13 @@
 // A shell: its frames, what it waits for, its parts.
-ghost use Rattle.std.specs.Prelude.{◌≡◌, IfOk};
-ghost use Rattle.ados_machine.specs.Shells.{fresh_shell};
+ghost use Rattle.std.specs.Prelude.{◌≡◌, reverse, IfOk};
+ghost use Rattle.ados_machine.specs.Shells.{begun_shell, fresh_shell};
 
+use crate::begun::Begun;
 use ados_find::{Codes, Settings};
-use ados_flow::{FIRST_LIMIT, Frame};
-use ados_machine::Wait;
+use ados_flow::{FIRST_LIMIT, Frame, Kind};
+use ados_machine::Phase;
 use ados_ram::Place;
-use ados_text::{Code, NoMemory};
+use ados_text::{Code, NoMemory, Octets};
 use std::alloc::Global;
 use std::marker::Model;
 
@@ -14,13 +15,15 @@ use std::marker::Model;
 pub struct Shell {
     // The newest is the last.
     pub(crate) frames: Vec<Frame>,
-    // Where it is not ready.
-    pub(crate) waits: Option<Box<Wait>>,
+    // `None` where it is ready.
+    pub(crate) phase: Option<Box<Phase>>,
     pub(crate) number: u8,
     pub(crate) directory: Place,
     pub(crate) limit: Code,
     pub(crate) codes: Codes,
     pub(crate) settings: Settings,
+    // What its ticks put out so far; that of the newest is the last.
+    pub(crate) kept: Vec<Octets>,
 }
 
 // Written out, so that for whoever drops a shell it is one step, and not one for each of its parts.
@@ -28,12 +31,13 @@ impl Drop for Shell {
     fn drop(self) {
         let Shell {
             frames: _frames,
-            waits: _waits,
+            phase: _phase,
             number: _number,
             directory: _directory,
             limit: _limit,
             codes: _codes,
             settings: _settings,
+            kept: _kept,
         } = self;
     }
 }
@@ -47,8 +51,9 @@ impl Model for Shell {
 
     ghost view = { λ s. record {
       frames = reverse s.frames.items;
-      phase = phase_of (option_map (λ w. w.value) s.waits);
+      phase = phase_of (option_map (λ p. p.value) s.phase);
       parts = record { number = s.number; directory = s.directory; limit = s.limit; codes = s.codes; settings = s.settings };
+      kept = reverse s.kept.items;
     } };
 }
 
@@ -62,12 +67,43 @@ impl Shell {
     {
         Ok(Shell {
             frames: Vec::new(alloc),
-            waits: None,
+            phase: None,
             number,
             directory: Place::root(alloc),
             limit: FIRST_LIMIT,
             codes: Codes::NONE,
             settings: Settings::first(alloc, number)?,
+            kept: Vec::new(alloc),
+        })
+    }
+
+    /// The shell of a number that a Run makes, in which nothing has answered yet; its commands are its one frame.
+    pub fn begun(alloc: Global, number: u8, begun: Begun) -> Result<Shell, NoMemory>
+        ensures { IfOk result (λ shell. shell ≡ begun_shell number begun) }
+    {
+        let Begun {
+            directory,
+            settings,
+            commands,
+            output,
+        } = begun;
+        let mut frames = Vec::new(alloc);
+        frames.push(Frame::new(
+            alloc,
+            Kind::Lines,
+            commands,
+            FIRST_LIMIT,
+            output,
+        )?)?;
+        Ok(Shell {
+            frames,
+            phase: None,
+            number,
+            directory,
+            limit: FIRST_LIMIT,
+            codes: Codes::NONE,
+            settings,
+            kept: Vec::new(alloc),
         })
     }
 
@@ -76,6 +112,13 @@ impl Shell {
         ensures { result ≡ self.now.parts.codes }
     {
         self.codes
+    }
+
+    /// Its number.
+    pub fn number(&self) -> u8
+        ensures { result ≡ self.now.parts.number }
+    {
+        self.number
     }
 
     /// Its fail limit.
@@ -92,6 +135,13 @@ impl Shell {
         &self.directory
     }
 
+    /// What its ticks put out so far; that of the newest is the last.
+    pub fn kept(&self) -> &[Octets]
+        ensures { reverse result.now ≡ self.now.kept }
+    {
+        self.kept.as_slice()
+    }
+
     /// What is set in it.
     pub fn settings(&self) -> &Settings
         ensures { result.now ≡ self.now.parts.settings }
@@ -99,10 +149,15 @@ impl Shell {
         &self.settings
     }
 
-    /// It can take a turn: it is ready and runs a frame, or has input to take, as `has_lines` says.
+    /// It can take a turn: it is ready and runs a frame, a line of it goes on, or it has input to take, as `has_lines`
+    /// says.
     pub fn can_take(&self, has_lines: bool) -> bool
         ensures { (input : Input) → has_input input ≡ has_lines → result ≡ can_take input self.now.frames self.now.phase }
     {
-        has_lines || (self.waits.is_none() && !self.frames.is_empty())
+        match self.phase.as_deref() {
+            None | Some(Phase::Ready) => has_lines || !self.frames.is_empty(),
+            Some(Phase::GoingOn(_)) => true,
+            Some(Phase::Waiting(_)) => has_lines,
+        }
     }
 }

@@ -4,11 +4,12 @@ ghost use Rattle.std.specs.Option.{option_copied};
 ghost use Rattle.ados_flow.specs.Frames.{FrameState, frame_limit, limit_behind};
 ghost use Rattle.ados_machine.specs.Shells.{ShellState};
 ghost use Rattle.ados_machine.specs.Sinks.{sink_in};
-ghost use Rattle.ados_shell.specs.Stacks.{sink_of, sink_above};
+ghost use Rattle.ados_machine.specs.Sinks as machine;
+ghost use Rattle.ados_shell.specs.Stacks.{has_script, sink_above, sink_by_own, sink_of};
 
 use crate::shells::Shell;
 use ados_find::Target;
-use ados_flow::{FIRST_LIMIT, FRAME_LIMIT, Frame};
+use ados_flow::{FIRST_LIMIT, FRAME_LIMIT, Frame, Kind};
 use ados_text::{Code, NoMemory};
 use std::alloc::Global;
 
@@ -24,7 +25,7 @@ pub struct Stack {
 
 impl Stack {
     ghost use Rattle.ados_machine.specs.Settle.{jumped_in, newest};
-    ghost use Rattle.ados_shell.specs.Stacks.{frames_in, oldest, HasRoom, IsMovedOn, IsPopped};
+    ghost use Rattle.ados_shell.specs.Stacks.{frames_in, oldest, HasRoom, HasTaken, IsMovedOn, IsPopped, IsSkipped};
 
     /// No frame.
     pub fn new(alloc: Global) -> Stack {
@@ -120,40 +121,89 @@ impl Stack {
         }
     }
 
+    /// So many further lines of the newest frame are taken.
+    pub fn skip(&mut self, shell: &Shell, taken: usize) -> Result<(), NoMemory>
+        requires { HasTaken taken (frames_in shell.now self.old) }
+        ensures { OnOk result (IsSkipped shell.now self.new taken (frames_in shell.now self.old)) }
+    {
+        match self.pop(shell)? {
+            None => Ok(()),
+            Some(mut frame) => {
+                frame.skip(taken);
+                self.push(frame)
+            }
+        }
+    }
+
     /// The limit behind the end of a script above these frames that began at a limit: it comes back, and it is the
     /// first one where no script is left.
     pub fn limit_behind(&self, shell: &Shell, limit: Code) -> Code
         ensures { result ≡ limit_behind (frames_in shell.now self.now) limit }
     {
-        if self.newest(shell).is_none() {
-            FIRST_LIMIT
-        } else {
+        if has_script(self.own.as_slice()) || has_script(self.lent(shell)) {
             limit
+        } else {
+            FIRST_LIMIT
         }
     }
 
-    /// A copy of where the output of the newest frame's commands goes; `None` for the console.
-    pub fn output(&self, shell: &Shell) -> Result<Option<Target>, NoMemory>
-        ensures { IfOk result (λ target. sink_of target ≡ sink_in (frames_in shell.now self.now)) }
+    /// Where the output of the newest frame's commands goes.
+    pub fn sink(&self, shell: &Shell) -> Result<Sink, NoMemory>
+        ensures { IfOk result (λ sink. sink_of sink ≡ sink_in (frames_in shell.now self.now)) }
     {
-        match output_above(self.own.as_slice(), output_above(self.lent(shell), None)) {
-            None => Ok(None),
-            Some(target) => Ok(Some(copy(target)?)),
+        match sink_above(self.own.as_slice())? {
+            None => match sink_above(self.lent(shell))? {
+                None => Ok(Sink::Console),
+                Some(sink) => Ok(sink),
+            },
+            Some(sink) => Ok(sink),
         }
     }
 }
 
-/// Where the output of the newest of these frames goes, the newest being the last, where that of what stands below
-/// them goes there; `None` for the console.
-fn output_above<'f>(frames: &'f [Frame], below: Option<&'f Target>) -> Option<&'f Target>
-    ensures { sink_of (option_copied result) ≡ sink_above (reverse frames.now) (sink_of (option_copied below.entry)) }
+/// Where output goes.
+#[derive(Drop)]
+pub enum Sink {
+    /// To the console.
+    Console,
+    /// Into the newest tick.
+    Kept,
+    /// Where a redirection leads.
+    To(Target),
+}
+
+/// Where the output of the newest of these frames goes, the newest being the last; `None` where it goes where that of
+/// what stands below them goes.
+fn sink_above(frames: &[Frame]) -> Result<Option<Sink>, NoMemory>
+    ensures { IfOk result (λ sink. (below : machine.Sink) → sink_above (reverse frames.now) below ≡ sink_by_own sink below) }
 {
     match frames.split_last() {
-        None => below,
-        Some((frame, older)) => match frame.output() {
-            Some(target) => Some(target),
-            None => output_above(older, below),
+        None => Ok(None),
+        Some((frame, older)) => match (frame.kind(), frame.output()) {
+            (Kind::Tick { .. }, _) => Ok(Some(Sink::Kept)),
+            (_, Some(target)) => Ok(Some(Sink::To(copy(target)?))),
+            (_, None) => sink_above(older),
         },
+    }
+}
+
+/// One of these frames is a script.
+fn has_script(frames: &[Frame]) -> bool
+    ensures { result ≡ has_script (reverse frames.now) }
+{
+    match frames.split_last() {
+        None => false,
+        Some((frame, older)) => frame.is_script() || has_script(older),
+    }
+}
+
+/// The same target, if there is one.
+pub fn copy_own(target: Option<&Target>) -> Result<Option<Target>, NoMemory>
+    ensures { IfOk result (λ copy. copy ≡ option_copied target.entry) }
+{
+    match target {
+        None => Ok(None),
+        Some(target) => Ok(Some(copy(target)?)),
     }
 }
 

@@ -9,7 +9,7 @@ ghost use Rattle.ados_shell.specs.Turnings.{next_of};
 use crate::drafts::Draft;
 use crate::scenes::{Input, Scene};
 use crate::shells::Shell;
-use ados_machine::{Asking, Wait};
+use ados_machine::{Asking, Gathering, Phase, Wait};
 use ados_text::{NoMemory, Text};
 
 /// What a turn of a shell comes to.
@@ -27,14 +27,15 @@ pub enum Turning {
 
 impl Draft {
     ghost use Rattle.ados_shell.specs.Drafts.{IsDrafted, start_of};
-    ghost use Rattle.ados_shell.specs.Turnings.{GivesAnswer, GivesConsole, GivesTurning, IsScriptDrafted, TakesAnswer, TakesConsole, TakesTurn};
+    ghost use Rattle.ados_shell.specs.Turnings.{GivesAnswer, GivesConsole, GivesGathering, GivesReady, GivesTurning, IsScriptDrafted, TakesAnswer, TakesConsole, TakesGathering, TakesReady, TakesTurn};
 
     /// A turn of the scene's shell: where it goes on, the draft is filled with what is to be changed. Nothing else is
     /// changed, and what the draft held before is forgotten.
     ///
-    /// A shell that waits for the answer to a prompt takes a line of its input, and at its end an empty one. One that
-    /// is ready takes the next line of its newest frame; without a frame it takes a line of its input, and ends at the
-    /// end of that.
+    /// A shell that waits for the answer to a prompt takes a line of its input, and at its end an empty one; one whose Run
+    /// gathers takes a line, and goes on without one at the end. A line whose tick has ended goes on. A shell that is
+    /// ready takes the next line of its newest frame; without a frame it takes a line of its input, and ends at the end
+    /// of that.
     ///
     /// `NoMemory` where there is none for what the turn makes, and only where the shell has something to
     /// take: its end takes none.
@@ -42,18 +43,54 @@ impl Draft {
         ensures turn { IfOk result (λ turn. GivesTurning scene.now input.now turn self.new) }
         ensures memory { OnErr result (TakesTurn scene.now input.now) }
     {
-        let shell = scene.shell;
-        match &shell.waits {
-            Some(wait) => match &**wait {
-                Wait::ForAnswer(asking) => self.answer_turn(scene, asking, input),
-            },
+        match scene.shell.phase.as_deref() {
+            None | Some(Phase::Ready) => self.ready_turn(scene, input),
+            Some(Phase::GoingOn(parted)) => {
+                self.begin_turn(scene.shell);
+                self.go_on(scene, parted)?;
+                Ok(Turning::Goes)
+            }
+            Some(Phase::Waiting(Wait::ForAnswer(asking))) => self.answer_turn(scene, asking, input),
+            Some(Phase::Waiting(Wait::ForLines(gathering))) => {
+                self.gathering_turn(scene, gathering, input)
+            }
+        }
+    }
+
+    /// A turn of a shell that is ready.
+    fn ready_turn(&mut self, scene: &Scene, input: &Input) -> Result<Turning, NoMemory>
+        ensures turn { IfOk result (λ turn. GivesReady scene.now input.now turn self.new) }
+        ensures memory { OnErr result (TakesReady scene.now input.now) }
+    {
+        if scene.shell.frames.is_empty() {
+            self.console_turn(scene, input)
+        } else {
+            self.script_turn(scene)?;
+            Ok(Turning::Goes)
+        }
+    }
+
+    /// A turn of a shell whose Run gathers: it takes a line, and at the end of its input it makes its shell.
+    fn gathering_turn(
+        &mut self,
+        scene: &Scene,
+        gathering: &Gathering,
+        input: &Input,
+    ) -> Result<Turning, NoMemory>
+        ensures turn { IfOk result (λ turn. GivesGathering scene.now gathering.now input.now turn self.new) }
+        ensures memory { OnErr result (TakesGathering scene.now gathering.now input.now) }
+    {
+        match input.line {
+            Some(line) => {
+                self.begin_turn(scene.shell);
+                self.join(scene, gathering, line)?;
+                Ok(Turning::Takes)
+            }
+            None if !input.is_ended => Ok(Turning::NotReady),
             None => {
-                if shell.frames.is_empty() {
-                    self.console_turn(scene, input)
-                } else {
-                    self.script_turn(scene)?;
-                    Ok(Turning::Goes)
-                }
+                self.begin_turn(scene.shell);
+                self.gather_no_more(scene, gathering)?;
+                Ok(Turning::Goes)
             }
         }
     }

@@ -1,0 +1,221 @@
+// Run: it makes a shell for the commands of its text.
+ghost use Rattle.std.specs.Prelude.{◌≡◌, ◌-◌, ◌++◌, ◌∷◌, [], drop, IfOk, IfSome, OnOk};
+ghost use Rattle.std.specs.Option.{option_copied, option_map};
+ghost use Rattle.ados_flow.specs.Gathering.{before_plus, gathered, run_limit};
+ghost use Rattle.ados_machine.specs.NewShells.{answered_put, console_run, gathered_deed, joined_deed, new_shell, run_at, run_deed, run_opened};
+ghost use Rattle.ados_machine.specs.Opening.{opening};
+ghost use Rattle.ados_machine.specs.Prompts.{input_lines};
+ghost use Rattle.ados_shell.specs.Stacks.{HasTaken};
+
+use crate::begun::Begun;
+use crate::drafts::Draft;
+use crate::scenes::Scene;
+use crate::seen::free_number;
+use crate::stacks::copy_own;
+use ados_find::{Codes, Target};
+use ados_flow::{Gathered, RUN_LIMIT, asks_nothing, before_plus, gather, number_line};
+use ados_line::Line;
+use ados_machine::{Gathering, Wait};
+use ados_ram::FsFault;
+use ados_script::Script;
+use ados_text::{NoMemory, Result2, Text, Texts};
+use std::alloc::Global;
+
+impl Draft {
+    ghost use Rattle.ados_shell.specs.Drafts.{IsUnset, Settles, course_of, frames_of, here};
+    ghost use Rattle.ados_shell.specs.Outputs.{IsPut};
+
+    /// Reads the input of a Run, if it has one, which nothing takes, and runs its text.
+    pub fn run(&mut self, scene: &Scene, line: &Line) -> Result<(), NoMemory>
+        requires { IsUnset self.old }
+        ensures { OnOk result (Settles scene.now self.old self.new
+            (run_deed line.now (here scene.now self.old) (course_of scene.now self.old)
+            (input_lines (course_of scene.now self.old) line.now.input))) }
+    {
+        match self.input(scene, line.input.as_ref()) {
+            Err(FsFault::NoMemory) => Err(NoMemory),
+            Err(FsFault::Refused(fault)) => self.refuse(scene, &line.command, fault),
+            Ok(_) => self.run_into(scene, line),
+        }
+    }
+
+    /// Opens the output of a Run, and runs its text.
+    fn run_into(&mut self, scene: &Scene, line: &Line) -> Result<(), NoMemory>
+        requires { IsUnset self.old }
+        ensures { OnOk result (Settles scene.now self.old self.new
+            (run_opened line.now (here scene.now self.old) (course_of scene.now self.old)
+            (opening (course_of scene.now self.old) line.now.output))) }
+    {
+        match self.open_own(scene, line.output.as_ref()) {
+            Err(FsFault::NoMemory) => Err(NoMemory),
+            Err(FsFault::Refused(fault)) => self.refuse(scene, &line.command, fault),
+            Ok(target) => {
+                if asks_nothing(&line.args) {
+                    self.refuse(scene, &line.command, Result2::ARGUMENT_MISSING)
+                } else {
+                    self.run_text(scene, line, target)
+                }
+            }
+        }
+    }
+
+    /// Runs the text of a Run, whose output leads there: in a frame with further lines of that, on the console with those
+    /// for which the shell waits.
+    fn run_text(
+        &mut self,
+        scene: &Scene,
+        line: &Line,
+        output: Option<Target>,
+    ) -> Result<(), NoMemory>
+        requires { IsUnset self.old }
+        ensures { OnOk result (Settles scene.now self.old self.new
+            (run_at line.now.command output line.now.args (here scene.now self.old).sink (course_of scene.now self.old) (here scene.now self.old).frame_lines)) }
+    {
+        match self.gathered(scene, &line.args)? {
+            None => self.run_typed(scene, line, output),
+            Some(Gathered { commands, taken }) => {
+                let codes = self.make_shell(scene, commands, output.as_ref())?;
+                self.skip(scene, &line.command, codes, taken)
+            }
+        }
+    }
+
+    /// The commands of a Run with this text, and how many further lines of the newest frame it takes; `None` on the
+    /// console.
+    fn gathered(&self, scene: &Scene, text: &Text) -> Result<Option<Gathered>, NoMemory>
+        ensures gathered { IfOk result (λ all. all ≡ option_map (λ frame. gathered (run_limit - 1) text.now (drop frame.position frame.lines)) (here scene.now self.now).frame_lines) }
+        ensures within { IfOk result (λ all. IfSome all (λ a. HasTaken a.taken (frames_of scene.now self.now))) }
+    {
+        match self.shell.frames.newest(scene.shell) {
+            None => Ok(None),
+            Some(frame) => Ok(Some(gather(scene.alloc, text, frame.further())?)),
+        }
+    }
+
+    /// Runs the text of a Run on the console: where it goes on the shell waits for further lines.
+    fn run_typed(
+        &mut self,
+        scene: &Scene,
+        line: &Line,
+        output: Option<Target>,
+    ) -> Result<(), NoMemory>
+        requires { IsUnset self.old }
+        ensures { OnOk result (Settles scene.now self.old self.new
+            (console_run line.now.command output line.now.args (here scene.now self.old).sink (course_of scene.now self.old) (before_plus line.now.args))) }
+    {
+        match before_plus(line.args.as_bytes()) {
+            None => {
+                let commands = behind(scene.alloc, &[], line.args.copy()?)?;
+                self.answer_begun(scene, &line.command, commands, output.as_ref())
+            }
+            Some(front) => {
+                let command = Text::from_bytes(scene.alloc, front)?;
+                let gathering = Gathering {
+                    word: line.command.copy()?,
+                    output,
+                    commands: behind(scene.alloc, &[], command)?,
+                };
+                self.wait(scene, Wait::ForLines(gathering))
+            }
+        }
+    }
+
+    /// Takes a further line for a Run that gathers. Where that goes on the shell waits again, up to the last command that
+    /// a new shell is given.
+    pub fn join(&mut self, scene: &Scene, gathering: &Gathering, line: &Text) -> Result<(), NoMemory>
+        requires { IsUnset self.old }
+        ensures { OnOk result (Settles scene.now self.old self.new
+            (joined_deed gathering.now line.now (here scene.now self.old).sink (course_of scene.now self.old))) }
+    {
+        let before = gathering.commands.as_slice();
+        let Gathering { word, output, .. } = gathering;
+        match before_plus(line.as_bytes()) {
+            None => {
+                let commands = behind(scene.alloc, before, line.copy()?)?;
+                self.answer_begun(scene, word, commands, output.as_ref())
+            }
+            Some(front) => {
+                let command = Text::from_bytes(scene.alloc, front)?;
+                let commands = behind(scene.alloc, before, command)?;
+                if before.len() < RUN_LIMIT - 1 {
+                    let gathering = Gathering {
+                        word: word.copy()?,
+                        output: copy_own(output.as_ref())?,
+                        commands,
+                    };
+                    self.wait(scene, Wait::ForLines(gathering))
+                } else {
+                    self.answer_begun(scene, word, commands, output.as_ref())
+                }
+            }
+        }
+    }
+
+    /// Makes the shell of a Run that gathers, for which no further line comes.
+    pub fn gather_no_more(&mut self, scene: &Scene, gathering: &Gathering) -> Result<(), NoMemory>
+        requires { IsUnset self.old }
+        ensures { OnOk result (Settles scene.now self.old self.new
+            (gathered_deed gathering.now (here scene.now self.old).sink (course_of scene.now self.old))) }
+    {
+        let Gathering {
+            word,
+            output,
+            commands,
+        } = gathering;
+        self.answer_begun(scene, word, commands.copy()?, output.as_ref())
+    }
+
+    /// Makes a shell for these commands, whose output leads there, and the Run of a word answers.
+    fn answer_begun(
+        &mut self,
+        scene: &Scene,
+        word: &Text,
+        commands: Texts,
+        output: Option<&Target>,
+    ) -> Result<(), NoMemory>
+        requires { IsUnset self.old }
+        ensures { OnOk result (Settles scene.now self.old self.new
+            (answered_put word.now (new_shell commands (option_copied output.entry) (here scene.now self.old).sink (course_of scene.now self.old)))) }
+    {
+        let codes = self.make_shell(scene, commands, output)?;
+        self.answer(scene, word.as_bytes(), codes, false)
+    }
+
+    /// Makes a shell with the lowest free number for these commands, whose output leads there, and puts its number out;
+    /// what Run answers then. Where no number is free nothing is changed.
+    fn make_shell(
+        &mut self,
+        scene: &Scene,
+        commands: Texts,
+        output: Option<&Target>,
+    ) -> Result<Codes, NoMemory>
+        requires { IsUnset self.old }
+        ensures { IfOk result (λ codes. IsPut scene.now self.old self.new codes
+            (new_shell commands (option_copied output.entry) (here scene.now self.old).sink (course_of scene.now self.old))) }
+    {
+        let Some(number) = free_number(scene.shells) else {
+            return Ok(Codes::failed(Result2::OBJECT_IN_USE));
+        };
+        let begun = Begun {
+            directory: self.directory(scene).copy()?,
+            settings: scene.shell.settings().copied(scene.alloc, number)?,
+            commands: Script::of(scene.alloc, commands.into_vec())?,
+            output: copy_own(output)?,
+        };
+        self.begun = Some(Box::new(scene.alloc, begun)?);
+        let line = number_line(scene.alloc, number)?;
+        self.put(scene, output, line, Codes::NONE)
+    }
+}
+
+/// Commands with one more behind them.
+fn behind(alloc: Global, commands: &[Text], command: Text) -> Result<Texts, NoMemory>
+    ensures { IfOk result (λ all. all ≡ commands.now ++ command ∷ []) }
+{
+    let mut all = Vec::with_capacity(alloc, commands.len() + 1)?;
+    for command in commands {
+        all.push(command.copy()?)?;
+    }
+    all.push(command)?;
+    Ok(Texts::from_vec(all))
+}

@@ -1,0 +1,144 @@
+// Ticks: a line that has one waits for it, and goes on with what it put out.
+ghost use Rattle.std.specs.Prelude.{◌≡◌, ◌++◌, ◌∷◌, [], reverse, take, IfOk, OnOk};
+ghost use Rattle.ados_machine.specs.Course.{put, tick_limit};
+ghost use Rattle.ados_machine.specs.Deeds.{Ticks};
+ghost use Rattle.ados_machine.specs.Lines.{parted_deed};
+ghost use Rattle.ados_machine.specs.Settle.{said_of, tick_begun};
+ghost use Rattle.ados_machine.specs.Sinks.{Kept};
+
+use crate::drafts::{Draft, ShellDraft};
+use crate::scenes::Scene;
+use ados_find::Codes;
+use ados_flow::{Frame, Kind};
+use ados_line::{Tick, resume};
+use ados_machine::{Parted, Phase};
+use ados_script::Script;
+use ados_text::{NoMemory, Octets, Result2, Text};
+use std::alloc::Global;
+
+/// A tick keeps so many bytes, the first ones.
+const TICK_LIMIT: usize = 1024;
+
+impl Draft {
+    ghost use Rattle.ados_shell.specs.Drafts.{IsRuled, IsTicked, IsUnset, Settles, course_of, frames_of, here};
+    ghost use Rattle.ados_shell.specs.Outputs.{IsPut};
+
+    /// A line has a tick, which begins: where there are as many frames as a shell may have, that is the line's fault.
+    pub fn tick(&mut self, scene: &Scene, tick: Tick) -> Result<(), NoMemory>
+        ensures { OnOk result (Settles scene.now self.old self.new (Ticks tick.before tick.command tick.after (course_of scene.now self.old))) }
+    {
+        if self.shell.frames.is_full(scene.shell) {
+            let codes = Codes::failed(Result2::TOO_MANY_LEVELS);
+            self.answer(scene, b"Shell", codes, false)
+        } else {
+            self.begin_tick(scene, tick)
+        }
+    }
+
+    /// A tick begins, and takes its line at the next turn.
+    fn begin_tick(&mut self, scene: &Scene, tick: Tick) -> Result<(), NoMemory>
+        ensures { OnOk result (IsRuled scene.now self.old self.new
+            (tick_begun tick.before tick.command tick.after (frames_of scene.now self.old) (said_of (course_of scene.now self.old)))) }
+    {
+        let Tick {
+            before,
+            command,
+            after,
+        } = tick;
+        let script = single(scene.alloc, command)?;
+        let kind = Kind::Tick { before, after };
+        let frame = Frame::new(scene.alloc, kind, script, self.shell.limit, None)?;
+        let mut kept = self.shell.kept_copy(scene)?;
+        kept.push(Octets::from_vec(Vec::new(scene.alloc)))?;
+        self.shell.kept = Some(kept);
+        self.shell.phase = None;
+        self.shell.frames.push(frame)
+    }
+
+    /// The newest tick has ended, which was taken off: its line goes on with what it put out, between these texts.
+    pub fn end_tick(&mut self, scene: &Scene, before: &Text, after: &Text) -> Result<(), NoMemory>
+        ensures { OnOk result (IsTicked scene.now self.old self.new before.now after.now) }
+    {
+        let mut kept = self.shell.kept_copy(scene)?;
+        let output = match kept.pop() {
+            Some(output) => output,
+            None => Octets::from_vec(Vec::new(scene.alloc)),
+        };
+        let parted = Parted {
+            before: before.copy()?,
+            output,
+            after: after.copy()?,
+        };
+        self.shell.phase = Some(Box::new(scene.alloc, Phase::GoingOn(parted))?);
+        self.shell.kept = Some(kept);
+        Ok(())
+    }
+
+    /// The newest tick keeps what a command puts out.
+    pub fn keep(&mut self, scene: &Scene, output: &[u8], codes: Codes) -> Result<Codes, NoMemory>
+        ensures { IfOk result (λ answered. IsPut scene.now self.old self.new answered (put Kept output.now codes (course_of scene.now self.old))) }
+    {
+        let mut kept = self.shell.kept_copy(scene)?;
+        if let Some(newest) = kept.pop() {
+            kept.push(joined(newest, output)?)?;
+        }
+        self.shell.kept = Some(kept);
+        Ok(codes)
+    }
+
+    /// Goes on with a line whose tick has ended.
+    pub fn go_on(&mut self, scene: &Scene, parted: &Parted) -> Result<(), NoMemory>
+        requires { IsUnset self.old }
+        ensures { OnOk result (Settles scene.now self.old self.new
+            (parted_deed parted.now (here scene.now self.old) (course_of scene.now self.old))) }
+    {
+        let output = parted.output.as_bytes();
+        let expanded = resume(scene.alloc, &parted.before, output, &parted.after);
+        self.work_line(scene, expanded)
+    }
+}
+
+impl ShellDraft {
+    ghost use Rattle.ados_shell.specs.Drafts.{behind};
+
+    /// A copy of what the ticks put out so far; that of the newest is the last.
+    fn kept_copy(&self, scene: &Scene) -> Result<Vec<Octets>, NoMemory>
+        ensures { IfOk result (λ kept. reverse kept.items ≡ (behind self.now scene.now.shell.now).kept) }
+    {
+        match &self.kept {
+            None => copied(scene.alloc, scene.shell.kept()),
+            Some(kept) => copied(scene.alloc, kept.as_slice()),
+        }
+    }
+}
+
+/// Equal outputs.
+fn copied(alloc: Global, kept: &[Octets]) -> Result<Vec<Octets>, NoMemory>
+    ensures { IfOk result (λ copy. copy.items ≡ kept.now) }
+{
+    let mut copy = Vec::with_capacity(alloc, kept.len())?;
+    for output in kept {
+        copy.push(output.copy()?)?;
+    }
+    Ok(copy)
+}
+
+/// The bytes that a tick keeps behind these, and what is put out then.
+fn joined(kept: Octets, output: &[u8]) -> Result<Octets, NoMemory>
+    ensures { IfOk result (λ joined. joined ≡ take tick_limit (kept ++ output.now)) }
+{
+    let mut bytes = kept.into_vec();
+    let room = TICK_LIMIT.saturating_sub(bytes.len());
+    bytes.extend_from_slice(&output[..room.min(output.len())])?;
+    bytes.truncate(TICK_LIMIT);
+    Ok(Octets::from_vec(bytes))
+}
+
+/// The script of a single line.
+fn single(alloc: Global, line: Text) -> Result<Script, NoMemory>
+    ensures { IfOk result (λ script. script ≡ line ∷ []) }
+{
+    let mut lines = Vec::new(alloc);
+    lines.push(line)?;
+    Script::of(alloc, lines)
+}
