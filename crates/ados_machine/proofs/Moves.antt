@@ -1,5 +1,5 @@
 -- A step moves each shell's frames by what its own trace gets.
-use Rattle.std.proofs.Common.{◌≡◌, ◌∙◌, sym, ℕ, suc, ◌-◌, List, [], ◌∷◌, ◌++◌, true, not, ◌==◌, arith, append-nil, slice_get, Option, Some, None, Result, Ok, Err, length, refl, ap, inl, inr}
+use Rattle.std.proofs.Common.{◌≡◌, ◌≢◌, ◌∙◌, sym, Bool, false, ◌&&◌, ℕ, suc, ◌-◌, List, [], ◌∷◌, ◌++◌, true, not, ◌==◌, arith, append-nil, slice_get, Option, Some, None, Result, Ok, Err, length, refl, ap, inl, inr}
 use Rattle.std.specs.Prelude.{nat_le, nat_lt, option_map}
 use Rattle.ados_line.specs.Cut.{line_limit}
 use Rattle.ados_machine.specs.Step.{queue_limit}
@@ -24,7 +24,7 @@ use Rattle.ados_machine.specs.Carrying.{carried_shells, carried_by}
 use Rattle.ados_machine.specs.Step.{Response, Refused, Accepted, of_shell, shell_of_turn, with_begun, begun_items, is_done, left, moved_in, shells_behind, start, applied, turned, replied, typed, end_of_input, happened, step_of}
 use Rattle.ados_machine.specs.Runs.{world_after}
 use Rattle.ados_machine.specs.Trace.{items_after, own, frames_in}
-use Rattle.ados_machine.specs.Limits.{AllRunOn}
+use Rattle.ados_machine.specs.Limits.{AllRunOn, RunsFrame}
 use Rattle.ados_machine.specs.Stacks.{stack_of, Standing, standing_of, Leaves}
 use Rattle.ados_machine.proofs.Follows.{ShellFollows, Follows-left}
 use Rattle.ados_machine.proofs.Turns.{Goes}
@@ -43,9 +43,16 @@ stands_at k shells = option_map standing_of (found shells k)
 pub record Moves (k : ℕ) (old : List (Option ShellState)) (log : List Item) (new : List (Option ShellState)) : Type 0 where
   pub follows : ShellFollows (stands_at k old) log (stands_at k new)
   pub runs : AllRunOn (frames_at k new)
+  pub background : k ≢ 1 → RunsFrame (found new k)
 
-abbrev pub AllSane : List (Option ShellState) → Type 0
-AllSane shells = (k : ℕ) → AllRunOn (frames_at k shells)
+pub record AllSane (shells : List (Option ShellState)) : Type 0 where
+  pub each : (k : ℕ) → AllRunOn (frames_at k shells)
+  pub background : (k : ℕ) → k ≢ 1 → RunsFrame (found shells k)
+
+carried-background : (renamed : Option Renamed) (o : Option ShellState) → RunsFrame o → RunsFrame (carried_found renamed o)
+carried-background None o h = h
+carried-background (Some renamed) None h = tt
+carried-background (Some renamed) (Some shell) h = h
 
 pub stays-follows : (stands : Option Standing) → ShellFollows stands [] stands
 stays-follows None = (refl, refl)
@@ -69,7 +76,8 @@ carried-moves : (renamed : Option Renamed) (k : ℕ) (old new : List (Option She
     found new k ≡ carried_found renamed (found old k) → Moves k old [] new
 carried-moves renamed k old new sane e = record {
   follows = rw (e, carried-stands renamed (found old k)) (stays-follows (stands_at k old));
-  runs = rw (e, carried-frames renamed (found old k)) (sane k);
+  runs = rw (e, carried-frames renamed (found old k)) (sane.each k);
+  background = λ ne. rw e (carried-background renamed (found old k) (sane.background k ne));
 }
 
 stays : (shells : List (Option ShellState)) (k : ℕ) → AllSane shells → Moves k shells [] shells
@@ -95,6 +103,17 @@ left-runs k moved t runs =
       | inr d ↦ rw (d, carried_by-frames moved (shell_of_turn t)) runs
     ]
 
+left-background : (k : ℕ) (moved : Option Renamed) (t : Turned) → k ≢ 1 → RunsFrame (left k moved t)
+left-background k moved t ne =
+    elim (cases_Bool (has_frame t.frames)) [
+      | inl h ↦ rw (h, not-done (k == 1)) (rw (carried_by-frames moved (shell_of_turn t)) h)
+      | inr h ↦ rw (h, ne_eqb k 1 ne) tt
+    ]
+  where
+    not-done : (b : Bool) → (not b && false) ≡ false
+    not-done true = refl
+    not-done false = refl
+
 -- a shell that is put where none was
 pub placed-at : (shells : List (Option ShellState)) (n i : ℕ) (now : Option ShellState) → n ≡ suc i → slice_get shells i ≡ Some None →
     (found (slice_set shells (n - 1) now) n ≡ now) × (found shells n ≡ None)
@@ -105,7 +124,7 @@ placed-moves : (shells : List (Option ShellState)) (begun : Begun) (n j : ℕ) �
     Moves j shells (Began 1 Lines first_limit ∷ []) (with_begun (Some begun) (Some n) shells)
 placed-moves shells begun n j free same =
     let there = placed-at shells n free.0 (Some (begun_shell n begun)) free.1 free.2 in
-    rw (sym same) (record { follows = rw (there.0, there.1) (refl, refl, refl, refl); runs = rw there.0 (tt, tt) })
+    rw (sym same) (record { follows = rw (there.0, there.1) (refl, refl, refl, refl); runs = rw there.0 (tt, tt); background = λ ne. rw there.0 refl })
 
 -- where a shell begins
 begun-moves : (j : ℕ) (shells : List (Option ShellState)) (begun : Option Begun) (n : Option ℕ) → AllSane shells → IsFree shells n →
@@ -139,10 +158,14 @@ behind-carried : (renamed : Option Renamed) (k : ℕ) (old : List (Option ShellS
 behind-carried renamed k old log new moves = record {
   follows = rw (ap (option_map standing_of) (found-carried renamed old k), carried-stands renamed (found old k)) at moves.follows;
   runs = moves.runs;
+  background = moves.background;
 }
 
 carried-sane : (renamed : Option Renamed) (shells : List (Option ShellState)) → AllSane shells → AllSane (carried_shells renamed shells)
-carried-sane renamed shells sane = λ k. rw (found-carried renamed shells k, carried-frames renamed (found shells k)) (sane k)
+carried-sane renamed shells sane = record {
+  each = λ k. rw (found-carried renamed shells k, carried-frames renamed (found shells k)) (sane.each k);
+  background = λ k ne. rw (found-carried renamed shells k) (carried-background renamed (found shells k) (sane.background k ne));
+}
 
 -- a turn moves its shell, the others stay, and one may begin
 turn-moves : (shells : List (Option ShellState)) (k : ℕ) (shell : ShellState) (moved : Option Renamed) (t : Turned) (j : ℕ) → AllSane shells →
@@ -162,12 +185,17 @@ turn-moves shells k shell moved t j sane is goes =
             follows = rw (ap (option_map standing_of) is, ap (option_map standing_of) now)
                 (Follows-left shell.parts.limit shell.parts.codes (stack_of shell.frames) t.log (standing_of (shell_of_turn t)) (option_map standing_of (left k moved t)) goes.follows (left-leaves k moved t t.frames refl));
             runs = rw now (left-runs k moved t goes.runs);
+            background = λ ne. rw now (left-background k moved t ne);
           })
       | inr differ ↦ rw (own-of_shell_other j k t.log (λ e. differ (sym e)))
           (behind-carried moved j shells (own j (begun_items t.course.begun number)) (shells_behind shells k moved t)
           (let moves = begun-moves j carried t.course.begun number (carried-sane moved shells sane) free in
           let stay = found-set_other (with_begun t.course.begun number carried) k (left k moved t) j differ (runs_pos shells k shell is) in
-          record { follows = rw (ap (option_map standing_of) stay) moves.follows; runs = rw (ap frames_in stay) moves.runs }))
+          record {
+            follows = rw (ap (option_map standing_of) stay) moves.follows;
+            runs = rw (ap frames_in stay) moves.runs;
+            background = λ ne. rw stay (moves.background ne);
+          }))
     ])
 
 -- an accepted event moves each shell
@@ -182,7 +210,7 @@ ended-moves shells k shell j sane is none =
     elim (cases_eq j k) [
       | inl same ↦ rw same
           (let gone = found-set_same shells k shell None is in
-          record { follows = rw (ap (option_map standing_of) is, ap (option_map standing_of) gone) (ap stack_of none); runs = rw gone tt })
+          record { follows = rw (ap (option_map standing_of) is, ap (option_map standing_of) gone) (ap stack_of none); runs = rw gone tt; background = λ ne. rw gone tt })
       | inr differ ↦ carried-moves None j shells (slice_set shells (k - 1) None) sane
           (found-set_other shells k None j differ (runs_pos shells k shell is))
     ]
@@ -197,7 +225,7 @@ turned-leads : (w : WorldState) (k : ℕ) (o : Option ShellState) → AllSane w.
 turned-leads w k None sane is = tt
 turned-leads w k (Some shell) sane is =
     applied-leads w k shell shell.parts.codes (turning (input_of w k) shell.frames (start w shell) shell.phase) sane is
-    (turning-goes (input_of w k) shell.frames (start w shell) shell.phase (rw is at (sane k)))
+    (turning-goes (input_of w k) shell.frames (start w shell) shell.phase (rw is at (sane.each k)))
 
 replied-leads : (w : WorldState) (o : Option ShellState) → Leads w (replied o)
 replied-leads w None = tt

@@ -20,22 +20,23 @@ use Rattle.ados_machine.proofs.Follows.{Follows, ShellFollows, behind_end, shell
 use Rattle.ados_machine.proofs.Turns.{length-stack, scripts-stack, stack-runs}
 use Rattle.ados_machine.proofs.Shells.{own-append}
 use Rattle.ados_machine.proofs.Moves.{stays-follows, Moves, step-moves}
-use Rattle.ados_machine.proofs.Sane.{sane-after}
+use Rattle.ados_machine.proofs.Sane.{sane-after, sane-shells}
 
 pub run-moves : (w : WorldState) (events : List Event) (outs : List (Result Out Refusal)) (last : WorldState) →
     Runs w events outs last → IsSane w → (j : ℕ) → Moves j w.shells (own j (trace w events outs)) last.shells
-run-moves w [] [] last run sane j = rw run (record { follows = stays-follows (standing_at w j); runs = sane.each j })
+run-moves w [] [] last run sane j = rw run (record { follows = stays-follows (standing_at w j); runs = sane.each j; background = sane.background j })
 run-moves w [] (out ∷ outs) last run sane j = absurd run
 run-moves w (event ∷ events) [] last run sane j = absurd run
 run-moves w (event ∷ events) (out ∷ outs) last run sane j =
     let mid : WorldState = world_after w out (step_of w event) in
     let here = items_after out (step_of w event) in
-    let first = step-moves w event out sane.each j in
+    let first = step-moves w event out (sane-shells w sane) j in
     let more = run-moves mid events outs last run.1 (sane-after w event out sane) j in
     rw (own-append j here (trace mid events outs))
     (record {
       follows = ShellFollows-append (standing_at w j) (own j here) (own j (trace mid events outs)) (standing_at mid j) (standing_at last j) first.follows more.follows;
       runs = more.runs;
+      background = more.background;
     })
 
 stack-append : (above : List FrameState) (frame : FrameState) (below : List FrameState) →

@@ -1,5 +1,5 @@
 -- Each script ends early exactly at its first command whose code reaches its limit: a law of a shell's trace.
-use Rattle.std.specs.Prelude.{◌≡◌, ℕ, suc, ◌-◌, List, [], ◌∷◌, ◌++◌, Bool, false, if◌then◌else◌, ◌==◌, Option, Some, None, IfSome, length, Result}
+use Rattle.std.specs.Prelude.{◌≡◌, ◌≢◌, ℕ, suc, ◌-◌, List, [], ◌∷◌, ◌++◌, Bool, true, false, if◌then◌else◌, ◌==◌, Option, Some, None, IfSome, length, Result}
 use Rattle.ados_text.specs.declared.codes.Code.{Code}
 use Rattle.ados_find.specs.declared.codes.Codes.{Codes}
 use Rattle.ados_machine.specs.declared.events.Event.{Event}
@@ -11,7 +11,8 @@ use Rattle.ados_flow.specs.declared.kinds.Kind.TheVariants.{Script}
 use Rattle.ados_flow.specs.declared.records.Record.{Record}
 use Rattle.ados_flow.specs.Frames.{FrameState, is_script, scripts_in, limit_for, limit_behind, last_line, last_codes, is_at_limit}
 use Rattle.ados_machine.specs.Items.{Item, Began, Answered, Ended}
-use Rattle.ados_machine.specs.World.{WorldState}
+use Rattle.ados_machine.specs.Shells.{ShellState}
+use Rattle.ados_machine.specs.World.{WorldState, shell_at, has_frame}
 use Rattle.ados_machine.specs.Trace.{trace, own, frames_of, ends_in, reports_in}
 
 -- the records of the frame that runs at a depth, up to its end
@@ -108,9 +109,15 @@ abbrev pub AllRunOn : List FrameState → Type 0
 AllRunOn [] = Unit {0}
 AllRunOn (frame ∷ frames) = RunsOn frame.kind frame.last × AllRunOn frames
 
--- no script of any shell has a last record at its limit
+-- the shell runs a frame, if it is there
+abbrev pub RunsFrame : Option ShellState → Type 0
+RunsFrame None = Unit {0}
+RunsFrame (Some shell) = has_frame shell.frames ≡ true
+
+-- no script of any shell has a last record at its limit, and each background shell that is there runs a frame
 pub record IsSane (w : WorldState) : Type 0 where
   pub each : (k : ℕ) → AllRunOn (frames_of k w)
+  pub background : (k : ℕ) → k ≢ 1 → RunsFrame (shell_at w k)
 
 -- in each shell each script ends early exactly at its first command that reaches its limit
 abbrev pub LimitsHold : WorldState → List Event → List (Result Out Refusal) → Type 0
