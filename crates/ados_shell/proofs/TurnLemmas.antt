@@ -2,27 +2,28 @@
 use Rattle.std.proofs.Common.{◌≡◌, ◌∙◌, ◌++◌, ◌∷◌, [], List, ℕ, Bool, true, false, Option, length, nat_le, suc, ap, sym, refl, append_assoc}
 use Rattle.std.proofs.lemmas.List.{append-nil}
 use Rattle.std.specs.Prelude.{if◌then◌else◌}
+use Rattle.ados_text.specs.Text.{Text}
 use Rattle.ados_text.specs.declared.codes.Code.{Code}
 use Rattle.ados_text.specs.declared.codes.TheConstants.Result2.{TOO_MANY_LEVELS}
 use Rattle.ados_find.specs.declared.codes.Codes.{Codes}
 use Rattle.ados_find.specs.declared.targets.Target.{Target}
 use Rattle.ados_flow.specs.declared.called.Called.{Called}
 use Rattle.ados_flow.specs.declared.kinds.Kind.{Kind}
-use Rattle.ados_flow.specs.declared.kinds.Kind.TheVariants.{Script}
-use Rattle.ados_flow.specs.Frames.{FrameState, began, frame_limit, is_over, is_ended, limit_behind, last_codes, maker, answered_frame}
+use Rattle.ados_flow.specs.declared.kinds.Kind.TheVariants.{Script, Lines, Tick}
+use Rattle.ados_flow.specs.Frames.{FrameState, began, frame_limit, is_over, is_ended, limit_behind, last_codes, last_line, is_early, maker, answered_frame}
 use Rattle.ados_machine.specs.declared.outs.EndReport.{EndReport}
-use Rattle.ados_machine.specs.declared.phases.Phase.TheVariants.{Ready}
+use Rattle.ados_machine.specs.declared.phases.Phase.TheVariants.{Ready, GoingOn}
 use Rattle.ados_machine.specs.CodeRule.{fault_line, failed_line}
 use Rattle.ados_machine.specs.Items.{Item, Ended, noted, end_of, reports_of}
 use Rattle.ados_machine.specs.Course.{Course}
-use Rattle.ados_machine.specs.Deeds.{Answers, Calls, Jumps, Passes, refused}
-use Rattle.ados_machine.specs.Settled.{Said, Settled, behind, rests, told, with_limit, finish, finished, passed}
-use Rattle.ados_machine.specs.Settle.{Turned, begun, by_rule, jumped_in, said_of}
+use Rattle.ados_machine.specs.Deeds.{Answers, Calls, Jumps, Passes, Ticks, line_fault, refused}
+use Rattle.ados_machine.specs.Settled.{Said, Settled, behind, rests, told, with_limit, newest_kept, without_tick, after_end, finish, finished, passed}
+use Rattle.ados_machine.specs.Settle.{Turned, begun, by_rule, jumped_in, said_of, tick_begun}
 use Rattle.ados_shell.specs.declared.scenes.Scene.{Scene}
 use Rattle.ados_shell.specs.declared.drafts.Draft.{Draft}
-use Rattle.ados_shell.specs.Reports.{name_of, report_of}
+use Rattle.ados_shell.specs.Reports.{report_of}
 use Rattle.ados_shell.specs.Stacks.{frames_in}
-use Rattle.ados_shell.specs.Drafts.{GoesOn, IsEnded, IsRuled, Settles, course_by, course_of, frames_of, held_of, phase_in}
+use Rattle.ados_shell.specs.Drafts.{GoesOn, IsReported, IsTicked, IsRuled, Settles, course_by, course_of, frames_of, held_of, phase_in}
 
 goes-on : (scene : Scene) (before mid after : Draft) (t t' : Turned) (rs : List EndReport)
     → mid.reports.items ≡ before.reports.items ++ rs
@@ -106,90 +107,6 @@ finish-stays scene before after word codes quits frame frames there test f t p =
     rests-ruled scene before after word codes (answered_frame frame frames codes before.shell.limit ∷ frames) (noted (frame ∷ frames) codes before.shell.limit ∷ []) _
     (ap (λ fs. finish word codes quits fs (said_in scene before)) there ∙ else-is (is_ended quits codes before.shell.limit frame) _ _ test) refl t f p
 
--- the report of a frame's end
-end-kind : (shell depth line : ℕ) (kind : Kind) (codes : Codes) (early : Bool) (log : List Item)
-    → reports_of shell (Ended depth kind line codes early ∷ log)
-    ≡ record { shell = shell; name = name_of kind; last_line = line; code = codes.code; early = early } ∷ reports_of shell log
-end-kind shell depth line (Script name command) codes early log = refl
-
--- a frame was taken off, its end was reported, and its end is the answer of the command that made it
-end-ruled : (scene : Scene) (before popped ended after : Draft) (word : List ℕ) (codes : Codes) (last : FrameState) (frames : List FrameState)
-    (items : List Item) (settled : Settled)
-    → settled ≡ behind items (finish (maker last.kind) codes false frames (said_in scene ended))
-    → ((log : List Item) → reports_of scene.number (items ++ log) ≡ report_of scene.number last ∷ reports_of scene.number log)
-    → held_of popped ≡ held_of before → popped.reports.items ≡ before.reports.items
-    → frames_of scene popped ≡ frames
-    → IsEnded scene popped ended last
-    → word ≡ maker last.kind
-    → IsRuled scene ended after (finish word codes false (frames_of scene ended) (said_in scene ended))
-    → IsRuled scene before after settled
-end-ruled scene before popped ended after word codes last frames items settled e reported h r f ended_is w g =
-    let inner = finish (maker last.kind) codes false frames (said_in scene ended) in
-    let frames_are : frames_of scene ended ≡ frames = ap (frames_in scene.shell.now) ended_is.frames ∙ f in
-    let held : held_of ended ≡ held_of before = ended_is.held ∙ h in
-    let same : by_rule (course_of scene ended) (finish word codes false (frames_of scene ended) (said_in scene ended)) ≡ by_rule (course_of scene ended) inner =
-    ap (λ x. by_rule (course_of scene ended) (finish x codes false (frames_of scene ended) (said_in scene ended))) w
-    ∙ ap (λ x. by_rule (course_of scene ended) (finish (maker last.kind) codes false x (said_in scene ended))) frames_are in
-    let course : (by_rule (course_of scene before) settled).course ≡ (by_rule (course_of scene ended) inner).course =
-    ap (λ s. (by_rule (course_of scene before) s).course) e
-    ∙ ap (λ x. (by_rule (course_by scene x before.shell.limit before.shell.codes before.printed.items) inner).course) (sym held) in
-    goes-on scene before ended after (by_rule (course_of scene ended) inner) (by_rule (course_of scene before) settled) (report_of scene.number last ∷ [])
-    (ended_is.reports ∙ ap (λ x. x ++ report_of scene.number last ∷ []) r)
-    (ap (λ s. s.frames) e) (ap (λ s. s.phase) e) course
-    (ap (λ s. reports_of scene.number s.log) e ∙ reported inner.log)
-    (goes-same scene ended ended after _ _ refl same g)
-
--- what is said behind the end of a frame
-ended-said : (scene : Scene) (before popped ended : Draft) (codes : Codes) (printed : List ℕ) (last : FrameState) (frames : List FrameState)
-    → held_of popped ≡ held_of before → popped.shell.codes ≡ codes → popped.printed.items ≡ printed → frames_of scene popped ≡ frames
-    → IsEnded scene popped ended last
-    → said_in scene ended ≡ said_of (course_by scene (held_of before) (limit_behind frames last.limit) codes printed)
-ended-said scene before popped ended codes printed last frames h c p f e =
-    ap (λ x. said_of (course_by scene x ended.shell.limit ended.shell.codes ended.printed.items)) (e.held ∙ h)
-    ∙ ap (λ x. said_of (course_by scene (held_of before) x ended.shell.codes ended.printed.items)) (e.limit ∙ ap (λ x. limit_behind x last.limit) f)
-    ∙ ap (λ x. said_of (course_by scene (held_of before) (limit_behind frames last.limit) x ended.printed.items)) (e.codes ∙ c)
-    ∙ ap (λ x. said_of (course_by scene (held_of before) (limit_behind frames last.limit) codes x)) (e.printed ∙ p)
-
--- the code rule at a frame that ends
-pub finish-ends : (scene : Scene) (before popped ended after : Draft) (word command : List ℕ) (codes : Codes) (quits : Bool) (frame : FrameState) (frames : List FrameState)
-    → frames_of scene before ≡ frame ∷ frames → is_ended quits codes before.shell.limit frame ≡ true
-    → IsTold before popped word codes → frames_of scene popped ≡ frames
-    → IsEnded scene popped ended (answered_frame frame frames codes before.shell.limit)
-    → command ≡ maker frame.kind
-    → IsRuled scene ended after (finish command codes false (frames_of scene ended) (said_in scene ended))
-    → IsRuled scene before after (finish word codes quits (frames_of scene before) (said_in scene before))
-finish-ends scene before popped ended after word command codes quits frame frames there test t f e w g =
-    let last = answered_frame frame frames codes before.shell.limit in
-    let printed = before.printed.items ++ failed_line word codes.code before.shell.limit in
-    let items = noted (frame ∷ frames) codes before.shell.limit ∷ end_of (suc (length frames)) last ∷ [] in
-    let said : said_in scene ended ≡ with_limit (limit_behind frames frame.limit) (told word codes (said_in scene before)) =
-    ended-said scene before popped ended codes printed last frames t.held t.codes_are t.printed f e in
-    end-ruled scene before popped ended after command codes last frames items _
-    (ap (λ fs. finish word codes quits fs (said_in scene before)) there ∙ then-is (is_ended quits codes before.shell.limit frame) _ _ test
-    ∙ ap (λ x. behind items (finish (maker frame.kind) codes false frames x)) (sym said))
-    (λ log. end-kind scene.number (suc (length frames)) frame.line frame.kind codes _ log)
-    t.held t.reports f e w g
-
--- a line that asked for nothing was the last of its frame
-pub pass-ends : (scene : Scene) (before popped ended after : Draft) (command : List ℕ) (frame : FrameState) (frames : List FrameState)
-    → frames_of scene before ≡ frame ∷ frames → is_over frame ≡ true
-    → held_of popped ≡ held_of before → popped.shell.codes ≡ before.shell.codes
-    → popped.printed.items ≡ before.printed.items → popped.reports.items ≡ before.reports.items
-    → frames_of scene popped ≡ frames
-    → IsEnded scene popped ended frame
-    → command ≡ maker frame.kind
-    → IsRuled scene ended after (finish command (last_codes frame.last) false (frames_of scene ended) (said_in scene ended))
-    → Settles scene before after (Passes (course_of scene before))
-pass-ends scene before popped ended after command frame frames there over h c p r f e w g =
-    let items = end_of (suc (length frames)) frame ∷ [] in
-    let said : said_in scene ended ≡ with_limit (limit_behind frames frame.limit) (said_in scene before) =
-    ended-said scene before popped ended before.shell.codes before.printed.items frame frames h c p f e in
-    end-ruled scene before popped ended after command (last_codes frame.last) frame frames items _
-    (ap (λ fs. passed fs (said_in scene before)) there ∙ then-is (is_over frame) _ _ over
-    ∙ ap (λ x. behind items (finish (maker frame.kind) (last_codes frame.last) false frames x)) (sym said))
-    (λ log. end-kind scene.number (suc (length frames)) _ frame.kind (last_codes frame.last) _ log)
-    h r f e w g
-
 -- a turn in which no frame was changed, and nothing else
 pub record IsStill (before after : Draft) : Type 0 where
   pub held : held_of after ≡ held_of before
@@ -204,6 +121,124 @@ still-course scene before after s =
     ∙ ap (λ l. course_by scene (held_of before) l after.shell.codes after.printed.items) s.limit
     ∙ ap (λ c. course_by scene (held_of before) before.shell.limit c after.printed.items) s.codes
     ∙ ap (λ p. course_by scene (held_of before) before.shell.limit before.shell.codes p) s.printed
+
+-- what the end of a frame leads to, above these frames
+abbrev pub leads : FrameState → List FrameState → Codes → Said → Settled
+leads last frames codes said =
+    after_end last.kind (finish (maker last.kind) codes false frames (with_limit (limit_behind frames last.limit) said)) frames said
+
+-- the same with the frame's end in the trace
+abbrev pub led : FrameState → List FrameState → Codes → Said → Settled
+led last frames codes said = behind (end_of (suc (length frames)) last ∷ []) (leads last frames codes said)
+
+-- the code rule goes on from a middle, before which it gave these items
+step-ruled : (scene : Scene) (before mid after : Draft) (rs : List EndReport) (items : List Item) (settled settled' : Settled)
+    → settled' ≡ behind items settled
+    → ((log : List Item) → reports_of scene.number (items ++ log) ≡ rs ++ reports_of scene.number log)
+    → held_of mid ≡ held_of before → mid.reports.items ≡ before.reports.items ++ rs
+    → IsRuled scene mid after settled → IsRuled scene before after settled'
+step-ruled scene before mid after rs items settled settled' e reported held r g =
+    let course : (by_rule (course_of scene before) settled').course ≡ (by_rule (course_of scene mid) settled).course =
+    ap (λ s. (by_rule (course_of scene before) s).course) e
+    ∙ ap (λ x. (by_rule (course_by scene x before.shell.limit before.shell.codes before.printed.items) settled).course) (sym held) in
+    goes-on scene before mid after (by_rule (course_of scene mid) settled) (by_rule (course_of scene before) settled') rs r
+    (ap (λ s. s.frames) e) (ap (λ s. s.phase) e) course (ap (λ s. reports_of scene.number s.log) e ∙ reported settled.log) g
+
+-- the report of a script's end
+end-script : (shell depth line : ℕ) (kind : Kind) (codes : Codes) (early : Bool) (name command : Text) (log : List Item) → kind ≡ Script name command
+    → reports_of shell (Ended depth kind line codes early ∷ log)
+    ≡ record { shell = shell; name = name; last_line = line; code = codes.code; early = early } ∷ reports_of shell log
+end-script shell depth line kind codes early name command log e = ap (λ k. reports_of shell (Ended depth k line codes early ∷ log)) e
+
+-- what is said behind the end of a script
+reported-said : (scene : Scene) (mid ended : Draft) (name : Text) (last : FrameState) → IsReported scene mid ended name last
+    → said_in scene ended ≡ with_limit (limit_behind (frames_of scene mid) last.limit) (said_in scene mid)
+reported-said scene mid ended name last e =
+    ap (λ x. said_of (course_by scene x ended.shell.limit ended.shell.codes ended.printed.items)) e.held
+    ∙ ap (λ x. said_of (course_by scene (held_of mid) x ended.shell.codes ended.printed.items)) e.limit
+    ∙ ap (λ x. said_of (course_by scene (held_of mid) (limit_behind (frames_of scene mid) last.limit) x ended.printed.items)) e.codes
+    ∙ ap (λ x. said_of (course_by scene (held_of mid) (limit_behind (frames_of scene mid) last.limit) mid.shell.codes x)) e.printed
+
+-- the end of a script was reported, and is the answer of the command that made it
+pub script-leads : (scene : Scene) (mid ended after : Draft) (name command : Text) (codes : Codes) (last : FrameState)
+    → last.kind ≡ Script name command
+    → IsReported scene mid ended name last
+    → IsRuled scene ended after (finish command codes false (frames_of scene ended) (said_in scene ended))
+    → IsRuled scene mid after (led last (frames_of scene mid) codes (said_in scene mid))
+script-leads scene mid ended after name command codes last k e g =
+    let frames = frames_of scene mid in
+    let said = with_limit (limit_behind frames last.limit) (said_in scene mid) in
+    let answer = finish (maker last.kind) codes false frames said in
+    let depth = suc (length frames) in
+    step-ruled scene mid ended after (report_of scene.number name last ∷ []) (end_of depth last ∷ []) _ _
+    (ap (behind (end_of depth last ∷ []))
+    (ap (λ x. after_end x answer frames (said_in scene mid)) k
+    ∙ ap (λ x. finish (maker x) codes false frames said) k
+    ∙ ap (λ x. finish command codes false (frames_in scene.shell.now x) said) (sym e.frames)
+    ∙ ap (λ x. finish command codes false (frames_of scene ended) x) (sym (reported-said scene mid ended name last e))))
+    (λ log. end-script scene.number depth _ last.kind (last_codes last.last) _ name command log k)
+    e.held e.reports g
+
+-- a shell that ran the commands of a Run rests
+pub lines-lead : (scene : Scene) (mid : Draft) (codes : Codes) (last : FrameState)
+    → last.kind ≡ Lines → phase_in mid.shell ≡ Ready
+    → IsRuled scene mid mid (led last (frames_of scene mid) codes (said_in scene mid))
+lines-lead scene mid codes last k p =
+    let frames = frames_of scene mid in
+    let said = said_in scene mid in
+    let rested = behind (Ended (suc (length frames)) Lines (last_line last.last) (last_codes last.last) (is_early last.kind last.last) ∷ []) (rests frames Ready said) in
+    let e : led last frames codes said ≡ rested =
+    ap (λ x. behind (Ended (suc (length frames)) x (last_line last.last) (last_codes last.last) (is_early last.kind last.last) ∷ [])
+    (after_end x (finish (maker last.kind) codes false frames (with_limit (limit_behind frames last.limit) said)) frames said)) k in
+    goes-same scene mid mid mid (by_rule (course_of scene mid) rested) _ refl (ap (by_rule (course_of scene mid)) (sym e))
+    (record { frames = refl; phase = p; course = refl; reports = sym (append-nil mid.reports.items) })
+
+-- behind a tick its line goes on
+pub tick-leads : (scene : Scene) (mid after : Draft) (codes : Codes) (last : FrameState) (front rear : Text)
+    → last.kind ≡ Tick front rear → IsTicked scene mid after front rear
+    → IsRuled scene mid after (led last (frames_of scene mid) codes (said_in scene mid))
+tick-leads scene mid after codes last front rear k t =
+    let frames = frames_of scene mid in
+    let said = said_in scene mid in
+    let phase = GoingOn (record { before = front; output = newest_kept said.kept; after = rear }) in
+    let rested = behind (Ended (suc (length frames)) (Tick front rear) (last_line last.last) (last_codes last.last) (is_early last.kind last.last) ∷ [])
+    (rests frames phase (without_tick said)) in
+    let e : led last frames codes said ≡ rested =
+    ap (λ x. behind (Ended (suc (length frames)) x (last_line last.last) (last_codes last.last) (is_early last.kind last.last) ∷ [])
+    (after_end x (finish (maker last.kind) codes false frames (with_limit (limit_behind frames last.limit) said)) frames said)) k in
+    goes-same scene mid mid after (by_rule (course_of scene mid) rested) _ refl (ap (by_rule (course_of scene mid)) (sym e))
+    (record { frames = ap (frames_in scene.shell.now) t.frames; phase = t.phase; course = t.course; reports = t.reports ∙ sym (append-nil mid.reports.items) })
+
+-- the code rule at a frame that ends
+pub finish-ends : (scene : Scene) (before popped after : Draft) (word : List ℕ) (codes : Codes) (quits : Bool) (frame : FrameState) (frames : List FrameState)
+    → frames_of scene before ≡ frame ∷ frames → is_ended quits codes before.shell.limit frame ≡ true
+    → IsTold before popped word codes → frames_of scene popped ≡ frames
+    → IsRuled scene popped after (led (answered_frame frame frames codes before.shell.limit) (frames_of scene popped) codes (said_in scene popped))
+    → IsRuled scene before after (finish word codes quits (frames_of scene before) (said_in scene before))
+finish-ends scene before popped after word codes quits frame frames there test t f g =
+    let last = answered_frame frame frames codes before.shell.limit in
+    let said : said_in scene popped ≡ told word codes (said_in scene before) = ap said_of (told-course scene before popped word codes t) in
+    step-ruled scene before popped after [] (noted (frame ∷ frames) codes before.shell.limit ∷ []) _ _
+    (ap (λ fs. finish word codes quits fs (said_in scene before)) there ∙ then-is (is_ended quits codes before.shell.limit frame) _ _ test
+    ∙ ap (λ x. behind (noted (frame ∷ frames) codes before.shell.limit ∷ []) (led last frames codes x)) (sym said)
+    ∙ ap (λ x. behind (noted (frame ∷ frames) codes before.shell.limit ∷ []) (led last x codes (said_in scene popped))) (sym f))
+    (λ log. refl)
+    t.held (t.reports ∙ sym (append-nil before.reports.items)) g
+
+-- a line that asked for nothing was the last of its frame
+pub pass-ends : (scene : Scene) (before popped after : Draft) (frame : FrameState) (frames : List FrameState)
+    → frames_of scene before ≡ frame ∷ frames → is_over frame ≡ true
+    → IsStill before popped → frames_of scene popped ≡ frames
+    → IsRuled scene popped after (led frame (frames_of scene popped) (last_codes frame.last) (said_in scene popped))
+    → Settles scene before after (Passes (course_of scene before))
+pass-ends scene before popped after frame frames there over s f g =
+    let said : said_in scene popped ≡ said_in scene before = ap said_of (still-course scene before popped s) in
+    step-ruled scene before popped after [] [] _ _
+    (ap (λ fs. passed fs (said_in scene before)) there ∙ then-is (is_over frame) _ _ over
+    ∙ ap (λ x. led frame frames (last_codes frame.last) x) (sym said)
+    ∙ ap (λ x. led frame x (last_codes frame.last) (said_in scene popped)) (sym f))
+    (λ log. refl)
+    s.held (s.reports ∙ sym (append-nil before.reports.items)) g
 
 -- a fault's text was printed, and the code rule follows
 pub answer-goes : (scene : Scene) (before mid after : Draft) (word : List ℕ) (codes : Codes) (quits : Bool)
@@ -267,3 +302,19 @@ jump-goes scene before mid after word codes line f s g =
     (ap (λ x. by_rule x (finished word codes false (frames_of scene mid) (said_of x))) (still-course scene before mid s)
     ∙ ap (λ x. by_rule (course_of scene before) (finished word codes false x (said_in scene before))) f)
     g
+
+-- a tick begins where a frame more may stand
+pub tick-begins : (scene : Scene) (before after : Draft) (front command rear : Text)
+    → nat_le frame_limit (length (frames_of scene before)) ≡ false
+    → IsRuled scene before after (tick_begun front command rear (frames_of scene before) (said_in scene before))
+    → Settles scene before after (Ticks front command rear (course_of scene before))
+tick-begins scene before after front command rear e g =
+    goes-same scene before before after _ _ refl (ap (by_rule (course_of scene before)) (sym (else-is _ _ _ e))) g
+
+-- and where none may
+pub tick-refused : (scene : Scene) (before after : Draft) (front command rear : Text)
+    → nat_le frame_limit (length (frames_of scene before)) ≡ true
+    → Settles scene before after (line_fault TOO_MANY_LEVELS (course_of scene before))
+    → Settles scene before after (Ticks front command rear (course_of scene before))
+tick-refused scene before after front command rear e g =
+    goes-same scene before before after _ _ refl (ap (by_rule (course_of scene before)) (sym (then-is _ _ _ e))) g
