@@ -1,5 +1,5 @@
 -- Frames, and the code rule: when a frame ends, and which limit stands behind its end.
-use Rattle.std.specs.Prelude.{ℕ, zero, suc, pos, List, [], ◌∷◌, length, ◌+◌, ◌-◌, Bool, true, false, ◌||◌, ◌&&◌, nat_le, Option, Some, None, if◌then◌else◌}
+use Rattle.std.specs.Prelude.{ℕ, zero, suc, pos, List, [], ◌∷◌, length, drop, ◌+◌, ◌-◌, Bool, true, false, ◌||◌, ◌&&◌, nat_le, Option, Some, None, if◌then◌else◌}
 use Rattle.ados_text.specs.Text.{Text}
 use Rattle.ados_text.specs.declared.codes.Code.{Code}
 use Rattle.ados_find.specs.declared.codes.Codes.{Codes}
@@ -8,11 +8,13 @@ use Rattle.ados_find.specs.declared.targets.Target.{Target}
 use Rattle.ados_flow.specs.CodeRule.{is_reached}
 pub use Rattle.ados_flow.specs.declared.records.Record.{Record}
 pub use Rattle.ados_flow.specs.declared.kinds.Kind.{Kind}
-pub use Rattle.ados_flow.specs.declared.kinds.Kind.TheVariants.{Script}
+pub use Rattle.ados_flow.specs.declared.kinds.Kind.TheVariants.{Script, Lines, Tick}
 
 -- the frame is a script's
 abbrev pub is_script : Kind → Bool
 is_script (Script name command) = true
+is_script Lines = false
+is_script (Tick before after) = false
 
 -- a frame that runs: what it is, its lines, the place of the next one, the line at which its command began, the limit
 -- that stood at its beginning, its own output, which is open until it ends, and its last record
@@ -32,6 +34,8 @@ pub record ScriptLine : Type 0 where
 
 abbrev pub script_line_by : Kind → FrameState → Option ScriptLine
 script_line_by (Script name command) frame = Some (record { lines = frame.lines; line = frame.line })
+script_line_by Lines frame = None
+script_line_by (Tick before after) frame = None
 
 -- where a command of a frame stands, if the frame is a script
 abbrev pub script_line_of : Option FrameState → Option ScriptLine
@@ -53,6 +57,10 @@ began kind lines limit output = record { kind = kind; lines = lines; position = 
 -- a frame takes a line: its position moves on before the command runs
 abbrev pub moved : FrameState → FrameState
 moved frame = record frame { position = frame.position + 1; line = frame.position + 1 }
+
+-- the lines of a frame that are not taken yet
+abbrev pub further : FrameState → List Text
+further frame = drop frame.position frame.lines
 
 -- the frame has no line left
 abbrev pub is_over : FrameState → Bool
@@ -112,6 +120,8 @@ answered_frame frame frames answered limit = record frame { last = Some (entry_o
 abbrev pub is_ended : Bool → Codes → Code → FrameState → Bool
 is_ended quits answered limit frame = is_over frame || (is_script frame.kind && (quits || is_reached limit answered.code))
 
--- the word of the command that made a script
+-- the word of the command that made a script; other frames are no command's
 abbrev pub maker : Kind → Text
 maker (Script name command) = command
+maker Lines = []
+maker (Tick before after) = []

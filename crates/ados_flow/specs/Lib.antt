@@ -8,3 +8,4 @@ pub mod Execute
 pub mod Quit
 pub mod Tests
 pub mod Rows
+pub mod Gathering

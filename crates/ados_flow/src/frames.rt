@@ -1,5 +1,5 @@
 // Frames.
-ghost use Rattle.std.specs.Prelude.{◌≡◌, ◌+◌, ◌<◌, ◌^◌, List, Some, IfOk, OnSome, slice_get};
+ghost use Rattle.std.specs.Prelude.{◌≡◌, ◌+◌, ◌<◌, ◌^◌, List, Some, IfOk, OnSome, length, slice_get};
 ghost use Rattle.std.specs.Option.{option_copied, option_map};
 
 use crate::code_rule::is_reached;
@@ -23,7 +23,7 @@ struct Fixed {
     output: Option<Target>,
 }
 
-/// A script that runs. Copies share its lines, its name and its output.
+/// A frame that runs. Copies share its kind, its lines and its output.
 #[derive(Drop)]
 pub struct Frame {
     fixed: Rc<Fixed>,
@@ -50,7 +50,7 @@ impl Model for Frame {
 }
 
 impl Frame {
-    ghost use Rattle.ados_flow.specs.Frames.{FrameState, began, moved, jumped, script_line_of, answered_frame, is_over, is_ended, is_script, last_line, last_codes, is_early};
+    ghost use Rattle.ados_flow.specs.Frames.{FrameState, began, moved, further, jumped, script_line_of, answered_frame, is_over, is_ended, is_script, last_line, last_codes, is_early};
 
     /// A frame that begins: what it is, its lines, the limit that stands, and its own output, if it has one.
     pub fn new(
@@ -106,6 +106,21 @@ impl Frame {
         self.line = self.position;
     }
 
+    /// How many of its lines were taken, or jumped over.
+    pub fn position(&self) -> usize
+        ensures { result ≡ self.now.position }
+    {
+        self.position
+    }
+
+    /// The lines that are not taken yet.
+    pub fn further(&self) -> &[Text]
+        ensures lines { result.now ≡ further self.now }
+        ensures below { self.now.position + length result.now < 2 ^ 64 }
+    {
+        self.fixed.script.lines().get(self.position..).unwrap_or(&[])
+    }
+
     /// It goes on at a line, counted from 1.
     pub fn jump_to(&mut self, line: usize)
         ensures { self.new ≡ jumped line self.old }
@@ -119,6 +134,7 @@ impl Frame {
     {
         match &self.fixed.kind {
             Kind::Script { .. } => Some((&self.fixed.script, self.line)),
+            Kind::Lines | Kind::Tick { .. } => None,
         }
     }
 
@@ -159,9 +175,7 @@ impl Frame {
     fn is_script(&self) -> bool
         ensures { result ≡ is_script self.now.kind }
     {
-        match &self.fixed.kind {
-            Kind::Script { .. } => true,
-        }
+        matches!(self.fixed.kind, Kind::Script { .. })
     }
 
     /// The limit that stood at its beginning.

@@ -10,4 +10,13 @@ pub enum Kind {
         /// The word of the command that made it.
         command: Text,
     },
+    /// The commands of a Run: the lines of its shell.
+    Lines,
+    /// The command between two back-ticks.
+    Tick {
+        /// What stands before them in the line that waits for it.
+        before: Text,
+        /// What stands behind them there.
+        after: Text,
+    },
 }

@@ -1,0 +1,54 @@
+-- What a Run takes: the commands of its shell, from its own text and further lines.
+use Rattle.std.specs.Prelude.{ℕ, zero, suc, List, [], ◌∷◌, ◌++◌, Bool, true, false, ◌==◌, ◌&&◌, Option, Some, None, is_some, unwrap_or, codes, if◌then◌else◌}
+use Rattle.std.specs.Fmt.{decimal}
+use Rattle.std.specs.List.{list_all}
+use Rattle.std.specs.Option.{option_map}
+use Rattle.ados_text.specs.Text.{Bytes, Text}
+use Rattle.ados_items.specs.declared.items.Item.{Item}
+use Rattle.ados_items.specs.declared.items.Item.TheVariants.{End}
+use Rattle.ados_items.specs.Items.{is_blank, item_at}
+pub use Rattle.ados_flow.specs.declared.gathering.Gathered.{Gathered}
+
+-- a new shell is given so many commands at most
+abbrev pub run_limit : ℕ
+run_limit = 32
+
+-- The text before the `+` that has only blanks behind it; none where a text has no such `+`.
+unfoldable pub before_plus : Text → Option Text
+before_plus [] = None
+before_plus (c ∷ cs) = if (c == 43) && list_all is_blank cs then Some [] else option_map (λ front. c ∷ front) (before_plus cs)
+
+-- the text goes on with a further line
+abbrev pub goes_on : Text → Bool
+goes_on text = is_some (before_plus text)
+
+-- the text without that `+`
+abbrev pub without_plus : Text → Text
+without_plus text = unwrap_or (before_plus text) text
+
+abbrev pub is_end : Item → Bool
+is_end (End at) = true
+is_end item = false
+
+-- no command stands in the text, its `+` aside
+unfoldable pub asks_nothing : Text → Bool
+asks_nothing text = is_end (item_at true (without_plus text) 0)
+
+-- a text that takes no further line
+abbrev pub alone : Text → Gathered
+alone text = record { commands = without_plus text ∷ []; taken = 0 }
+
+-- a text that took a further line, before what that one gathers
+abbrev pub leading : Text → Gathered → Gathered
+leading text rest = record { commands = without_plus text ∷ rest.commands; taken = suc rest.taken }
+
+-- The commands of a Run by its text and the lines behind it, of which it takes so many at most: each text that goes
+-- on takes one, and none keeps its `+`.
+abbrev pub gathered : ℕ → Text → List Text → Gathered
+gathered zero text lines = alone text
+gathered (suc room) text [] = alone text
+gathered (suc room) text (line ∷ lines) = if goes_on text then leading text (gathered room line lines) else alone text
+
+-- what Run prints: the number of its shell
+abbrev pub number_line : ℕ → Bytes
+number_line number = codes "[CLI " ++ decimal number ++ codes "]" ++ 10 ∷ []
