@@ -26,14 +26,14 @@ use Rattle.ados_find.specs.Parts.{Parts}
 use Rattle.ados_machine.specs.Course.{Course, printing}
 use Rattle.ados_machine.specs.Opening.{Opened, opening}
 use Rattle.ados_machine.specs.Prompts.{with_args, asks, first_of, prompt, input_lines}
-use Rattle.ados_machine.specs.Deeds.{FrameLines, Here, Deed, Passes, Answers, Jumps, Calls, Ticks, Waits}
+use Rattle.ados_machine.specs.Deeds.{FrameLines, Here, Deed, Passes, Answers, Jumps, Calls, Ticks, Waits, opened_by, read_by}
 use Rattle.ados_machine.specs.Questions.{ask_deed, replied}
 use Rattle.ados_flow.specs.Gathering.{run_limit, before_plus, asks_nothing}
 use Rattle.ados_machine.specs.Sinks.{Sink}
 use Rattle.ados_machine.specs.declared.phases.Gathering.{Gathering}
 use Rattle.ados_machine.specs.declared.phases.Parted.{Parted}
-use Rattle.ados_machine.specs.NewShells.{console_run, run_at, run_opened, run_deed, joined_by, joined_deed}
-use Rattle.ados_machine.specs.Lines.{action_in, action_deed, opened_deed, command_deed, prompt_deed, input_deed, builtin_deed, arriving_deed, directory_deed, calling_deed, script_deed, view_of, found_in, found_deed, expanded_deed, variables_in, line_deed, parted_deed, answer_deed, internal_deed}
+use Rattle.ados_machine.specs.NewShells.{console_run, run_at, run_into, running_deed, run_deed, joined_by, joined_deed}
+use Rattle.ados_machine.specs.Lines.{action_in, action_deed, work_deed, command_deed, prompt_deed, asked_deed, builtin_deed, arrived_deed, arriving_deed, directory_deed, called_deed, calling_deed, script_deed, view_of, found_in, found_deed, expanded_deed, variables_in, line_deed, parted_deed, answer_deed, internal_deed}
 
 -- where no command answers, these parts stand on
 abbrev pub KeepsParts : Parts → Deed → Type 0
@@ -60,16 +60,23 @@ action-keeps word target input (flow.Jumps line codes) here course = tt
 action-keeps word target input (flow.Calls script) here course = refl
 action-keeps word target input (flow.Asks prompt) here course = ask-keeps (record { word = word; prompt = prompt; output = target }) input course
 
-opened-keeps : (builtin : Builtin) (line : Line) (input : Option (List Text)) (here : Here) (course : Course) (opened : Result Opened Result2) →
-    KeepsParts course.parts (opened_deed builtin line input here course opened)
-opened-keeps builtin line input here course (Err fault) = tt
-opened-keeps builtin line input here course (Ok opened) =
-    let further : Course = record course { shared = opened.shared } in
-    action-keeps line.command opened.target input (action_in builtin line opened.target here further) here further
+-- where what comes behind an output that is opened keeps them
+output-keeps : (word : Text) (work : Option Target → Course → Deed) (course : Course) (opened : Result Opened Result2) →
+    ((target : Option Target) (further : Course) → KeepsParts further.parts (work target further)) → KeepsParts course.parts (opened_by word work course opened)
+output-keeps word work course (Err fault) keeps = tt
+output-keeps word work course (Ok opened) keeps = keeps opened.target (record course { shared = opened.shared })
+
+-- and behind an input that is read
+read-keeps : (word : Text) (work : Option (List Text) → Deed) (course : Course) (read : Result (Option (List Text)) Result2) →
+    ((lines : Option (List Text)) → KeepsParts course.parts (work lines)) → KeepsParts course.parts (read_by word work course read)
+read-keeps word work course (Err fault) keeps = tt
+read-keeps word work course (Ok lines) keeps = keeps lines
 
 command-keeps : (builtin : Builtin) (line : Line) (input : Option (List Text)) (here : Here) (course : Course) →
     KeepsParts course.parts (command_deed builtin line input here course)
-command-keeps builtin line input here course = opened-keeps builtin line input here course (opening course line.output)
+command-keeps builtin line input here course =
+    output-keeps line.command (λ target further. work_deed builtin line target input here further) course (opening course line.output)
+    (λ target further. action-keeps line.command target input (action_in builtin line target here further) here further)
 
 prompt-keeps : (builtin : Builtin) (line : Line) (here : Here) (course : Course) (input : Option (List Text)) →
     KeepsParts course.parts (prompt_deed builtin line here course input)
@@ -77,10 +84,9 @@ prompt-keeps builtin line here course None = refl
 prompt-keeps builtin line here course (Some lines) =
     command-keeps builtin (with_args line (first_of lines)) (Some (drop 1 lines)) here (printing (prompt builtin) course)
 
-input-keeps : (builtin : Builtin) (line : Line) (here : Here) (course : Course) (read : Result (Option (List Text)) Result2) →
-    KeepsParts course.parts (input_deed builtin line here course read)
-input-keeps builtin line here course (Err fault) = tt
-input-keeps builtin line here course (Ok input) =
+asked-keeps : (builtin : Builtin) (line : Line) (here : Here) (course : Course) (input : Option (List Text)) →
+    KeepsParts course.parts (asked_deed builtin line here course input)
+asked-keeps builtin line here course input =
     elim (cases_Bool (asks line.args)) [
       | inl e ↦ rw e (prompt-keeps builtin line here course input)
       | inr e ↦ rw e (command-keeps builtin line input here course)
@@ -88,29 +94,19 @@ input-keeps builtin line here course (Ok input) =
 
 builtin-keeps : (builtin : Builtin) (line : Line) (here : Here) (course : Course) →
     KeepsParts course.parts (builtin_deed builtin line here course)
-builtin-keeps builtin line here course = input-keeps builtin line here course (input_lines course line.input)
+builtin-keeps builtin line here course =
+    read-keeps line.command (asked_deed builtin line here course) course (input_lines course line.input) (asked-keeps builtin line here course)
 
-arriving-keeps : (place : Place) (line : Line) (here : Here) (course : Course) (opened : Result Opened Result2) →
-    KeepsParts course.parts (arriving_deed place line here course opened)
-arriving-keeps place line here course (Err fault) = tt
-arriving-keeps place line here course (Ok opened) = tt
+directory-keeps : (place : Place) (line : Line) (here : Here) (course : Course) → KeepsParts course.parts (directory_deed place line here course)
+directory-keeps place line here course =
+    read-keeps line.command (λ input. arriving_deed place line here course) course (input_lines course line.input)
+    (λ input. output-keeps line.command (λ target further. arrived_deed place line target here further) course (opening course line.output) (λ target further. tt))
 
-directory-keeps : (place : Place) (line : Line) (here : Here) (course : Course) (read : Result (Option (List Text)) Result2) →
-    KeepsParts course.parts (directory_deed place line here course read)
-directory-keeps place line here course (Err fault) = tt
-directory-keeps place line here course (Ok input) = arriving-keeps place line here course (opening course line.output)
-
-calling-keeps : (place : Place) (line : Line) (here : Here) (course : Course) (opened : Result Opened Result2) →
-    KeepsParts course.parts (calling_deed place line here course opened)
-calling-keeps place line here course (Err fault) = tt
-calling-keeps place line here course (Ok opened) =
-    let further : Course = record course { shared = opened.shared } in
-    action-keeps line.command opened.target None (script_row opened.shared (view_of line.command opened.target further) place line.args) here further
-
-script-keeps : (place : Place) (line : Line) (here : Here) (course : Course) (read : Result (Option (List Text)) Result2) →
-    KeepsParts course.parts (script_deed place line here course read)
-script-keeps place line here course (Err fault) = tt
-script-keeps place line here course (Ok input) = calling-keeps place line here course (opening course line.output)
+script-keeps : (place : Place) (line : Line) (here : Here) (course : Course) → KeepsParts course.parts (script_deed place line here course)
+script-keeps place line here course =
+    read-keeps line.command (λ input. calling_deed place line here course) course (input_lines course line.input)
+    (λ input. output-keeps line.command (λ target further. called_deed place line target here further) course (opening course line.output)
+    (λ target further. action-keeps line.command target None (script_row further.shared (view_of line.command target further) place line.args) here further))
 
 console_run-keeps : (word : Text) (output : Option Target) (text : Text) (sink : Sink) (course : Course) (command : Option Text) →
     KeepsParts course.parts (console_run word output text sink course command)
@@ -122,20 +118,17 @@ run_at-keeps : (word : Text) (output : Option Target) (text : Text) (sink : Sink
 run_at-keeps word output text sink course None = console_run-keeps word output text sink course (before_plus text)
 run_at-keeps word output text sink course (Some frame) = tt
 
-run_opened-keeps : (line : Line) (here : Here) (course : Course) (opened : Result Opened Result2) →
-    KeepsParts course.parts (run_opened line here course opened)
-run_opened-keeps line here course (Err fault) = tt
-run_opened-keeps line here course (Ok opened) =
-    let further : Course = record course { shared = opened.shared } in
+run_into-keeps : (line : Line) (here : Here) (output : Option Target) (course : Course) → KeepsParts course.parts (run_into line here output course)
+run_into-keeps line here output course =
     elim (cases_Bool (asks_nothing line.args)) [
       | inl e ↦ rw e tt
-      | inr e ↦ rw e (run_at-keeps line.command opened.target line.args here.sink further here.frame_lines)
+      | inr e ↦ rw e (run_at-keeps line.command output line.args here.sink course here.frame_lines)
     ]
 
-run-keeps : (line : Line) (here : Here) (course : Course) (read : Result (Option (List Text)) Result2) →
-    KeepsParts course.parts (run_deed line here course read)
-run-keeps line here course (Err fault) = tt
-run-keeps line here course (Ok input) = run_opened-keeps line here course (opening course line.output)
+run-keeps : (line : Line) (here : Here) (course : Course) → KeepsParts course.parts (run_deed line here course)
+run-keeps line here course =
+    read-keeps line.command (λ input. running_deed line here course) course (input_lines course line.input)
+    (λ input. output-keeps line.command (run_into line here) course (opening course line.output) (run_into-keeps line here))
 
 joined_by-keeps : (gathering : Gathering) (line : Text) (sink : Sink) (course : Course) (command : Option Text) →
     KeepsParts course.parts (joined_by gathering line sink course command)
@@ -152,14 +145,14 @@ joined-keeps gathering line sink course = joined_by-keeps gathering line sink co
 
 internal-keeps : (builtin : Option Builtin) (line : Line) (here : Here) (course : Course) →
     KeepsParts course.parts (internal_deed builtin line here course)
-internal-keeps None line here course = run-keeps line here course (input_lines course line.input)
+internal-keeps None line here course = run-keeps line here course
 internal-keeps (Some builtin) line here course = builtin-keeps builtin line here course
 
 found-keeps : (word : Found) (line : Line) (here : Here) (course : Course) → KeepsParts course.parts (found_deed word line here course)
 found-keeps (found.Internal command) line here course = internal-keeps (internal_builtin command) line here course
 found-keeps (found.File program) line here course = builtin-keeps (disk_builtin program.command) line here course
-found-keeps (found.Script place) line here course = script-keeps place line here course (input_lines course line.input)
-found-keeps (found.Directory place) line here course = directory-keeps place line here course (input_lines course line.input)
+found-keeps (found.Script place) line here course = script-keeps place line here course
+found-keeps (found.Directory place) line here course = directory-keeps place line here course
 found-keeps (found.NotExecutable fault) line here course = tt
 found-keeps found.Unknown line here course = tt
 

@@ -39,9 +39,8 @@ use Rattle.ados_machine.specs.Commands.{internal_builtin, disk_builtin, action_o
 use Rattle.ados_machine.specs.Sinks.{sink_or}
 use Rattle.ados_machine.specs.Shells.{Seen}
 use Rattle.ados_machine.specs.Course.{Course, printing, directories_of, outputs_of, Put, put}
-use Rattle.ados_machine.specs.Opening.{Opened, opening}
-use Rattle.ados_machine.specs.Prompts.{with_args, asks, first_of, is_end, prompt, input_lines}
-use Rattle.ados_machine.specs.Deeds.{Here, Deed, Passes, Answers, Jumps, Calls, Ticks, Waits, refused, line_fault}
+use Rattle.ados_machine.specs.Prompts.{with_args, asks, first_of, is_end, prompt}
+use Rattle.ados_machine.specs.Deeds.{Here, Deed, Passes, Answers, Jumps, Calls, Ticks, Waits, line_fault, with_input, with_output}
 use Rattle.ados_machine.specs.NewShells.{run_deed}
 use Rattle.ados_machine.specs.Questions.{ask_deed, reply_deed}
 
@@ -90,13 +89,10 @@ action_in builtin line target here course = action_of builtin course.shared here
 abbrev pub work_deed : Builtin → Line → Option Target → Option (List Text) → Here → Course → Deed
 work_deed builtin line target input here course = action_deed line.command target input (action_in builtin line target here course) here course
 
-abbrev pub opened_deed : Builtin → Line → Option (List Text) → Here → Course → Result Opened Result2 → Deed
-opened_deed builtin line input here course (Err fault) = refused line.command fault course
-opened_deed builtin line input here course (Ok opened) = work_deed builtin line opened.target input here (record course { shared = opened.shared })
-
 -- a command whose arguments are there: its output is opened, and it does its work
 abbrev pub command_deed : Builtin → Line → Option (List Text) → Here → Course → Deed
-command_deed builtin line input here course = opened_deed builtin line input here course (opening course line.output)
+command_deed builtin line input here course =
+    with_output line.command (λ target further. work_deed builtin line target input here further) course line.output
 
 -- the prompt is printed, and the input's first line stands for the arguments; without an input the shell waits for one
 abbrev pub prompt_deed : Builtin → Line → Here → Course → Option (List Text) → Deed
@@ -105,14 +101,13 @@ prompt_deed builtin line here course (Some lines) =
     command_deed builtin (with_args line (first_of lines)) (Some (drop 1 lines)) here (printing (prompt builtin) course)
 
 -- a command whose input, if it has one, was read
-abbrev pub input_deed : Builtin → Line → Here → Course → Result (Option (List Text)) Result2 → Deed
-input_deed builtin line here course (Err fault) = refused line.command fault course
-input_deed builtin line here course (Ok input) =
+abbrev pub asked_deed : Builtin → Line → Here → Course → Option (List Text) → Deed
+asked_deed builtin line here course input =
     if asks line.args then prompt_deed builtin line here course input else command_deed builtin line input here course
 
 -- a command whose input, if it has one, is read
 abbrev pub builtin_deed : Builtin → Line → Here → Course → Deed
-builtin_deed builtin line here course = input_deed builtin line here course (input_lines course line.input)
+builtin_deed builtin line here course = with_input line.command (asked_deed builtin line here course) course line.input
 
 -- the change to a directory takes no arguments
 abbrev pub arrival : SharedState → Place → Text → Effect
@@ -124,40 +119,38 @@ abbrev pub arrived_deed : Place → Line → Option Target → Here → Course �
 arrived_deed place line target here course =
     action_deed line.command target None (flow.Does (arrival course.shared place line.args)) here course
 
-abbrev pub arriving_deed : Place → Line → Here → Course → Result Opened Result2 → Deed
-arriving_deed place line here course (Err fault) = refused line.command fault course
-arriving_deed place line here course (Ok opened) = arrived_deed place line opened.target here (record course { shared = opened.shared })
+abbrev pub arriving_deed : Place → Line → Here → Course → Deed
+arriving_deed place line here course =
+    with_output line.command (λ target further. arrived_deed place line target here further) course line.output
 
 -- a line whose word leads to a directory: its input is read and its output is opened, and it changes to the directory
-abbrev pub directory_deed : Place → Line → Here → Course → Result (Option (List Text)) Result2 → Deed
-directory_deed place line here course (Err fault) = refused line.command fault course
-directory_deed place line here course (Ok input) = arriving_deed place line here course (opening course line.output)
+abbrev pub directory_deed : Place → Line → Here → Course → Deed
+directory_deed place line here course = with_input line.command (λ input. arriving_deed place line here course) course line.input
 
 -- a script of a line, whose output leads there, is called
 abbrev pub called_deed : Place → Line → Option Target → Here → Course → Deed
 called_deed place line target here course =
     action_deed line.command target None (script_row course.shared (view_of line.command target course) place line.args) here course
 
-abbrev pub calling_deed : Place → Line → Here → Course → Result Opened Result2 → Deed
-calling_deed place line here course (Err fault) = refused line.command fault course
-calling_deed place line here course (Ok opened) = called_deed place line opened.target here (record course { shared = opened.shared })
+abbrev pub calling_deed : Place → Line → Here → Course → Deed
+calling_deed place line here course =
+    with_output line.command (λ target further. called_deed place line target here further) course line.output
 
 -- a line whose word is a script: its input is read and its output is opened, and the script is called
-abbrev pub script_deed : Place → Line → Here → Course → Result (Option (List Text)) Result2 → Deed
-script_deed place line here course (Err fault) = refused line.command fault course
-script_deed place line here course (Ok input) = calling_deed place line here course (opening course line.output)
+abbrev pub script_deed : Place → Line → Here → Course → Deed
+script_deed place line here course = with_input line.command (λ input. calling_deed place line here course) course line.input
 
 -- an internal command, which may be Run
 abbrev pub internal_deed : Option Builtin → Line → Here → Course → Deed
-internal_deed None line here course = run_deed line here course (input_lines course line.input)
+internal_deed None line here course = run_deed line here course
 internal_deed (Some builtin) line here course = builtin_deed builtin line here course
 
 -- what the search found for the line's command; what is not known, or can't be run, reads and opens nothing
 abbrev pub found_deed : Found → Line → Here → Course → Deed
 found_deed (found.Internal command) line here course = internal_deed (internal_builtin command) line here course
 found_deed (found.File program) line here course = builtin_deed (disk_builtin program.command) line here course
-found_deed (found.Script place) line here course = script_deed place line here course (input_lines course line.input)
-found_deed (found.Directory place) line here course = directory_deed place line here course (input_lines course line.input)
+found_deed (found.Script place) line here course = script_deed place line here course
+found_deed (found.Directory place) line here course = directory_deed place line here course
 found_deed (found.NotExecutable fault) line here course = Answers line.command (erred fault) false course
 found_deed found.Unknown line here course = Answers line.command (erred OBJECT_NOT_FOUND) false course
 

@@ -1,7 +1,6 @@
 -- Run: what it comes to, which makes a new shell.
-use Rattle.std.specs.Prelude.{ℕ, suc, ◌+◌, ◌-◌, List, [], ◌∷◌, ◌++◌, drop, length, nat_le, false, Option, Some, None, Result, Ok, Err, if◌then◌else◌}
+use Rattle.std.specs.Prelude.{ℕ, suc, ◌+◌, ◌-◌, List, [], ◌∷◌, ◌++◌, drop, length, nat_le, false, Option, Some, None, if◌then◌else◌}
 use Rattle.ados_text.specs.Text.{Text}
-use Rattle.ados_text.specs.declared.codes.Result2.{Result2}
 use Rattle.ados_text.specs.declared.codes.TheConstants.Result2.{ARGUMENT_MISSING, OBJECT_IN_USE}
 use Rattle.ados_line.specs.declared.lines.Line.{Line}
 use Rattle.ados_find.specs.Codes.{failed, went_well}
@@ -12,8 +11,7 @@ use Rattle.ados_machine.specs.declared.phases.Wait.TheVariants.{ForLines}
 use Rattle.ados_machine.specs.Numbers.{free_number}
 use Rattle.ados_machine.specs.Sinks.{Sink, sink_or}
 use Rattle.ados_machine.specs.Course.{Course, Put, put}
-use Rattle.ados_machine.specs.Opening.{Opened, opening}
-use Rattle.ados_machine.specs.Deeds.{FrameLines, Here, Deed, Answers, Jumps, Waits, refused}
+use Rattle.ados_machine.specs.Deeds.{FrameLines, Here, Deed, Answers, Jumps, Waits, refused, with_input, with_output}
 
 -- the course of an event at which a shell is to begin, with these commands and this output
 abbrev pub beginning : List Text → Option Target → Course → Course
@@ -54,17 +52,17 @@ run_at word output text sink course (Some frame) =
     frame_run word output frame.position sink course (gathered (run_limit - 1) text (drop frame.position frame.lines))
 
 -- Run makes a shell for the commands of its text
-abbrev pub run_opened : Line → Here → Course → Result Opened Result2 → Deed
-run_opened line here course (Err fault) = refused line.command fault course
-run_opened line here course (Ok opened) =
-    (let further : Course = record course { shared = opened.shared } in
-    if asks_nothing line.args then refused line.command ARGUMENT_MISSING further
-    else run_at line.command opened.target line.args here.sink further here.frame_lines)
+abbrev pub run_into : Line → Here → Option Target → Course → Deed
+run_into line here output course =
+    if asks_nothing line.args then refused line.command ARGUMENT_MISSING course
+    else run_at line.command output line.args here.sink course here.frame_lines
+
+abbrev pub running_deed : Line → Here → Course → Deed
+running_deed line here course = with_output line.command (run_into line here) course line.output
 
 -- its line's input is read, which nothing takes, and its output is opened
-abbrev pub run_deed : Line → Here → Course → Result (Option (List Text)) Result2 → Deed
-run_deed line here course (Err fault) = refused line.command fault course
-run_deed line here course (Ok input) = run_opened line here course (opening course line.output)
+abbrev pub run_deed : Line → Here → Course → Deed
+run_deed line here course = with_input line.command (λ input. running_deed line here course) course line.input
 
 -- what a Run that gathers comes to with no further line
 abbrev pub gathered_deed : Gathering → Sink → Course → Deed

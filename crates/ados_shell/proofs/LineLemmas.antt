@@ -1,45 +1,69 @@
 -- A line whose input was read, or whose output was opened.
-use Rattle.std.proofs.Common.{◌≡◌, ◌∙◌, ℕ, List, Option, Some, Result, Ok, Err, ap, drop, subst, sym}
+use Rattle.std.proofs.Common.{◌≡◌, ◌∙◌, ◌×◌, ℕ, List, Option, Some, Result, Ok, Err, ap, drop, subst, sym}
 use Rattle.ados_text.specs.Text.{Text}
 use Rattle.ados_text.specs.declared.codes.Result2.{Result2}
 use Rattle.ados_line.specs.declared.lines.Line.{Line}
 use Rattle.ados_ram.specs.FileOperations.{Gives}
-use Rattle.ados_ram.specs.Place.{Place}
 use Rattle.ados_ram.specs.declared.faults.FsFault.TheVariants.{Refused}
-use Rattle.ados_find.specs.Shared.{SharedState}
-use Rattle.ados_find.specs.declared.targets.Target.TheVariants.{At}
+use Rattle.ados_find.specs.declared.targets.Target.{Target}
 use Rattle.ados_machine.specs.declared.builtins.Builtin.{Builtin}
 use Rattle.ados_flow.specs.Frames.{FrameState}
 use Rattle.ados_machine.specs.Course.{Course, printing}
-use Rattle.ados_machine.specs.Deeds.{Deed, refused}
-use Rattle.ados_machine.specs.Lines.{command_deed, input_deed, opened_deed, prompt_deed, script_deed, work_deed}
+use Rattle.ados_machine.specs.Deeds.{Deed, Here, opened_by, read_by, refused}
+use Rattle.ados_machine.specs.Lines.{command_deed, prompt_deed}
 use Rattle.ados_machine.specs.Opening.{Opened}
 use Rattle.ados_machine.specs.Prompts.{first_of, prompt, with_args}
 use Rattle.ados_machine.specs.Settle.{here_of, settle}
 use Rattle.ados_shell.specs.declared.scenes.Scene.{Scene}
 use Rattle.ados_shell.specs.declared.drafts.Draft.{Draft}
 use Rattle.ados_shell.specs.Drafts.{Settles, course_of, frames_of, here}
+use Rattle.ados_shell.specs.Outputs.{HasOpened}
+use Rattle.ados_shell.specs.Stacks.{frames_in}
 use Rattle.ados_shell.proofs.TurnLemmas.{goes-same}
 
--- the input of a script's line was refused
-pub input-refused : (scene : Scene) (before after : Draft) (place : Place) (line : Line) (fault : Result2) (read : Result (Option (List Text)) Result2)
+-- the input of a line was refused
+pub input-refused : (scene : Scene) (before after : Draft) (word : Text) (work : Option (List Text) → Deed) (fault : Result2) (read : Result (Option (List Text)) Result2)
     → Gives (Err (Refused fault)) read
-    → Settles scene before after (refused line.command fault (course_of scene before))
-    → Settles scene before after (script_deed place line (here scene before) (course_of scene before) read)
-input-refused scene before after place line fault (Err other) h g =
-    let P : Result2 → Type 0 = λ f. Settles scene before after (refused line.command f (course_of scene before)) in
+    → Settles scene before after (refused word fault (course_of scene before))
+    → Settles scene before after (read_by word work (course_of scene before) read)
+input-refused scene before after word work fault (Err other) h g =
+    let P : Result2 → Type 0 = λ f. Settles scene before after (refused word f (course_of scene before)) in
     subst P h g
-input-refused scene before after place line fault (Ok lines) h g = absurd h
+input-refused scene before after word work fault (Ok lines) h g = absurd h
 
--- the input of a command's line was read
-pub input-given : (scene : Scene) (before after : Draft) (builtin : Builtin) (line : Line) (input : Option (List Text)) (read : Result (Option (List Text)) Result2)
+-- it was read
+pub input-given : (scene : Scene) (before after : Draft) (word : Text) (work : Option (List Text) → Deed) (input : Option (List Text)) (read : Result (Option (List Text)) Result2)
     → Gives (Ok input) read
-    → Settles scene before after (input_deed builtin line (here scene before) (course_of scene before) (Ok input))
-    → Settles scene before after (input_deed builtin line (here scene before) (course_of scene before) read)
-input-given scene before after builtin line input (Ok lines) h g =
-    let P : Option (List Text) → Type 0 = λ i. Settles scene before after (input_deed builtin line (here scene before) (course_of scene before) (Ok i)) in
+    → Settles scene before after (work input)
+    → Settles scene before after (read_by word work (course_of scene before) read)
+input-given scene before after word work input (Ok lines) h g =
+    let P : Option (List Text) → Type 0 = λ i. Settles scene before after (work i) in
     subst P h g
-input-given scene before after builtin line input (Err fault) h g = absurd h
+input-given scene before after word work input (Err fault) h g = absurd h
+
+-- the output of a line was refused
+pub output-refused : (scene : Scene) (before mid after : Draft) (word : Text) (work : Here → Option Target → Course → Deed) (fault : Result2) (opened : Result Opened Result2)
+    → HasOpened scene before mid (Err (Refused fault)) opened
+    → Settles scene mid after (refused word fault (course_of scene mid))
+    → Settles scene before after (opened_by word (work (here scene before)) (course_of scene before) opened)
+output-refused scene before mid after word work fault (Err other) h g =
+    let P : Draft → Type 0 = λ d. Settles scene d after (refused word fault (course_of scene d)) in
+    let Q : Result2 → Type 0 = λ f. Settles scene before after (refused word f (course_of scene before)) in
+    subst Q h.0 (subst P h.1 g)
+output-refused scene before mid after word work fault (Ok opened) h g = absurd h
+
+-- it was opened
+pub output-given : (scene : Scene) (before mid after : Draft) (word : Text) (work : Here → Option Target → Course → Deed) (target : Option Target) (opened : Result Opened Result2)
+    → HasOpened scene before mid (Ok target) opened
+    → Settles scene mid after (work (here scene mid) target (course_of scene mid))
+    → Settles scene before after (opened_by word (work (here scene before)) (course_of scene before) opened)
+output-given scene before mid after word work target (Ok opened) h g =
+    goes-same scene before mid after _ _ h.reports
+    (ap (λ x. settle (work (here_of (frames_in scene.shell.now x)) target (course_of scene mid)) (frames_in scene.shell.now x)) h.frames
+    ∙ ap (λ x. settle (work (here scene before) x (course_of scene mid)) (frames_of scene before)) h.target_is
+    ∙ ap (λ x. settle (work (here scene before) opened.target x) (frames_of scene before)) h.course)
+    g
+output-given scene before mid after word work target (Err fault) h g = absurd h
 
 -- the prompt was printed, and lines of an input answer it
 pub prompt-goes : (scene : Scene) (before mid after : Draft) (builtin : Builtin) (line : Line) (lines : List Text)
@@ -53,12 +77,3 @@ prompt-goes scene before mid after builtin line lines f c r g =
     (ap (λ frames. settle (deed frames (course_of scene mid)) frames) f
     ∙ ap (λ course. settle (deed (frames_of scene before) course) (frames_of scene before)) c)
     g
-
--- a command's output was opened, and is a file
-pub file-opened : (scene : Scene) (before after : Draft) (builtin : Builtin) (line : Line) (input : Option (List Text)) (new : SharedState) (place : Place)
-    (opened : Result Opened Result2) → opened ≡ Ok (record { shared = new; target = Some (At place) })
-    → Settles scene (record before { shared = Some new }) after (work_deed builtin line (Some (At place)) input (here scene before) (course_of scene (record before { shared = Some new })))
-    → Settles scene before after (opened_deed builtin line input (here scene before) (course_of scene before) opened)
-file-opened scene before after builtin line input new place opened e g =
-    let P : Result Opened Result2 → Type 0 = λ o. Settles scene before after (opened_deed builtin line input (here scene before) (course_of scene before) o) in
-    subst P (sym e) (record { frames = g.frames; phase = g.phase; course = g.course; reports = g.reports })

@@ -2,8 +2,6 @@
 ghost use Rattle.std.specs.Prelude.{◌≡◌, IfOk, OnOk};
 ghost use Rattle.ados_find.specs.Effects.{DoesTo};
 ghost use Rattle.ados_machine.specs.Lines.{arrival, arrived_deed, arriving_deed, directory_deed};
-ghost use Rattle.ados_machine.specs.Opening.{opening};
-ghost use Rattle.ados_machine.specs.Prompts.{input_lines};
 
 use crate::drafts::Draft;
 use crate::inputs::is_end;
@@ -22,8 +20,7 @@ impl Draft {
     pub fn arrive(&mut self, scene: &Scene, place: Place, line: &Line) -> Result<(), NoMemory>
         requires { IsUnset self.old }
         ensures { OnOk result (Settles scene.now self.old self.new
-            (directory_deed place line.now (here scene.now self.old) (course_of scene.now self.old)
-            (input_lines (course_of scene.now self.old) line.now.input))) }
+            (directory_deed place line.now (here scene.now self.old) (course_of scene.now self.old))) }
     {
         match self.input(scene, line.input.as_ref()) {
             Err(FsFault::NoMemory) => Err(NoMemory),
@@ -36,8 +33,7 @@ impl Draft {
     fn change_to(&mut self, scene: &Scene, place: Place, line: &Line) -> Result<(), NoMemory>
         requires { IsUnset self.old }
         ensures { OnOk result (Settles scene.now self.old self.new
-            (arriving_deed place line.now (here scene.now self.old) (course_of scene.now self.old)
-            (opening (course_of scene.now self.old) line.now.output))) }
+            (arriving_deed place line.now (here scene.now self.old) (course_of scene.now self.old))) }
     {
         match self.open_own(scene, line.output.as_ref()) {
             Err(FsFault::NoMemory) => Err(NoMemory),

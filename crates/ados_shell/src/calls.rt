@@ -1,8 +1,6 @@
 // A line whose word is a script: its call.
 ghost use Rattle.std.specs.Prelude.{◌≡◌, OnOk};
 ghost use Rattle.ados_machine.specs.Lines.{called_deed, calling_deed, script_deed};
-ghost use Rattle.ados_machine.specs.Opening.{opening};
-ghost use Rattle.ados_machine.specs.Prompts.{input_lines};
 
 use crate::drafts::Draft;
 use crate::scenes::Scene;
@@ -25,8 +23,7 @@ impl Draft {
     pub fn run_script(&mut self, scene: &Scene, place: Place, line: &Line) -> Result<(), NoMemory>
         requires { IsUnset self.old }
         ensures { OnOk result (Settles scene.now self.old self.new
-            (script_deed place line.now (here scene.now self.old) (course_of scene.now self.old)
-            (input_lines (course_of scene.now self.old) line.now.input))) }
+            (script_deed place line.now (here scene.now self.old) (course_of scene.now self.old))) }
     {
         match self.input(scene, line.input.as_ref()) {
             Err(FsFault::NoMemory) => Err(NoMemory),
@@ -39,8 +36,7 @@ impl Draft {
     fn call_into(&mut self, scene: &Scene, place: &Place, line: &Line) -> Result<(), NoMemory>
         requires { IsUnset self.old }
         ensures { OnOk result (Settles scene.now self.old self.new
-            (calling_deed place.now line.now (here scene.now self.old) (course_of scene.now self.old)
-            (opening (course_of scene.now self.old) line.now.output))) }
+            (calling_deed place.now line.now (here scene.now self.old) (course_of scene.now self.old))) }
     {
         match self.open_own(scene, line.output.as_ref()) {
             Err(FsFault::NoMemory) => Err(NoMemory),

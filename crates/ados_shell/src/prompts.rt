@@ -2,7 +2,7 @@
 ghost use Rattle.std.specs.Prelude.{◌≡◌, ◌++◌, Ok, Some, IfOk, OnOk, drop};
 ghost use Rattle.std.specs.Option.{option_copied, option_map};
 ghost use Rattle.ados_machine.specs.Deeds.{Waits};
-ghost use Rattle.ados_machine.specs.Lines.{answer_deed, command_deed, input_deed, prompt_deed};
+ghost use Rattle.ados_machine.specs.Lines.{answer_deed, asked_deed, builtin_deed, command_deed, prompt_deed};
 ghost use Rattle.ados_machine.specs.Prompts.{first_of, input_lines, prompt, with_args};
 ghost use Rattle.ados_ram.specs.FileOperations.{Gives};
 
@@ -23,8 +23,7 @@ impl Draft {
     pub fn prepare(&mut self, scene: &Scene, builtin: Builtin, line: &Line) -> Result<(), NoMemory>
         requires { IsUnset self.old }
         ensures { OnOk result (Settles scene.now self.old self.new
-            (input_deed builtin line.now (here scene.now self.old) (course_of scene.now self.old)
-            (input_lines (course_of scene.now self.old) line.now.input))) }
+            (builtin_deed builtin line.now (here scene.now self.old) (course_of scene.now self.old))) }
     {
         match self.input(scene, line.input.as_ref()) {
             Err(FsFault::NoMemory) => Err(NoMemory),
@@ -58,7 +57,7 @@ impl Draft {
     ) -> Result<(), NoMemory>
         requires { IsUnset self.old }
         ensures { OnOk result (Settles scene.now self.old self.new
-            (input_deed builtin line.now (here scene.now self.old) (course_of scene.now self.old) (Ok (option_map (λ l. l.now) input.entry)))) }
+            (asked_deed builtin line.now (here scene.now self.old) (course_of scene.now self.old) (option_map (λ l. l.now) input.entry))) }
     {
         if asks(&line.args) {
             self.ask(scene, builtin, line, input)

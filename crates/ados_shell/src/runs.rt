@@ -2,9 +2,7 @@
 ghost use Rattle.std.specs.Prelude.{◌≡◌, ◌-◌, ◌++◌, ◌∷◌, [], drop, IfOk, IfSome, OnOk};
 ghost use Rattle.std.specs.Option.{option_copied, option_map};
 ghost use Rattle.ados_flow.specs.Gathering.{before_plus, gathered, run_limit};
-ghost use Rattle.ados_machine.specs.NewShells.{answered_put, console_run, gathered_deed, joined_deed, new_shell, run_at, run_deed, run_opened};
-ghost use Rattle.ados_machine.specs.Opening.{opening};
-ghost use Rattle.ados_machine.specs.Prompts.{input_lines};
+ghost use Rattle.ados_machine.specs.NewShells.{answered_put, console_run, gathered_deed, joined_deed, new_shell, run_at, run_deed, run_into, running_deed};
 ghost use Rattle.ados_shell.specs.Stacks.{HasTaken};
 
 use crate::begun::Begun;
@@ -29,8 +27,7 @@ impl Draft {
     pub fn run(&mut self, scene: &Scene, line: &Line) -> Result<(), NoMemory>
         requires { IsUnset self.old }
         ensures { OnOk result (Settles scene.now self.old self.new
-            (run_deed line.now (here scene.now self.old) (course_of scene.now self.old)
-            (input_lines (course_of scene.now self.old) line.now.input))) }
+            (run_deed line.now (here scene.now self.old) (course_of scene.now self.old))) }
     {
         match self.input(scene, line.input.as_ref()) {
             Err(FsFault::NoMemory) => Err(NoMemory),
@@ -43,25 +40,36 @@ impl Draft {
     fn run_into(&mut self, scene: &Scene, line: &Line) -> Result<(), NoMemory>
         requires { IsUnset self.old }
         ensures { OnOk result (Settles scene.now self.old self.new
-            (run_opened line.now (here scene.now self.old) (course_of scene.now self.old)
-            (opening (course_of scene.now self.old) line.now.output))) }
+            (running_deed line.now (here scene.now self.old) (course_of scene.now self.old))) }
     {
         match self.open_own(scene, line.output.as_ref()) {
             Err(FsFault::NoMemory) => Err(NoMemory),
             Err(FsFault::Refused(fault)) => self.refuse(scene, &line.command, fault),
-            Ok(target) => {
-                if asks_nothing(&line.args) {
-                    self.refuse(scene, &line.command, Result2::ARGUMENT_MISSING)
-                } else {
-                    self.run_text(scene, line, target)
-                }
-            }
+            Ok(target) => self.run_text(scene, line, target),
         }
     }
 
-    /// Runs the text of a Run, whose output leads there: in a frame with further lines of that, on the console with those
-    /// for which the shell waits.
+    /// Runs the text of a Run, whose output leads there; without a command it is refused.
     fn run_text(
+        &mut self,
+        scene: &Scene,
+        line: &Line,
+        output: Option<Target>,
+    ) -> Result<(), NoMemory>
+        requires { IsUnset self.old }
+        ensures { OnOk result (Settles scene.now self.old self.new
+            (run_into line.now (here scene.now self.old) output (course_of scene.now self.old))) }
+    {
+        if asks_nothing(&line.args) {
+            self.refuse(scene, &line.command, Result2::ARGUMENT_MISSING)
+        } else {
+            self.run_commands(scene, line, output)
+        }
+    }
+
+    /// Runs the commands of a Run, whose output leads there: in a frame with further lines of that, on the console with
+    /// those for which the shell waits.
+    fn run_commands(
         &mut self,
         scene: &Scene,
         line: &Line,
