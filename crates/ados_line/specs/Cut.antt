@@ -1,7 +1,8 @@
 -- The cut of a line: its command, its arguments, and the redirections of its input and its output. The pieces
--- that are no redirection stay, as they stand, in the arguments.
-use Rattle.std.specs.Prelude.{ℕ, zero, suc, ◌+◌, [], ◌∷◌, ◌++◌, Bool, true, false, Option, Some, None, is_some, Result, Ok, Err, length, drop, if◌then◌else◌}
-use Rattle.ados_text.specs.Text.{Text}
+-- that are no redirection stay, as they stand, in the arguments. Behind Run only the redirections that stand directly
+-- there are read, and the rest of the line is its arguments, whatever it holds.
+use Rattle.std.specs.Prelude.{ℕ, zero, suc, ◌+◌, [], ◌∷◌, ◌++◌, Bool, true, false, Option, Some, None, is_some, Result, Ok, Err, length, drop, codes, if◌then◌else◌}
+use Rattle.ados_text.specs.Text.{Text, is_same}
 use Rattle.ados_items.specs.declared.items.Item.{Item}
 use Rattle.ados_items.specs.declared.items.Item.TheVariants.{Word, Quoted, Equal, End, Unmatched}
 use Rattle.ados_items.specs.Items.{item_at, value_of, bytes_between}
@@ -72,10 +73,35 @@ cut_item next line place read (Equal at) =
 cut_item next line place read (End at) = Ok (with_blanks read.command (drop place line) read)
 cut_item next line place read (Unmatched from) = Err UnmatchedQuotes
 
+-- the command is Run, case ignored
+abbrev pub is_run : Option Text → Bool
+is_run None = false
+is_run (Some command) = is_same command (codes "Run")
+
+-- the rest of the line, as it stands
+abbrev pub with_rest : Text → Cut → Cut
+with_rest rest read = record read { args = read.args ++ rest }
+
+-- a word behind Run: a redirection, or the rest of the line begins at the blanks in front of it
+abbrev pub run_word : Next → Text → ℕ → Cut → ℕ → Option Sign → Result Cut LineFault
+run_word next line place read from (Some sign) = redirected next line from read sign
+run_word next line place read from None = Ok (with_rest (drop place line) read)
+
+-- an item behind Run: only a word may begin with a sign
+abbrev pub run_item : Next → Text → ℕ → Cut → Item → Result Cut LineFault
+run_item next line place read (Word from to) =
+    if is_both line from then Err NotImplemented else run_word next line place read from (sign_at line from)
+run_item next line place read _ = Ok (with_rest (drop place line) read)
+
+-- an item, behind the command that was read, if one was
+abbrev pub cut_behind : Next → Text → ℕ → Cut → Item → Result Cut LineFault
+cut_behind next line place read item =
+    if is_run read.command then run_item next line place read item else cut_item next line place read item
+
 -- the items from a place on, at most so many
 abbrev pub cut_from : ℕ → Text → ℕ → Cut → Result Cut LineFault
 cut_from zero line place read = Ok read
-cut_from (suc count) line place read = cut_item (cut_from count line) line place read (item_at true line place)
+cut_from (suc count) line place read = cut_behind (cut_from count line) line place read (item_at true line place)
 
 abbrev pub nothing_read : Cut
 nothing_read = record { command = None; args = []; input = None; output = None }

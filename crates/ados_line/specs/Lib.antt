@@ -8,4 +8,5 @@ pub mod Letters
 pub mod Pieces
 pub mod Signs
 pub mod Steps
+pub mod Ticks
 pub mod Values

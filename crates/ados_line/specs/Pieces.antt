@@ -1,6 +1,8 @@
--- A line as its pieces, in order: what is kept of it, and the redirections that are taken out.
-use Rattle.std.specs.Prelude.{◌≡◌, ℕ, ◌+◌, ◌≤◌, ◌<◌, List, [], ◌∷◌, ◌++◌, Bool, true, false, ◌||◌, Option, Some, None, length, option_to_list}
+-- A line as its pieces, in order: what is kept of it, and the redirections that are taken out; behind Run's own
+-- redirections all that is left is one piece.
+use Rattle.std.specs.Prelude.{◌≡◌, ℕ, ◌+◌, ◌≤◌, ◌<◌, List, [], ◌∷◌, ◌++◌, Bool, true, false, ◌||◌, Option, Some, None, length, option_to_list, if◌then◌else◌}
 use Rattle.std.specs.List.{flat_map}
+use Rattle.std.specs.Option.{option_or}
 use Rattle.ados_text.specs.Text.{Text}
 use Rattle.ados_items.specs.declared.items.Item.{Item}
 use Rattle.ados_items.specs.declared.items.Item.TheVariants.{Word, Quoted, Equal, End, Unmatched}
@@ -10,15 +12,17 @@ use Rattle.ados_line.specs.declared.signs.Sign.TheVariants.{Input, Output, Appen
 use Rattle.ados_line.specs.declared.lines.Redirection.{Redirection}
 use Rattle.ados_line.specs.declared.lines.Line.{Line}
 use Rattle.ados_line.specs.declared.lines.Expanded.{Expanded}
-use Rattle.ados_line.specs.declared.lines.Expanded.TheVariants.{Nothing, Ready}
+use Rattle.ados_line.specs.declared.lines.Expanded.TheVariants.{Nothing, Ready, Tick}
+use Rattle.ados_line.specs.Cut.{is_run}
 use Rattle.ados_line.specs.Signs.{begins, is_both, sign_at, width_of}
 
 -- A piece of a line, as it is written: bytes in which no item begins; an item with the blanks in front of it, and its
--- text; or a redirection, by its sign, what stands behind the sign, and the name.
+-- text; a redirection, by its sign, what stands behind the sign, and the name; or the rest of a line.
 pub data Piece : Type 0 where
   Blank : Text → Piece
   Kept : Text → Text → Piece
   Redirected : Sign → Text → Text → Piece
+  Rest : Text → Piece
 
 -- the bytes of a sign
 abbrev pub sign_bytes : Sign → Text
@@ -31,6 +35,7 @@ abbrev pub written : Piece → Text
 written (Blank bytes) = bytes
 written (Kept bytes text) = bytes
 written (Redirected sign behind name) = sign_bytes sign ++ behind
+written (Rest bytes) = bytes
 
 -- an item ends at a place: neither the line's end nor an open quote does
 abbrev pub EndsAt : ℕ → Item → Type 0
@@ -56,32 +61,47 @@ is_signed line (Equal at) = false
 is_signed line (End at) = false
 is_signed line (Unmatched from) = false
 
--- What a piece is that stands at a place of the line: no item begins in blanks; a piece that is kept ends with the item
--- there, which begins with no sign; a redirection is the longest sign, with the item behind it, whose text is the name.
-abbrev pub IsPieceAt : Text → ℕ → Piece → Type 0
-IsPieceAt line place (Blank bytes) = StopsBefore line (place + length bytes) (item_at true line place)
-IsPieceAt line place (Kept bytes text) =
+-- What a piece is that stands at a place of the line, behind the command, if one was kept: no item begins in blanks; a
+-- piece that is kept ends with the item there, which begins with no sign; a redirection is the longest sign, with the item
+-- behind it, whose text is the name. Behind Run no item is kept: blanks stand there only in front of a sign, and what
+-- begins with none is the rest of the line.
+abbrev pub IsPieceAt : Text → Option Text → ℕ → Piece → Type 0
+IsPieceAt line command place (Blank bytes) =
     let item = item_at true line place in
-    EndsAt (place + length bytes) item × (text ≡ value_of line item) × (is_signed line item ≡ false)
-IsPieceAt line place (Redirected sign behind name) =
+    StopsBefore line (place + length bytes) item × (is_run command ≡ true → is_signed line item ≡ true)
+IsPieceAt line command place (Kept bytes text) =
+    let item = item_at true line place in
+    (is_run command ≡ false) × EndsAt (place + length bytes) item × (text ≡ value_of line item) × (is_signed line item ≡ false)
+IsPieceAt line command place (Redirected sign behind name) =
     let item = item_at false line (place + width_of sign) in
     (sign_at line place ≡ Some sign) × (is_both line place ≡ false) × EndsAt (place + width_of sign + length behind) item × (name ≡ value_of line item)
+IsPieceAt line command place (Rest bytes) =
+    (is_run command ≡ true) × (place + length bytes ≡ length line) × (is_signed line (item_at true line place) ≡ false)
+
+-- the command behind a piece: the first item that is kept
+abbrev pub command_behind : Option Text → Piece → Option Text
+command_behind command (Blank bytes) = command
+command_behind command (Kept bytes text) = option_or command (Some text)
+command_behind command (Redirected sign behind name) = command
+command_behind command (Rest bytes) = command
 
 -- the pieces stand in the line from a place on, one behind another
-abbrev pub Stand : Text → ℕ → List Piece → Type 0
-Stand line place [] = Unit {0}
-Stand line place (piece ∷ pieces) = IsPieceAt line place piece × Stand line (place + length (written piece)) pieces
+abbrev pub Stand : Text → Option Text → ℕ → List Piece → Type 0
+Stand line command place [] = Unit {0}
+Stand line command place (piece ∷ pieces) =
+    IsPieceAt line command place piece × Stand line (command_behind command piece) (place + length (written piece)) pieces
 
 -- the pieces are the line, in order
 pub record ArePieces (line : Text) (pieces : List Piece) : Type 0 where
   pub joined : flat_map written pieces ≡ line
-  pub placed : Stand line 0 pieces
+  pub placed : Stand line None 0 pieces
 
--- what a piece leaves in the arguments
-abbrev pub kept : Piece → Text
-kept (Blank bytes) = bytes
-kept (Kept bytes text) = bytes
-kept (Redirected sign behind name) = []
+-- what a piece leaves in the arguments of a command: blanks in front of Run's redirections leave nothing
+abbrev pub kept : Text → Piece → Text
+kept command (Blank bytes) = if is_run (Some command) then [] else bytes
+kept command (Kept bytes text) = bytes
+kept command (Redirected sign behind name) = []
+kept command (Rest bytes) = bytes
 
 -- the command is the first item that is kept
 abbrev pub command_of : List Piece → Option Text
@@ -89,13 +109,15 @@ command_of [] = None
 command_of (Blank bytes ∷ pieces) = command_of pieces
 command_of (Kept bytes text ∷ pieces) = Some text
 command_of (Redirected sign behind name ∷ pieces) = command_of pieces
+command_of (Rest bytes ∷ pieces) = command_of pieces
 
 -- the arguments are what is kept behind the command, joined as it stands
 abbrev pub args_of : List Piece → Text
 args_of [] = []
 args_of (Blank bytes ∷ pieces) = args_of pieces
-args_of (Kept bytes text ∷ pieces) = flat_map kept pieces
+args_of (Kept bytes text ∷ pieces) = flat_map (kept text) pieces
 args_of (Redirected sign behind name ∷ pieces) = args_of pieces
+args_of (Rest bytes ∷ pieces) = args_of pieces
 
 abbrev pub input_by : Sign → Text → List Text
 input_by Input name = name ∷ []
@@ -112,12 +134,14 @@ abbrev pub inputs : Piece → List Text
 inputs (Blank bytes) = []
 inputs (Kept bytes text) = []
 inputs (Redirected sign behind name) = input_by sign name
+inputs (Rest bytes) = []
 
 -- the output, where the piece names one
 abbrev pub outputs : Piece → List Redirection
 outputs (Blank bytes) = []
 outputs (Kept bytes text) = []
 outputs (Redirected sign behind name) = output_by sign name
+outputs (Rest bytes) = []
 
 -- A line is what its pieces say: the redirections are at most one input and at most one output.
 pub record IsSaid (line : Line) (pieces : List Piece) : Type 0 where
@@ -126,7 +150,8 @@ pub record IsSaid (line : Line) (pieces : List Piece) : Type 0 where
   pub input : flat_map inputs pieces ≡ option_to_list line.input
   pub output : flat_map outputs pieces ≡ option_to_list line.output
 
--- What a line came to is made of its pieces; where it asks for nothing no item is kept.
+-- What a line came to is made of its pieces; where it asks for nothing no item is kept. A line that is cut is no tick.
 abbrev pub IsOfPieces : Text → Expanded → Type 0
 IsOfPieces line Nothing = (pieces : List Piece) × ArePieces line pieces × (command_of pieces ≡ None)
 IsOfPieces line (Ready said) = (pieces : List Piece) × ArePieces line pieces × IsSaid said pieces
+IsOfPieces line (Tick tick) = ⊥

@@ -2,7 +2,7 @@ ghost use Rattle.std.specs.Prelude.{◌≡◌, ◌≤◌, true, false, length, d
 ghost use Rattle.std.specs.List.{list_any};
 ghost use Rattle.ados_text.specs.Text.{IsText};
 ghost use Rattle.ados_items.specs.Items.{item_at, value_of, bytes_between, IsWithin};
-ghost use Rattle.ados_line.specs.Cut.{Next, with_piece, with_blanks, with_name, named, is_taken, redirected, cut_word, cut_item, cut_of, nothing_read};
+ghost use Rattle.ados_line.specs.Cut.{Next, with_piece, with_blanks, with_name, named, is_taken, redirected, cut_word, cut_item, run_item, cut_behind, cut_of, is_run, with_rest, nothing_read};
 ghost use Rattle.ados_line.specs.Signs.{is_mark};
 ghost use Rattle.ados_line.specs.Steps.{Goes, IsCut, with_arguments};
 
@@ -197,21 +197,86 @@ impl Cut {
         }
     }
 
+    // The command is Run.
+    fn is_run(&self) -> bool
+        ensures { result ≡ is_run self.now.command }
+    {
+        match &self.command {
+            None => false,
+            Some(command) => command.is("Run"),
+        }
+    }
+
+    // The rest of the line, from a place on.
+    fn take_rest(&mut self, line: &[u8], place: usize) -> Result<(), NoMemory>
+        requires { IsText line.now }
+        ensures { OnOk result (self.new ≡ with_rest (drop place line.now) self.old) }
+    {
+        self.args.push_bytes(piece(line, place, line.len()))
+    }
+
+    // An item behind Run: a redirection of Run's own, or the rest of the line begins.
+    fn take_behind_run(
+        &mut self,
+        alloc: Global,
+        line: &[u8],
+        place: usize,
+        item: &Item,
+    ) -> Result<Reading, LineFault>
+        requires ascii { IsText line.now }
+        requires within { IsWithin line.now item.now }
+        ensures { (next : Next) → Goes next result self.new (run_item next line.now place self.old item.now) }
+    {
+        let Item::Word { from, .. } = *item else {
+            self.take_rest(line, place)?;
+            return Ok(Reading::Done);
+        };
+        if is_both(line, from) {
+            return Err(LineFault::NotImplemented);
+        }
+        match sign_at(line, from) {
+            Some(sign) => self.take_redirection(alloc, line, from, sign),
+            None => {
+                self.take_rest(line, place)?;
+                Ok(Reading::Done)
+            }
+        }
+    }
+
     // The item at a place up to which the line was read.
-    fn take_item(&mut self, alloc: Global, line: &[u8], place: usize) -> Result<Reading, LineFault>
+    fn take_next(&mut self, alloc: Global, line: &[u8], place: usize) -> Result<Reading, LineFault>
         requires { IsText line.now }
         ensures { (next : Next) →
-            Goes next result self.new (cut_item next line.now place self.old (item_at true line.now place)) }
+            Goes next result self.new (cut_behind next line.now place self.old (item_at true line.now place)) }
     {
         let item = next_item(line, place);
-        match item {
+        if self.is_run() {
+            self.take_behind_run(alloc, line, place, &item)
+        } else {
+            self.take_item(alloc, line, place, &item)
+        }
+    }
+
+    // The item behind a place up to which the line was read, where the command is not Run.
+    fn take_item(
+        &mut self,
+        alloc: Global,
+        line: &[u8],
+        place: usize,
+        item: &Item,
+    ) -> Result<Reading, LineFault>
+        requires ascii { IsText line.now }
+        requires within { IsWithin line.now item.now }
+        ensures { (next : Next) → Goes next result self.new (cut_item next line.now place self.old item.now) }
+    {
+        match *item {
             Item::Word { from, to } => self.take_word(alloc, line, place, from, to),
             Item::Quoted { to, .. } => {
-                self.take_piece(alloc, line, &item, place, to + 1)?;
+                self.take_piece(alloc, line, item, place, to + 1)?;
                 Ok(Reading::Onward(to + 1))
             }
             Item::Equal(at) => {
-                self.take_piece(alloc, line, &item, place, at + 1)?;
+                self.take_piece(alloc, line, item, place, at + 1)?;
                 Ok(Reading::Onward(at + 1))
             }
             Item::End(_) => {
@@ -259,7 +324,7 @@ fn cut_items(alloc: Global, line: &[u8]) -> Result<Cut, LineFault>
     let mut read = Cut::of_nothing(alloc);
     let mut place = 0;
     for step in 0..line.len() + 1 {
-        match read.take_item(alloc, line, place)? {
+        match read.take_next(alloc, line, place)? {
             Reading::Onward(to) => place = to,
             Reading::Done => return Ok(read),
         }

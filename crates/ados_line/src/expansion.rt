@@ -1,9 +1,9 @@
-ghost use Rattle.std.specs.Prelude.{◌≡◌, ◌<◌, Err, IfOk, length};
+ghost use Rattle.std.specs.Prelude.{◌≡◌, ◌<◌, ◌++◌, map, Err, IfOk, OnOk, length};
 ghost use Rattle.ados_text.specs.Text.{IsText};
 ghost use Rattle.ados_line.specs.Answers.{Gives};
 ghost use Rattle.ados_line.specs.Alias.{with_alias};
 ghost use Rattle.ados_line.specs.Comment.{without_comment};
-ghost use Rattle.ados_line.specs.Expansion.{expanded_in, expanded_line, IsMade};
+ghost use Rattle.ados_line.specs.Expansion.{expanded_in, expanded_line, read_behind, resumed_of, spaced, without_newline, tick_text, IsMade, IsResumed};
 ghost use Rattle.ados_line.specs.Values.{variables_in};
 
 use crate::aliases::replace_alias;
@@ -12,16 +12,19 @@ use crate::faults::LineFault;
 use crate::letters::read_letters;
 use crate::lines::{Expanded, cut_text};
 use crate::scopes::Scope;
+use crate::ticks::{Parted, part_behind};
 use crate::values::put_values;
-use ados_text::{LINE_BYTES, Text};
+use ados_text::{LINE_BYTES, NoMemory, Text};
+use std::alloc::Global;
 
-/// What a raw line comes to where aliases and variables stand. It has at most 512 bytes; its comment is dropped; the
-/// alias that its first word names is put in, once; then the variables that it names are put in, and what came out,
-/// which has at most 512 bytes too, is cut.
+/// What a raw line comes to where aliases, variables and back-ticks stand. It has at most 512 bytes; its comment is
+/// dropped; the alias that its first word names is put in, once; then the variables that it names are put in. What came
+/// out has at most 512 bytes too. At its first pair of back-ticks, inside quotes too, it is a tick, and otherwise it is cut.
 ///
 /// Quotes are judged before values are put in, and no value is read again: what came out is the segments of the line,
-/// in order, each a character of it or the value of one variable. `LineTooLong` comes first; the other faults are those
-/// of the cut, in what came out, the first one in it.
+/// in order, each a character of it or the value of one variable. Inside quotes of that text a star before a back-tick
+/// goes, and the back-tick stands for itself. `LineTooLong` comes first, then `UnmatchedQuotes` for a single back-tick;
+/// the other faults are those of the cut, in what came out, the first one in it.
 #[tactic(auto, unfolding(crate::specs::Expansion::expanded_in))]
 pub fn expand(scope: &Scope, raw: &Text) -> Result<Expanded, LineFault>
     ensures value { Gives result (expanded_in scope.now.aliases.now (variables_in scope.now) raw.now) }
@@ -34,23 +37,97 @@ pub fn expand(scope: &Scope, raw: &Text) -> Result<Expanded, LineFault>
     }
     let line = without_comment(bytes);
     match replace_alias(scope.alloc, scope.aliases, line)? {
-        None => put_and_cut(scope, line),
-        Some(text) => put_and_cut(scope, text.as_bytes()),
+        None => put_and_read(scope, line),
+        Some(text) => put_and_read(scope, text.as_bytes()),
     }
 }
 
-// A line with its variables, cut. Nearly all lines have none, and are cut where they lie.
+/// What a line comes to where its tick has ended: what the tick wrote stands in place of the pair, without one newline at
+/// its end, with a blank for each other newline and `?` for each byte past ASCII. The next pair is looked for behind it.
+///
+/// What stands up to the end of the output is not read for back-ticks again; quotes are judged in the whole text, so that
+/// a star at the end of the output goes with the byte behind it. `LineTooLong` for more than 512 bytes of the whole text
+/// comes before `UnmatchedQuotes` for a single back-tick; the other faults are those of the cut.
+#[tactic(auto, unfolding(crate::specs::Expansion::resumed_of))]
+pub fn resume(
+    alloc: Global,
+    before: &Text,
+    output: &[u8],
+    after: &Text,
+) -> Result<Expanded, LineFault>
+    ensures value { Gives result (resumed_of before.now output.now after.now) }
+    ensures long { 512 < length (before.now ++ (tick_text output.now ++ after.now)) → result ≡ Err LineFault.LineTooLong }
+    ensures made { IfOk result (IsResumed before.now output.now after.now) }
+{
+    let output = without_newline(output);
+    let size = before.as_bytes().len() + output.len();
+    if size > LINE_BYTES || size + after.as_bytes().len() > LINE_BYTES {
+        return Err(LineFault::LineTooLong);
+    }
+    let mut text = before.copy()?;
+    push_spaced(&mut text, output)?;
+    text.push_bytes(after.as_bytes())?;
+    read_text(alloc, text.as_bytes(), size)
+}
+
+// A line with its variables, read. Nearly all lines have none, and are read where they lie.
 #[tactic(auto, using(crate::proofs::UnmarkedLemmas::plain_values))]
-fn put_and_cut(scope: &Scope, line: &[u8]) -> Result<Expanded, LineFault>
+fn put_and_read(scope: &Scope, line: &[u8]) -> Result<Expanded, LineFault>
     requires { IsText line.now }
     ensures { Gives result (expanded_line (variables_in scope.now) line.now) }
 {
     if line.contains(&b'$') {
         let text = put_values(scope, &read_letters(scope.alloc, line)?)?;
-        cut_text(scope.alloc, text.as_bytes())
+        read_text(scope.alloc, text.as_bytes(), 0)
     } else if line.len() > LINE_BYTES {
         Err(LineFault::LineTooLong)
     } else {
-        cut_text(scope.alloc, line)
+        read_text(scope.alloc, line, 0)
     }
+}
+
+// A text of which so many bytes are kept. Nearly all have no back-tick, and are cut where they lie.
+#[inline(always)]
+#[tactic(auto, using(crate::proofs::UnmarkedLemmas::plain_ticks))]
+fn read_text(alloc: Global, text: &[u8], size: usize) -> Result<Expanded, LineFault>
+    requires { IsText text.now }
+    ensures { Gives result (read_behind size text.now) }
+{
+    if text.contains(&b'`') {
+        part_and_cut(alloc, text, size)
+    } else {
+        cut_text(alloc, text)
+    }
+}
+
+// A text with a back-tick: a tick, or its cut where each one has a star before it.
+#[inline(never)]
+fn part_and_cut(alloc: Global, text: &[u8], size: usize) -> Result<Expanded, LineFault>
+    requires { IsText text.now }
+    ensures { Gives result (read_behind size text.now) }
+{
+    match part_behind(alloc, text, size)? {
+        Parted::Whole(text) => cut_text(alloc, text.as_bytes()),
+        Parted::Ticked(tick) => Ok(Expanded::Tick(tick)),
+    }
+}
+
+// The bytes without one newline at their end.
+fn without_newline(bytes: &[u8]) -> &[u8]
+    ensures { result.now ≡ without_newline bytes.now }
+{
+    match bytes.split_last() {
+        Some((b'\n', rest)) => rest,
+        _ => bytes,
+    }
+}
+
+// Adds bytes, with blanks for newlines.
+fn push_spaced(text: &mut Text, bytes: &[u8]) -> Result<(), NoMemory>
+    ensures { OnOk result (text.new ≡ text.old ++ map spaced bytes.now) }
+{
+    for byte in bytes {
+        text.push(if *byte == b'\n' { b' ' } else { *byte })?;
+    }
+    Ok(())
 }

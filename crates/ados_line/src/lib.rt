@@ -1,6 +1,6 @@
 #![tactic(auto)]
-//! What a raw line asks for: its comment is dropped, its alias and its variables are put in, and what is left is cut
-//! into the command, its arguments and the redirections of its input and its output.
+//! What a raw line asks for: its comment is dropped, its alias, its variables and the output of what stands in back-ticks
+//! are put in, and what is left is cut into the command, its arguments and the redirections of its input and its output.
 
 mod aliases;
 mod comments;
@@ -13,9 +13,10 @@ mod references;
 mod scopes;
 mod signs;
 mod spelling;
+mod ticks;
 mod values;
 
-pub use expansion::expand;
+pub use expansion::{expand, resume};
 pub use faults::LineFault;
-pub use lines::{Expanded, Line, Redirection};
+pub use lines::{Expanded, Line, Redirection, Tick};
 pub use scopes::Scope;

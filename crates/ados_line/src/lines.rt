@@ -49,6 +49,18 @@ impl Line {
     }
 }
 
+/// A line at its first pair of back-ticks: the command between them is to be run first, and its output stands in their
+/// place.
+#[derive(Drop)]
+pub struct Tick {
+    /// What stands before the first back-tick.
+    pub before: Text,
+    /// The text between the two, which is run as a raw line.
+    pub command: Text,
+    /// What stands behind the second, as it is.
+    pub after: Text,
+}
+
 /// What a raw line came to.
 #[derive(Drop)]
 pub enum Expanded {
@@ -56,15 +68,18 @@ pub enum Expanded {
     Nothing,
     /// A line that was cut.
     Ready(Line),
+    /// A line with a pair of back-ticks.
+    Tick(Tick),
 }
 
-/// What a line without comment, alias and variables comes to: the cut of it.
+/// What a line without comment, alias, variables and back-ticks comes to: the cut of it.
 ///
 /// Of the faults the one that stands first in the line is told. At one place a second input or output comes before a
 /// missing name, and that before an open quote; `<>` counts as neither and is not implemented. The line is its pieces,
 /// in order: the items that are kept, of which none begins with the sign of a redirection, the blanks between them, and
 /// the redirections, each a sign with the item behind it, whose text is the name. The first item that is kept is the
-/// command, and what is kept behind it the arguments, as it stands.
+/// command, and what is kept behind it the arguments, as it stands. Behind the command Run only the redirections that
+/// stand directly there are read: the rest of the line is one piece, the arguments, and no fault of it is told.
 pub fn cut_text(alloc: Global, line: &[u8]) -> Result<Expanded, LineFault>
     requires { IsText line.now }
     ensures value { Gives result (expanded_by (cut_of line.now)) }

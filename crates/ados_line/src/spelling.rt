@@ -22,6 +22,16 @@ pub fn push_spelled(text: &mut Text, letters: &[Letter]) -> Result<(), NoMemory>
     Ok(())
 }
 
+/// Adds characters without the stars before a mark.
+pub fn push_bared(text: &mut Text, letters: &[Letter], mark: u8) -> Result<(), NoMemory>
+    ensures { OnOk result (text.new ≡ text.old ++ flat_map (bared mark) letters.now) }
+{
+    for letter in letters {
+        push_one(text, *letter, mark)?;
+    }
+    Ok(())
+}
+
 /// Adds one character, without the star before a mark.
 pub fn push_one(text: &mut Text, letter: Letter, mark: u8) -> Result<(), NoMemory>
     ensures { OnOk result (text.new ≡ text.old ++ bared mark letter) }

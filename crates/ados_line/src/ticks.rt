@@ -1,0 +1,95 @@
+ghost use Rattle.std.specs.Prelude.{◌≡◌, ◌≤◌, ◌<◌, length, position, IfSome};
+ghost use Rattle.ados_text.specs.Text.{IsText};
+ghost use Rattle.ados_line.specs.Answers.{Gives};
+ghost use Rattle.ados_line.specs.Letters.{written};
+ghost use Rattle.ados_line.specs.Ticks.{is_tick, within_bytes, parted, parted_behind};
+
+use crate::faults::LineFault;
+use crate::letters::{Letter, read_letters};
+use crate::lines::Tick;
+use crate::references::is_plain;
+use crate::spelling::{push_bared, push_spelled};
+use ados_text::Text;
+use std::alloc::Global;
+
+/// A line at its first pair of back-ticks.
+#[derive(Drop)]
+pub enum Parted {
+    /// It has none: the line without the stars before back-ticks.
+    Whole(Text),
+    /// What stands in front of the pair, between its two and behind it.
+    Ticked(Tick),
+}
+
+/// A line parted at its first pair of back-ticks behind so many bytes, which stay as they are.
+///
+/// Inside quotes a star before a back-tick goes, and the back-tick stands for itself. `UnmatchedQuotes` for a single one.
+pub fn part_behind(alloc: Global, line: &[u8], size: usize) -> Result<Parted, LineFault>
+    requires { IsText line.now }
+    ensures { Gives result (parted_behind size line.now) }
+{
+    let letters = read_letters(alloc, line)?;
+    let count = count_within(&letters, size);
+    let mut kept = Text::new(alloc);
+    push_spelled(&mut kept, &letters[..count])?;
+    part(alloc, kept, &letters[count..])
+}
+
+// The characters parted at their first two back-ticks, behind a text that is kept as it is.
+fn part(alloc: Global, kept: Text, letters: &[Letter]) -> Result<Parted, LineFault>
+    ensures { Gives result (parted kept letters.now) }
+{
+    let mut before = kept;
+    let Some(first) = tick(letters) else {
+        push_bared(&mut before, letters, b'`')?;
+        return Ok(Parted::Whole(before));
+    };
+    push_bared(&mut before, &letters[..first], b'`')?;
+    let rest = &letters[first + 1..];
+    let Some(second) = tick(rest) else {
+        return Err(LineFault::UnmatchedQuotes);
+    };
+    let mut command = Text::new(alloc);
+    push_bared(&mut command, &rest[..second], b'`')?;
+    let mut after = Text::new(alloc);
+    push_spelled(&mut after, &rest[second + 1..])?;
+    Ok(Parted::Ticked(Tick {
+        before,
+        command,
+        after,
+    }))
+}
+
+// The place of the first back-tick on its own.
+fn tick(letters: &[Letter]) -> Option<usize>
+    ensures place { result ≡ position is_tick letters.now }
+    ensures within { IfSome result (λ place. place < length letters.now) }
+{
+    letters.iter().position(|letter| is_plain(*letter, b'`'))
+}
+
+// How many characters end within so many bytes.
+fn count_within(letters: &[Letter], size: usize) -> usize
+    ensures value { result ≡ within_bytes size letters.now }
+    ensures within { result ≤ length letters.now }
+{
+    let mut left = size;
+    for place in 0..letters.len() {
+        let width = width(letters[place]);
+        if width > left {
+            return place;
+        }
+        left -= width;
+    }
+    letters.len()
+}
+
+// How many bytes a character has.
+fn width(letter: Letter) -> usize
+    ensures { result ≡ length (written letter) }
+{
+    match letter {
+        Letter::Plain(_) => 1,
+        Letter::Starred(_) => 2,
+    }
+}
