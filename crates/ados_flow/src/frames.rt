@@ -1,5 +1,5 @@
 // Frames.
-ghost use Rattle.std.specs.Prelude.{◌≡◌, ◌+◌, ◌<◌, ◌^◌, List, Some, IfOk, OnSome, length, slice_get};
+ghost use Rattle.std.specs.Prelude.{◌≡◌, suc, ◌+◌, ◌<◌, ◌^◌, List, Some, IfOk, OnSome, length, slice_get};
 ghost use Rattle.std.specs.Option.{option_copied, option_map};
 
 use crate::code_rule::is_reached;
@@ -121,6 +121,14 @@ impl Frame {
         self.fixed.script.lines().get(self.position..).unwrap_or(&[])
     }
 
+    /// So many of the lines that are not taken yet are taken.
+    pub fn skip(&mut self, taken: usize)
+        requires { self.old.position + taken < 2 ^ 64 }
+        ensures { self.new ≡ jumped (suc (self.old.position + taken)) self.old }
+    {
+        self.position += taken;
+    }
+
     /// It goes on at a line, counted from 1.
     pub fn jump_to(&mut self, line: usize)
         ensures { self.new ≡ jumped line self.old }
@@ -171,8 +179,8 @@ impl Frame {
         &self.fixed.kind
     }
 
-    // It is a script's.
-    fn is_script(&self) -> bool
+    /// It is a script's.
+    pub fn is_script(&self) -> bool
         ensures { result ≡ is_script self.now.kind }
     {
         matches!(self.fixed.kind, Kind::Script { .. })
