@@ -35,7 +35,7 @@ abbrev pub script_place : SharedState → Place → Text → Place → Result Pl
 script_place shared directory word place =
     if is_plain word && is_none (finite.get shared.files (key_of place)) then place_of shared directory (codes "S:" ++ word) else Ok place
 
--- the answer to a fault of substitution; want of memory has no number, and no script comes to it
+-- the answer to a fault of arguments, or of substitution; want of memory has no number, and neither comes to it
 abbrev pub fault_answer : SharedState → Result Result2 NoMemory → Action
 fault_answer shared (Ok number) = Does (answering shared (failed number))
 fault_answer shared (Err none) = Does (answering shared (failed NO_FREE_STORE))

@@ -1,8 +1,5 @@
 -- The commands: which one a name's command is, and what each does with its arguments.
 use Rattle.std.specs.Prelude.{ℕ, List, Bool, true, false, Option, Some, None, Result, Ok, Err}
-use Rattle.ados_text.specs.declared.codes.Result2.{Result2}
-use Rattle.ados_text.specs.declared.errors.NoMemory.{NoMemory}
-use Rattle.ados_text.specs.declared.codes.TheConstants.Result2.{NO_FREE_STORE}
 use Rattle.ados_readargs.specs.declared.args.Arg.{Arg}
 use Rattle.ados_readargs.specs.declared.errors.ArgFault.{ArgFault}
 use Rattle.ados_readargs.specs.Faults.{result2_of}
@@ -11,10 +8,8 @@ use Rattle.ados_find.specs.declared.disk_commands.DiskCommand.{DiskCommand}
 use Rattle.ados_find.specs.declared.disk_commands.DiskCommand.TheVariants as disk
 use Rattle.ados_find.specs.declared.internal_commands.InternalCommand.{InternalCommand}
 use Rattle.ados_find.specs.declared.internal_commands.InternalCommand.TheVariants as internal
-use Rattle.ados_find.specs.Codes.{failed}
 use Rattle.ados_find.specs.Shared.{SharedState}
 use Rattle.ados_find.specs.Views.{View}
-use Rattle.ados_find.specs.Effects.{answering}
 use Rattle.ados_files.specs.declared.commands.Command.{Command as FileCommand}
 use Rattle.ados_files.specs.declared.commands.Command.TheVariants as files
 use Rattle.ados_files.specs.Commands.{template_of_command as file_template}
@@ -27,6 +22,7 @@ use Rattle.ados_flow.specs.declared.commands.Command.{Command as FlowCommand}
 use Rattle.ados_flow.specs.declared.commands.Command.TheVariants as flow
 use Rattle.ados_flow.specs.Commands.{template_of_command as flow_template, reads_in_use as flow_reads_in_use}
 use Rattle.ados_flow.specs.Actions.{Action, Does}
+use Rattle.ados_flow.specs.Execute.{fault_answer}
 use Rattle.ados_flow.specs.Frames.{ScriptLine}
 use Rattle.ados_flow.specs.Rows.{row_of as flow_row_of}
 use Rattle.ados_machine.specs.declared.builtins.Builtin.{Builtin}
@@ -99,11 +95,6 @@ abbrev pub row_of : Builtin → SharedState → Option ScriptLine → View → L
 row_of (Env command) shared script_line view args = Does (env_row_of command shared view args)
 row_of (Files command) shared script_line view args = Does (file_row_of command shared view args)
 row_of (Flow command) shared script_line view args = flow_row_of command shared script_line view args
-
--- the answer to a fault of arguments; want of memory has no number, and what a line fills never comes to it
-abbrev pub fault_answer : SharedState → Result Result2 NoMemory → Action
-fault_answer shared (Ok number) = Does (answering shared (failed number))
-fault_answer shared (Err none) = Does (answering shared (failed NO_FREE_STORE))
 
 -- the arguments are filled first, and their fault is the command's
 abbrev pub action_by : Builtin → SharedState → Option ScriptLine → View → Result (List Arg) ArgFault → Action

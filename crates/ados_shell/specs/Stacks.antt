@@ -6,6 +6,8 @@ use Rattle.ados_machine.specs.Shells.{ShellState}
 use Rattle.ados_machine.specs.Sinks.{Sink, Console, Kept, To, sink_by}
 use Rattle.ados_shell.specs.declared.stacks.Sink as code
 use Rattle.ados_shell.specs.declared.stacks.Sink.TheVariants as sinks
+use Rattle.ados_shell.specs.declared.stacks.Way.{Way}
+use Rattle.ados_shell.specs.declared.stacks.Way.TheVariants as ways
 use Rattle.ados_shell.specs.declared.stacks.Stack.{Stack}
 
 -- so many of the oldest frames, the newest first
@@ -32,10 +34,11 @@ sink_of sinks.Console = Console
 sink_of sinks.Kept = Kept
 sink_of (sinks.To target) = To target
 
--- a sink of frames' own, or else that below them
-abbrev pub sink_by_own : Option code.Sink → Sink → Sink
-sink_by_own None below = below
-sink_by_own (Some sink) below = sink_of sink
+-- the sink to which a way leads that frames give, above this one
+abbrev pub sink_by_way : Way → Sink → Sink
+sink_by_way ways.Below below = below
+sink_by_way ways.Kept below = Kept
+sink_by_way (ways.To target) below = To target.now
 
 -- one of these frames is a script
 abbrev pub has_script : List FrameState → Bool

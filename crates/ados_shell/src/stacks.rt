@@ -3,9 +3,9 @@ ghost use Rattle.std.specs.Prelude.{◌≡◌, ◌∷◌, ◌++◌, [], List, le
 ghost use Rattle.std.specs.Option.{option_copied};
 ghost use Rattle.ados_flow.specs.Frames.{FrameState, frame_limit, limit_behind};
 ghost use Rattle.ados_machine.specs.Shells.{ShellState};
-ghost use Rattle.ados_machine.specs.Sinks.{sink_in};
+ghost use Rattle.ados_machine.specs.Sinks.{Console, sink_in};
 ghost use Rattle.ados_machine.specs.Sinks as machine;
-ghost use Rattle.ados_shell.specs.Stacks.{has_script, sink_above, sink_by_own, sink_of};
+ghost use Rattle.ados_shell.specs.Stacks.{has_script, sink_above, sink_by_way, sink_of};
 
 use crate::shells::Shell;
 use ados_find::Target;
@@ -151,12 +151,9 @@ impl Stack {
     pub fn sink(&self, shell: &Shell) -> Result<Sink, NoMemory>
         ensures { IfOk result (λ sink. sink_of sink ≡ sink_in (frames_in shell.now self.now)) }
     {
-        match sink_above(self.own.as_slice())? {
-            None => match sink_above(self.lent(shell))? {
-                None => Ok(Sink::Console),
-                Some(sink) => Ok(sink),
-            },
-            Some(sink) => Ok(sink),
+        match way(self.own.as_slice()) {
+            Way::Below => sink_of(way(self.lent(shell))),
+            way => sink_of(way),
         }
     }
 }
@@ -172,18 +169,42 @@ pub enum Sink {
     To(Target),
 }
 
-/// Where the output of the newest of these frames goes, the newest being the last; `None` where it goes where that of
-/// what stands below them goes.
-fn sink_above(frames: &[Frame]) -> Result<Option<Sink>, NoMemory>
-    ensures { IfOk result (λ sink. (below : machine.Sink) → sink_above (reverse frames.now) below ≡ sink_by_own sink below) }
+/// Where the output of some frames goes.
+#[derive(Clone, Copy)]
+enum Way<'f> {
+    /// Where that of what stands below them goes.
+    Below,
+    /// Into the newest tick.
+    Kept,
+    /// Where a redirection leads.
+    To(&'f Target),
+}
+
+/// Where the output of the newest of these frames goes, the newest being the last.
+fn way(frames: &[Frame]) -> Way<'_>
+    ensures { (below : machine.Sink) → sink_above (reverse frames.now) below ≡ sink_by_way result below }
 {
-    match frames.split_last() {
-        None => Ok(None),
-        Some((frame, older)) => match (frame.kind(), frame.output()) {
-            (Kind::Tick { .. }, _) => Ok(Some(Sink::Kept)),
-            (_, Some(target)) => Ok(Some(Sink::To(copy(target)?))),
-            (_, None) => sink_above(older),
-        },
+    let mut left = frames;
+    while let Some((frame, older)) = left.split_last() {
+        if let Kind::Tick { .. } = frame.kind() {
+            return Way::Kept;
+        }
+        if let Some(target) = frame.output() {
+            return Way::To(target);
+        }
+        left = older;
+    }
+    Way::Below
+}
+
+/// The sink to which that leads; that of the console, where nothing stands below.
+fn sink_of(way: Way) -> Result<Sink, NoMemory>
+    ensures { IfOk result (λ sink. sink_of sink ≡ sink_by_way way Console) }
+{
+    match way {
+        Way::Below => Ok(Sink::Console),
+        Way::Kept => Ok(Sink::Kept),
+        Way::To(target) => Ok(Sink::To(copy(target)?)),
     }
 }
 
