@@ -2,7 +2,7 @@ ghost use Rattle.std.specs.Prelude.{◌≡◌, IfOk, OnOk, OnErr};
 ghost use Rattle.std.specs.List.{filter};
 ghost use Rattle.std.specs.Fmt.{decimal, signed_decimal};
 ghost use Rattle.ados_text.specs.Text.{IsText};
-ghost use Rattle.ados_vars.specs.Vars.{set_pair, value_in};
+ghost use Rattle.ados_vars.specs.Vars.{AreDistinct, set_all, set_pair, value_in};
 ghost use Rattle.ados_vars.specs.Locals.{copied_pairs, is_of_codes, is_other, is_own, own_pairs, shown, unset_in, with_codes};
 
 use crate::vars::Vars;
@@ -133,7 +133,8 @@ impl Locals {
 
 // Sets those of other variables that are no shell's own.
 fn set_others(vars: &mut Vars, others: &Vars) -> Result<(), NoMemory>
-    ensures { OnOk result (vars.new ≡ set_all vars.old (filter is_other others.now)) }
+    ensures set { OnOk result (vars.new ≡ set_all vars.old (filter is_other others.now)) }
+    ensures distinct { AreDistinct others.now }
 {
     for (name, value) in others.list() {
         if !is_own(name) {
