@@ -1,2 +1,3 @@
 pub mod EchoLemmas
 pub mod InUseLemmas
+pub mod NamesLemmas

@@ -2,7 +2,7 @@
 use Rattle.std.specs.Prelude.{[], Bool, true, false, codes}
 use Rattle.ados_text.specs.Text.{Text}
 use Rattle.ados_env.specs.declared.commands.Command.{Command}
-use Rattle.ados_env.specs.declared.commands.Command.TheVariants.{Alias, Assign, Cd, Echo, Eval, FailAt, Fault, Get, GetEnv, Path, Set, SetEnv, Unalias, Unset, UnsetEnv, Which, Why}
+use Rattle.ados_env.specs.declared.commands.Command.TheVariants.{Alias, Assign, Cd, Echo, Eval, FailAt, Fault, Get, GetEnv, Path, Set, SetEnv, Status, Unalias, Unset, UnsetEnv, Which, Why}
 
 -- the text of a command's template
 abbrev pub template_of_command : Command → Text
@@ -18,6 +18,7 @@ template_of_command GetEnv = codes "NAME/A"
 template_of_command Path = codes "PATH/M,ADD/S,SHOW/S,RESET/S,REMOVE/S"
 template_of_command Set = codes "NAME,STRING/F"
 template_of_command SetEnv = codes "NAME,STRING/F"
+template_of_command Status = codes "PROCESS/N,COM=COMMAND/K"
 template_of_command Unalias = codes "NAME/A"
 template_of_command Unset = codes "NAME/A"
 template_of_command UnsetEnv = codes "NAME/A"
@@ -38,8 +39,14 @@ reads_in_use GetEnv = false
 reads_in_use Path = false
 reads_in_use Set = false
 reads_in_use SetEnv = true
+reads_in_use Status = false
 reads_in_use Unalias = false
 reads_in_use Unset = false
 reads_in_use UnsetEnv = true
 reads_in_use Which = false
 reads_in_use Why = false
+
+-- whether a command's row reads what the shells are called: Status tells it
+abbrev pub reads_names : Command → Bool
+reads_names Status = true
+reads_names _ = false

@@ -15,4 +15,5 @@ pub mod Aliases
 pub mod Globals
 pub mod Path
 pub mod Which
+pub mod Status
 pub mod Rows

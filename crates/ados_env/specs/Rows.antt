@@ -5,7 +5,7 @@ use Rattle.ados_find.specs.Shared.{SharedState}
 use Rattle.ados_find.specs.Effects.{Effect}
 use Rattle.ados_readargs.specs.declared.args.Arg.{Arg}
 use Rattle.ados_env.specs.declared.commands.Command.{Command}
-use Rattle.ados_env.specs.declared.commands.Command.TheVariants.{Alias, Assign, Cd, Echo, Eval, FailAt, Fault, Get, GetEnv, Path, Set, SetEnv, Unalias, Unset, UnsetEnv, Which, Why}
+use Rattle.ados_env.specs.declared.commands.Command.TheVariants.{Alias, Assign, Cd, Echo, Eval, FailAt, Fault, Get, GetEnv, Path, Set, SetEnv, Status, Unalias, Unset, UnsetEnv, Which, Why}
 use Rattle.ados_env.specs.Aliases.{alias_row, unalias_row}
 use Rattle.ados_env.specs.Assign.{assign_row}
 use Rattle.ados_env.specs.Cd.{cd_row}
@@ -15,6 +15,7 @@ use Rattle.ados_env.specs.FailAt.{fail_at_row}
 use Rattle.ados_env.specs.Fault.{fault_row}
 use Rattle.ados_env.specs.Globals.{get_env_row, set_env_row, unset_env_row}
 use Rattle.ados_env.specs.Path.{path_row}
+use Rattle.ados_env.specs.Status.{status_row}
 use Rattle.ados_env.specs.Variables.{get_row, set_row, unset_row}
 use Rattle.ados_env.specs.Which.{which_row}
 use Rattle.ados_env.specs.Why.{why_row}
@@ -33,6 +34,7 @@ row_of GetEnv shared view args = get_env_row shared args
 row_of Path shared view args = path_row shared view args
 row_of Set shared view args = set_row shared view args
 row_of SetEnv shared view args = set_env_row shared view args
+row_of Status shared view args = status_row shared view args
 row_of Unalias shared view args = unalias_row shared args
 row_of Unset shared view args = unset_row shared args
 row_of UnsetEnv shared view args = unset_env_row shared view args

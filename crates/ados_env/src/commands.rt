@@ -16,6 +16,7 @@ pub enum Command {
     Path,
     Set,
     SetEnv,
+    Status,
     Unalias,
     Unset,
     UnsetEnv,
@@ -24,11 +25,11 @@ pub enum Command {
 }
 
 impl Command {
-    ghost use Rattle.ados_env.specs.Commands.{reads_in_use, template_of_command};
+    ghost use Rattle.ados_env.specs.Commands.{reads_in_use, reads_names, template_of_command};
     ghost use Rattle.std.specs.Prelude.{List, false};
     ghost use Rattle.ados_readargs.specs.declared.args.Arg.{Arg};
     ghost use Rattle.ados_find.specs.Shared.{SharedState};
-    ghost use Rattle.ados_find.specs.Views.{IgnoresInUse};
+    ghost use Rattle.ados_find.specs.Views.{IgnoresInUse, IgnoresNames};
     ghost use Rattle.ados_env.specs.Rows.{row_of};
 
     /// The text of its template.
@@ -48,6 +49,7 @@ impl Command {
             Command::Path => "PATH/M,ADD/S,SHOW/S,RESET/S,REMOVE/S",
             Command::Set => "NAME,STRING/F",
             Command::SetEnv => "NAME,STRING/F",
+            Command::Status => "PROCESS/N,COM=COMMAND/K",
             Command::Unalias => "NAME/A",
             Command::Unset => "NAME/A",
             Command::UnsetEnv => "NAME/A",
@@ -75,8 +77,37 @@ impl Command {
             | Command::GetEnv
             | Command::Path
             | Command::Set
+            | Command::Status
             | Command::Unalias
             | Command::Unset
+            | Command::Which
+            | Command::Why => false,
+        }
+    }
+
+    /// Whether its row reads what the shells are called.
+    #[tactic(auto, using(crate::proofs::NamesLemmas::ignores))]
+    pub fn reads_names(self) -> bool
+        ensures value { result ≡ reads_names self }
+        ensures ignores { result ≡ false → (shared : SharedState) (args : List Arg) → IgnoresNames (λ view. row_of self shared view args) }
+    {
+        match self {
+            Command::Status => true,
+            Command::Alias
+            | Command::Assign
+            | Command::Cd
+            | Command::Echo
+            | Command::Eval
+            | Command::FailAt
+            | Command::Fault
+            | Command::Get
+            | Command::GetEnv
+            | Command::Path
+            | Command::Set
+            | Command::SetEnv
+            | Command::Unalias
+            | Command::Unset
+            | Command::UnsetEnv
             | Command::Which
             | Command::Why => false,
         }

@@ -1,6 +1,6 @@
 #![tactic(auto)]
-//! The commands that print and set: Assign, CD, Echo, Eval, FailAt, Fault and Why, those of variables and aliases, Path
-//! and Which.
+//! The commands that print and set: Assign, CD, Echo, Eval, FailAt, Fault, Status and Why, those of variables and
+//! aliases, Path and Which.
 
 mod aliases;
 mod assign;
@@ -17,6 +17,7 @@ mod operators;
 mod pairs;
 mod path;
 mod rows;
+mod status;
 mod variables;
 mod which;
 mod why;

@@ -13,6 +13,7 @@ use crate::fail_at::fail_at;
 use crate::fault::fault;
 use crate::globals::{get_env, set_env, unset_env};
 use crate::path::path;
+use crate::status::status;
 use crate::variables::{get, set, unset};
 use crate::which::which;
 use crate::why::why;
@@ -45,6 +46,7 @@ pub fn run(
         Command::Path => path(alloc, shared, view, args),
         Command::Set => set(alloc, view, args),
         Command::SetEnv => set_env(alloc, shared, view, args),
+        Command::Status => status(alloc, view, args),
         Command::Unalias => unalias(alloc, args),
         Command::Unset => unset(alloc, args),
         Command::UnsetEnv => unset_env(alloc, shared, view, args),

@@ -19,5 +19,6 @@ told disk.List = refl
 told disk.MakeDir = refl
 told disk.Protect = refl
 told disk.Rename = refl
+told disk.Status = refl
 told disk.«Type» = refl
 told disk.Which = refl

@@ -3,7 +3,7 @@ use Rattle.std.specs.Prelude.{Option, codes}
 use Rattle.ados_text.specs.Text.{Text}
 use Rattle.ados_find.specs.Commands.{first_with_name}
 use Rattle.ados_find.specs.declared.disk_commands.DiskCommand.{DiskCommand}
-use Rattle.ados_find.specs.declared.disk_commands.DiskCommand.TheVariants.{Assign, Copy, Delete, Dir, Eval, Execute, Filenote, Join, List, MakeDir, Protect, Rename, «Type», Which}
+use Rattle.ados_find.specs.declared.disk_commands.DiskCommand.TheVariants.{Assign, Copy, Delete, Dir, Eval, Execute, Filenote, Join, List, MakeDir, Protect, Rename, Status, «Type», Which}
 use Rattle.ados_find.specs.declared.disk_commands.TheConstants.DiskCommand.{ALL}
 
 abbrev pub name_of : DiskCommand → Text
@@ -19,6 +19,7 @@ name_of List = codes "List"
 name_of MakeDir = codes "MakeDir"
 name_of Protect = codes "Protect"
 name_of Rename = codes "Rename"
+name_of Status = codes "Status"
 name_of «Type» = codes "Type"
 name_of Which = codes "Which"
 

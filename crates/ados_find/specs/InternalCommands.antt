@@ -3,7 +3,7 @@ use Rattle.std.specs.Prelude.{Option, codes}
 use Rattle.ados_text.specs.Text.{Text}
 use Rattle.ados_find.specs.Commands.{first_with_name}
 use Rattle.ados_find.specs.declared.internal_commands.InternalCommand.{InternalCommand}
-use Rattle.ados_find.specs.declared.internal_commands.InternalCommand.TheVariants.{Alias, Ask, Cd, Echo, Else, EndIf, EndSkip, FailAt, Fault, Get, GetEnv, If, Lab, Path, Quit, Set, SetEnv, Skip, Unalias, Unset, UnsetEnv, Why}
+use Rattle.ados_find.specs.declared.internal_commands.InternalCommand.TheVariants.{Alias, Ask, Cd, Echo, Else, EndIf, EndSkip, FailAt, Fault, Get, GetEnv, If, Lab, Path, Quit, Run, Set, SetEnv, Skip, Unalias, Unset, UnsetEnv, Why}
 use Rattle.ados_find.specs.declared.internal_commands.TheConstants.InternalCommand.{ALL}
 
 abbrev pub name_of : InternalCommand → Text
@@ -22,6 +22,7 @@ name_of If = codes "If"
 name_of Lab = codes "Lab"
 name_of Path = codes "Path"
 name_of Quit = codes "Quit"
+name_of Run = codes "Run"
 name_of Set = codes "Set"
 name_of SetEnv = codes "SetEnv"
 name_of Skip = codes "Skip"

@@ -18,13 +18,14 @@ pub enum DiskCommand {
     MakeDir,
     Protect,
     Rename,
+    Status,
     Type,
     Which,
 }
 
 impl DiskCommand {
     /// All disk commands, in the order of their names.
-    pub const ALL: [DiskCommand; 14] = [
+    pub const ALL: [DiskCommand; 15] = [
         DiskCommand::Assign,
         DiskCommand::Copy,
         DiskCommand::Delete,
@@ -37,6 +38,7 @@ impl DiskCommand {
         DiskCommand::MakeDir,
         DiskCommand::Protect,
         DiskCommand::Rename,
+        DiskCommand::Status,
         DiskCommand::Type,
         DiskCommand::Which,
     ];
@@ -58,6 +60,7 @@ impl DiskCommand {
             DiskCommand::MakeDir => "MakeDir",
             DiskCommand::Protect => "Protect",
             DiskCommand::Rename => "Rename",
+            DiskCommand::Status => "Status",
             DiskCommand::Type => "Type",
             DiskCommand::Which => "Which",
         }

@@ -23,6 +23,7 @@ pub enum InternalCommand {
     Lab,
     Path,
     Quit,
+    Run,
     Set,
     SetEnv,
     Skip,
@@ -34,7 +35,7 @@ pub enum InternalCommand {
 
 impl InternalCommand {
     /// All internal commands, in the order of their names.
-    pub const ALL: [InternalCommand; 22] = [
+    pub const ALL: [InternalCommand; 23] = [
         InternalCommand::Alias,
         InternalCommand::Ask,
         InternalCommand::Cd,
@@ -50,6 +51,7 @@ impl InternalCommand {
         InternalCommand::Lab,
         InternalCommand::Path,
         InternalCommand::Quit,
+        InternalCommand::Run,
         InternalCommand::Set,
         InternalCommand::SetEnv,
         InternalCommand::Skip,
@@ -79,6 +81,7 @@ impl InternalCommand {
             InternalCommand::Lab => "Lab",
             InternalCommand::Path => "Path",
             InternalCommand::Quit => "Quit",
+            InternalCommand::Run => "Run",
             InternalCommand::Set => "Set",
             InternalCommand::SetEnv => "SetEnv",
             InternalCommand::Skip => "Skip",

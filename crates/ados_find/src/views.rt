@@ -1,5 +1,6 @@
 use crate::codes::Codes;
 use crate::settings::Settings;
+use crate::shell_names::ShellNames;
 use ados_ram::{Busy, Place};
 use ados_text::Code;
 use std::marker::Model;
@@ -20,6 +21,8 @@ pub struct ShellView<'a> {
     /// What is in use: the current directories of all shells, the directories of assigns, and open outputs. It is
     /// empty for commands that only print and set: they read nothing of it.
     pub busy: Busy,
+    /// What the shells that run are called. It is empty for commands that read nothing of it.
+    pub names: ShellNames,
 }
 
 impl<'a> Model for ShellView<'a> {
@@ -27,5 +30,5 @@ impl<'a> Model for ShellView<'a> {
 
     ghost Value = { View };
 
-    ghost view = { λ v. record { parts = record { number = v.number; directory = v.directory.now; limit = v.limit; codes = v.codes; settings = v.settings.now }; busy = v.busy } };
+    ghost view = { λ v. record { parts = record { number = v.number; directory = v.directory.now; limit = v.limit; codes = v.codes; settings = v.settings.now }; busy = v.busy; names = v.names } };
 }

@@ -1,2 +1,3 @@
 pub mod LocalsLemmas
 pub mod VarsLemmas
+pub mod CopyLemmas

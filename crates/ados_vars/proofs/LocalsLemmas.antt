@@ -1,13 +1,12 @@
 -- the pairs of which RC and Result2 are set at last
 use Rattle.std.proofs.Common.{◌≡◌, ◌∙◌, ℕ, codes, [], true, false, Some, IsSome, ap, sym, refl, cond, inl, inr}
-use Rattle.std.specs.Prelude.{if◌then◌else◌}
 use Rattle.std.specs.Fmt.{decimal, signed_decimal}
 use Rattle.std.proofs.lemmas.Bool.{cases_Bool, or_parts}
 use Rattle.ados_text.specs.Text.{Text, is_same}
 use Rattle.ados_text.specs.declared.codes.Code.{Code}
 use Rattle.ados_text.specs.declared.codes.Result2.{Result2}
 use Rattle.ados_vars.specs.Vars.{Pairs, set_pair, value_in, without}
-use Rattle.ados_vars.specs.Locals.{code_name, fault_name, is_of_codes, with_codes, shown, unset_in, own_pairs, HasCodes, AnswerIsSeen, SettingIsSeen, UnsettingIsSeen, CodesStay}
+use Rattle.ados_vars.specs.Locals.{code_name, fault_name, is_of_codes, with_codes, shown, unset_in, own_pairs, copied_pairs, HasCodes, AnswerIsSeen, SettingIsSeen, UnsettingIsSeen, CodesBegin, CodesStay}
 use Rattle.ados_vars.proofs.VarsLemmas.{value-set, value-without, set-there, set-keeps, set-again, set-swaps, set-over, without-over, without-set}
 
 apart : is_same code_name fault_name ≡ false
@@ -149,6 +148,10 @@ unset-keeps-codes pairs name h =
       | inl e ↦ rw e (has-codes (without pairs name) [] [])
       | inr e ↦ rw e (let other = or_parts _ _ e in without-keeps-codes pairs name other.0 other.1 h)
     ]
+
+pub codes-begin : CodesBegin
+unfolding value_in copied_pairs
+codes-begin number pairs = (record { code = refl; fault = refl }, record { code = refl; fault = refl })
 
 pub codes-stay : CodesStay
 codes-stay pairs name value h = (set-keeps-codes pairs name value h, unset-keeps-codes pairs name h)

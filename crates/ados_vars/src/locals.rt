@@ -1,14 +1,17 @@
 ghost use Rattle.std.specs.Prelude.{◌≡◌, IfOk, OnOk, OnErr};
+ghost use Rattle.std.specs.List.{filter};
 ghost use Rattle.std.specs.Fmt.{decimal, signed_decimal};
 ghost use Rattle.ados_text.specs.Text.{IsText};
-ghost use Rattle.ados_vars.specs.Vars.{set_pair, value_in};
-ghost use Rattle.ados_vars.specs.Locals.{is_of_codes, own_pairs, shown, unset_in, with_codes};
+ghost use Rattle.ados_vars.specs.Vars.{AreDistinct, set_all, set_pair, value_in};
+ghost use Rattle.ados_vars.specs.Locals.{copied_pairs, is_of_codes, is_other, is_own, own_pairs, shown, unset_in, with_codes};
 
 use crate::vars::Vars;
 use ados_text::{Code, Name, NoMemory, Result2, Text};
 use itoa::Buffer;
 use std::alloc::Global;
 use std::marker::Model;
+
+const PROCESS: &str = "Process";
 
 const CODE: &str = "RC";
 
@@ -46,10 +49,20 @@ impl Locals {
         ensures { IfOk result (λ locals. locals ≡ own_pairs number) }
     {
         let mut vars = Vars::new(alloc);
-        vars.set(name(alloc, "Process")?, digits(alloc, u16::from(number))?)?;
+        vars.set(name(alloc, PROCESS)?, digits(alloc, u16::from(number))?)?;
         vars.set(name(alloc, CODE)?, Text::new(alloc))?;
         vars.set(name(alloc, FAULT)?, Text::new(alloc))?;
         Ok(Locals { alloc, vars })
+    }
+
+    /// The variables with which the shell of a number begins that this one's shell makes: its own, and behind them the
+    /// others of these, in their order.
+    pub fn copied(&self, number: u8) -> Result<Locals, NoMemory>
+        ensures { IfOk result (λ locals. locals ≡ copied_pairs number self.now) }
+    {
+        let mut locals = Locals::first(self.alloc, number)?;
+        set_others(&mut locals.vars, &self.vars)?;
+        Ok(locals)
     }
 
     /// Sets the value of a name: a new name goes last, and one that is there keeps its place and its first spelling.
@@ -116,6 +129,26 @@ impl Locals {
             vars: self.vars.copy()?,
         })
     }
+}
+
+// Sets those of other variables that are no shell's own.
+fn set_others(vars: &mut Vars, others: &Vars) -> Result<(), NoMemory>
+    ensures set { OnOk result (vars.new ≡ set_all vars.old (filter is_other others.now)) }
+    ensures distinct { AreDistinct others.now }
+{
+    for (name, value) in others.list() {
+        if !is_own(name) {
+            vars.set(name.copy()?, value.copy()?)?;
+        }
+    }
+    Ok(())
+}
+
+// The name is that of a variable of a shell's own.
+fn is_own(name: &Name) -> bool
+    ensures { result ≡ is_own name.now }
+{
+    name.text().is(PROCESS) || is_of_codes(name)
 }
 
 // The name is RC or Result2.

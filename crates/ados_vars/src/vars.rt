@@ -1,6 +1,6 @@
 ghost use Rattle.std.specs.Prelude.{◌≡◌, [], None, option_map, IfOk, OnOk, OnErr};
 ghost use Rattle.std.specs.Option.{option_copied};
-ghost use Rattle.ados_vars.specs.Vars.{name_in, set_pair, value_in, without};
+ghost use Rattle.ados_vars.specs.Vars.{AreDistinct, name_in, set_pair, value_in, without};
 
 use ados_text::{Name, NoMemory, Text};
 use indexmap::IndexMap;
@@ -78,7 +78,8 @@ impl Vars {
 
     /// The names with their values, in order. Takes no memory.
     pub fn list(&self) -> Slice<'_, Name, Text>
-        ensures { result ≡ self.now }
+        ensures list { result ≡ self.now }
+        ensures distinct { AreDistinct self.now }
     {
         self.map.as_slice()
     }

@@ -1,4 +1,4 @@
-use Rattle.ados_vars.proofs.LocalsLemmas.{answer-seen, setting-seen, unsetting-seen, codes-stay}
+use Rattle.ados_vars.proofs.LocalsLemmas.{answer-seen, setting-seen, unsetting-seen, codes-begin, codes-stay}
 use Rattle.ados_vars.proofs.laws.variables_show_each_answer.Goals as goal
 
 pub returns-clause-answer : goal.returns-clause-answer
@@ -9,6 +9,9 @@ returns-clause-set c = setting-seen
 
 pub returns-clause-unset : goal.returns-clause-unset
 returns-clause-unset c = unsetting-seen
+
+pub returns-clause-begin : goal.returns-clause-begin
+returns-clause-begin c = codes-begin
 
 pub returns-clause-places : goal.returns-clause-places
 returns-clause-places c = codes-stay
