@@ -15,15 +15,15 @@ use std::marker::Model;
 
 // A shell that runs: its number, and what it is called.
 #[derive(Clone, Copy)]
-struct Running<'a> {
+struct Process<'a> {
     number: usize,
     name: &'a Text,
 }
 
-impl<'a> Model for Running<'a> {
-    ghost use Rattle.ados_env.specs.Status.{Running as Shell};
+impl<'a> Model for Process<'a> {
+    ghost use Rattle.ados_env.specs.Status.{Running};
 
-    ghost Value = { Shell };
+    ghost Value = { Running };
 
     ghost view = { λ s. record { number = s.number; name = s.name.now } };
 }
@@ -46,7 +46,7 @@ pub fn status(alloc: Global, view: &ShellView, args: &Args) -> Result<Outcome, N
 // Tells of these shells; that there is none is a fault.
 fn told_of(
     alloc: Global,
-    shells: Vec<Running>,
+    shells: Vec<Process>,
     name: Option<&[u8]>,
 ) -> Result<Outcome, NoMemory>
     ensures { IfOk result (λ outcome. DoesTo outcome (λ shared. told_of shared shells.items (option_map (λ n. n.now) name))) }
@@ -61,7 +61,7 @@ fn told_of(
 // Tells of these shells, or which of them have a name.
 fn told(
     alloc: Global,
-    shells: Vec<Running>,
+    shells: Vec<Process>,
     name: Option<&[u8]>,
 ) -> Result<Outcome, NoMemory>
     ensures { IfOk result (λ outcome. DoesTo outcome (λ shared. told shared shells.items (option_map (λ n. n.now) name))) }
@@ -77,7 +77,7 @@ fn told(
 }
 
 // Tells the numbers of these shells; that there is none is a warning.
-fn numbers_told(alloc: Global, shells: &[Running]) -> Result<Outcome, NoMemory>
+fn numbers_told(alloc: Global, shells: &[Process]) -> Result<Outcome, NoMemory>
     ensures { IfOk result (λ outcome. DoesTo outcome (λ shared. numbers_told shared shells.now)) }
 {
     if shells.is_empty() {
@@ -88,35 +88,35 @@ fn numbers_told(alloc: Global, shells: &[Running]) -> Result<Outcome, NoMemory>
 }
 
 // The shells that run, by the names of all numbers.
-fn running<'a>(alloc: Global, names: &'a [Option<Text>]) -> Result<Vec<Running<'a>>, NoMemory>
+fn running<'a>(alloc: Global, names: &'a [Option<Text>]) -> Result<Vec<Process<'a>>, NoMemory>
     ensures { IfOk result (λ shells. shells.items ≡ running_from 1 names.now) }
 {
     let mut shells = Vec::new(alloc);
     for place in 0..names.len() {
         if let Some(name) = &names[place] {
             let number = place + 1;
-            shells.push(Running { number, name })?;
+            shells.push(Process { number, name })?;
         }
     }
     Ok(shells)
 }
 
 // The shell has this number.
-fn is_numbered(shell: &Running, number: i32) -> bool
+fn is_numbered(shell: &Process, number: i32) -> bool
     ensures { result ≡ is_numbered number shell.now }
 {
     usize::try_from(number).is_ok_and(|number| number == shell.number)
 }
 
 // The shell is called so; case is ignored.
-fn is_called(shell: &Running, name: &[u8]) -> bool
+fn is_called(shell: &Process, name: &[u8]) -> bool
     ensures { result ≡ is_called name.now shell.now }
 {
     shell.name.as_bytes().eq_ignore_ascii_case(name)
 }
 
 // The lines of shells.
-fn process_lines(alloc: Global, shells: &[Running]) -> Result<Vec<u8>, NoMemory>
+fn process_lines(alloc: Global, shells: &[Process]) -> Result<Vec<u8>, NoMemory>
     ensures { IfOk result (λ lines. lines.items ≡ flat_map process_line shells.now) }
 {
     let mut lines = Vec::new(alloc);
@@ -131,7 +131,7 @@ fn process_lines(alloc: Global, shells: &[Running]) -> Result<Vec<u8>, NoMemory>
 }
 
 // The lines of their numbers alone.
-fn number_lines(alloc: Global, shells: &[Running]) -> Result<Vec<u8>, NoMemory>
+fn number_lines(alloc: Global, shells: &[Process]) -> Result<Vec<u8>, NoMemory>
     ensures { IfOk result (λ lines. lines.items ≡ flat_map number_line shells.now) }
 {
     let mut lines = Vec::new(alloc);
@@ -143,7 +143,7 @@ fn number_lines(alloc: Global, shells: &[Running]) -> Result<Vec<u8>, NoMemory>
 }
 
 // Puts out the number of a shell.
-fn push_number(output: &mut Vec<u8>, shell: &Running) -> Result<(), NoMemory>
+fn push_number(output: &mut Vec<u8>, shell: &Process) -> Result<(), NoMemory>
     ensures { OnOk result (output.new.items ≡ output.old.items ++ decimal shell.now.number) }
 {
     let mut buffer = Buffer::new();

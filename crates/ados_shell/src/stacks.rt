@@ -151,8 +151,8 @@ impl Stack {
     pub fn sink(&self, shell: &Shell) -> Result<Sink, NoMemory>
         ensures { IfOk result (λ sink. sink_of sink ≡ sink_in (frames_in shell.now self.now)) }
     {
-        match way(self.own.as_slice()) {
-            Way::Below => sink_of(way(self.lent(shell))),
+        match way_of(self.own.as_slice()) {
+            Way::Below => sink_of(way_of(self.lent(shell))),
             way => sink_of(way),
         }
     }
@@ -181,7 +181,7 @@ enum Way<'f> {
 }
 
 /// Where the output of the newest of these frames goes, the newest being the last.
-fn way(frames: &[Frame]) -> Way<'_>
+fn way_of(frames: &[Frame]) -> Way<'_>
     ensures { (below : machine.Sink) → sink_above (reverse frames.now) below ≡ sink_by_way result below }
 {
     let mut left = frames;
