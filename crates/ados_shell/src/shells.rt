@@ -59,7 +59,7 @@ impl Model for Shell {
 
 impl Shell {
     ghost use Rattle.ados_machine.specs.Turning.{Input};
-    ghost use Rattle.ados_machine.specs.World.{can_take, has_input};
+    ghost use Rattle.ados_machine.specs.World.{can_take, has_frame, has_input};
 
     /// The shell of a number in which nothing has answered yet, in the root.
     pub fn new(alloc: Global, number: u8) -> Result<Shell, NoMemory>
@@ -147,6 +147,13 @@ impl Shell {
         ensures { result.now ≡ self.now.parts.settings }
     {
         &self.settings
+    }
+
+    /// It runs a frame.
+    pub fn has_frame(&self) -> bool
+        ensures { result ≡ has_frame self.now.frames }
+    {
+        !self.frames.is_empty()
     }
 
     /// It can take a turn: it is ready and runs a frame, a line of it goes on, or it has input to take, as `has_lines`

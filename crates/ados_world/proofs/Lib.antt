@@ -1,3 +1,5 @@
 mod CarryingLemmas
 mod FillLemmas
+mod MemoryLemmas
+mod NewShellLemmas
 mod StepLemmas

@@ -1,11 +1,11 @@
 -- What a turn changes, moved in, is the machine's world behind the turn.
-use Rattle.std.proofs.Common.{◌≡◌, ◌∙◌, ◌-◌, ℕ, List, [], ◌∷◌, true, false, Option, Some, None, Result, Ok, Err, IfErr, OnErr, OnOk, drop, ap, sym, refl, subst}
+use Rattle.std.proofs.Common.{◌≡◌, ◌∙◌, ◌-◌, ◌++◌, ℕ, List, [], ◌∷◌, Bool, true, false, Option, Some, None, Result, Ok, Err, IfErr, OnErr, OnOk, drop, ap, sym, refl, subst}
 use Rattle.std.specs.Prelude.{◌==◌, if◌then◌else◌, is_some, option_map, slice_set}
 use Rattle.std.proofs.Common.{inl, inr}
 use Rattle.std.proofs.lemmas.Bool.{cases_Bool}
 use Rattle.ados_find.specs.declared.codes.Codes.{Codes}
 use Rattle.ados_find.specs.declared.outcomes.Renamed.{Renamed}
-use Rattle.ados_find.specs.Shared.{version}
+use Rattle.ados_find.specs.Shared.{SharedState, version}
 use Rattle.ados_machine.specs.declared.events.Event.TheVariants as event
 use Rattle.ados_machine.specs.declared.outs.Out.{Out}
 use Rattle.ados_machine.specs.declared.refusals.Refusal.{Refusal}
@@ -14,14 +14,15 @@ use Rattle.ados_machine.specs.Items.{Item, reports_of}
 use Rattle.ados_machine.specs.Shells.{ShellState}
 use Rattle.ados_machine.specs.Carrying.{carried_by, carried_shell, carried_shells, moved_by}
 use Rattle.ados_machine.specs.Limits.{IsSane}
-use Rattle.ados_machine.specs.Runs as memory
 use Rattle.ados_machine.specs.Runs.{IsAnswer, world_after}
 use Rattle.ados_machine.specs.Settle.{Turned}
 use Rattle.ados_machine.specs.Turning as turning
-use Rattle.ados_machine.specs.World.{WorldState, flatten, input_of, is_over, numbered, seen_in, shell_at}
-use Rattle.ados_machine.specs.Step.{Response, Refused, Accepted, applied, giving, moved_in as moved_of, of_shell, queue_behind, shell_of_turn, shells_behind, start, turned}
+use Rattle.ados_machine.specs.World.{WorldState, input_of, is_over, seen_in, shell_at}
+use Rattle.ados_machine.specs.Course.{Course}
+use Rattle.ados_machine.specs.Numbers.{free_number}
+use Rattle.ados_machine.specs.Step.{Response, Refused, Accepted, applied, begun_items, ended_with, giving, is_done, moved_in as moved_of, of_shell, queue_behind, shell_of_turn, shells_behind, start, turned, with_begun}
 use Rattle.ados_machine.proofs.Sane.{sane-after}
-use Rattle.ados_machine.proofs.Shells.{carried-runs, found, found-carried, found-set_same}
+use Rattle.ados_machine.proofs.Shells.{carried-free, carried-runs, found, found-carried, found-placed_other, found-set_same, free-number}
 use Rattle.ados_shell.specs.declared.drafts.Draft.{Draft}
 use Rattle.ados_shell.specs.declared.drafts.ShellDraft.{ShellDraft}
 use Rattle.ados_shell.specs.declared.scenes.Scene.{Scene}
@@ -29,12 +30,16 @@ use Rattle.ados_shell.specs.declared.turnings.Turning.TheVariants as turn
 use Rattle.ados_shell.specs.Drafts.{IsDrafted, behind, out_of, start_of}
 use Rattle.ados_shell.specs.declared.scenes.Input.{Input}
 use Rattle.ados_shell.specs.Turnings.{IsTurning, MayWantMemory, turning_in}
-use Rattle.ados_world.specs.Steps.{answering, ended_world, shells_by, taken}
+use Rattle.ados_world.specs.Endings.{codes_left, ended_left, shells_left}
+use Rattle.ados_world.specs.NewShells.{joined, new_shell}
+use Rattle.ados_world.specs.Steps.{answering, ended_world, shells_by, shells_with, taken}
+use Rattle.ados_world.proofs.MemoryLemmas.{turn-may}
+use Rattle.ados_world.proofs.NewShellLemmas.{begun-behind, codes-left, codes_of_end, ended-left, joined-is, shells-left}
 
 -- the shells behind what a turn makes of one of them
 shells-placed : (shells : List (Option ShellState)) (k : ℕ) (draft : ShellDraft) (shell : ShellState) (t : Turned) (moved : Option Renamed)
-    → flatten (numbered shells k) ≡ Some shell → behind draft shell ≡ shell_of_turn t
-    → shells_by k draft moved shells ≡ shells_behind shells k moved t
+    → found shells k ≡ Some shell → behind draft shell ≡ shell_of_turn t
+    → shells_by k draft moved shells ≡ slice_set (carried_shells moved shells) (k - 1) (Some (carried_by moved (shell_of_turn t)))
 shells-placed shells k draft shell t None f b =
     ap (λ o. slice_set shells (k - 1) (option_map (behind draft) o)) f ∙ ap (λ s. slice_set shells (k - 1) (Some s)) b
 shells-placed shells k draft shell t (Some moved) f b =
@@ -49,16 +54,65 @@ pub record Shows (w : WorldState) (k : ℕ) (shell : ShellState) (scene : Scene)
   pub shells_are : scene.shells.now ≡ w.shells
   pub shared_is : scene.shared.now ≡ w.shared
 
--- the world behind what a draft holds
-taken-is : (w : WorldState) (k : ℕ) (shell : ShellState) (scene : Scene) (draft : Draft) (t : Turned)
+-- all but the shell that begins, as they stand behind the turn
+abbrev others : WorldState → Turned → List (Option ShellState)
+others w t = with_begun t.course.begun (free_number w.shells) (carried_shells (moved_of w t) w.shells)
+
+abbrev own : WorldState → Turned → ShellState
+own w t = carried_by (moved_of w t) (shell_of_turn t)
+
+still-there : (w : WorldState) (k : ℕ) (shell : ShellState) (moved : Option Renamed) → shell_at w k ≡ Some shell → found (carried_shells moved w.shells) k ≡ Some (carried_by moved shell)
+still-there w k shell moved here = found-carried moved w.shells k ∙ carried-runs moved (found w.shells k) shell here
+
+-- the shells behind what a draft holds, before its shell may end
+with-is : (w : WorldState) (k : ℕ) (shell : ShellState) (scene : Scene) (draft : Draft) (t : Turned)
     → Shows w k shell scene → IsDrafted scene draft t
-    → taken k draft w ≡ record w { shells = shells_behind w.shells k (moved_of w t) t; shared = t.course.shared }
-taken-is w k shell scene draft t s d =
-    ap (λ x. record w { shells = shells_by k draft.shell (moved_by w.shared x (option_map (λ r. r.value) draft.renamed)) w.shells; shared = x })
+    → shells_with k draft w ≡ slice_set (others w t) (k - 1) (Some (own w t))
+with-is w k shell scene draft t s d =
+    let number = free_number w.shells in
+    let moved = moved_of w t in
+    ap (λ r. joined (new_shell (option_map (λ b. b.value) draft.begun) number) (shells_by k draft.shell (moved_by w.shared (version w.shared draft.shared) r) w.shells)) d.renamed_is
+    ∙ ap (λ x. joined (new_shell (option_map (λ b. b.value) draft.begun) number) (shells_by k draft.shell (moved_by w.shared x t.course.renamed) w.shells))
     (ap (λ x. version x draft.shared) (sym s.shared_is) ∙ d.shared_is)
-    ∙ ap (λ r. record w { shells = shells_by k draft.shell (moved_by w.shared t.course.shared r) w.shells; shared = t.course.shared }) d.renamed_is
-    ∙ ap (λ x. record w { shells = x; shared = t.course.shared })
-    (shells-placed w.shells k draft.shell shell t (moved_of w t) s.here (ap (behind draft.shell) (sym s.shell_is) ∙ d.shell_is))
+    ∙ ap (joined (new_shell (option_map (λ b. b.value) draft.begun) number))
+    (shells-placed w.shells k draft.shell shell t moved s.here (ap (behind draft.shell) (sym s.shell_is) ∙ d.shell_is))
+    ∙ ap (λ b. joined (new_shell b number) (slice_set (carried_shells moved w.shells) (k - 1) (Some (own w t)))) d.begun_is
+    ∙ joined-is t.course.begun number (slice_set (carried_shells moved w.shells) (k - 1) (Some (own w t)))
+    ∙ begun-behind t.course.begun number (carried_shells moved w.shells) k (carried_by moved shell) (Some (own w t))
+    (carried-free moved w.shells number (free-number w.shells)) (still-there w k shell moved s.here)
+
+own-found : (w : WorldState) (k : ℕ) (shell : ShellState) (t : Turned) → shell_at w k ≡ Some shell
+    → found (slice_set (others w t) (k - 1) (Some (own w t))) k ≡ Some (own w t)
+own-found w k shell t here =
+    let moved = moved_of w t in
+    found-set_same (others w t) k (carried_by moved shell) (Some (own w t))
+    (found-placed_other (carried_shells moved w.shells) t.course.begun (free_number w.shells) k (carried_by moved shell)
+    (carried-free moved w.shells (free_number w.shells) (free-number w.shells)) (still-there w k shell moved here))
+
+-- the end of a background shell
+abbrev without : WorldState → ℕ → List (Option ShellState) → SharedState → Option Codes → WorldState
+without w k shells shared codes = record w { shells = shells_left codes k shells; ended = ended_left codes k w.ended; shared = shared }
+
+-- the world behind what a draft holds
+abbrev behind_turn : WorldState → ℕ → Turned → WorldState
+behind_turn w k t = record w {
+  shells = shells_behind w.shells k (moved_of w t) t;
+  ended = ended_with (is_done k t.frames) k t.course.parts.codes w.ended;
+  shared = t.course.shared;
+}
+
+taken-is : (w : WorldState) (k : ℕ) (shell : ShellState) (scene : Scene) (draft : Draft) (t : Turned)
+    → Shows w k shell scene → IsDrafted scene draft t → taken k draft w ≡ behind_turn w k t
+taken-is w k shell scene draft t s d =
+    let done = is_done k t.frames in
+    let codes = t.course.parts.codes in
+    let shells = slice_set (others w t) (k - 1) (Some (own w t)) in
+    ap (λ x. without w k (shells_with k draft w) x (codes_left k (found (shells_with k draft w) k))) (ap (λ x. version x draft.shared) (sym s.shared_is) ∙ d.shared_is)
+    ∙ ap (λ l. without w k l t.course.shared (codes_left k (found l k))) (with-is w k shell scene draft t s d)
+    ∙ ap (λ o. without w k shells t.course.shared (codes_left k o)) (own-found w k shell t s.here)
+    ∙ ap (without w k shells t.course.shared) (codes-left k (moved_of w t) t)
+    ∙ ap (λ l. record w { shells = l; ended = ended_left (codes_of_end done codes) k w.ended; shared = t.course.shared }) (shells-left done codes k (others w t) (own w t))
+    ∙ ap (λ l. record w { shells = shells_behind w.shells k (moved_of w t) t; ended = l; shared = t.course.shared }) (ended-left done codes k w.ended)
 
 -- what an event gives that a draft holds
 gives : (w : WorldState) (k : ℕ) (shell : ShellState) (scene : Scene) (draft : Draft) (t : Turned) → Shows w k shell scene → IsDrafted scene draft t
@@ -72,16 +126,28 @@ queue-stays w k = elim (cases_Bool (k == 1)) [ inl e ↦ rw e refl | inr e ↦ r
 queue-next : (w : WorldState) (k : ℕ) → queue_behind k w.queue (drop 1 (input_of w k).queue) ≡ queue_behind k w.queue (drop 1 w.queue)
 queue-next w k = elim (cases_Bool (k == 1)) [ inl e ↦ rw e refl | inr e ↦ rw e refl ]
 
+-- a turn of a shell begins
+abbrev start_in : SharedState → List (Option ShellState) → ShellState → Course
+start_in shared shells shell = record {
+  parts = shell.parts;
+  kept = shell.kept;
+  shared = shared;
+  seen = seen_in shells;
+  printed = [];
+  renamed = None;
+  begun = None;
+}
+
 -- the machine's turn of a shell, by what the scene shows
 pub turning-is : (w : WorldState) (k : ℕ) (shell : ShellState) (scene : Scene) (input : Input)
     → Shows w k shell scene → input.is_ended ≡ (input_of w k).is_ended
     → turning_in scene input scene.shell.now.phase (input_of w k).queue
-    ≡ turning.turning (input_of w k) shell.frames (start w shell.parts) shell.phase
+    ≡ turning.turning (input_of w k) shell.frames (start w shell) shell.phase
 turning-is w k shell scene input s e =
     ap (λ x. turning.turning (record { queue = (input_of w k).queue; is_ended = x }) scene.shell.now.frames (start_of scene) scene.shell.now.phase) e
-    ∙ ap (λ x. turning.turning (input_of w k) x.frames (record { parts = x.parts; shared = scene.shared.now; seen = seen_in scene.shells.now; printed = []; renamed = None }) x.phase) s.shell_is
-    ∙ ap (λ x. turning.turning (input_of w k) shell.frames (record { parts = shell.parts; shared = x; seen = seen_in scene.shells.now; printed = []; renamed = None }) shell.phase) s.shared_is
-    ∙ ap (λ x. turning.turning (input_of w k) shell.frames (record { parts = shell.parts; shared = w.shared; seen = seen_in x; printed = []; renamed = None }) shell.phase) s.shells_are
+    ∙ ap (λ x. turning.turning (input_of w k) x.frames (start_in scene.shared.now scene.shells.now x) x.phase) s.shell_is
+    ∙ ap (λ x. turning.turning (input_of w k) shell.frames (start_in x scene.shells.now shell) shell.phase) s.shared_is
+    ∙ ap (λ x. turning.turning (input_of w k) shell.frames (start_in w.shared x shell) shell.phase) s.shells_are
 
 -- an event is accepted, and leaves this world and gives this
 abbrev pub Accepts : Response → WorldState → Out → Type 0
@@ -95,10 +161,10 @@ goes : (w : WorldState) (k : ℕ) (shell : ShellState) (scene : Scene) (draft : 
 goes w k shell scene draft (turning.Refuses why) s t = absurd t
 goes w k shell scene draft turning.Ends s t = absurd t
 goes w k shell scene draft (turning.Takes rest turned) s t =
-    let items = of_shell k turned.log in
+    let items = of_shell k turned.log ++ begun_items turned.course.begun (free_number w.shells) in
     let given = giving turned.course.printed (reports_of k turned.log) in (
       items,
-      ap (λ q. Accepted (record w { shells = shells_behind w.shells k (moved_of w turned) turned; queue = q; shared = turned.course.shared }) given items)
+      ap (λ q. Accepted (record (behind_turn w k turned) { queue = q }) given items)
           (ap (queue_behind k w.queue) t.0 ∙ queue-stays w k)
           ∙ ap (λ x. Accepted x given items) (sym (taken-is w k shell scene draft turned s t.1))
           ∙ ap (λ g. Accepted (taken k draft w) g items) (sym (gives w k shell scene draft turned s t.1)),
@@ -112,11 +178,11 @@ takes : (w : WorldState) (k : ℕ) (shell : ShellState) (scene : Scene) (draft :
 takes w k shell scene draft (turning.Refuses why) s t = absurd t
 takes w k shell scene draft turning.Ends s t = absurd t
 takes w k shell scene draft (turning.Takes rest turned) s t =
-    let items = of_shell k turned.log in
+    let items = of_shell k turned.log ++ begun_items turned.course.begun (free_number w.shells) in
     let given = giving turned.course.printed (reports_of k turned.log) in
     let queue = queue_behind k w.queue (drop 1 w.queue) in (
       items,
-      ap (λ q. Accepted (record w { shells = shells_behind w.shells k (moved_of w turned) turned; queue = q; shared = turned.course.shared }) given items)
+      ap (λ q. Accepted (record (behind_turn w k turned) { queue = q }) given items)
           (ap (λ q. queue_behind k w.queue (drop 1 q)) (sym t.1) ∙ queue-next w k)
           ∙ ap (λ x. Accepted (record x { queue = queue }) given items) (sym (taken-is w k shell scene draft turned s t.2))
           ∙ ap (λ g. Accepted (record (taken k draft w) { queue = queue }) g items) (sym (gives w k shell scene draft turned s t.2)),
@@ -130,42 +196,36 @@ ends w k shell scene draft (turning.Refuses why) t = absurd t
 ends w k shell scene draft turning.Ends t = ([], refl)
 ends w k shell scene draft (turning.Takes rest turned) t = absurd t
 
--- the shell runs on behind what a draft makes of it
-shells-run : (shells : List (Option ShellState)) (k : ℕ) (draft : ShellDraft) (shell : ShellState) (moved : Option Renamed)
-    → found shells k ≡ Some shell → is_some (found (shells_by k draft moved shells) k) ≡ true
-shells-run shells k draft shell None here =
-    ap is_some (found-set_same shells k shell _ here ∙ ap (option_map (behind draft)) here)
-shells-run shells k draft shell (Some moved) here =
-    ap is_some (found-set_same (carried_shells (Some moved) shells) k (carried_by (Some moved) shell) _
-    (found-carried (Some moved) shells k ∙ carried-runs (Some moved) (found shells k) shell here)
-    ∙ ap (option_map (λ s. carried_shell moved (behind draft s))) here)
+-- a turn that went on may want memory
+goes-may : (scene : Scene) (queue : List (List ℕ)) (draft : Draft) (turning : turning.Turning) → IsTurning scene queue turn.Goes draft turning → MayWantMemory turning
+goes-may scene queue draft (turning.Refuses why) t = absurd t
+goes-may scene queue draft turning.Ends t = absurd t
+goes-may scene queue draft (turning.Takes rest turned) t = tt
 
-pub taken-runs : (w : WorldState) (k : ℕ) (shell : ShellState) (draft : Draft) → shell_at w k ≡ Some shell → is_some (shell_at (taken k draft w) k) ≡ true
-taken-runs w k shell draft here =
-    shells-run w.shells k draft.shell shell (moved_by w.shared (version w.shared draft.shared) (option_map (λ r. r.value) draft.renamed)) here
-
--- a turn behind which the shell runs on may want memory
-may-want : (k : ℕ) (world : WorldState) (items : List (ℕ × Item)) → is_some (shell_at world k) ≡ true → memory.MayWantMemory (event.Turn k) world items
-may-want k world [] e = e
-may-want k world (item ∷ items) e = tt
-
--- a turn that was accepted may want memory
-wants : (w : WorldState) (k : ℕ) (shell : ShellState) (turning : turning.Turning) → shell_at w k ≡ Some shell → MayWantMemory turning
-    → IsAnswer (event.Turn k) (Err NoMemory) (applied w k shell.parts.codes turning)
-wants w k shell (turning.Refuses why) here t = absurd t
-wants w k shell turning.Ends here t = absurd t
-wants w k shell (turning.Takes rest t) here m =
-    may-want k (record w { shells = shells_behind w.shells k (moved_of w t) t; queue = queue_behind k w.queue rest; shared = t.course.shared }) (of_shell k t.log)
-    (ap is_some (found-set_same (carried_shells (moved_of w t) w.shells) k (carried_by (moved_of w t) shell) _
-    (found-carried (moved_of w t) w.shells k ∙ carried-runs (moved_of w t) (found w.shells k) shell here)))
+takes-may : (scene : Scene) (queue : List (List ℕ)) (draft : Draft) (turning : turning.Turning) → IsTurning scene queue turn.Takes draft turning → MayWantMemory turning
+takes-may scene queue draft (turning.Refuses why) t = absurd t
+takes-may scene queue draft turning.Ends t = absurd t
+takes-may scene queue draft (turning.Takes rest turned) t = tt
 
 pub turn-wants : (w : WorldState) (k : ℕ) (shell : ShellState) (scene : Scene) (input : Input)
-    → Shows w k shell scene → input.is_ended ≡ (input_of w k).is_ended
+    → IsSane w → Shows w k shell scene → input.is_ended ≡ (input_of w k).is_ended
     → MayWantMemory (turning_in scene input scene.shell.now.phase (input_of w k).queue)
     → IsAnswer (event.Turn k) (Err NoMemory) (turned w k (shell_at w k))
-turn-wants w k shell scene input s e m =
+turn-wants w k shell scene input sane s e m =
     (let P : Response → Type 0 = λ r. IsAnswer (event.Turn k) (Err NoMemory) r in
-    subst P (sym (ap (turned w k) s.here)) (wants w k shell _ s.here (subst MayWantMemory (turning-is w k shell scene input s e) m)))
+    subst P (sym (ap (turned w k) s.here)) (turn-may w k shell sane s.here (subst MayWantMemory (turning-is w k shell scene input s e) m)))
+
+pub goes-wants : (w : WorldState) (k : ℕ) (shell : ShellState) (scene : Scene) (input : Input) (draft : Draft)
+    → IsSane w → Shows w k shell scene → input.is_ended ≡ (input_of w k).is_ended
+    → IsTurning scene (input_of w k).queue turn.Goes draft (turning_in scene input scene.shell.now.phase (input_of w k).queue)
+    → IsAnswer (event.Turn k) (Err NoMemory) (turned w k (shell_at w k))
+goes-wants w k shell scene input draft sane s e t = turn-wants w k shell scene input sane s e (goes-may scene _ draft _ t)
+
+pub takes-wants : (w : WorldState) (k : ℕ) (shell : ShellState) (scene : Scene) (input : Input) (draft : Draft)
+    → IsSane w → Shows w k shell scene → input.is_ended ≡ (input_of w k).is_ended
+    → IsTurning scene (input_of w k).queue turn.Takes draft (turning_in scene input scene.shell.now.phase (input_of w k).queue)
+    → IsAnswer (event.Turn k) (Err NoMemory) (turned w k (shell_at w k))
+takes-wants w k shell scene input draft sane s e t = turn-wants w k shell scene input sane s e (takes-may scene _ draft _ t)
 
 -- no script runs on behind a failure in the world that an event leaves
 pub sane-behind : (w world : WorldState) (k : ℕ) (given : Out) → IsSane w → is_over w ≡ false → Accepts (turned w k (shell_at w k)) world given → IsSane world
@@ -175,14 +235,12 @@ sane-behind w world k given sane over (items, e) =
 
 -- the turn was accepted, unless memory was wanting: what was answered is the step's answer
 pub answered : {X : Type 0} (world : WorldState) (k : ℕ) (given out : Out) (result : Result X Refusal) (response : Response)
-    → Accepts response world given → is_some (shell_at world k) ≡ true → out ≡ given → IfErr result (λ why. why ≡ NoMemory)
+    → Accepts response world given → IsAnswer (event.Turn k) (Err NoMemory) response → out ≡ given → IfErr result (λ why. why ≡ NoMemory)
     → IsAnswer (event.Turn k) (answering out result) response
-answered world k given out (Ok accepted) response (items, e) runs g n =
+answered world k given out (Ok accepted) response (items, e) wants g n =
     (let P : Response → Type 0 = λ r. IsAnswer (event.Turn k) (Ok out) r in subst P (sym e) g)
-answered world k given out (Err why) response (items, e) runs g n =
-    (let P : Response → Type 0 = λ r. IsAnswer (event.Turn k) (Err why) r in
-    let Q : Refusal → Type 0 = λ y. IsAnswer (event.Turn k) (Err y) (Accepted world given items) in
-    subst P (sym e) (subst Q (sym n) (may-want k world items runs)))
+answered world k given out (Err why) response (items, e) wants g n =
+    (let Q : Refusal → Type 0 = λ y. IsAnswer (event.Turn k) (Err y) response in subst Q (sym n) wants)
 
 -- what was answered is the step's answer, and its world is the world behind it
 pub answers : {X : Type 0} (w world new : WorldState) (given out : Out) (result : Result X Refusal) (response : Response) → Accepts response world given
@@ -191,7 +249,7 @@ answers w world new given out (Ok accepted) response (items, e) a b = a ∙ sym 
 answers w world new given out (Err why) response (items, e) a b = b ∙ sym (ap (world_after w (Err why)) e)
 
 to-turned : (w world : WorldState) (k : ℕ) (given : Out) (shell : ShellState) → shell_at w k ≡ Some shell
-    → Accepts (applied w k shell.parts.codes (turning.turning (input_of w k) shell.frames (start w shell.parts) shell.phase)) world given
+    → Accepts (applied w k shell.parts.codes (turning.turning (input_of w k) shell.frames (start w shell) shell.phase)) world given
     → Accepts (turned w k (shell_at w k)) world given
 to-turned w world k given shell here (items, e) = (items, ap (turned w k) here ∙ e)
 
@@ -222,4 +280,4 @@ turn-ends w k shell scene input draft codes s e c t =
 
 -- the same world with other lines that wait
 pub sane-taken : (w : WorldState) (queue : List (List ℕ)) → IsSane (record w { queue = queue }) → IsSane w
-sane-taken w queue sane = record { each = sane.each }
+sane-taken w queue sane = record { each = sane.each; background = sane.background }

@@ -1,3 +1,5 @@
+pub mod Endings
 pub mod Hosts
+pub mod NewShells
 pub mod Shells
 pub mod Steps

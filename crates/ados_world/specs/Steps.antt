@@ -7,21 +7,34 @@ use Rattle.ados_machine.specs.declared.outs.Out.{Out}
 use Rattle.ados_machine.specs.declared.refusals.Refusal.{Refusal}
 use Rattle.ados_machine.specs.Shells.{ShellState}
 use Rattle.ados_machine.specs.Carrying.{moved_by}
-use Rattle.ados_machine.specs.World.{WorldState}
+use Rattle.ados_machine.specs.Numbers.{free_number}
+use Rattle.ados_machine.specs.World.{WorldState, flatten, numbered}
 use Rattle.ados_shell.specs.declared.drafts.Draft.{Draft}
 use Rattle.ados_shell.specs.declared.drafts.ShellDraft.{ShellDraft}
+use Rattle.ados_world.specs.Endings.{codes_left, ended_left, shells_left}
+use Rattle.ados_world.specs.NewShells.{joined, new_shell}
 use Rattle.ados_world.specs.Shells.{moved_in, carried_in}
 
 abbrev pub shells_by : ℕ → ShellDraft → Option Renamed → List (Option ShellState) → List (Option ShellState)
 shells_by number draft None shells = moved_in number draft shells
 shells_by number draft (Some moved) shells = carried_in number moved draft shells
 
--- the world behind what a turn changes
+-- the shells behind what a turn makes of one of them, with the one that begins, at the lowest free number
+abbrev pub shells_with : ℕ → Draft → WorldState → List (Option ShellState)
+shells_with number draft w =
+    joined (new_shell (option_map (λ b. b.value) draft.begun) (free_number w.shells))
+    (shells_by number draft.shell (moved_by w.shared (version w.shared draft.shared) (option_map (λ r. r.value) draft.renamed)) w.shells)
+
+-- the world behind what a turn changes: a background shell that runs no frame any more is gone, and its codes stay
 abbrev pub taken : ℕ → Draft → WorldState → WorldState
-taken number draft w = record w {
-  shells = shells_by number draft.shell (moved_by w.shared (version w.shared draft.shared) (option_map (λ r. r.value) draft.renamed)) w.shells;
-  shared = version w.shared draft.shared;
-}
+taken number draft w =
+    (let shells = shells_with number draft w in
+    let codes = codes_left number (flatten (numbered shells number)) in
+    record w {
+      shells = shells_left codes number shells;
+      ended = ended_left codes number w.ended;
+      shared = version w.shared draft.shared;
+    })
 
 -- the world behind the end of a shell, whose codes stay
 abbrev pub ended_world : ℕ → Codes → WorldState → WorldState

@@ -3,7 +3,9 @@
 //! ended.
 
 mod carrying;
+mod endings;
 mod hosts;
+mod new_shells;
 mod queue;
 mod runs;
 mod shells;

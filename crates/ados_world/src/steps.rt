@@ -11,6 +11,8 @@ ghost use Rattle.ados_world.specs.Shells.{IsShellNumber};
 ghost use Rattle.ados_world.specs.Steps.{answering, ended_world, taken};
 
 use crate::carrying::moved_by;
+use crate::endings::{end, end_done};
+use crate::new_shells::{join, new_shell};
 use crate::shells::{carry_in, move_in};
 use crate::worlds::World;
 use ados_find::Codes;
@@ -108,7 +110,8 @@ impl World {
         Ok(())
     }
 
-    /// Moves in what a turn changes.
+    /// Moves in what a turn changes: the shell that it makes stands at its number, and the turn's own shell ends where
+    /// it is a background shell that runs no frame any more.
     fn take(&mut self, number: u8, draft: &mut Draft) -> Result<(), Refusal>
         requires number { IsShellNumber number }
         requires runs { is_some (shell_at self.old number) ≡ true }
@@ -118,6 +121,9 @@ impl World {
         ensures refusal { IfErr result (λ why. why ≡ NoMemory) }
         ensures unchanged { OnErr result (self.new ≡ self.old) }
     {
+        let Ok(begun) = new_shell(self.alloc, &self.shells, draft.begun.take()) else {
+            return Err(Refusal::NoMemory);
+        };
         let moved = moved_by(
             &self.shared,
             draft.shared.as_ref(),
@@ -130,6 +136,8 @@ impl World {
         let Ok(()) = placed else {
             return Err(Refusal::NoMemory);
         };
+        join(&mut self.shells, begun);
+        end_done(&mut self.shells, &mut self.ended, number);
         match draft.shared.take() {
             None => {}
             Some(new) => self.shared = new,
@@ -143,9 +151,7 @@ impl World {
         requires sane { IsSane (ended_world number codes self.old) }
         ensures { self.new ≡ ended_world number codes self.old }
     {
-        let place = number as usize - 1;
-        self.shells[place] = None;
-        self.ended[place] = codes;
+        end(&mut self.shells, &mut self.ended, number, codes);
     }
 
     /// Why an answer is refused: no shell waits for one yet.

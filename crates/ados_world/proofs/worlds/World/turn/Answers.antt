@@ -2,7 +2,7 @@ use Rattle.std.proofs.Common.{sym, subst}
 use Rattle.ados_machine.specs.World.{input_of}
 use Rattle.ados_shell.specs.declared.turnings.Turning.{Turning}
 use Rattle.ados_shell.specs.Turnings.{GivesTurning}
-use Rattle.ados_world.proofs.StepLemmas.{Shows, answered, answers, sane-behind, sane-taken, taken-runs, turn-ends, turn-goes, turn-takes, turn-wants}
+use Rattle.ados_world.proofs.StepLemmas.{Shows, answered, answers, goes-wants, sane-behind, sane-taken, takes-wants, turn-ends, turn-goes, turn-takes, turn-wants}
 use Rattle.ados_world.proofs.worlds.World.turn.Goals as goal
 
 pub end_shell-requires-clause-sane : goal.end_shell-requires-clause-sane
@@ -69,7 +69,7 @@ returns-in-Err-clause-answer c =
       shells_are = c.scene.ensures.shells;
       shared_is = c.scene.ensures.shared;
     } in
-    turn-wants w k shell c.scene.result c.input.result shows c.input.ensures.is_ended (c.in-Err.ensures.memory (input_of w k).queue c.input.ensures.line)
+    turn-wants w k shell c.scene.result c.input.result (rw c.self.view_is at c.self.invariant) shows c.input.ensures.is_ended (c.in-Err.ensures.memory (input_of w k).queue c.input.ensures.line)
 
 pub returns-in-Ok-Goes-clause-answer : goal.returns-in-Ok-Goes-clause-answer
 returns-in-Ok-Goes-clause-answer c =
@@ -87,7 +87,8 @@ returns-in-Ok-Goes-clause-answer c =
     let given = subst P c.in-Ok-Goes.field-0-is c.in-Ok-Goes.ensures.turn in
     answered _ k _ _ c.take.result _
     (turn-goes w k shell c.scene.result c.input.result c.turn.new.self shows c.input.ensures.is_ended (given (input_of w k).queue c.input.ensures.line))
-    (taken-runs w k shell c.turn.new.self shows.here) c.take.ensures.out c.take.ensures.refusal
+    (goes-wants w k shell c.scene.result c.input.result c.turn.new.self (rw c.self.view_is at c.self.invariant) shows c.input.ensures.is_ended (given (input_of w k).queue c.input.ensures.line))
+    c.take.ensures.out c.take.ensures.refusal
 
 pub returns-in-Ok-Goes-clause-world : goal.returns-in-Ok-Goes-clause-world
 returns-in-Ok-Goes-clause-world c =
@@ -123,4 +124,5 @@ returns-in-Ok-Takes-clause-answer c =
     let given = subst P c.in-Ok-Takes.field-0-is c.in-Ok-Takes.ensures.turn in
     answered _ k _ _ c.take_typed.result _
     (turn-takes w k shell c.scene.result c.input.result c.turn.new.self shows c.input.ensures.is_ended (given (input_of w k).queue c.input.ensures.line))
-    (taken-runs w k shell c.turn.new.self shows.here) c.take_typed.ensures.out c.take_typed.ensures.refusal
+    (takes-wants w k shell c.scene.result c.input.result c.turn.new.self (rw c.self.view_is at c.self.invariant) shows c.input.ensures.is_ended (given (input_of w k).queue c.input.ensures.line))
+    c.take_typed.ensures.out c.take_typed.ensures.refusal

@@ -1,0 +1,47 @@
+// The ends of shells.
+ghost use Rattle.std.specs.Prelude.{◌≡◌, ◌-◌, None};
+ghost use Rattle.std.specs.List.{slice_set};
+ghost use Rattle.ados_machine.specs.World.{flatten, numbered};
+ghost use Rattle.ados_world.specs.Endings.{codes_left, ended_left, shells_left};
+ghost use Rattle.ados_world.specs.Shells.{IsShellNumber};
+
+use crate::shells::find_shell;
+use ados_find::Codes;
+use ados_shell::Shell;
+
+/// The shell of a number ends, if it is a background shell that runs no frame any more; its codes stay.
+pub fn end_done(shells: &mut [Option<Shell>; 20], ended: &mut [Codes; 20], number: u8)
+    requires { IsShellNumber number }
+    ensures shells { shells.new ≡ shells_left (codes_left number (flatten (numbered shells.old number))) number shells.old }
+    ensures ended { ended.new ≡ ended_left (codes_left number (flatten (numbered shells.old number))) number ended.old }
+{
+    if let Some(codes) = codes_left(shells, number) {
+        end(shells, ended, number, codes);
+    }
+}
+
+/// The shell of a number ends, and these codes of it stay.
+pub fn end(
+    shells: &mut [Option<Shell>; 20],
+    ended: &mut [Codes; 20],
+    number: u8,
+    codes: Codes,
+)
+    requires { IsShellNumber number }
+    ensures shells { shells.new ≡ slice_set shells.old (number - 1) None }
+    ensures ended { ended.new ≡ slice_set ended.old (number - 1) codes }
+{
+    let place = number as usize - 1;
+    shells[place] = None;
+    ended[place] = codes;
+}
+
+/// The codes that the shell of a number leaves, if it is a background shell that runs no frame any more.
+fn codes_left(shells: &[Option<Shell>; 20], number: u8) -> Option<Codes>
+    ensures { result ≡ codes_left number (flatten (numbered shells.now number)) }
+{
+    match find_shell(shells, number) {
+        Some(shell) if number != 1 && !shell.has_frame() => Some(shell.codes()),
+        _ => None,
+    }
+}

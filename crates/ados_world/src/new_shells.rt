@@ -1,0 +1,43 @@
+// The shell that a turn makes.
+ghost use Rattle.std.specs.Prelude.{◌≡◌, IfOk, IfSome, option_map};
+ghost use Rattle.ados_machine.specs.Numbers.{free_number};
+ghost use Rattle.ados_world.specs.NewShells.{joined, new_shell};
+ghost use Rattle.ados_world.specs.Shells.{IsShellNumber};
+
+use ados_shell::{Begun, Shell, free_number};
+use ados_text::NoMemory;
+use std::alloc::Global;
+
+/// The shell that a turn makes, with the lowest free number; `None` where it makes none, or no number is free.
+///
+/// `NoMemory` where there is none for the shell.
+pub fn new_shell(
+    alloc: Global,
+    shells: &[Option<Shell>; 20],
+    begun: Option<Box<Begun>>,
+) -> Result<Option<Shell>, NoMemory>
+    ensures shell { IfOk result (λ shell. shell ≡ new_shell (option_map (λ b. b.value) begun) (free_number shells.now)) }
+    ensures number { IfOk result (λ shell. IfSome shell (λ new. IsShellNumber new.parts.number)) }
+{
+    let Some(begun) = begun else {
+        return Ok(None);
+    };
+    match free_number(shells) {
+        None => Ok(None),
+        Some(number) => {
+            let shell = Shell::begun(alloc, number, Box::into_inner(begun))?;
+            Ok(Some(shell))
+        }
+    }
+}
+
+/// A shell that begins stands at its number from now on.
+pub fn join(shells: &mut [Option<Shell>; 20], shell: Option<Shell>)
+    requires { IfSome shell (λ new. IsShellNumber new.parts.number) }
+    ensures { shells.new ≡ joined shell shells.old }
+{
+    if let Some(shell) = shell {
+        let place = shell.number() as usize - 1;
+        shells[place] = Some(shell);
+    }
+}
