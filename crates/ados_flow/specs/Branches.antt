@@ -1,5 +1,5 @@
 -- Branches: If, Else and Skip, by which a script goes on at another line.
-use Rattle.std.specs.Prelude.{ℕ, List, Bool, true, false, not, Option, Some, None, Result, Ok, Err, if◌then◌else◌}
+use Rattle.std.specs.Prelude.{List, Bool, not, Option, Some, None, Result, Ok, Err, if◌then◌else◌}
 use Rattle.ados_text.specs.declared.codes.TheConstants.Result2.{NONE, OBJECT_NOT_FOUND, WRONG_TYPE}
 use Rattle.ados_readargs.specs.declared.args.Arg.{Arg}
 use Rattle.ados_readargs.specs.Args.{is_on, text_at}

@@ -1,5 +1,5 @@
 -- Execute: the call of a script.
-use Rattle.std.specs.Prelude.{ℕ, List, [], ◌∷◌, ◌++◌, Bool, ◌==◌, ◌&&◌, ◌||◌, Option, Some, None, Result, Ok, Err, codes, position, is_none, unwrap_or, if◌then◌else◌}
+use Rattle.std.specs.Prelude.{ℕ, List, [], ◌++◌, Bool, ◌==◌, ◌&&◌, ◌||◌, Option, Some, None, Result, Ok, Err, codes, position, is_none, unwrap_or, if◌then◌else◌}
 use Rattle.std.specs.FinMap as finite
 use Rattle.std.specs.Fmt.{decimal}
 use Rattle.ados_text.specs.Lines.{lines_of}

@@ -118,7 +118,8 @@ impl Frame {
         ensures lines { result.now ≡ further self.now }
         ensures below { self.now.position + length result.now < 2 ^ 64 }
     {
-        self.fixed.script.lines().get(self.position..).unwrap_or(&[])
+        let lines = self.fixed.script.lines();
+        lines.get(self.position()..).unwrap_or(&[])
     }
 
     /// So many of the lines that are not taken yet are taken.

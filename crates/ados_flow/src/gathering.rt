@@ -1,8 +1,7 @@
 // What a Run takes: the commands of its shell.
-ghost use Rattle.std.specs.Prelude.{◌≡◌, ◌≤◌, length, IfOk};
+ghost use Rattle.std.specs.Prelude.{◌≡◌, ◌≤◌, ◌+◌, ◌-◌, ◌++◌, [], ◌∷◌, length, IfOk, OnOk};
 ghost use Rattle.std.specs.Option.{option_map};
-ghost use Rattle.ados_items.specs.Items.{is_blank};
-ghost use Rattle.ados_flow.specs.Gathering.{asks_nothing, before_plus, gathered, number_line, without_plus};
+ghost use Rattle.ados_flow.specs.Gathering.{asks_nothing, before_plus, gathered, number_line, run_limit, without_plus};
 
 use ados_items::{Item, next_item};
 use ados_text::{NoMemory, Octets, Text, Texts, push_number};
@@ -22,26 +21,22 @@ pub struct Gathered {
 
 /// The text before the `+` that has only blanks behind it: with it a text goes on with a further line. `None` where a
 /// text has no such `+`.
-pub fn before_plus(text: &[u8]) -> Option<&[u8]>
-    ensures { option_map (λ t. t.now) result ≡ before_plus text.now }
+#[tactic(auto, using(crate::proofs::GatheringLemmas::none_in_none, crate::proofs::GatheringLemmas::blank_behind, crate::proofs::GatheringLemmas::plus_behind, crate::proofs::GatheringLemmas::other_behind))]
+pub fn before_plus(mut text: &[u8]) -> Option<&[u8]>
+    ensures { option_map (λ t. t.now) result ≡ before_plus text.entry.now }
 {
-    let mut text = text;
-    while let [front @ .., last] = text
-        && is_blank(*last)
-    {
-        text = front;
+    while let Some((last, front)) = text.split_last() {
+        match *last {
+            b' ' | b'\t' => text = front,
+            b'+' => return Some(front),
+            _ => return None,
+        }
     }
-    text.strip_suffix(b"+")
-}
-
-// A space or a tab.
-fn is_blank(byte: u8) -> bool
-    ensures { result ≡ is_blank byte }
-{
-    byte == b' ' || byte == b'\t'
+    None
 }
 
 /// The text without the `+` by which it goes on, if it has one.
+#[tactic(auto, using(crate::proofs::GatheringLemmas::front_stays))]
 pub fn without_plus(alloc: Global, text: &Text) -> Result<Text, NoMemory>
     ensures { IfOk result (λ front. front ≡ without_plus text.now) }
 {
@@ -52,6 +47,7 @@ pub fn without_plus(alloc: Global, text: &Text) -> Result<Text, NoMemory>
 }
 
 /// No command stands in the text, its `+` aside.
+#[tactic(auto, unfolding(crate::specs::Gathering::asks_nothing))]
 pub fn asks_nothing(text: &Text) -> bool
     ensures { result ≡ asks_nothing text.now }
 {
@@ -62,22 +58,35 @@ pub fn asks_nothing(text: &Text) -> bool
 
 /// The commands of a Run by its text and the lines behind it: each text that goes on takes one of these, up to 32
 /// commands.
-pub fn gather(alloc: Global, text: &Text, lines: &[Text]) -> Result<Gathered, NoMemory>
-    ensures value { IfOk result (λ g. g ≡ gathered 31 text.now lines.now) }
+#[tactic(auto, using(crate::proofs::GatheringLemmas::went_on, crate::proofs::GatheringLemmas::took_none, crate::proofs::GatheringLemmas::none_left))]
+pub fn gather<'a>(alloc: Global, text: &'a Text, lines: &'a [Text]) -> Result<Gathered, NoMemory>
+    ensures value { IfOk result (λ g. g ≡ gathered (run_limit - 1) text.now lines.now) }
     ensures within { IfOk result (λ g. g.taken ≤ length lines.now) }
+    ensures counted { IfOk result (λ g. length g.commands ≡ g.taken + 1) }
+    ensures limited { IfOk result (λ g. length g.commands ≤ run_limit) }
 {
     let mut commands = Texts::new(alloc);
     let mut last = text;
-    for line in lines.iter().take(RUN_LIMIT - 1) {
-        if before_plus(last.as_bytes()).is_none() {
-            break;
-        }
-        commands.push(without_plus(alloc, last)?)?;
+    let mut rest = lines;
+    while let Some((line, behind)) = rest.split_first()
+        && commands.len() < RUN_LIMIT - 1
+        && before_plus(last.as_bytes()).is_some()
+    {
+        push_front(alloc, &mut commands, last)?;
         last = line;
+        rest = behind;
     }
     let taken = commands.len();
-    commands.push(without_plus(alloc, last)?)?;
+    push_front(alloc, &mut commands, last)?;
     Ok(Gathered { commands, taken })
+}
+
+// Adds a text without the `+` by which it goes on.
+fn push_front(alloc: Global, commands: &mut Texts, text: &Text) -> Result<(), NoMemory>
+    ensures { OnOk result (commands.new ≡ commands.old ++ without_plus text.now ∷ []) }
+{
+    let front = without_plus(alloc, text)?;
+    commands.push(front)
 }
 
 /// What Run prints: the number of its shell, `[CLI n]`, and a newline.

@@ -23,7 +23,9 @@ pub use code_rule::{FIRST_LIMIT, is_reached};
 pub use commands::Command;
 pub use execute::call_script;
 pub use frames::{FRAME_LIMIT, Frame};
-pub use gathering::{Gathered, RUN_LIMIT, asks_nothing, before_plus, gather, number_line, without_plus};
+pub use gathering::{
+    Gathered, RUN_LIMIT, asks_nothing, before_plus, gather, number_line, without_plus,
+};
 pub use kinds::Kind;
 pub use records::Record;
 pub use rows::run;

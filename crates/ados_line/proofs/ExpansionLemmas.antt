@@ -1,10 +1,13 @@
 -- what a raw line came to is made of its pieces and segments
-use Rattle.std.proofs.Common.{◌≡◌, List, ℕ, Result, Ok, Err, IfOk, length, sym, arith, inl, inr, nat_lt}
+use Rattle.std.proofs.Common.{◌≡◌, ◌∙◌, ◌≤◌, List, [], ◌∷◌, ◌++◌, ℕ, Result, Ok, Err, IfOk, length, take, drop, refl, ap, sym, arith, inl, inr, nat_lt}
+use Rattle.std.proofs.lemmas.List.{take-append-drop}
 use Rattle.std.proofs.lemmas.Bool.{cond_both}
 use Rattle.std.proofs.lemmas.Bool.Decides.{nat_tests}
 use Rattle.ados_vars.specs.Vars.{Pairs}
 use Rattle.ados_line.specs.declared.faults.LineFault.{LineFault}
 use Rattle.ados_line.specs.declared.faults.LineFault.TheVariants.{LineTooLong}
+use Rattle.ados_line.specs.declared.letters.Letter.{Letter}
+use Rattle.ados_line.specs.declared.letters.Letter.TheVariants.{Plain, Starred}
 use Rattle.ados_line.specs.declared.lines.Expanded.{Expanded}
 use Rattle.ados_line.specs.Alias.{with_alias}
 use Rattle.ados_line.specs.Answers.{Gives}
@@ -12,16 +15,24 @@ use Rattle.ados_line.specs.Comment.{without_comment}
 use Rattle.ados_line.specs.Cut.{line_limit}
 use Rattle.ados_line.specs.Letters.{letters_of}
 use Rattle.ados_line.specs.Values.{Variables, values}
-use Rattle.ados_line.specs.Expansion.{expanded_in, expanded_line, then_cut, IsMade}
-use Rattle.ados_line.proofs.PieceLemmas.{of_pieces}
+use Rattle.ados_line.specs.Expansion.{expanded_in, expanded_line, then_cut, then_read, read_behind, tick_text, resumed_of, IsMade, IsRead, IsResumed}
+use Rattle.ados_line.specs.Ticks.{text_of, within_bytes, parted_at, IsSeam}
+use Rattle.ados_line.proofs.LetterLemmas.{letters-written}
+use Rattle.ados_line.proofs.TickLemmas.{is_read, seam}
 use Rattle.ados_line.proofs.SegmentLemmas.{in_segments}
+
+none-kept : (ls : List Letter) → within_bytes 0 ls ≡ 0
+none-kept [] = refl
+none-kept (Plain c ∷ ls) = refl
+none-kept (Starred c ∷ ls) = refl
 
 made-line : (v : Variables) (line : List ℕ) (found : Expanded) → expanded_line v line ≡ Ok found → IsMade v line found
 made-line v line found =
     let text = values v 0 (letters_of line) in
-    let P : Result (List ℕ) LineFault → Type 0 = λ r. then_cut r ≡ Ok found → IsMade v line found in
+    let ls = letters_of text in
+    let P : Result (List ℕ) LineFault → Type 0 = λ r. then_read r ≡ Ok found → IsMade v line found in
     cond_both (nat_lt line_limit (length text)) (Err LineTooLong) (Ok text) P (λ _ e. cc)
-    (λ short e. (text, in_segments v line, grind (arith, nat_tests, short), of_pieces (Ok found) text (inr (sym e))))
+    (λ short e. (text, in_segments v line, grind (arith, nat_tests, short), is_read [] ls found (sym (ap (λ n. then_cut (parted_at n ls)) (none-kept ls)) ∙ e)))
 
 made-raw : (aliases : Pairs) (v : Variables) (raw : List ℕ) (found : Expanded) → expanded_in aliases v raw ≡ Ok found
     → IsMade v (with_alias aliases (without_comment raw)) found
@@ -36,3 +47,31 @@ pub made : (result : Result Expanded LineFault) (aliases : Pairs) (v : Variables
 made (Ok found) aliases v raw (inl none) = cc
 made (Ok found) aliases v raw (inr same) = made-raw aliases v raw found (sym same)
 made (Err fault) aliases v raw h = tt
+
+-- what a line came to behind its tick
+resumed-made : (kept after : List ℕ) (found : Expanded) → length (kept ++ after) ≤ line_limit → read_behind (length kept) (kept ++ after) ≡ Ok found
+    → (read : List Letter) × (behind : List Letter) × IsSeam kept (kept ++ after) read behind
+    × (length (kept ++ after) ≤ line_limit) × IsRead (text_of read) behind found
+resumed-made kept after found short e =
+    let ls = letters_of (kept ++ after) in
+    let n = within_bytes (length kept) ls in (
+      take n ls,
+      drop n ls,
+      record { joined = take-append-drop n ls; ends = seam kept after ls (letters-written (kept ++ after)) },
+      short,
+      is_read (text_of (take n ls)) (drop n ls) found e,
+    )
+
+resumed-line : (before output after : List ℕ) (found : Expanded) → resumed_of before output after ≡ Ok found → IsResumed before output after found
+unfolding resumed_of
+resumed-line before output after found =
+    let kept = before ++ tick_text output in
+    let P : Result Expanded LineFault → Type 0 = λ r. r ≡ Ok found → IsResumed before output after found in
+    cond_both (nat_lt line_limit (length (kept ++ after))) (Err LineTooLong) (read_behind (length kept) (kept ++ after)) P (λ _ e. cc)
+    (λ short e. resumed-made kept after found (grind (arith, nat_tests, short)) e)
+
+pub resumed : (result : Result Expanded LineFault) (before output after : List ℕ) → Gives result (resumed_of before output after)
+    → IfOk result (IsResumed before output after)
+resumed (Ok found) before output after (inl none) = cc
+resumed (Ok found) before output after (inr same) = resumed-line before output after found (sym same)
+resumed (Err fault) before output after h = tt

@@ -6,5 +6,6 @@ pub mod LetterLemmas
 pub mod PieceLemmas
 pub mod PlainLemmas
 pub mod SegmentLemmas
+pub mod TickLemmas
 pub mod UnmarkedLemmas
 pub mod ValueLemmas

@@ -1,8 +1,9 @@
 -- a line that was cut is made of its pieces
 use Rattle.std.proofs.Common.{ℕ, zero, suc, ◌+◌, ◌-◌, ◌<◌, ◌≤◌, ◌≡◌, ◌∙◌, List, [], ◌∷◌, ◌++◌, true, false, ◌==◌, ◌||◌, Option, Some, None, Result, Ok, Err, IfOk, length, drop, refl, ap, sym, subst, arith, append_assoc, append-nil, inl, inr}
+use Rattle.std.specs.Option.{option_or}
 use Rattle.std.specs.Prelude.{is_some, slice_index, option_to_list}
 use Rattle.std.specs.List.{flat_map}
-use Rattle.std.proofs.lemmas.Bool.{cond_both, and_parts, eqb-true, cases_lt}
+use Rattle.std.proofs.lemmas.Bool.{both_ways, cond_both, cond-false, cond-true, and_parts, eqb-true, cases_lt}
 use Rattle.std.proofs.lemmas.List.{take-append-drop, drop-drop, drop_more, get_or_past, length-drop, length-take-le, length-append, drop_all}
 use Rattle.ados_items.specs.declared.items.Item.{Item}
 use Rattle.ados_items.specs.declared.items.Item.TheVariants.{Word, Quoted, Equal, End, Unmatched}
@@ -15,9 +16,9 @@ use Rattle.ados_line.specs.declared.signs.Sign.TheVariants.{Input, Output, Appen
 use Rattle.ados_line.specs.declared.cuts.Cut.{Cut}
 use Rattle.ados_line.specs.declared.lines.Expanded.{Expanded}
 use Rattle.ados_line.specs.Signs.{begins, is_both, sign_at, width_of}
-use Rattle.ados_line.specs.Cut.{with_piece, with_blanks, with_name, named, is_taken, redirected, by_sign, cut_word, cut_item, cut_from, cut_of, nothing_read, came_to, expanded_by}
+use Rattle.ados_line.specs.Cut.{with_piece, with_blanks, with_name, named, is_taken, redirected, by_sign, cut_word, cut_item, is_run, with_rest, run_word, run_item, cut_behind, cut_from, cut_of, nothing_read, came_to, expanded_by}
 use Rattle.ados_line.specs.Answers.{Gives}
-use Rattle.ados_line.specs.Pieces.{Piece, Blank, Kept, Redirected, sign_bytes, written, EndsAt, IsPieceAt, Stand, kept, command_of, args_of, inputs, outputs, IsOfPieces}
+use Rattle.ados_line.specs.Pieces.{Piece, Blank, Kept, Redirected, Rest, sign_bytes, written, EndsAt, is_signed, IsPieceAt, command_behind, Stand, kept, command_of, args_of, inputs, outputs, IsOfPieces}
 
 -- the command and the arguments, where a command was read or not
 abbrev command_from : Option (List ℕ) → List Piece → Option (List ℕ)
@@ -26,12 +27,12 @@ command_from (Some command) pieces = Some command
 
 abbrev args_from : Option (List ℕ) → List Piece → List ℕ
 args_from None pieces = args_of pieces
-args_from (Some command) pieces = flat_map kept pieces
+args_from (Some command) pieces = flat_map (kept command) pieces
 
 -- pieces that are the line from a place on, and what was read behind them by what was read before
 record Adds (line : List ℕ) (place : ℕ) (before after : Cut) (pieces : List Piece) : Type 0 where
   joined : flat_map written pieces ≡ drop place line
-  placed : Stand line place pieces
+  placed : Stand line before.command place pieces
   command : after.command ≡ command_from before.command pieces
   args : after.args ≡ before.args ++ args_from before.command pieces
   input : option_to_list after.input ≡ option_to_list before.input ++ flat_map inputs pieces
@@ -62,9 +63,10 @@ spans-rest line place within =
     (sym (append-nil (drop place line)) ∙ ap (λ l. drop place line ++ l) (sym (drop_all (length line) line (omega arith))), omega (arith, left))
 
 -- one piece, and those behind it
-stand-more : (line : List ℕ) (place to : ℕ) (piece : Piece) (pieces : List Piece) → IsPieceAt line place piece → place + length (written piece) ≡ to
-    → Stand line to pieces → Stand line place (piece ∷ pieces)
-stand-more line place to piece pieces here e rest = let P : ℕ → Type 0 = λ p. Stand line p pieces in (here, subst P (sym e) rest)
+stand-more : (line : List ℕ) (command : Option (List ℕ)) (place to : ℕ) (piece : Piece) (pieces : List Piece) → IsPieceAt line command place piece
+    → place + length (written piece) ≡ to → Stand line (command_behind command piece) to pieces → Stand line command place (piece ∷ pieces)
+stand-more line command place to piece pieces here e rest =
+    let P : ℕ → Type 0 = λ p. Stand line (command_behind command piece) p pieces in (here, subst P (sym e) rest)
 
 joined-more : (line bytes : List ℕ) (place to : ℕ) (pieces : List Piece) → Spans line place to bytes → flat_map written pieces ≡ drop to line
     → bytes ++ flat_map written pieces ≡ drop place line
@@ -94,13 +96,15 @@ none-left line read = (
 
 -- an item that is kept: the command, or a part of the arguments
 kept-parts : (line : List ℕ) (place to : ℕ) (bytes text : List ℕ) (read after : Cut) (command : Option (List ℕ)) → read.command ≡ command
-    → Spans line place to bytes → IsPieceAt line place (Kept bytes text) → Parts line to (with_piece command text bytes read) after → Parts line place read after
+    → Spans line place to bytes → IsPieceAt line read.command place (Kept bytes text) → Parts line to (with_piece command text bytes read) after
+    → Parts line place read after
 kept-parts line place to bytes text read after None e spans here p =
-    let a = p.1 in let piece = Kept bytes text in (
+    let a = p.1 in let piece = Kept bytes text in
+    let S : Option (List ℕ) → Type 0 = λ o. Stand line (option_or o (Some text)) to p.0 in (
       piece ∷ p.0,
       record {
         joined = joined-more line bytes place to p.0 spans a.joined;
-        placed = stand-more line place to piece p.0 here spans.1 a.placed;
+        placed = stand-more line read.command place to piece p.0 here spans.1 (subst S (sym e) a.placed);
         command = a.command ∙ ap (λ o. command_from o (piece ∷ p.0)) (sym e);
         args = a.args ∙ ap (λ o. read.args ++ args_from o (piece ∷ p.0)) (sym e);
         input = a.input;
@@ -108,11 +112,13 @@ kept-parts line place to bytes text read after None e spans here p =
       },
     )
 kept-parts line place to bytes text read after (Some command) e spans here p =
-    let a = p.1 in let piece = Kept bytes text in (
+    let a = p.1 in let piece = Kept bytes text in
+    let R : Option (List ℕ) → Type 0 = λ o. Stand line o to p.0 in
+    let S : Option (List ℕ) → Type 0 = λ o. Stand line (option_or o (Some text)) to p.0 in (
       piece ∷ p.0,
       record {
         joined = joined-more line bytes place to p.0 spans a.joined;
-        placed = stand-more line place to piece p.0 here spans.1 a.placed;
+        placed = stand-more line read.command place to piece p.0 here spans.1 (subst S (sym e) (subst R e a.placed));
         command = a.command ∙ ap (λ o. command_from o p.0) e ∙ ap (λ o. command_from o (piece ∷ p.0)) (sym e);
         args = a.args ∙ ap (λ o. (read.args ++ bytes) ++ args_from o p.0) e ∙ append_assoc read.args bytes _ ∙ ap (λ o. read.args ++ args_from o (piece ∷ p.0)) (sym e);
         input = a.input;
@@ -120,27 +126,72 @@ kept-parts line place to bytes text read after (Some command) e spans here p =
       },
     )
 
--- blanks: in front of the command they are dropped
-blank-parts : (line : List ℕ) (place to : ℕ) (bytes : List ℕ) (read after : Cut) (command : Option (List ℕ)) → read.command ≡ command
-    → Spans line place to bytes → IsPieceAt line place (Blank bytes) → Parts line to (with_blanks command bytes read) after → Parts line place read after
-blank-parts line place to bytes read after None e spans here p =
+-- blanks that are no part of Run's line leave what they are; in front of the command they are dropped
+blank-kept : (command bytes : List ℕ) (pieces : List Piece) → is_run (Some command) ≡ false → bytes ++ flat_map (kept command) pieces ≡ flat_map (kept command) (Blank bytes ∷ pieces)
+blank-kept command bytes pieces other = ap (λ l. l ++ flat_map (kept command) pieces) (sym (cond-false (is_run (Some command)) [] bytes other))
+
+blank-parts : (line : List ℕ) (place to : ℕ) (bytes : List ℕ) (read after : Cut) (command : Option (List ℕ)) → read.command ≡ command → is_run command ≡ false
+    → Spans line place to bytes → IsPieceAt line read.command place (Blank bytes) → Parts line to (with_blanks command bytes read) after → Parts line place read after
+blank-parts line place to bytes read after None e other spans here p =
     let a = p.1 in let piece = Blank bytes in (
       piece ∷ p.0,
       record {
         joined = joined-more line bytes place to p.0 spans a.joined;
-        placed = stand-more line place to piece p.0 here spans.1 a.placed;
+        placed = stand-more line read.command place to piece p.0 here spans.1 a.placed;
         command = a.command ∙ ap (λ o. command_from o p.0) e ∙ ap (λ o. command_from o (piece ∷ p.0)) (sym e);
         args = a.args ∙ ap (λ o. read.args ++ args_from o p.0) e ∙ ap (λ o. read.args ++ args_from o (piece ∷ p.0)) (sym e);
         input = a.input;
         output = a.output;
       },
     )
-blank-parts line place to bytes read after (Some command) e spans here p =
+blank-parts line place to bytes read after (Some command) e other spans here p =
     let a = p.1 in let piece = Blank bytes in (
       piece ∷ p.0,
       record {
         joined = joined-more line bytes place to p.0 spans a.joined;
-        placed = stand-more line place to piece p.0 here spans.1 a.placed;
+        placed = stand-more line read.command place to piece p.0 here spans.1 a.placed;
+        command = a.command ∙ ap (λ o. command_from o p.0) e ∙ ap (λ o. command_from o (piece ∷ p.0)) (sym e);
+        args =
+            a.args ∙ ap (λ o. (read.args ++ bytes) ++ args_from o p.0) e ∙ append_assoc read.args bytes _
+            ∙ ap (λ l. read.args ++ l) (blank-kept command bytes p.0 other) ∙ ap (λ o. read.args ++ args_from o (piece ∷ p.0)) (sym e);
+        input = a.input;
+        output = a.output;
+      },
+    )
+
+-- blanks in front of Run's redirections leave nothing
+run-blank : (command bytes : List ℕ) (pieces : List Piece) → is_run (Some command) ≡ true → flat_map (kept command) pieces ≡ flat_map (kept command) (Blank bytes ∷ pieces)
+run-blank command bytes pieces runs = ap (λ l. l ++ flat_map (kept command) pieces) (sym (cond-true (is_run (Some command)) [] bytes runs))
+
+run-blank-parts : (line : List ℕ) (place to : ℕ) (bytes : List ℕ) (read after : Cut) (command : Option (List ℕ)) → read.command ≡ command → is_run command ≡ true
+    → Spans line place to bytes → IsPieceAt line read.command place (Blank bytes) → Parts line to read after → Parts line place read after
+run-blank-parts line place to bytes read after None e runs spans here p = cc
+run-blank-parts line place to bytes read after (Some command) e runs spans here p =
+    let a = p.1 in let piece = Blank bytes in (
+      piece ∷ p.0,
+      record {
+        joined = joined-more line bytes place to p.0 spans a.joined;
+        placed = stand-more line read.command place to piece p.0 here spans.1 a.placed;
+        command = a.command ∙ ap (λ o. command_from o p.0) e ∙ ap (λ o. command_from o (piece ∷ p.0)) (sym e);
+        args =
+            a.args ∙ ap (λ o. read.args ++ args_from o p.0) e
+            ∙ ap (λ l. read.args ++ l) (run-blank command bytes p.0 runs) ∙ ap (λ o. read.args ++ args_from o (piece ∷ p.0)) (sym e);
+        input = a.input;
+        output = a.output;
+      },
+    )
+
+-- the rest of Run's line
+rest-parts : (line : List ℕ) (place : ℕ) (bytes : List ℕ) (read after : Cut) (command : Option (List ℕ)) → read.command ≡ command → is_run command ≡ true
+    → Spans line place (length line) bytes → IsPieceAt line read.command place (Rest bytes) → Parts line (length line) (with_rest bytes read) after
+    → Parts line place read after
+rest-parts line place bytes read after None e runs spans here p = cc
+rest-parts line place bytes read after (Some command) e runs spans here p =
+    let a = p.1 in let piece = Rest bytes in (
+      piece ∷ p.0,
+      record {
+        joined = joined-more line bytes place (length line) p.0 spans a.joined;
+        placed = stand-more line read.command place (length line) piece p.0 here spans.1 a.placed;
         command = a.command ∙ ap (λ o. command_from o p.0) e ∙ ap (λ o. command_from o (piece ∷ p.0)) (sym e);
         args = a.args ∙ ap (λ o. (read.args ++ bytes) ++ args_from o p.0) e ∙ append_assoc read.args bytes _ ∙ ap (λ o. read.args ++ args_from o (piece ∷ p.0)) (sym e);
         input = a.input;
@@ -165,14 +216,14 @@ passed-args (Some command) sign behind name pieces = refl
 
 -- a redirection
 name-parts : (line : List ℕ) (place to : ℕ) (sign : Sign) (behind name : List ℕ) (read after : Cut) → is_taken sign read ≡ false
-    → Spans line place to (sign_bytes sign ++ behind) → IsPieceAt line place (Redirected sign behind name)
+    → Spans line place to (sign_bytes sign ++ behind) → IsPieceAt line read.command place (Redirected sign behind name)
     → Parts line to (with_name sign name read) after → Parts line place read after
 name-parts line place to Input behind name read after free spans here p =
     let a = p.1 in let piece = Redirected Input behind name in (
       piece ∷ p.0,
       record {
         joined = joined-more line (sign_bytes Input ++ behind) place to p.0 spans a.joined;
-        placed = stand-more line place to piece p.0 here spans.1 a.placed;
+        placed = stand-more line read.command place to piece p.0 here spans.1 a.placed;
         command = a.command ∙ passed-command read.command Input behind name p.0;
         args = a.args ∙ ap (λ l. read.args ++ l) (passed-args read.command Input behind name p.0);
         input = a.input ∙ ap (λ l. l ++ (name ∷ flat_map inputs p.0)) (sym (none-listed read.input free));
@@ -184,7 +235,7 @@ name-parts line place to Output behind name read after free spans here p =
       piece ∷ p.0,
       record {
         joined = joined-more line (sign_bytes Output ++ behind) place to p.0 spans a.joined;
-        placed = stand-more line place to piece p.0 here spans.1 a.placed;
+        placed = stand-more line read.command place to piece p.0 here spans.1 a.placed;
         command = a.command ∙ passed-command read.command Output behind name p.0;
         args = a.args ∙ ap (λ l. read.args ++ l) (passed-args read.command Output behind name p.0);
         input = a.input;
@@ -196,7 +247,7 @@ name-parts line place to Append behind name read after free spans here p =
       piece ∷ p.0,
       record {
         joined = joined-more line (sign_bytes Append ++ behind) place to p.0 spans a.joined;
-        placed = stand-more line place to piece p.0 here spans.1 a.placed;
+        placed = stand-more line read.command place to piece p.0 here spans.1 a.placed;
         command = a.command ∙ passed-command read.command Append behind name p.0;
         args = a.args ∙ ap (λ l. read.args ++ l) (passed-args read.command Append behind name p.0);
         input = a.input;
@@ -237,6 +288,13 @@ unsigned line from =
     cond_both (begins line 62 from) _ None P
     (λ _. cond_both (slice_index line (from + 1) == 62) (Some Append) (Some Output) P (λ _ e. cc) (λ _ e. cc))
     (λ second _. rw (first, second) refl))
+
+-- where one stands, the word begins with it
+signed : (line : List ℕ) (from : ℕ) (sign : Sign) → sign_at line from ≡ Some sign → (begins line 60 from || begins line 62 from) ≡ true
+signed line from sign =
+    let P : Option Sign → Type 0 = λ found. found ≡ Some sign → (begins line 60 from || begins line 62 from) ≡ true in
+    cond_both (begins line 60 from) (Some Input) _ P (λ first _. rw first refl) (λ first.
+    cond_both (begins line 62 from) _ None P (λ second _. rw (first, second) refl) (λ _ e. cc))
 
 -- what is known of the line's cut from a later place on
 abbrev GoesOn : (ℕ → Cut → Result Cut LineFault) → List ℕ → Cut → ℕ → Type 0
@@ -291,54 +349,107 @@ redirected-parts next line read after from sign found single goes =
 -- a word
 sign-parts : (next : ℕ → Cut → Result Cut LineFault) (line : List ℕ) (read after : Cut) (place from to : ℕ) (sign : Option Sign)
     → sign_at line from ≡ sign → is_both line from ≡ false → item_at true line place ≡ Word from to
-    → place ≤ from → from < to → to ≤ length line → GoesOn next line after place
+    → place ≤ from → from < to → to ≤ length line → is_run read.command ≡ false → GoesOn next line after place
     → by_sign next line place read from to sign ≡ Ok after → Parts line place read after
-sign-parts next line read after place from to (Some sign) found single same before long within goes e =
+sign-parts next line read after place from to (Some sign) found single same before long within other goes e =
     let bytes = bytes_between line place from in
     let spans = spans-between line place from before (omega arith) in
-    blank-parts line place from bytes read after read.command refl spans
-    (rw same (omega (arith, spans.1)))
+    blank-parts line place from bytes read after read.command refl other spans
+    (rw same (omega (arith, spans.1)), λ runs. absurd (both_ways _ other runs))
     (redirected-parts next line _ after from sign found single (on-later next line after place from before goes) e)
-sign-parts next line read after place from to None found single same before long within goes e =
+sign-parts next line read after place from to None found single same before long within other goes e =
     let spans = spans-between line place to (omega arith) within in
     kept-parts line place to (bytes_between line place to) _ read after read.command refl spans
-    (rw same (spans.1, refl, unsigned line from found))
+    (rw same (other, spans.1, refl, unsigned line from found))
     (goes to _ (omega arith) within e)
 
 word-parts : (next : ℕ → Cut → Result Cut LineFault) (line : List ℕ) (read after : Cut) (place from to : ℕ) → item_at true line place ≡ Word from to
-    → place ≤ from → from < to → to ≤ length line → GoesOn next line after place
+    → place ≤ from → from < to → to ≤ length line → is_run read.command ≡ false → GoesOn next line after place
     → cut_word next line place read from to ≡ Ok after → Parts line place read after
-word-parts next line read after place from to same before long within goes =
+word-parts next line read after place from to same before long within other goes =
     let P : Result Cut LineFault → Type 0 = λ r. r ≡ Ok after → Parts line place read after in
     cond_both (is_both line from) (Err NotImplemented) _ P (λ _ e. cc)
-    (λ single e. sign-parts next line read after place from to (sign_at line from) refl single same before long within goes e)
+    (λ single e. sign-parts next line read after place from to (sign_at line from) refl single same before long within other goes e)
 
--- any item
+-- any item where the command is not Run
 item-parts : (next : ℕ → Cut → Result Cut LineFault) (line : List ℕ) (read after : Cut) (place : ℕ) (item : Item) → item_at true line place ≡ item
-    → place ≤ length line → StandsBehind place (length line) item → GoesOn next line after place
+    → place ≤ length line → StandsBehind place (length line) item → is_run read.command ≡ false → GoesOn next line after place
     → cut_item next line place read item ≡ Ok after → Parts line place read after
-item-parts next line read after place (Word from to) same inside stands goes e =
-    word-parts next line read after place from to same stands.0 stands.1 stands.2 goes e
-item-parts next line read after place (Quoted from to) same inside stands goes e =
+item-parts next line read after place (Word from to) same inside stands other goes e =
+    word-parts next line read after place from to same stands.0 stands.1 stands.2 other goes e
+item-parts next line read after place (Quoted from to) same inside stands other goes e =
     let spans = spans-between line place (to + 1) (omega (arith, stands.0, stands.1)) (omega (arith, stands.2)) in
-    kept-parts line place (to + 1) _ _ read after read.command refl spans (rw same (spans.1, refl, refl))
+    kept-parts line place (to + 1) _ _ read after read.command refl spans (rw same (other, spans.1, refl, refl))
     (goes (to + 1) _ (omega (arith, stands.0, stands.1)) (omega (arith, stands.2)) e)
-item-parts next line read after place (Equal at) same inside stands goes e =
+item-parts next line read after place (Equal at) same inside stands other goes e =
     let spans = spans-between line place (at + 1) (omega (arith, stands.0)) (omega (arith, stands.1)) in
-    kept-parts line place (at + 1) _ _ read after read.command refl spans (rw same (spans.1, refl, refl))
+    kept-parts line place (at + 1) _ _ read after read.command refl spans (rw same (other, spans.1, refl, refl))
     (goes (at + 1) _ (omega (arith, stands.0)) (omega (arith, stands.1)) e)
-item-parts next line read after place (End at) same inside stands goes e =
+item-parts next line read after place (End at) same inside stands other goes e =
     let equal : with_blanks read.command (drop place line) read ≡ after = cc in
     let P : Cut → Type 0 = λ it. Parts line place read it in
     let spans = spans-rest line place inside in
-    subst P equal (blank-parts line place (length line) _ read _ read.command refl spans (rw same spans.1) (none-left line _))
-item-parts next line read after place (Unmatched from) same inside stands goes e = cc
+    subst P equal (blank-parts line place (length line) _ read _ read.command refl other spans
+    (rw same spans.1, λ runs. absurd (both_ways _ other runs)) (none-left line _))
+item-parts next line read after place (Unmatched from) same inside stands other goes e = cc
+
+-- behind Run: the rest of the line, where no sign begins
+abbrev rested : List ℕ → ℕ → Cut → Result Cut LineFault
+rested line place read = Ok (with_rest (drop place line) read)
+
+rest-left : (line : List ℕ) (read after : Cut) (place : ℕ) → place ≤ length line → is_run read.command ≡ true
+    → is_signed line (item_at true line place) ≡ false → rested line place read ≡ Ok after → Parts line place read after
+rest-left line read after place inside runs none e =
+    let equal : with_rest (drop place line) read ≡ after = cc in
+    let P : Cut → Type 0 = λ it. Parts line place read it in
+    let spans = spans-rest line place inside in
+    subst P equal (rest-parts line place (drop place line) read _ read.command refl runs spans (runs, spans.1, none) (none-left line _))
+
+run-word-parts : (next : ℕ → Cut → Result Cut LineFault) (line : List ℕ) (read after : Cut) (place from to : ℕ) (sign : Option Sign) → sign_at line from ≡ sign
+    → is_both line from ≡ false → item_at true line place ≡ Word from to → place ≤ from → from < to → to ≤ length line → is_run read.command ≡ true
+    → GoesOn next line after place → run_word next line place read from sign ≡ Ok after → Parts line place read after
+run-word-parts next line read after place from to (Some sign) found single same before long within runs goes e =
+    let bytes = bytes_between line place from in
+    let spans = spans-between line place from before (omega arith) in
+    run-blank-parts line place from bytes read after read.command refl runs spans
+    (rw same (omega (arith, spans.1)), λ _. rw same (signed line from sign found))
+    (redirected-parts next line read after from sign found single (on-later next line after place from before goes) e)
+run-word-parts next line read after place from to None found single same before long within runs goes e =
+    rest-left line read after place (omega arith) runs (rw same (unsigned line from found)) e
+
+run-any-parts : (next : ℕ → Cut → Result Cut LineFault) (line : List ℕ) (read after : Cut) (place from to : ℕ) → item_at true line place ≡ Word from to
+    → place ≤ from → from < to → to ≤ length line → is_run read.command ≡ true → GoesOn next line after place
+    → run_item next line place read (Word from to) ≡ Ok after → Parts line place read after
+run-any-parts next line read after place from to same before long within runs goes =
+    let P : Result Cut LineFault → Type 0 = λ r. r ≡ Ok after → Parts line place read after in
+    cond_both (is_both line from) (Err NotImplemented) _ P (λ _ e. cc)
+    (λ single e. run-word-parts next line read after place from to (sign_at line from) refl single same before long within runs goes e)
+
+run-item-parts : (next : ℕ → Cut → Result Cut LineFault) (line : List ℕ) (read after : Cut) (place : ℕ) (item : Item) → item_at true line place ≡ item
+    → place ≤ length line → StandsBehind place (length line) item → is_run read.command ≡ true → GoesOn next line after place
+    → run_item next line place read item ≡ Ok after → Parts line place read after
+run-item-parts next line read after place (Word from to) same inside stands runs goes e =
+    run-any-parts next line read after place from to same stands.0 stands.1 stands.2 runs goes e
+run-item-parts next line read after place (Quoted from to) same inside stands runs goes e = rest-left line read after place inside runs (rw same refl) e
+run-item-parts next line read after place (Equal at) same inside stands runs goes e = rest-left line read after place inside runs (rw same refl) e
+run-item-parts next line read after place (End at) same inside stands runs goes e = rest-left line read after place inside runs (rw same refl) e
+run-item-parts next line read after place (Unmatched from) same inside stands runs goes e = rest-left line read after place inside runs (rw same refl) e
+
+-- any item
+behind-parts : (next : ℕ → Cut → Result Cut LineFault) (line : List ℕ) (read after : Cut) (place : ℕ) (item : Item) → item_at true line place ≡ item
+    → place ≤ length line → StandsBehind place (length line) item → GoesOn next line after place
+    → cut_behind next line place read item ≡ Ok after → Parts line place read after
+behind-parts next line read after place item same inside stands goes =
+    let P : Result Cut LineFault → Type 0 = λ r. r ≡ Ok after → Parts line place read after in
+    cond_both (is_run read.command) (run_item next line place read item) (cut_item next line place read item) P
+    (λ runs e. run-item-parts next line read after place item same inside stands runs goes e)
+    (λ other e. item-parts next line read after place item same inside stands other goes e)
 
 parts-from : (n : ℕ) (line : List ℕ) (place : ℕ) (read after : Cut) → place ≤ length line → length line < n + place
     → cut_from n line place read ≡ Ok after → Parts line place read after
 parts-from zero line place read after within enough e = absurd (omega arith)
 parts-from (suc n) line place read after within enough e =
-    item-parts (cut_from n line) line read after place (item_at true line place) refl within (item-behind true line place)
+    behind-parts (cut_from n line) line read after place (item_at true line place) refl within (item-behind true line place)
     (λ to more above end h. parts-from n line to more after end (omega arith) h) e
 
 came-parts : (line : List ℕ) (read : Cut) (command : Option (List ℕ)) → read.command ≡ command

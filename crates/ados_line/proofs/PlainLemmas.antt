@@ -1,5 +1,5 @@
 -- the cut of a line in which neither a quote nor a sign stands
-use Rattle.std.proofs.Common.{ℕ, zero, suc, ◌+◌, ◌<◌, ◌≤◌, ◌≡◌, ◌∙◌, List, [], ◌∷◌, ◌++◌, true, false, ◌==◌, ◌||◌, None, Result, Ok, length, drop, get_or, refl, ap, sym, arith, append_assoc}
+use Rattle.std.proofs.Common.{ℕ, zero, suc, ◌+◌, ◌<◌, ◌≤◌, ◌≡◌, ◌∙◌, List, [], ◌∷◌, ◌++◌, true, false, ◌==◌, ◌||◌, Some, None, Result, Ok, length, drop, get_or, refl, ap, sym, arith, append_assoc}
 use Rattle.std.specs.List.{prefix_len, list_any}
 use Rattle.std.proofs.lemmas.Bool.{both_ways, cond_both, or_parts}
 use Rattle.std.proofs.lemmas.List.{get_or-drop}
@@ -9,7 +9,7 @@ use Rattle.ados_items.specs.Items.{is_blank, item_by_first, item_at, value_of, b
 use Rattle.ados_items.proofs.ItemLemmas.{StandsBehind, item-behind}
 use Rattle.ados_line.specs.declared.faults.LineFault.{LineFault}
 use Rattle.ados_line.specs.declared.cuts.Cut.{Cut}
-use Rattle.ados_line.specs.Cut.{cut_item, cut_from, cut_of, nothing_read}
+use Rattle.ados_line.specs.Cut.{is_run, run_item, cut_item, cut_behind, cut_from, cut_of, nothing_read}
 use Rattle.ados_line.specs.Signs.{is_both, sign_at, is_mark}
 use Rattle.ados_line.specs.Steps.{with_arguments}
 use Rattle.ados_line.proofs.PieceLemmas.{between}
@@ -79,11 +79,29 @@ item-rests next line command args place (Equal at) none plain stands rests =
 item-rests next line command args place (End at) none plain stands rests = refl
 item-rests next line command args place (Unmatched from) none plain stands rests = absurd plain
 
+run-rests : (next : ℕ → Cut → Result Cut LineFault) (line command args : List ℕ) (place : ℕ) (item : Item) → list_any is_mark line ≡ false
+    → run_item next line place (with_arguments command args) item ≡ Ok (with_arguments command (args ++ drop place line))
+run-rests next line command args place (Word from to) none = rw (no-both line from none, no-sign line from none) refl
+run-rests next line command args place (Quoted from to) none = refl
+run-rests next line command args place (Equal at) none = refl
+run-rests next line command args place (End at) none = refl
+run-rests next line command args place (Unmatched from) none = refl
+
+behind-rests : (next : ℕ → Cut → Result Cut LineFault) (line command args : List ℕ) (place : ℕ) (item : Item) → list_any is_mark line ≡ false
+    → IsUnquoted item → StandsBehind place (length line) item → Rests next line command place
+    → cut_behind next line place (with_arguments command args) item ≡ Ok (with_arguments command (args ++ drop place line))
+behind-rests next line command args place item none plain stands rests =
+    let read = with_arguments command args in
+    let P : Result Cut LineFault → Type 0 = λ r. r ≡ Ok (with_arguments command (args ++ drop place line)) in
+    cond_both (is_run (Some command)) (run_item next line place read item) (cut_item next line place read item) P
+    (λ _. run-rests next line command args place item none)
+    (λ _. item-rests next line command args place item none plain stands rests)
+
 rests-from : (n : ℕ) (line command args : List ℕ) (place : ℕ) → list_any is_mark line ≡ false → place ≤ length line → length line < n + place
     → cut_from n line place (with_arguments command args) ≡ Ok (with_arguments command (args ++ drop place line))
 rests-from zero line command args place none within enough = absurd (omega arith)
 rests-from (suc n) line command args place none within enough =
-    item-rests (cut_from n line) line command args place (item_at true line place) none (unquoted line place none) (item-behind true line place)
+    behind-rests (cut_from n line) line command args place (item_at true line place) none (unquoted line place none) (item-behind true line place)
     (λ to more above end. rests-from n line command more to none end (omega arith))
 
 -- the cut by the line's first item

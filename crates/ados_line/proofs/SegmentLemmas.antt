@@ -73,7 +73,7 @@ taken-on [] n l e = cc
 taken-on (x ∷ ls) zero l e = cc
 taken-on (x ∷ ls) (suc n) l e = ap (λ rest. x ∷ rest) (taken-on ls n l e)
 
-plain-is : (byte : ℕ) (l : Letter) → is_plain byte l ≡ true → l ≡ Plain byte
+pub plain-is : (byte : ℕ) (l : Letter) → is_plain byte l ≡ true → l ≡ Plain byte
 plain-is byte (Plain c) e = ap Plain (eqb-true c byte e)
 plain-is byte (Starred c) e = cc
 

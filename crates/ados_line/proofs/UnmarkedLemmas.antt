@@ -1,12 +1,16 @@
--- a line without a `$` stays as it is
-use Rattle.std.proofs.Common.{◌≡◌, ◌∙◌, ℕ, suc, ◌<◌, List, [], ◌∷◌, ◌++◌, Bool, false, ◌==◌, flat_map, refl, ap, arith}
-use Rattle.std.specs.List.{list_any}
+-- a line without a `$`, and one without a back-tick, stays as it is
+use Rattle.std.proofs.Common.{◌≡◌, ◌∙◌, ℕ, zero, suc, ◌+◌, ◌<◌, List, [], ◌∷◌, ◌++◌, Bool, false, ◌==◌, None, position, take, drop, flat_map, append_assoc, refl, ap, arith}
+use Rattle.std.specs.List.{list_any, position_from}
+use Rattle.std.proofs.lemmas.Iterator.Adapters.{position_from-zero}
 use Rattle.std.proofs.lemmas.Bool.{or_parts}
 use Rattle.std.proofs.lemmas.Bool.Decides.{nat_tests}
 use Rattle.ados_text.specs.Text.{to_ascii, IsText}
 use Rattle.ados_line.specs.declared.letters.Letter.{Letter}
 use Rattle.ados_line.specs.declared.letters.Letter.TheVariants.{Plain, Starred}
-use Rattle.ados_line.specs.Letters.{written, bared, letters_of}
+use Rattle.ados_line.specs.Letters.{written, spelled, bared, letters_of}
+use Rattle.ados_line.specs.Cut.{cut_of, expanded_by}
+use Rattle.ados_line.specs.Expansion.{then_cut, read_behind}
+use Rattle.ados_line.specs.Ticks.{is_tick, text_of, unticked, within_bytes, by_first}
 use Rattle.ados_line.specs.Values.{Variables, values}
 use Rattle.ados_line.proofs.LetterLemmas.{letters-written}
 
@@ -72,3 +76,46 @@ no_values v line none text =
     values-bared v ls absent ∙ bared-all 36 ls absent ascii ∙ same
 
 pub ruleset plain_values = (no_values)
+
+-- characters without this mark are the same as they stand, and without the stars before it
+spelled-plain : (letter : Letter) (bytes : List ℕ) → IsText (written letter ++ bytes) → spelled letter ≡ written letter
+spelled-plain (Plain c) bytes text = ap (λ b. b ∷ []) (kept c (first-ascii c bytes text))
+spelled-plain (Starred c) bytes text = ap (λ b. 42 ∷ b ∷ []) (kept c (first-ascii c bytes (rest-ascii 42 (c ∷ bytes) text)))
+
+parts-unticked : (n : ℕ) (ls : List Letter) → list_any (is_byte 96) (flat_map written ls) ≡ false → IsText (flat_map written ls)
+    → text_of (take n ls) ++ unticked (drop n ls) ≡ flat_map written ls
+parts-unticked zero ls none text = bared-all 96 ls none text
+parts-unticked (suc n) [] none text = refl
+parts-unticked (suc n) (l ∷ ls) none text =
+    let bytes = flat_map written ls in
+    append_assoc (spelled l) (text_of (take n ls)) (unticked (drop n ls))
+    ∙ ap (λ x. x ++ (text_of (take n ls) ++ unticked (drop n ls))) (spelled-plain l bytes text)
+    ∙ ap (λ x. written l ++ x) (parts-unticked n ls (rest-none 96 l bytes none) (rest-text l bytes text))
+
+-- a text without a back-tick is whole
+rest-unmarked : (n : ℕ) (ls : List Letter) → list_any (is_byte 96) (flat_map written ls) ≡ false → list_any (is_byte 96) (flat_map written (drop n ls)) ≡ false
+rest-unmarked zero ls none = none
+rest-unmarked (suc n) [] none = none
+rest-unmarked (suc n) (l ∷ ls) none = rest-unmarked n ls (rest-none 96 l (flat_map written ls) none)
+
+no-tick-from : (at : ℕ) (ls : List Letter) → list_any (is_byte 96) (flat_map written ls) ≡ false → position_from is_tick at ls ≡ None
+no-tick-from at [] none = refl
+no-tick-from at (Plain c ∷ ls) none =
+    let other : (c == 96) ≡ false = (or_parts _ _ none).0 in
+    rw other (no-tick-from (at + 1) ls (or_parts _ _ none).1)
+no-tick-from at (Starred c ∷ ls) none = no-tick-from (at + 1) ls (rest-none 96 (Starred c) (flat_map written ls) none)
+
+no-tick : (ls : List Letter) → list_any (is_byte 96) (flat_map written ls) ≡ false → position is_tick ls ≡ None
+no-tick ls none = position_from-zero is_tick ls ∙ no-tick-from 0 ls none
+
+pub no_ticks : (size : ℕ) (line : List ℕ) → list_any (is_byte 96) line ≡ false → IsText line → read_behind size line ≡ expanded_by (cut_of line)
+no_ticks size line none text =
+    let ls = letters_of line in
+    let n = within_bytes size ls in
+    let same = letters-written line in
+    let absent : list_any (is_byte 96) (flat_map written ls) ≡ false = ap (list_any (is_byte 96)) same ∙ none in
+    let ascii : IsText (flat_map written ls) = rw same text in
+    ap (λ o. then_cut (by_first (text_of (take n ls)) (drop n ls) o)) (no-tick (drop n ls) (rest-unmarked n ls absent))
+    ∙ ap (λ t. expanded_by (cut_of t)) (parts-unticked n ls absent ascii ∙ same)
+
+pub ruleset plain_ticks = (no_ticks)

@@ -1,7 +1,7 @@
 -- What a raw line comes to where aliases, variables and back-ticks stand: its comment is dropped, then its alias is put
 -- in, then its variables, and what came out is a tick at its first pair of back-ticks, or else is cut. Where a tick has
 -- ended its output is put in place of the pair, and the next pair is looked for behind it.
-use Rattle.std.specs.Prelude.{◌≡◌, ◌≤◌, ℕ, ◌-◌, List, [], ◌++◌, length, take, map, slice_index, ◌==◌, nat_lt, Result, Ok, Err, if◌then◌else◌}
+use Rattle.std.specs.Prelude.{◌≤◌, ℕ, ◌-◌, List, [], ◌++◌, length, take, map, slice_index, ◌==◌, nat_lt, Result, Ok, Err, if◌then◌else◌}
 use Rattle.ados_text.specs.Text.{Bytes, Text, to_ascii}
 use Rattle.ados_vars.specs.Vars.{Pairs}
 use Rattle.ados_line.specs.declared.faults.LineFault.{LineFault}

@@ -3,7 +3,7 @@ ghost use Rattle.ados_text.specs.Text.{IsText};
 ghost use Rattle.ados_line.specs.Answers.{Gives};
 ghost use Rattle.ados_line.specs.Alias.{with_alias};
 ghost use Rattle.ados_line.specs.Comment.{without_comment};
-ghost use Rattle.ados_line.specs.Expansion.{expanded_in, expanded_line, read_behind, resumed_of, spaced, without_newline, tick_text, IsMade, IsResumed};
+ghost use Rattle.ados_line.specs.Expansion.{expanded_in, expanded_line, read_behind, resumed_at, resumed_of, spaced, without_newline, tick_text, IsMade, IsResumed};
 ghost use Rattle.ados_line.specs.Values.{variables_in};
 
 use crate::aliases::replace_alias;
@@ -59,15 +59,7 @@ pub fn resume(
     ensures long { 512 < length (before.now ++ (tick_text output.now ++ after.now)) → result ≡ Err LineFault.LineTooLong }
     ensures made { IfOk result (IsResumed before.now output.now after.now) }
 {
-    let output = without_newline(output);
-    let size = before.as_bytes().len() + output.len();
-    if size > LINE_BYTES || size + after.as_bytes().len() > LINE_BYTES {
-        return Err(LineFault::LineTooLong);
-    }
-    let mut text = before.copy()?;
-    push_spaced(&mut text, output)?;
-    text.push_bytes(after.as_bytes())?;
-    read_text(alloc, text.as_bytes(), size)
+    put_and_go_on(alloc, before, without_newline(output), after)
 }
 
 // A line with its variables, read. Nearly all lines have none, and are read where they lie.
@@ -110,6 +102,26 @@ fn part_and_cut(alloc: Global, text: &[u8], size: usize) -> Result<Expanded, Lin
         Parted::Whole(text) => cut_text(alloc, text.as_bytes()),
         Parted::Ticked(tick) => Ok(Expanded::Tick(tick)),
     }
+}
+
+// A line with the output of its tick in place, where that has no newline at its end; read behind the output.
+fn put_and_go_on(
+    alloc: Global,
+    before: &Text,
+    output: &[u8],
+    after: &Text,
+) -> Result<Expanded, LineFault>
+    ensures value { Gives result (resumed_at (before.now ++ map spaced output.now) after.now) }
+    ensures long { 512 < length (before.now ++ (map spaced output.now ++ after.now)) → result ≡ Err LineFault.LineTooLong }
+{
+    let size = before.as_bytes().len() + output.len();
+    if size > LINE_BYTES || size + after.as_bytes().len() > LINE_BYTES {
+        return Err(LineFault::LineTooLong);
+    }
+    let mut text = before.copy()?;
+    push_spaced(&mut text, output)?;
+    text.push_bytes(after.as_bytes())?;
+    read_text(alloc, text.as_bytes(), size)
 }
 
 // The bytes without one newline at their end.
