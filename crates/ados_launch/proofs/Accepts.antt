@@ -12,8 +12,8 @@ use Rattle.ados_machine.specs.Deeds.{Deed}
 use Rattle.ados_machine.specs.Turning.{Input, Turning, Refuses, Ends, Takes, turning, console_turning, ready_turning, input_turning}
 use Rattle.ados_machine.specs.Step.{step_of, turned, applied, start}
 use Rattle.ados_machine.specs.declared.phases.Phase.{Phase}
-use Rattle.ados_machine.specs.declared.phases.Phase.TheVariants.{Ready, Waiting}
-use Rattle.ados_machine.specs.declared.phases.Wait.TheVariants.{ForAnswer}
+use Rattle.ados_machine.specs.declared.phases.Phase.TheVariants.{Ready, GoingOn, Waiting}
+use Rattle.ados_machine.specs.declared.phases.Wait.TheVariants.{ForAnswer, ForLines}
 use Rattle.ados_machine.specs.declared.events.Event.TheVariants.{Typed, EndOfInput, Turn}
 use Rattle.ados_launch.specs.Schedule.{is_accepted, is_due}
 
@@ -33,7 +33,8 @@ runs-where_wanted w e = runs-on w 1 (and_parts (is_some (shell_at w 1)) (not (is
 
 phase-wants : (input : Input) (frames : List FrameState) (phase : Phase) → not (can_take input frames phase) ≡ true → has_input input ≡ false
 phase-wants input frames Ready e = grind (arith, common_steps)
-phase-wants input frames (Waiting (ForAnswer asking)) e = grind (arith, common_steps)
+phase-wants input frames (GoingOn parted) e = cc
+phase-wants input frames (Waiting wait) e = grind (arith, common_steps)
 
 -- a shell that could take something wants no line
 nothing-to-take : (input : Input) (found : Option ShellState) → (is_some found && not (can_turn input found)) ≡ true → has_input input ≡ false
@@ -82,11 +83,13 @@ input-taken (line ∷ rest) is_ended frames by_line by_end e = refl
 
 turning-taken : (input : Input) (frames : List FrameState) (course : Course) (phase : Phase) → can_take input frames phase ≡ true → is_taken (turning input frames course phase) ≡ true
 turning-taken input frames course Ready e = ready-taken input frames course e
+turning-taken input frames course (GoingOn parted) e = refl
 turning-taken input frames course (Waiting (ForAnswer asking)) e = input-taken input.queue input.is_ended frames _ _ e
+turning-taken input frames course (Waiting (ForLines gathering)) e = input-taken input.queue input.is_ended frames _ _ e
 
 turned-accepted : (w : WorldState) (k : ℕ) (found : Option ShellState) → can_turn (input_of w k) found ≡ true → is_accepted (turned w k found) ≡ true
 turned-accepted w k None e = cc
-turned-accepted w k (Some shell) e = applied-accepted w k shell.parts.codes _ (turning-taken (input_of w k) shell.frames (start w shell.parts) shell.phase e)
+turned-accepted w k (Some shell) e = applied-accepted w k shell.parts.codes _ (turning-taken (input_of w k) shell.frames (start w shell) shell.phase e)
 
 runs-where_ready : (input : Input) (found : Option ShellState) → can_turn input found ≡ true → is_some found ≡ true
 runs-where_ready input None e = cc

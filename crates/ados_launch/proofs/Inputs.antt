@@ -6,18 +6,20 @@ use Rattle.ados_find.specs.declared.codes.Codes.{Codes}
 use Rattle.ados_find.specs.declared.outcomes.Renamed.{Renamed}
 use Rattle.ados_flow.specs.Frames.{FrameState}
 use Rattle.ados_machine.specs.World.{WorldState, shell_at, is_ready, wants_line, is_over, input_of, flatten}
-use Rattle.ados_machine.specs.Shells.{ShellState}
+use Rattle.ados_machine.specs.Numbers.{free_number}
+use Rattle.ados_machine.specs.Settle.{Turned}
+use Rattle.ados_machine.specs.Shells.{Begun, begun_shell, ShellState}
 use Rattle.ados_machine.specs.Course.{Course}
 use Rattle.ados_machine.specs.Carrying.{carried_shells}
 use Rattle.ados_machine.specs.Deeds.{Deed}
 use Rattle.ados_machine.specs.Turning.{Input, Turning, Refuses, Ends, Takes, turning, console_turning, ready_turning, input_turning}
-use Rattle.ados_machine.specs.Step.{step_of, turned, applied, start, moved_in, replied}
+use Rattle.ados_machine.specs.Step.{step_of, turned, applied, left, start, moved_in, replied, with_begun}
 use Rattle.ados_machine.specs.Runs.{world_after}
 use Rattle.ados_machine.specs.declared.answers.Answer.{Answer as Reply}
 use Rattle.ados_machine.specs.declared.outs.Out.{Out}
 use Rattle.ados_machine.specs.declared.phases.Phase.{Phase}
-use Rattle.ados_machine.specs.declared.phases.Phase.TheVariants.{Ready, Waiting}
-use Rattle.ados_machine.specs.declared.phases.Wait.TheVariants.{ForAnswer}
+use Rattle.ados_machine.specs.declared.phases.Phase.TheVariants.{Ready, GoingOn, Waiting}
+use Rattle.ados_machine.specs.declared.phases.Wait.TheVariants.{ForAnswer, ForLines}
 use Rattle.ados_machine.specs.declared.events.Event.TheVariants.{Typed, Turn, Answer}
 use Rattle.ados_launch.specs.Schedule.{takes_input}
 
@@ -31,6 +33,23 @@ first-set : (shells : List (Option ShellState)) (i : ℕ) (shell : ShellState) �
 first-set [] i shell e = cc
 first-set (found ∷ shells) zero shell e = refl
 first-set (found ∷ shells) (suc i) shell e = e
+
+-- a shell that begins stands at another number, or is itself the first
+first-begun : (begun : Option Begun) (number : Option ℕ) (shells : List (Option ShellState)) → is_some (flatten (slice_get shells 0)) ≡ true → is_some (flatten (slice_get (with_begun begun number shells) 0)) ≡ true
+first-begun None number shells e = e
+first-begun (Some begun) None shells e = e
+first-begun (Some begun) (Some number) shells e = first-set shells (number - 1) (begun_shell number begun) e
+
+-- what stands at a number is replaced: at the first by a shell
+first-replaced : (shells : List (Option ShellState)) (i : ℕ) (now : Option ShellState) → (i ≡ 0 → is_some now ≡ true) → is_some (flatten (slice_get shells 0)) ≡ true
+    → is_some (flatten (slice_get (slice_set shells i now) 0)) ≡ true
+first-replaced [] i now some e = cc
+first-replaced (found ∷ shells) zero now some e = some refl
+first-replaced (found ∷ shells) (suc i) now some e = e
+
+-- shell 1 runs on behind each turn that takes something
+first-left : (k : ℕ) (moved : Option Renamed) (turned : Turned) → k ≡ 1 → is_some (left k moved turned) ≡ true
+first-left k moved turned one = rw one refl
 
 first-unset : (shells : List (Option ShellState)) (i : ℕ) → i ≢ 0 → flatten (slice_get (slice_set shells i None) 0) ≡ flatten (slice_get shells 0)
 first-unset [] i some = refl
@@ -58,14 +77,20 @@ input-ends (line ∷ rest) is_ended frames by_line by_end e = cc
 -- a shell ends only at the end of its input
 turning-ends : (input : Input) (frames : List FrameState) (course : Course) (phase : Phase) → turning input frames course phase ≡ Ends → input.is_ended ≡ true
 turning-ends input frames course Ready e = ready-ends input frames course e
+turning-ends input frames course (GoingOn parted) e = cc
 turning-ends input frames course (Waiting (ForAnswer asking)) e = input-ends input.queue input.is_ended frames _ _ e
+turning-ends input frames course (Waiting (ForLines gathering)) e = input-ends input.queue input.is_ended frames _ _ e
 
 applied-takes : (w : WorldState) (out : Out) (k : ℕ) (codes : Codes) (t : Turning) → (t ≡ Ends → k ≢ 1) → k ≢ 0 → takes_input w ≡ true → takes_input (world_after w (Ok out) (applied w k codes t)) ≡ true
 applied-takes w out k codes (Refuses why) ends some e = e
 applied-takes w out k codes Ends ends some e = rw (first-unset w.shells (k - 1) (omega (arith, some, ends refl))) e
 applied-takes w out k codes (Takes queue turned) ends some e =
     let parts = and_parts (is_some (shell_at w 1)) (not w.input_ended) e in
-    rw (first-set (carried_shells (moved_in w turned) w.shells) (k - 1) _ (first-carried (moved_in w turned) w.shells parts.0), parts.1) refl
+    let moved = moved_in w turned in
+    let carried = first-carried moved w.shells parts.0 in
+    let begun = first-begun turned.course.begun (free_number w.shells) (carried_shells moved w.shells) carried in
+    rw (first-replaced (with_begun turned.course.begun (free_number w.shells) (carried_shells moved w.shells)) (k - 1) (left k moved turned)
+    (λ first. first-left k moved turned (omega (arith, some, first))) begun, parts.1) refl
 
 turned-takes : (w : WorldState) (out : Out) (k : ℕ) (found : Option ShellState) → shell_at w k ≡ found → takes_input w ≡ true → takes_input (world_after w (Ok out) (turned w k found)) ≡ true
 turned-takes w out k None at e = e
@@ -73,7 +98,7 @@ turned-takes w out k (Some shell) at e =
     let unended : not w.input_ended ≡ true = (and_parts (is_some (shell_at w 1)) (not w.input_ended) e).1 in
     applied-takes w out k shell.parts.codes _
     (λ ends one.
-    let ended : (input_of w k).is_ended ≡ true = turning-ends (input_of w k) shell.frames (start w shell.parts) shell.phase ends in
+    let ended : (input_of w k).is_ended ≡ true = turning-ends (input_of w k) shell.frames (start w shell) shell.phase ends in
     let first : w.input_ended ≡ true = rw one at ended in
     true≢false (sym unended ∙ ap not first))
     (λ none. let nothing : None ≡ Some shell = rw none at at in cc)

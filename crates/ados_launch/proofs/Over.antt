@@ -6,15 +6,15 @@ use Rattle.ados_flow.specs.Frames.{FrameState}
 use Rattle.ados_machine.specs.World.{WorldState, shell_at, can_take, can_turn, is_ready, input_of}
 use Rattle.ados_machine.specs.Shells.{ShellState}
 use Rattle.ados_machine.specs.declared.phases.Phase.{Phase}
-use Rattle.ados_machine.specs.declared.phases.Phase.TheVariants.{Ready, Waiting}
-use Rattle.ados_machine.specs.declared.phases.Wait.TheVariants.{ForAnswer}
+use Rattle.ados_machine.specs.declared.phases.Phase.TheVariants.{Ready, GoingOn, Waiting}
 use Rattle.ados_launch.specs.Schedule.{IsIdle, NoneRuns}
 
--- a background shell that runs is ready: its input is at its end
+-- a background shell that is there is ready: it runs a frame, a line of it goes on, or its input is at its end
 phase-ready : (frames : List FrameState) (phase : Phase) → can_take (record { queue = []; is_ended = true }) frames phase ≡ true
 phase-ready [] Ready = refl
 phase-ready (frame ∷ frames) Ready = refl
-phase-ready frames (Waiting (ForAnswer asking)) = refl
+phase-ready frames (GoingOn parted) = refl
+phase-ready frames (Waiting wait) = refl
 
 input-of-background : (w : WorldState) (k : ℕ) → k ≢ 1 → input_of w k ≡ record { queue = []; is_ended = true }
 input-of-background w k other = grind (arith, common_steps)

@@ -12,13 +12,22 @@ pub fn fresh_world(alloc: Global) -> Result<World, NoMemory> {
     }
 }
 
-// A line that is typed, or nothing where shell 1 has a turn, and what that prints.
-type Row<'a> = (Option<&'a str>, &'a str);
+// A line that is typed, or a turn of a shell.
+#[derive(Clone, Copy)]
+enum Act<'a> {
+    Type(&'a str),
+    Turn(u8),
+}
 
-fn event(alloc: Global, typed: Option<&str>) -> Result<Event, NoMemory> {
-    match typed {
-        Some(line) => Ok(Event::Typed(Text::from_bytes(alloc, line.as_bytes())?)),
-        None => Ok(Event::Turn(1)),
+use Act::{Turn, Type};
+
+// An act, and what that prints.
+type Row<'a> = (Act<'a>, &'a str);
+
+fn event(alloc: Global, act: Act) -> Result<Event, NoMemory> {
+    match act {
+        Type(line) => Ok(Event::Typed(Text::from_bytes(alloc, line.as_bytes())?)),
+        Turn(number) => Ok(Event::Turn(number)),
     }
 }
 
@@ -29,14 +38,14 @@ fn prints(answer: &Result<Out, Refusal>, want: &str) -> bool {
     }
 }
 
-// Which shells run, and of shell 1 the codes, and whether it is ready or wants a line.
-type Views = ([bool; 20], Codes, bool, bool);
+// Which shells run, of the first two the codes and whether they are ready, and whether a line is wanted.
+type Views = ([bool; 20], [Codes; 2], [bool; 2], bool);
 
 fn views(world: &World) -> Views {
     (
         world.shells(),
-        world.codes(1),
-        world.ready(1),
+        [world.codes(1), world.codes(2)],
+        [world.ready(1), world.ready(2)],
         world.wants_line(),
     )
 }
@@ -52,8 +61,8 @@ fn answers(world: &mut World, event: &Event, want: &str) -> bool {
 
 // Each row happens to the world in turn.
 fn follow(alloc: Global, world: &mut World, rows: &[Row]) -> Result<(), Wrong> {
-    for (place, (typed, want)) in rows.iter().enumerate() {
-        expect_row(answers(world, &event(alloc, *typed)?, want), place)?;
+    for (place, (act, want)) in rows.iter().enumerate() {
+        expect_row(answers(world, &event(alloc, *act)?, want), place)?;
     }
     Ok(())
 }
@@ -65,10 +74,10 @@ fn dialogue(alloc: Global, rows: &[Row]) -> Result<(), Wrong> {
 }
 
 const ANY_LINES: &[Row] = &[
-    (Some("Echo a \"b\""), ""),
-    (None, "a b\n"),
-    (Some("foo"), ""),
-    (None, "foo: object not found\nfoo failed returncode 10\n"),
+    (Type("Echo a \"b\""), ""),
+    (Turn(1), "a b\n"),
+    (Type("foo"), ""),
+    (Turn(1), "foo: object not found\nfoo failed returncode 10\n"),
 ];
 
 #[test]
@@ -79,18 +88,18 @@ fn want_of_memory_changes_nothing_and_the_event_is_taken_later(
 }
 
 const PROMPTS_AND_RENAMES: &[Row] = &[
-    (Some("Echo ?"), ""),
-    (None, "/M,NOLINE/S: "),
-    (Some("hello"), ""),
-    (None, "hello\n"),
-    (Some("MakeDir d"), ""),
-    (None, ""),
-    (Some("CD d"), ""),
-    (None, ""),
-    (Some("Rename RAM:d RAM:e"), ""),
-    (None, ""),
-    (Some("CD"), ""),
-    (None, "RAM:e\n"),
+    (Type("Echo ?"), ""),
+    (Turn(1), "/M,NOLINE/S: "),
+    (Type("hello"), ""),
+    (Turn(1), "hello\n"),
+    (Type("MakeDir d"), ""),
+    (Turn(1), ""),
+    (Type("CD d"), ""),
+    (Turn(1), ""),
+    (Type("Rename RAM:d RAM:e"), ""),
+    (Turn(1), ""),
+    (Type("CD"), ""),
+    (Turn(1), "RAM:e\n"),
 ];
 
 #[test]
@@ -99,16 +108,16 @@ fn want_of_memory_forgets_no_prompt_and_no_directory(rt: HostRuntime) -> Result<
 }
 
 const HALF_COPIED: &[Row] = &[
-    (Some("Echo >a A"), ""),
-    (None, ""),
-    (Some("Echo >b B"), ""),
-    (None, ""),
-    (Some("Protect a w SUB"), ""),
-    (None, ""),
-    (Some("MakeDir d"), ""),
-    (None, ""),
-    (Some("Copy a b d"), ""),
-    (None, "RAM:a..copied\nRAM:b..copied\n"),
+    (Type("Echo >a A"), ""),
+    (Turn(1), ""),
+    (Type("Echo >b B"), ""),
+    (Turn(1), ""),
+    (Type("Protect a w SUB"), ""),
+    (Turn(1), ""),
+    (Type("MakeDir d"), ""),
+    (Turn(1), ""),
+    (Type("Copy a b d"), ""),
+    (Turn(1), "RAM:a..copied\nRAM:b..copied\n"),
 ];
 
 // The copy of `a` can't be written over: had a refused Copy left it, the next would be refused for that.
@@ -118,43 +127,43 @@ fn half_copied_file(rt: HostRuntime) -> Result<(), Wrong> {
 }
 
 const SETTINGS: &[Row] = &[
-    (Some("Set n 1"), ""),
-    (None, ""),
-    (Some("Unset RC"), ""),
-    (None, ""),
-    (Some("Alias z Echo [] $n"), ""),
-    (None, ""),
-    (Some("z x"), ""),
-    (None, "x 1\n"),
-    (Some("SetEnv v 7"), ""),
-    (None, ""),
-    (Some("Echo $v"), ""),
-    (None, "7\n"),
-    (Some("GetEnv v"), ""),
-    (None, "7\n"),
-    (Some("SetEnv"), ""),
-    (None, "v\n"),
-    (Some("UnsetEnv v"), ""),
-    (None, ""),
-    (Some("MakeDir d"), ""),
-    (None, ""),
-    (Some("Path d"), ""),
-    (None, ""),
-    (Some("d"), ""),
-    (None, ""),
-    (Some("Path SHOW"), ""),
-    (None, "Current directory\nRAM:d\nC:\n"),
-    (Some("Which Copy"), ""),
-    (None, "RAM:C/Copy\n"),
-    (Some("Alias z"), ""),
-    (None, "z                    Echo [] 1\n"),
-    (Some("Unalias z"), ""),
-    (None, ""),
-    (Some("Get n"), ""),
-    (None, "1\n"),
-    (Some("Set"), ""),
+    (Type("Set n 1"), ""),
+    (Turn(1), ""),
+    (Type("Unset RC"), ""),
+    (Turn(1), ""),
+    (Type("Alias z Echo [] $n"), ""),
+    (Turn(1), ""),
+    (Type("z x"), ""),
+    (Turn(1), "x 1\n"),
+    (Type("SetEnv v 7"), ""),
+    (Turn(1), ""),
+    (Type("Echo $v"), ""),
+    (Turn(1), "7\n"),
+    (Type("GetEnv v"), ""),
+    (Turn(1), "7\n"),
+    (Type("SetEnv"), ""),
+    (Turn(1), "v\n"),
+    (Type("UnsetEnv v"), ""),
+    (Turn(1), ""),
+    (Type("MakeDir d"), ""),
+    (Turn(1), ""),
+    (Type("Path d"), ""),
+    (Turn(1), ""),
+    (Type("d"), ""),
+    (Turn(1), ""),
+    (Type("Path SHOW"), ""),
+    (Turn(1), "Current directory\nRAM:d\nC:\n"),
+    (Type("Which Copy"), ""),
+    (Turn(1), "RAM:C/Copy\n"),
+    (Type("Alias z"), ""),
+    (Turn(1), "z                    Echo [] 1\n"),
+    (Type("Unalias z"), ""),
+    (Turn(1), ""),
+    (Type("Get n"), ""),
+    (Turn(1), "1\n"),
+    (Type("Set"), ""),
     (
-        None,
+        Turn(1),
         "Process              1\nResult2              0\nn                    1\nRC                   0\n",
     ),
 ];
@@ -162,6 +171,59 @@ const SETTINGS: &[Row] = &[
 #[test]
 fn want_of_memory_sets_nothing(rt: HostRuntime) -> Result<(), Wrong> {
     dialogue(rt.alloc(), SETTINGS)
+}
+
+const BACKGROUND: &[Row] = &[
+    (Type("Set n 1"), ""),
+    (Turn(1), ""),
+    (Type("Alias z Echo [] $n"), ""),
+    (Turn(1), ""),
+    (Type("Run >f z a +"), ""),
+    (Turn(1), ""),
+    (Type("Echo `Echo b` c"), ""),
+    (Turn(1), ""),
+    (Type("Status"), ""),
+    (Turn(1), "Process 1: Status\nProcess 2: No command\n"),
+    (Turn(2), ""),
+    (Turn(2), ""),
+    (Turn(2), ""),
+    (Turn(2), ""),
+    (Type("Type f"), ""),
+    (Turn(1), "[CLI 2]\na 1\nb c\n"),
+];
+
+// A typed Run that takes a further line, its output, what its shell copies, and the tick of a background shell.
+#[test]
+fn want_of_memory_begins_no_shell_and_loses_no_tick(rt: HostRuntime) -> Result<(), Wrong> {
+    dialogue(rt.alloc(), BACKGROUND)
+}
+
+const SHELL_OF_A_SCRIPT: &[Row] = &[
+    (Type("MakeDir d"), ""),
+    (Turn(1), ""),
+    (Type("CD d"), ""),
+    (Turn(1), ""),
+    (Type("Echo >RAM:j \"Run CD +*NAsk q +*NCD\""), ""),
+    (Turn(1), ""),
+    (Type("Execute RAM:j"), ""),
+    (Turn(1), ""),
+    (Turn(1), "[CLI 2]\n"),
+    (Type("Rename RAM:d RAM:e"), ""),
+    (Turn(1), ""),
+    (Turn(2), "RAM:e\n"),
+    (Turn(2), "q "),
+    (Turn(2), ""),
+    (Turn(2), "RAM:e\n"),
+    (Type("Run nosuch"), ""),
+    (Turn(1), "[CLI 2]\n"),
+    (Turn(2), "nosuch: object not found\nnosuch failed returncode 10\n"),
+];
+
+// A Run of a script, a directory that moves under its shell, a question in the background, and a number that is given
+// again.
+#[test]
+fn want_of_memory_moves_and_ends_no_background_shell(rt: HostRuntime) -> Result<(), Wrong> {
+    dialogue(rt.alloc(), SHELL_OF_A_SCRIPT)
 }
 
 fn host(alloc: Global) -> Result<HostEntry, NoMemory> {

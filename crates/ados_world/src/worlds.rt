@@ -42,7 +42,7 @@ impl Model for World {
 
     ghost view = { λ w. record { shells = w.shells; ended = w.ended; queue = w.queue.items; input_ended = w.input_ended; shared = w.shared } };
 
-    // A frame whose last command reached the limit has ended.
+    // A frame whose last command reached the limit has ended, and each background shell runs a frame.
     ghost invariant = { λ w. IsSane (record { shells = w.shells; ended = w.ended; queue = w.queue.items; input_ended = w.input_ended; shared = w.shared }) };
 }
 
@@ -106,9 +106,9 @@ impl World {
         }
     }
 
-    /// The shell of this number can take a turn: it is ready and runs a frame, or it takes of its input and a line waits
-    /// there or it has ended. One that waits for the answer to a prompt takes that line alone. The input of a background
-    /// shell is at its end.
+    /// The shell of this number can take a turn: it is ready and runs a frame, a line of it goes on behind its tick, or it
+    /// takes of its input and a line waits there or it has ended. One that waits for the answer to a prompt, or whose
+    /// Run gathers, takes of its input alone. The input of a background shell is at its end.
     pub fn ready(&self, number: u8) -> bool
         ensures { result ≡ is_ready self.now number }
     {
