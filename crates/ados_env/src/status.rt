@@ -14,7 +14,7 @@ use std::alloc::Global;
 use std::marker::Model;
 
 // A shell that runs: its number, and what it is called.
-#[derive(Clone, Copy)]
+#[derive(Drop)]
 struct Process<'a> {
     number: usize,
     name: &'a Text,
@@ -37,19 +37,15 @@ pub fn status(alloc: Global, view: &ShellView, args: &Args) -> Result<Outcome, N
     match args.number(0) {
         None => told(alloc, shells, args.text(1)),
         Some(number) => {
-            shells.retain(|shell| is_numbered(shell, number));
+            keep_numbered(&mut shells, number);
             told_of(alloc, shells, args.text(1))
         }
     }
 }
 
 // Tells of these shells; that there is none is a fault.
-fn told_of(
-    alloc: Global,
-    shells: Vec<Process>,
-    name: Option<&[u8]>,
-) -> Result<Outcome, NoMemory>
-    ensures { IfOk result (λ outcome. DoesTo outcome (λ shared. told_of shared shells.items (option_map (λ n. n.now) name))) }
+fn told_of(alloc: Global, shells: Vec<Process>, name: Option<&[u8]>) -> Result<Outcome, NoMemory>
+    ensures { IfOk result (λ outcome. DoesTo outcome (λ shared. told_of shared shells.entry.items (option_map (λ n. n.now) name.entry))) }
 {
     if shells.is_empty() {
         let codes = Codes::erred(Result2::OBJECT_NOT_FOUND);
@@ -59,18 +55,14 @@ fn told_of(
 }
 
 // Tells of these shells, or which of them have a name.
-fn told(
-    alloc: Global,
-    shells: Vec<Process>,
-    name: Option<&[u8]>,
-) -> Result<Outcome, NoMemory>
-    ensures { IfOk result (λ outcome. DoesTo outcome (λ shared. told shared shells.items (option_map (λ n. n.now) name))) }
+fn told(alloc: Global, shells: Vec<Process>, name: Option<&[u8]>) -> Result<Outcome, NoMemory>
+    ensures { IfOk result (λ outcome. DoesTo outcome (λ shared. told shared shells.entry.items (option_map (λ n. n.now) name.entry))) }
 {
     let mut shells = shells;
     match name {
         None => Ok(Outcome::putting(process_lines(alloc, shells.as_slice())?)),
         Some(name) => {
-            shells.retain(|shell| is_called(shell, name));
+            keep_called(&mut shells, name);
             numbers_told(alloc, shells.as_slice())
         }
     }
@@ -101,11 +93,28 @@ fn running<'a>(alloc: Global, names: &'a [Option<Text>]) -> Result<Vec<Process<'
     Ok(shells)
 }
 
+// Keeps the shell of this number alone.
+fn keep_numbered(shells: &mut Vec<Process>, number: i32)
+    ensures { shells.new.items ≡ filter (is_numbered number) shells.old.items }
+{
+    shells.retain(|shell| is_numbered(shell, number));
+}
+
+// Keeps those of this name.
+fn keep_called(shells: &mut Vec<Process>, name: &[u8])
+    ensures { shells.new.items ≡ filter (is_called name.now) shells.old.items }
+{
+    shells.retain(|shell| is_called(shell, name));
+}
+
 // The shell has this number.
 fn is_numbered(shell: &Process, number: i32) -> bool
     ensures { result ≡ is_numbered number shell.now }
 {
-    usize::try_from(number).is_ok_and(|number| number == shell.number)
+    match usize::try_from(number) {
+        Ok(number) => number == shell.number,
+        Err(_) => false,
+    }
 }
 
 // The shell is called so; case is ignored.
