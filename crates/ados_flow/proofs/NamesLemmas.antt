@@ -47,7 +47,7 @@ read-ignores : (shared : SharedState) (place : Place) (args : Text) (read : Resu
 read-ignores shared place args (Err fault) = λ view names. refl
 read-ignores shared place args (Ok bytes) = λ view names. refl
 
-script-ignores : (shared : SharedState) (place : Place) (args : Text) → IgnoresNames (λ view. script_row shared view place args)
+pub script-ignores : (shared : SharedState) (place : Place) (args : Text) → IgnoresNames (λ view. script_row shared view place args)
 unfolding script_row
 script-ignores shared place args = λ view names. read-ignores shared place args (read_at shared.files view.busy.outputs place) view names
 
