@@ -55,7 +55,7 @@ carried-background (Some renamed) None h = tt
 carried-background (Some renamed) (Some shell) h = h
 
 pub stays-follows : (stands : Option Standing) → ShellFollows stands [] stands
-stays-follows None = (refl, refl)
+stays-follows None = refl
 stays-follows (Some stands) = refl
 
 carried_by-stands : (renamed : Option Renamed) (shell : ShellState) → standing_of (carried_by renamed shell) ≡ standing_of shell

@@ -20,7 +20,7 @@ filled-ignores : (builtin : Builtin) (shared : SharedState) (script_line : Optio
 filled-ignores builtin shared script_line (Err fault) e = λ view names. refl
 filled-ignores (Env command) shared script_line (Ok args) e = λ view names. ap Does (env.ignores command shared args e view names)
 filled-ignores (Files command) shared script_line (Ok args) e = λ view names. ap Does (files.ignores command shared args view names)
-filled-ignores (Flow command) shared script_line (Ok args) e = flow.ignores command shared script_line args
+filled-ignores (Flow command) shared script_line (Ok args) e = flow.ignores_names command shared script_line args
 
 pub action_ignores : (builtin : Builtin) (shared : SharedState) (script_line : Option ScriptLine) (args : List ℕ)
     → reads_names builtin ≡ false → IgnoresNames (λ view. action_of builtin shared script_line view args)

@@ -88,7 +88,7 @@ finish-goes limit codes word answer quits (frame ∷ frames) said runs =
           (let further = finish-goes (limit_behind frames frame.limit) answer (maker frame.kind) answer false frames below runs.1 in
           let more = end-goes frame.kind (limit_behind frames frame.limit) answer (finish (maker frame.kind) answer false frames below) frames (told word answer said) runs.1
           further (finish-back (maker frame.kind) answer false frames below) in
-          record { follows = (depth, runs.0, (record { depth_is = depth; kind_is = refl; line_is = refl; codes_are = refl; early_is = refl }, rw (scripts-stack frames) (more.returns, more.goes.follows))); runs = more.goes.runs })
+          record { follows = (depth, runs.0, rw (scripts-stack frames) (record { depth_is = depth; kind_is = refl; line_is = refl; codes_are = refl; early_is = refl }, more.returns, more.goes.follows)); runs = more.goes.runs })
       | inr e ↦ rw e (record {
         follows = (depth, runs.0, refl);
         runs = (below_limit frame.kind quits (is_over frame) (entry_of (frame ∷ frames) answer said.parts.limit) e, runs.1);
@@ -107,7 +107,7 @@ passed-goes (frame ∷ frames) said runs =
           (let further = finish-goes (limit_behind frames frame.limit) answer (maker frame.kind) answer false frames below runs.1 in
           let more = end-goes frame.kind (limit_behind frames frame.limit) answer (finish (maker frame.kind) answer false frames below) frames said runs.1
           further (finish-back (maker frame.kind) answer false frames below) in
-          record { follows = (record { depth_is = depth; kind_is = refl; line_is = refl; codes_are = refl; early_is = refl }, rw (scripts-stack frames) (more.returns, more.goes.follows)); runs = more.goes.runs })
+          record { follows = rw (scripts-stack frames) (record { depth_is = depth; kind_is = refl; line_is = refl; codes_are = refl; early_is = refl }, more.returns, more.goes.follows); runs = more.goes.runs })
       | inr e ↦ rw e (record { follows = refl; runs = runs })
     ]
 

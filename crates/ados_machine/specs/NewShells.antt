@@ -5,7 +5,8 @@ use Rattle.ados_text.specs.declared.codes.TheConstants.Result2.{ARGUMENT_MISSING
 use Rattle.ados_line.specs.declared.lines.Line.{Line}
 use Rattle.ados_find.specs.Codes.{failed, went_well}
 use Rattle.ados_find.specs.declared.targets.Target.{Target}
-use Rattle.ados_flow.specs.Gathering.{run_limit, before_plus, asks_nothing, Gathered, gathered, number_line}
+use Rattle.ados_flow.specs.declared.gathering.Gathered.{Gathered}
+use Rattle.ados_flow.specs.Gathering.{run_limit, before_plus, asks_nothing, gathered, number_line}
 use Rattle.ados_machine.specs.declared.phases.Gathering.{Gathering}
 use Rattle.ados_machine.specs.declared.phases.Wait.TheVariants.{ForLines}
 use Rattle.ados_machine.specs.Numbers.{free_number}

@@ -1,5 +1,5 @@
 -- The step: what an event makes of a world.
-use Rattle.std.specs.Prelude.{ℕ, List, [], ◌∷◌, ◌++◌, length, true, nat_le, nat_lt, ◌==◌, ◌-◌, Option, Some, None, slice_set, if◌then◌else◌}
+use Rattle.std.specs.Prelude.{ℕ, List, [], ◌∷◌, ◌++◌, length, Bool, true, not, ◌&&◌, nat_le, nat_lt, ◌==◌, ◌-◌, Option, Some, None, slice_set, if◌then◌else◌}
 use Rattle.ados_line.specs.Cut.{line_limit}
 use Rattle.ados_find.specs.declared.codes.Codes.{Codes}
 use Rattle.ados_find.specs.declared.outcomes.Renamed.{Renamed}
@@ -9,8 +9,7 @@ use Rattle.ados_machine.specs.declared.outs.Out.{Out}
 use Rattle.ados_machine.specs.declared.outs.EndReport.{EndReport}
 use Rattle.ados_machine.specs.declared.refusals.Refusal.{Refusal}
 use Rattle.ados_machine.specs.declared.refusals.Refusal.TheVariants.{Over, NoSuchShell, NotReady, WrongAnswer, QueueFull, LineTooLong}
-use Rattle.ados_machine.specs.Items.{Item, reports_of}
-use Rattle.ados_find.specs.Parts.{Parts}
+use Rattle.ados_machine.specs.Items.{Item, Began, reports_of}
 use Rattle.ados_machine.specs.Shells.{Begun, begun_shell, ShellState}
 use Rattle.ados_machine.specs.Course.{Course}
 use Rattle.ados_machine.specs.Carrying.{moved_by, carried_shells, carried_by}
@@ -19,7 +18,7 @@ use Rattle.ados_flow.specs.Frames.{FrameState, first_limit}
 use Rattle.ados_machine.specs.Numbers.{free_number}
 use Rattle.ados_machine.specs.Settle.{Turned}
 use Rattle.ados_machine.specs.Turning.{Turning, Refuses, Ends, Takes, turning}
-use Rattle.ados_machine.specs.World.{WorldState, shell_at, is_over, seen_in, input_of}
+use Rattle.ados_machine.specs.World.{WorldState, shell_at, is_over, has_frame, seen_in, input_of}
 
 -- what an event is answered: the first refusal that holds, or the world behind it, what it gives, and what
 -- the trace gets: items with their shells

@@ -7,8 +7,7 @@ use Rattle.ados_find.specs.Codes.{went_well}
 use Rattle.ados_find.specs.Shared.{SharedState, first_shared}
 use Rattle.ados_machine.specs.declared.requests.Request.{Request}
 use Rattle.ados_machine.specs.declared.phases.Phase.{Phase}
-use Rattle.ados_machine.specs.declared.phases.Phase.TheVariants.{Ready, Waiting}
-use Rattle.ados_machine.specs.declared.phases.Wait.TheVariants.{ForAnswer}
+use Rattle.ados_machine.specs.declared.phases.Phase.TheVariants.{Ready, GoingOn, Waiting}
 use Rattle.ados_flow.specs.Frames.{FrameState}
 use Rattle.ados_machine.specs.Shells.{ShellState, Seen, fresh_shell, seen_of}
 use Rattle.ados_machine.specs.Turning.{Input}
