@@ -2,3 +2,4 @@ mod LineLemmas
 pub mod CommandLemmas
 pub mod StackLemmas
 pub mod TurnLemmas
+pub mod RunLemmas

@@ -174,7 +174,7 @@ pub record IsReported (scene : Scene) (before after : Draft) (frame : FrameState
   pub limit : after.shell.limit ≡ limit_behind (frames_of scene before) frame.limit
   pub codes : after.shell.codes ≡ before.shell.codes
   pub printed : after.printed.items ≡ before.printed.items
-  pub reports : after.reports.items ≡ before.reports.items ++ report_of scene.number frame ∷ []
+  pub reports : after.reports.items ≡ before.reports.items ++ report_of scene.number name frame ∷ []
 
 -- the end of a tick left its line to go on, with what it put out
 pub record IsTicked (scene : Scene) (mid after : Draft) (front behind_it : Text) : Type 0 where

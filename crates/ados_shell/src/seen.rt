@@ -202,12 +202,10 @@ pub fn free_number(shells: &[Option<Shell>; 20]) -> Option<u8>
     ensures shells { result ≡ free_number shells.now }
     ensures seen { result ≡ free_number (seen_in shells.now) }
 {
-    let mut number = 2;
-    for shell in &shells[1..] {
-        if shell.is_none() {
-            return Some(number);
+    for place in 1..20 {
+        if shells[place].is_none() {
+            return Some(place as u8 + 1);
         }
-        number += 1;
     }
     None
 }
