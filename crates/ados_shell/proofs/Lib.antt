@@ -3,3 +3,4 @@ pub mod CommandLemmas
 pub mod StackLemmas
 pub mod TurnLemmas
 pub mod RunLemmas
+pub mod NumberLemmas

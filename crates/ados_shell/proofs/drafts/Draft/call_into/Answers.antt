@@ -10,5 +10,5 @@ returns-in-Err-Refused c =
     on_ok_weaker c.refuse.result
     (λ g. output-refused c.args.scene.now c.args.self.now c.open_own.new.self c.refuse.new.self c.args.line.now.command
     (λ here target further. called_deed c.args.place.now c.args.line.now target here further) c.in-Err-Refused.fault
-    (opening (course_of c.args.scene.now c.args.self.now) c.args.line.now.output) ? g)
+    (opening (course_of c.args.scene.now c.args.self.now) c.args.line.now.output) c.in-Err-Refused.ensures g)
     c.refuse.ensures

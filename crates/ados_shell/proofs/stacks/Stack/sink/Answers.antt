@@ -15,7 +15,7 @@ returns-in-Below c =
     sink-append own kept ∙ ap (λ xs. sink_above (reverse xs) (sink_in kept)) (sym c.as_slice.ensures.value)
     ∙ c.way_of.ensures (sink_in kept) ∙ ap (λ way. sink_by_way way (sink_in kept)) c.in-Below.is
     ∙ sym (sink-alone kept) ∙ ap (λ xs. sink_above xs Console) (sym c.lent.ensures.lent) ∙ c.way_of-in-Below.ensures Console in
-    IfOk-weaker c.sink_of.result (λ e. e ∙ sym below) c.sink_of.ensures
+    IfOk-weaker c.sink_of.result _ _ (λ sink e. e ∙ sym below) c.sink_of.ensures
 
 pub returns-in-Kept : goal.returns-in-Kept
 returns-in-Kept c =
