@@ -1,4 +1,5 @@
 use Rattle.std.proofs.Common.{◌≡◌, ◌∙◌, ◌++◌, ◌∷◌, [], List, None, Some, ap, refl, reverse, sym}
+use Rattle.std.proofs.lemmas.List.{reverse-append}
 use Rattle.std.proofs.lemmas.Result.{on_ok_weaker}
 use Rattle.ados_text.specs.Text.{Bytes}
 use Rattle.ados_flow.specs.Frames.{began}
@@ -18,6 +19,8 @@ returns c =
     (c.in_ok-frame.ensures ∙ ap (λ s. began (Tick c.args.tick.before c.args.tick.after) s before.shell.limit None) c.in_ok-script.ensures))
     refl
     (ap (λ k. record (course_of scene before) { kept = k })
-    (ap reverse c.in_ok-push.ensures.items ∙ ?))
+    (ap reverse c.in_ok-push.ensures.items ∙ reverse-append c.in_ok-kept.kept.items (c.from_vec.result ∷ [])
+    ∙ ap (λ (output : Bytes). output ∷ reverse c.in_ok-kept.kept.items) (c.from_vec.ensures ∙ c.new-2.ensures.items)
+    ∙ ap (λ (k : List Bytes). [] ∷ k) c.in_ok-kept.ensures))
     refl)
     c.push-2.ensures
