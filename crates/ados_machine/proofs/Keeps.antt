@@ -1,5 +1,5 @@
 -- A line that no command answers keeps its shell's parts.
-use Rattle.std.proofs.Common.{◌≡◌, ℕ, ◌-◌, List, [], ◌∷◌, length, nat_le, drop, Option, Some, None, Result, Ok, Err, refl, inl, inr}
+use Rattle.std.proofs.Common.{◌≡◌, ℕ, ◌-◌, List, length, nat_le, drop, Option, Some, None, Result, Ok, Err, refl, inl, inr}
 use Rattle.std.proofs.lemmas.Bool.{cases_Bool}
 use Rattle.ados_text.specs.Text.{Text}
 use Rattle.ados_text.specs.declared.codes.Result2.{Result2}

@@ -1,5 +1,5 @@
 -- Commands that do not read the names of the shells that run.
-use Rattle.std.proofs.Common.{◌≡◌, ℕ, List, Bool, false, Ok, Err, refl, ap}
+use Rattle.std.proofs.Common.{◌≡◌, ℕ, List, false, Ok, Err, refl, ap}
 use Rattle.std.specs.Prelude.{Option, Result}
 use Rattle.ados_readargs.specs.declared.args.Arg.{Arg}
 use Rattle.ados_readargs.specs.declared.errors.ArgFault.{ArgFault}

@@ -18,9 +18,9 @@ use Rattle.ados_find.specs.Parts.{Parts}
 use Rattle.ados_machine.specs.Course.{Course}
 use Rattle.ados_machine.specs.Deeds.{Deed, Passes, Answers, Jumps, Calls, Ticks, Waits}
 use Rattle.ados_machine.specs.Settled.{Said, Settled, behind, told, faulted, with_limit, after_end, finish, passed, finished}
-use Rattle.ados_machine.specs.Settle.{begun, called, tick_begun, ticked, jumped_in, Turned, said_of, by_rule, settle}
+use Rattle.ados_machine.specs.Settle.{begun, called, ticked, jumped_in, Turned, said_of, by_rule, settle}
 use Rattle.ados_machine.specs.Limits.{RunsOn, AllRunOn, GoesOnAt}
-use Rattle.ados_machine.specs.Stacks.{Entry, stack_of, opened, scripts_on, limit_after, codes_after, BeginsOn, begins_at, codes_at, Standing, standing_of}
+use Rattle.ados_machine.specs.Stacks.{Entry, stack_of, opened, scripts_on, limit_after, codes_after, Standing, standing_of}
 use Rattle.ados_machine.specs.Step.{shell_of_turn}
 use Rattle.ados_machine.proofs.Follows.{back, RunsEntry, Returns, Follows}
 use Rattle.ados_machine.proofs.Keeps.{KeepsParts}

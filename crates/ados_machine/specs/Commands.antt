@@ -10,15 +10,12 @@ use Rattle.ados_find.specs.declared.internal_commands.InternalCommand.{InternalC
 use Rattle.ados_find.specs.declared.internal_commands.InternalCommand.TheVariants as internal
 use Rattle.ados_find.specs.Shared.{SharedState}
 use Rattle.ados_find.specs.Views.{View}
-use Rattle.ados_files.specs.declared.commands.Command.{Command as FileCommand}
 use Rattle.ados_files.specs.declared.commands.Command.TheVariants as files
 use Rattle.ados_files.specs.Commands.{template_of_command as file_template}
 use Rattle.ados_files.specs.Rows.{row_of as file_row_of}
-use Rattle.ados_env.specs.declared.commands.Command.{Command}
 use Rattle.ados_env.specs.declared.commands.Command.TheVariants as env
 use Rattle.ados_env.specs.Commands.{template_of_command as env_template, reads_in_use as env_reads_in_use, reads_names as env_reads_names}
 use Rattle.ados_env.specs.Rows.{row_of as env_row_of}
-use Rattle.ados_flow.specs.declared.commands.Command.{Command as FlowCommand}
 use Rattle.ados_flow.specs.declared.commands.Command.TheVariants as flow
 use Rattle.ados_flow.specs.Commands.{template_of_command as flow_template, reads_in_use as flow_reads_in_use}
 use Rattle.ados_flow.specs.Actions.{Action, Does}

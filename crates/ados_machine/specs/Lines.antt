@@ -1,7 +1,6 @@
 -- What a line of a shell comes to.
 use Rattle.std.specs.Prelude.{ℕ, ◌-◌, List, [], ◌++◌, drop, map, false, true, if◌then◌else◌, Option, Some, None, option_map, Result, Ok, Err}
 use Rattle.std.specs.List.{slice_set}
-use Rattle.ados_text.specs.declared.codes.Result2.{Result2}
 use Rattle.ados_text.specs.Text.{Text}
 use Rattle.ados_text.specs.declared.codes.TheConstants.Result2.{TOO_MANY_ARGUMENTS, OBJECT_NOT_FOUND}
 use Rattle.ados_items.specs.Items.{item_at}

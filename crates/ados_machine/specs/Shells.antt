@@ -1,5 +1,5 @@
 -- A shell, and what the others see of it.
-use Rattle.std.specs.Prelude.{ℕ, List, [], ◌∷◌, ◌++◌, Option, Some, None}
+use Rattle.std.specs.Prelude.{ℕ, List, [], ◌∷◌, ◌++◌, Option}
 use Rattle.ados_text.specs.Text.{Text, Bytes}
 use Rattle.ados_ram.specs.Place.{Place}
 use Rattle.ados_find.specs.Codes.{went_well}

@@ -1,5 +1,5 @@
 -- A Run, and the shell that begins.
-use Rattle.std.proofs.Common.{◌≡◌, ◌∙◌, ◌∷◌, ◌+◌, ◌-◌, [], List, Option, Some, None, Bool, true, false, ℕ, suc, ap, drop, length, map, nat_le, refl, subst, sym}
+use Rattle.std.proofs.Common.{◌≡◌, ◌∙◌, ◌∷◌, ◌+◌, ◌-◌, [], List, Option, Some, Bool, true, false, ℕ, suc, ap, drop, length, map, nat_le, refl, subst, sym}
 use Rattle.std.specs.Prelude.{if◌then◌else◌}
 use Rattle.std.specs.Option.{option_map}
 use Rattle.ados_text.specs.Text.{Text}
@@ -15,7 +15,7 @@ use Rattle.ados_machine.specs.declared.phases.Gathering.{Gathering}
 use Rattle.ados_machine.specs.declared.phases.Wait.TheVariants.{ForLines}
 use Rattle.ados_machine.specs.Course.{put}
 use Rattle.ados_machine.specs.Deeds.{Deed, FrameLines, Jumps, Waits}
-use Rattle.ados_machine.specs.NewShells.{begun_put, console_run, frame_run, gathered_deed, joined_by, joined_deed, jumped_put, new_shell, run_at, with_command}
+use Rattle.ados_machine.specs.NewShells.{begun_put, console_run, frame_run, gathered_deed, joined_by, joined_deed, new_shell, run_at, with_command}
 use Rattle.ados_machine.specs.Numbers.{free_number}
 use Rattle.ados_machine.specs.Settle.{lines_of_frame, newest, settle}
 use Rattle.ados_machine.specs.Sinks.{Sink, sink_in, sink_or}
@@ -68,7 +68,7 @@ joins-waits scene before after gathering line command sink e b g =
     let course = course_of scene before in
     let P : Option Text → Type 0 = λ o. Settles scene before after (joined_by gathering line sink course o) in
     let Q : Bool → Type 0 = λ x. Settles scene before after
-      (if x then gathered_deed (with_command command gathering) sink course else Waits (ForLines (with_command command gathering)) course) in
+    (if x then gathered_deed (with_command command gathering) sink course else Waits (ForLines (with_command command gathering)) course) in
     subst P (sym e) (subst Q (sym b) g)
 
 -- and makes its shell, where it may not
@@ -80,7 +80,7 @@ joins-last scene before after gathering line command sink e b g =
     let course = course_of scene before in
     let P : Option Text → Type 0 = λ o. Settles scene before after (joined_by gathering line sink course o) in
     let Q : Bool → Type 0 = λ x. Settles scene before after
-      (if x then gathered_deed (with_command command gathering) sink course else Waits (ForLines (with_command command gathering)) course) in
+    (if x then gathered_deed (with_command command gathering) sink course else Waits (ForLines (with_command command gathering)) course) in
     subst P (sym e) (subst Q (sym b) g)
 
 abbrev all_of : Text → FrameLines → Gathered
@@ -91,7 +91,7 @@ pub run-goes : (scene : Scene) (before mid after : Draft) (word text : Text) (co
     → option_map (all_of text) (here scene before).frame_lines ≡ Some all
     → IsPut scene before mid codes (new_shell all.commands output (here scene before).sink (course_of scene before))
     → ((frame : FrameState) (frames : List FrameState) → frames_of scene mid ≡ frame ∷ frames →
-      Settles scene mid after (Jumps word codes (suc (frame.position + all.taken)) (course_of scene mid)))
+    Settles scene mid after (Jumps word codes (suc (frame.position + all.taken)) (course_of scene mid)))
     → Settles scene before after (run_at word output text (here scene before).sink (course_of scene before) (here scene before).frame_lines)
 run-goes scene before mid after word text codes all output h p g = in_frame (frames_of scene before) refl h
   where

@@ -1,6 +1,5 @@
 -- The frames of a shell, as a turn changes them.
 use Rattle.std.specs.Prelude.{◌≡◌, ℕ, suc, ◌+◌, ◌<◌, ◌^◌, [], ◌∷◌, ◌++◌, List, Bool, false, ◌||◌, Option, Some, None, reverse, take}
-use Rattle.ados_find.specs.declared.targets.Target.{Target}
 use Rattle.ados_flow.specs.Frames.{FrameState, is_script, jumped, moved}
 use Rattle.ados_machine.specs.Shells.{ShellState}
 use Rattle.ados_machine.specs.Sinks.{Sink, Console, Kept, To, sink_by}

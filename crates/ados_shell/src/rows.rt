@@ -106,7 +106,8 @@ impl Draft {
             Some(new) => new,
         };
         let args = &mut self.args;
-        self.shell.perform(scene, builtin, line, shared, others, args)
+        self.shell
+            .perform(scene, builtin, line, shared, others, args)
     }
 
     /// What the command of this word, whose output leads there, sees of the shells that run.

@@ -130,7 +130,12 @@ impl Draft {
 
     /// Takes a further line for a Run that gathers. Where that goes on the shell waits again, up to the last command that
     /// a new shell is given.
-    pub fn join(&mut self, scene: &Scene, gathering: &Gathering, line: &Text) -> Result<(), NoMemory>
+    pub fn join(
+        &mut self,
+        scene: &Scene,
+        gathering: &Gathering,
+        line: &Text,
+    ) -> Result<(), NoMemory>
         requires { IsUnset self.old }
         ensures { OnOk result (Settles scene.now self.old self.new
             (joined_deed gathering.now line.now (here scene.now self.old).sink (course_of scene.now self.old))) }

@@ -1,6 +1,4 @@
-use Rattle.std.proofs.Common.{◌≡◌, ◌∙◌, ◌<◌, map, length, slice_index_or, subst, sym, ap}
-use Rattle.ados_machine.specs.Commands.{template_of}
-use Rattle.ados_machine.specs.declared.builtins.TheConstants.Builtin.{ALL}
+use Rattle.std.proofs.Common.{◌∙◌, ◌<◌, length, slice_index_or, subst, sym, ap}
 use Rattle.ados_shell.proofs.CommandLemmas.{at_place, within}
 use Rattle.ados_shell.proofs.commands.Commands.template.Goals as goal
 

@@ -1,5 +1,4 @@
-use Rattle.std.proofs.Common.{Some, ap, refl, subst, Option, List}
-use Rattle.std.specs.Option.{option_map}
+use Rattle.std.proofs.Common.{ap, refl}
 use Rattle.std.proofs.lemmas.Result.{on_ok_weaker}
 use Rattle.ados_shell.specs.Drafts.{course_by, held_of}
 use Rattle.ados_shell.proofs.LineLemmas.{prompt-goes}

@@ -1,10 +1,9 @@
-use Rattle.std.proofs.Common.{◌≡◌, ◌∙◌, ◌++◌, ◌∷◌, [], List, None, Some, ap, refl, reverse, sym}
+use Rattle.std.proofs.Common.{◌∙◌, ◌∷◌, [], List, None, ap, refl, reverse}
 use Rattle.std.proofs.lemmas.List.{reverse-append}
 use Rattle.std.proofs.lemmas.Result.{on_ok_weaker}
 use Rattle.ados_text.specs.Text.{Bytes}
 use Rattle.ados_flow.specs.Frames.{began}
 use Rattle.ados_flow.specs.declared.kinds.Kind.TheVariants.{Tick}
-use Rattle.ados_shell.specs.declared.drafts.Draft.{Draft}
 use Rattle.ados_shell.specs.Drafts.{course_of, frames_of}
 use Rattle.ados_shell.proofs.TurnLemmas.{tick-goes}
 use Rattle.ados_shell.proofs.drafts.Draft.begin_tick.Goals as goal

@@ -20,7 +20,7 @@ returns-in_ok-copy_own-in-Some c =
     let gathering = c.args.gathering.now in
     let commands = gathering.commands ++ c.in-Some.front.now ∷ [] in
     let P : Text → Option Target → List Text → Type 0 = λ w o l. Settles scene before after
-      (Waits (ForLines (record { word = w; output = o; commands = l })) (course_of scene before)) in
+    (Waits (ForLines (record { word = w; output = o; commands = l })) (course_of scene before)) in
     let front : before_plus c.args.line.now ≡ Some c.in-Some.front.now =
     ap before_plus (sym c.as_bytes.ensures.value) ∙ sym c.before_plus.ensures ∙ ap (option_map {T = Bor (List ℕ)} {U = List ℕ} (λ t. t.now)) c.in-Some.is in
     on_ok_weaker c.wait.result
@@ -38,7 +38,7 @@ returns-else-before c =
     let after = c.answer_begun-else-before.new.self in
     let gathering = c.args.gathering.now in
     let P : List Text → Option Target → Type 0 = λ l o. Settles scene before after
-      (answered_put gathering.word (new_shell l o (here scene before).sink (course_of scene before))) in
+    (answered_put gathering.word (new_shell l o (here scene before).sink (course_of scene before))) in
     let front : before_plus c.args.line.now ≡ Some c.in-Some.front.now =
     ap before_plus (sym c.as_bytes.ensures.value) ∙ sym c.before_plus.ensures ∙ ap (option_map {T = Bor (List ℕ)} {U = List ℕ} (λ t. t.now)) c.in-Some.is in
     on_ok_weaker c.answer_begun-else-before.result

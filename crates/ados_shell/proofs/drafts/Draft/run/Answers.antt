@@ -15,16 +15,16 @@ returns c =
     let before = c.args.self.now in
     let read = input_lines (course_of scene before) c.args.line.now.input in
     elim c.match-input.branch as (λ x. OnOk c.match-input.result (Settles scene before c.match-input.self (run_deed c.args.line.now (here scene before) (course_of scene before)))) [
-    | in-Err-NoMemory w ↦ rw w.result-is tt
-    | in-Err-Refused w ↦ rw (w.result-is, w.self-is) (on_ok_weaker w.refuse.result
-    (λ g. input-refused scene before w.refuse.new.self c.args.line.now.command
-    (λ lines. running_deed c.args.line.now (here scene before) (course_of scene before)) w.in-Err-Refused.fault read
-    (subst (λ x. Gives {X = Option (List Text)} (Err x) read) w.in-Err-Refused.field-0-is
-    (subst (λ i. Gives {X = Option (List Text)} (Err w.in-Err-Refused.field-0) (input_lines (course_of scene before) i)) c.as_ref.ensures.value w.in-Err-Refused.ensures)) g)
-    w.refuse.ensures)
-    | in-Ok w ↦ rw (w.result-is, w.self-is) (on_ok_weaker w.run_into.result
-    (λ g. input-given scene before w.run_into.new.self c.args.line.now.command
-    (λ lines. running_deed c.args.line.now (here scene before) (course_of scene before)) w.in-Ok.field-0 read
-    (subst (λ i. Gives {X = Option (List Text)} (Ok w.in-Ok.field-0) (input_lines (course_of scene before) i)) c.as_ref.ensures.value w.in-Ok.ensures) g)
-    w.run_into.ensures)
+      | in-Err-NoMemory w ↦ rw w.result-is tt
+      | in-Err-Refused w ↦ rw (w.result-is, w.self-is) (on_ok_weaker w.refuse.result
+          (λ g. input-refused scene before w.refuse.new.self c.args.line.now.command
+          (λ lines. running_deed c.args.line.now (here scene before) (course_of scene before)) w.in-Err-Refused.fault read
+          (subst (λ x. Gives {X = Option (List Text)} (Err x) read) w.in-Err-Refused.field-0-is
+          (subst (λ i. Gives {X = Option (List Text)} (Err w.in-Err-Refused.field-0) (input_lines (course_of scene before) i)) c.as_ref.ensures.value w.in-Err-Refused.ensures)) g)
+          w.refuse.ensures)
+      | in-Ok w ↦ rw (w.result-is, w.self-is) (on_ok_weaker w.run_into.result
+          (λ g. input-given scene before w.run_into.new.self c.args.line.now.command
+          (λ lines. running_deed c.args.line.now (here scene before) (course_of scene before)) w.in-Ok.field-0 read
+          (subst (λ i. Gives {X = Option (List Text)} (Ok w.in-Ok.field-0) (input_lines (course_of scene before) i)) c.as_ref.ensures.value w.in-Ok.ensures) g)
+          w.run_into.ensures)
     ]

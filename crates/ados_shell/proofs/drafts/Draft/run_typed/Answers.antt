@@ -1,4 +1,4 @@
-use Rattle.std.proofs.Common.{◌≡◌, ◌∙◌, ℕ, Bor, ◌∷◌, [], List, Option, Some, ap, subst, sym}
+use Rattle.std.proofs.Common.{◌≡◌, ◌∙◌, ℕ, Bor, ◌∷◌, [], List, Some, ap, subst, sym}
 use Rattle.std.proofs.lemmas.Result.{on_ok_weaker}
 use Rattle.std.specs.Option.{option_map}
 use Rattle.ados_text.specs.Text.{Text}
@@ -15,7 +15,7 @@ returns-in_ok-behind-in-Some c =
     let before = c.args.self.now in
     let after = c.wait.new.self in
     let P : Text → List Text → Type 0 = λ w l. Settles scene before after
-      (Waits (ForLines (record { word = w; output = c.args.output; commands = l })) (course_of scene before)) in
+    (Waits (ForLines (record { word = w; output = c.args.output; commands = l })) (course_of scene before)) in
     let front : before_plus c.args.line.now.args ≡ Some c.in-Some.front.now =
     ap before_plus (sym c.as_bytes.ensures.value) ∙ sym c.before_plus.ensures ∙ ap (option_map {T = Bor (List ℕ)} {U = List ℕ} (λ t. t.now)) c.in-Some.is in
     on_ok_weaker c.wait.result

@@ -1,8 +1,7 @@
-use Rattle.std.proofs.Common.{◌≡◌, ◌∙◌, ◌++◌, ap, sym, reverse, Some}
+use Rattle.std.proofs.Common.{◌≡◌, ◌∙◌, ◌++◌, ap, sym, reverse}
 use Rattle.std.proofs.lemmas.Result.{IfOk-weaker}
-use Rattle.ados_machine.specs.Sinks.{Console, Sink, sink_in}
-use Rattle.ados_shell.specs.Stacks.{frames_in, oldest, sink_above, sink_by_way, sink_of}
-use Rattle.ados_shell.specs.declared.stacks.Way.{Way}
+use Rattle.ados_machine.specs.Sinks.{Console, sink_in}
+use Rattle.ados_shell.specs.Stacks.{oldest, sink_above, sink_by_way, sink_of}
 use Rattle.ados_shell.specs.declared.stacks.Sink.TheVariants as sinks
 use Rattle.ados_shell.proofs.StackLemmas.{sink-append, sink-alone}
 use Rattle.ados_shell.proofs.stacks.Stack.sink.Goals as goal
