@@ -46,7 +46,7 @@ runs-on w k shell t sane here goes none =
     elim (cases_eq k 1) [
       | inl first ↦ rw (eq-eqb k 1 first) refl
       | inr other ↦ (let stays : has_frame t.frames ≡ true = stack-frame t.frames shell.frames (silent-frames shell t goes none) (runs-frame (shell_at w k) shell here (sane.background k other)) in
-      rw stays (nobody (not (k == 1))))
+          rw stays (nobody (not (k == 1))))
     ]
   where
     nobody : (b : Bool) → (b && false) ≡ false
