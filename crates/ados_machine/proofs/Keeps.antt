@@ -33,7 +33,7 @@ use Rattle.ados_machine.specs.Sinks.{Sink}
 use Rattle.ados_machine.specs.declared.phases.Gathering.{Gathering}
 use Rattle.ados_machine.specs.declared.phases.Parted.{Parted}
 use Rattle.ados_machine.specs.NewShells.{console_run, run_at, run_into, running_deed, run_deed, joined_by, joined_deed}
-use Rattle.ados_machine.specs.Lines.{action_in, action_deed, work_deed, command_deed, prompt_deed, asked_deed, builtin_deed, arrived_deed, arriving_deed, directory_deed, called_deed, calling_deed, script_deed, view_of, found_in, found_deed, expanded_deed, variables_in, line_deed, parted_deed, answer_deed, internal_deed}
+use Rattle.ados_machine.specs.Lines.{action_in, action_deed, work_deed, command_deed, prompt_deed, asked_deed, builtin_deed, arrived_deed, arriving_deed, directory_deed, called_deed, calling_deed, script_deed, nameless, found_in, found_deed, expanded_deed, variables_in, line_deed, parted_deed, answer_deed, internal_deed}
 
 -- where no command answers, these parts stand on
 abbrev pub KeepsParts : Parts → Deed → Type 0
@@ -106,7 +106,7 @@ script-keeps : (place : Place) (line : Line) (here : Here) (course : Course) →
 script-keeps place line here course =
     read-keeps line.command (λ input. calling_deed place line here course) course (input_lines course line.input)
     (λ input. output-keeps line.command (λ target further. called_deed place line target here further) course (opening course line.output)
-    (λ target further. action-keeps line.command target None (script_row further.shared (view_of line.command target further) place line.args) here further))
+    (λ target further. action-keeps line.command target None (script_row further.shared (nameless target further) place line.args) here further))
 
 console_run-keeps : (word : Text) (output : Option Target) (text : Text) (sink : Sink) (course : Course) (command : Option Text) →
     KeepsParts course.parts (console_run word output text sink course command)

@@ -1,5 +1,5 @@
 -- What a line of a shell comes to.
-use Rattle.std.specs.Prelude.{ℕ, ◌-◌, List, ◌++◌, drop, map, false, true, if◌then◌else◌, Option, Some, None, option_map, Result, Ok, Err}
+use Rattle.std.specs.Prelude.{ℕ, ◌-◌, List, [], ◌++◌, drop, map, false, true, if◌then◌else◌, Option, Some, None, option_map, Result, Ok, Err}
 use Rattle.std.specs.List.{slice_set}
 use Rattle.ados_text.specs.declared.codes.Result2.{Result2}
 use Rattle.ados_text.specs.Text.{Text}
@@ -59,6 +59,10 @@ names_in word course = slice_set (map name_seen course.seen) (course.parts.numbe
 -- what the command of a word, whose output leads there, reads of its shell and of the others
 abbrev pub view_of : Text → Option Target → Course → View
 view_of word target course = record { parts = course.parts; busy = busy_in target course; names = names_in word course }
+
+-- what the call of a script reads, whose output leads there: no names
+abbrev pub nameless : Option Target → Course → View
+nameless target course = record { parts = course.parts; busy = busy_in target course; names = [] }
 
 -- what a command's effect leaves of the course: its change of the shell's parts, the shared parts, and what was renamed
 abbrev pub with_effect : Effect → Course → Course
@@ -130,7 +134,7 @@ directory_deed place line here course = with_input line.command (λ input. arriv
 -- a script of a line, whose output leads there, is called
 abbrev pub called_deed : Place → Line → Option Target → Here → Course → Deed
 called_deed place line target here course =
-    action_deed line.command target None (script_row course.shared (view_of line.command target course) place line.args) here course
+    action_deed line.command target None (script_row course.shared (nameless target course) place line.args) here course
 
 abbrev pub calling_deed : Place → Line → Here → Course → Deed
 calling_deed place line here course =

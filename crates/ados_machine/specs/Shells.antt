@@ -4,7 +4,7 @@ use Rattle.ados_text.specs.Text.{Text, Bytes}
 use Rattle.ados_ram.specs.Place.{Place}
 use Rattle.ados_find.specs.Codes.{went_well}
 use Rattle.ados_find.specs.Parts.{Parts}
-use Rattle.ados_find.specs.Settings.{first_settings, copied_settings}
+use Rattle.ados_find.specs.Settings.{first_settings}
 use Rattle.ados_find.specs.declared.settings.Settings.{Settings}
 use Rattle.ados_find.specs.declared.targets.Target.{Target}
 use Rattle.ados_flow.specs.declared.kinds.Kind.TheVariants.{Lines}
@@ -29,19 +29,19 @@ parts_in number directory settings = record { number = number; directory = direc
 abbrev pub fresh_shell : ℕ → ShellState
 fresh_shell number = record { frames = []; phase = Ready; parts = parts_in number [] (first_settings number); kept = [] }
 
--- a shell that another one makes: where that one is, what is set there, its commands, and its output, if it has one
+-- a shell that another one makes: where that one is, copies of what is set there, its commands, and its output, if it has one
 pub record Begun : Type 0 where
   pub directory : Place
   pub settings : Settings
   pub commands : List Text
   pub output : Option Target
 
--- it begins there under its own number, with copies of what is set; its commands are its one frame
+-- it begins there under its number; its commands are its one frame
 abbrev pub begun_shell : ℕ → Begun → ShellState
 begun_shell number begun = record {
   frames = began Lines begun.commands first_limit begun.output ∷ [];
   phase = Ready;
-  parts = parts_in number begun.directory (copied_settings number begun.settings);
+  parts = parts_in number begun.directory begun.settings;
   kept = [];
 }
 

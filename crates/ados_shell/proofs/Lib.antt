@@ -2,3 +2,5 @@ mod LineLemmas
 pub mod CommandLemmas
 pub mod StackLemmas
 pub mod TurnLemmas
+pub mod RunLemmas
+pub mod NumberLemmas

@@ -1,5 +1,5 @@
 -- A line whose input was read, or whose output was opened.
-use Rattle.std.proofs.Common.{◌≡◌, ◌∙◌, ◌×◌, ℕ, List, Option, Some, Result, Ok, Err, ap, drop, subst, sym}
+use Rattle.std.proofs.Common.{◌≡◌, ◌∙◌, List, Option, Some, Result, Ok, Err, ap, drop, subst}
 use Rattle.ados_text.specs.Text.{Text}
 use Rattle.ados_text.specs.declared.codes.Result2.{Result2}
 use Rattle.ados_line.specs.declared.lines.Line.{Line}

@@ -1,5 +1,5 @@
 -- How a turn goes on: what is left to do from a middle of it on does what the whole does from its beginning on.
-use Rattle.std.proofs.Common.{◌≡◌, ◌∙◌, ◌++◌, ◌∷◌, [], List, ℕ, Bool, true, false, Option, length, nat_le, suc, ap, sym, refl, append_assoc}
+use Rattle.std.proofs.Common.{◌≡◌, ◌∙◌, ◌++◌, ◌∷◌, [], List, ℕ, Bool, true, false, Option, None, length, nat_le, suc, ap, sym, refl, append_assoc}
 use Rattle.std.proofs.lemmas.List.{append-nil}
 use Rattle.std.specs.Prelude.{if◌then◌else◌}
 use Rattle.ados_text.specs.Text.{Text}
@@ -318,3 +318,13 @@ pub tick-refused : (scene : Scene) (before after : Draft) (front command rear : 
     → Settles scene before after (Ticks front command rear (course_of scene before))
 tick-refused scene before after front command rear e g =
     goes-same scene before before after _ _ refl (ap (by_rule (course_of scene before)) (sym (then-is _ _ _ e))) g
+
+-- a tick was put on
+pub tick-goes : (scene : Scene) (before after : Draft) (front command rear : Text)
+    → frames_of scene after ≡ began (Tick front rear) (command ∷ []) before.shell.limit None ∷ frames_of scene before
+    → phase_in after.shell ≡ Ready
+    → course_of scene after ≡ record (course_of scene before) { kept = [] ∷ (course_of scene before).kept }
+    → after.reports.items ≡ before.reports.items
+    → IsRuled scene before after (tick_begun front command rear (frames_of scene before) (said_in scene before))
+tick-goes scene before after front command rear f p c r =
+    record { frames = f; phase = p; course = c; reports = r ∙ sym (append-nil before.reports.items) }

@@ -17,7 +17,9 @@ use Rattle.ados_flow.specs.Frames.{FrameState, limit_behind}
 use Rattle.ados_machine.specs.Items.{reports_of}
 use Rattle.ados_find.specs.Parts.{Parts}
 use Rattle.ados_machine.specs.Shells.{Begun, ShellState}
+use Rattle.ados_find.specs.declared.targets.Target.{Target}
 use Rattle.ados_machine.specs.Course.{Course}
+use Rattle.ados_machine.specs.NewShells.{beginning}
 use Rattle.ados_machine.specs.Deeds.{Here, Deed}
 use Rattle.ados_machine.specs.Settled.{Settled, newest_kept}
 use Rattle.ados_machine.specs.Settle.{Turned, by_rule, here_of, settle}
@@ -168,13 +170,13 @@ pub record IsDrafted (scene : Scene) (draft : Draft) (turned : Turned) : Type 0 
   pub reports_are : draft.reports.items ≡ reports_of scene.number turned.log
 
 -- the end of a script was reported, and the limit of its beginning restored
-pub record IsReported (scene : Scene) (before after : Draft) (frame : FrameState) : Type 0 where
+pub record IsReported (scene : Scene) (before after : Draft) (name : Text) (frame : FrameState) : Type 0 where
   pub frames : after.shell.frames ≡ before.shell.frames
   pub held : held_of after ≡ held_of before
   pub limit : after.shell.limit ≡ limit_behind (frames_of scene before) frame.limit
   pub codes : after.shell.codes ≡ before.shell.codes
   pub printed : after.printed.items ≡ before.printed.items
-  pub reports : after.reports.items ≡ before.reports.items ++ report_of scene.number frame ∷ []
+  pub reports : after.reports.items ≡ before.reports.items ++ report_of scene.number name frame ∷ []
 
 -- the end of a tick left its line to go on, with what it put out
 pub record IsTicked (scene : Scene) (mid after : Draft) (front behind_it : Text) : Type 0 where
@@ -192,4 +194,10 @@ pub record HoldsEffect (before after : Draft) (change : Option Change) (shared :
   pub renamed_is : option_map (λ r. r.value) after.renamed ≡ renamed
   pub begun : option_map (λ b. b.value) after.begun ≡ option_map (λ b. b.value) before.begun
   pub printed : after.printed.items ≡ before.printed.items
+  pub reports : after.reports.items ≡ before.reports.items
+
+-- a shell of this number was drafted, which is to begin with these commands and this output
+pub record HasBegun (scene : Scene) (before after : Draft) (number : ℕ) (commands : List Text) (output : Option Target) : Type 0 where
+  pub frames : after.shell.frames ≡ before.shell.frames
+  pub course : course_of scene after ≡ beginning number commands output (course_of scene before)
   pub reports : after.reports.items ≡ before.reports.items

@@ -1,7 +1,6 @@
 -- The report of a script's end.
-use Rattle.std.specs.Prelude.{ℕ, List}
-use Rattle.ados_flow.specs.declared.kinds.Kind.{Kind}
-use Rattle.ados_flow.specs.declared.kinds.Kind.TheVariants.{Script}
+use Rattle.std.specs.Prelude.{ℕ}
+use Rattle.ados_text.specs.Text.{Text}
 use Rattle.ados_flow.specs.Frames.{FrameState, last_line, last_codes, is_early}
 use Rattle.ados_machine.specs.declared.outs.EndReport.{EndReport}
 

@@ -24,3 +24,9 @@ ServesNames builtin names other =
 -- what commands read of a shell with these parts, where this is in use, and the shells that run have these names
 abbrev pub seen : Parts → InUse → List (Option Text) → View
 seen parts busy names = record { parts = parts; busy = busy; names = names }
+
+-- to a command one view is as good as another
+abbrev pub Serves : Builtin → View → View → Type 0
+Serves builtin view other =
+    (shared : SharedState) (script_line : Option ScriptLine) (args : List ℕ) →
+    action_of builtin shared script_line view args ≡ action_of builtin shared script_line other args

@@ -16,7 +16,7 @@ impl Draft {
     ghost use Rattle.std.specs.Option.{option_copied};
     ghost use Rattle.ados_flow.specs.Actions.{acting};
     ghost use Rattle.ados_flow.specs.Execute.{script_row};
-    ghost use Rattle.ados_machine.specs.Lines.{view_of};
+    ghost use Rattle.ados_machine.specs.Lines.{nameless};
     ghost use Rattle.ados_shell.specs.Drafts.{IsUnset, Settles, course_of, here};
 
     /// Reads the input of a line whose word is a script, if it has one, and calls the script.
@@ -71,7 +71,7 @@ impl Draft {
     ) -> Result<Action, NoMemory>
         requires { IsUnset self.now }
         ensures { IfOk result (λ action. acting (course_of scene.now self.now).shared action
-            ≡ script_row (course_of scene.now self.now).shared (view_of line.now.command (option_copied target.entry) (course_of scene.now self.now)) place.now line.now.args) }
+            ≡ script_row (course_of scene.now self.now).shared (nameless (option_copied target.entry) (course_of scene.now self.now)) place.now line.now.args) }
     {
         let others = Others {
             busy: self.in_use(scene, target)?,

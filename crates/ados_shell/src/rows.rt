@@ -3,7 +3,7 @@ ghost use Rattle.std.specs.Prelude.{◌≡◌, None, IfOk, OnOk};
 ghost use Rattle.std.specs.Option.{option_copied, option_map};
 ghost use Rattle.ados_find.specs.Effects.{effect_of};
 ghost use Rattle.ados_flow.specs.Actions.{Does, acting};
-ghost use Rattle.ados_machine.specs.Lines.{action_deed, action_in, busy_in, command_deed, names_in, work_deed};
+ghost use Rattle.ados_machine.specs.Lines.{action_deed, action_in, busy_in, command_deed, names_in, view_of, work_deed};
 
 use crate::drafts::{Draft, ShellDraft};
 use crate::scenes::Scene;
@@ -17,8 +17,8 @@ use ados_readargs::Args;
 use ados_text::{NoMemory, Text};
 
 impl Draft {
-    ghost use Rattle.ados_shell.specs.Drafts.{IsUnset, Settles, course_of, here};
-    ghost use Rattle.ados_shell.specs.Views.{ServesInUse, ServesNames};
+    ghost use Rattle.ados_shell.specs.Drafts.{IsUnset, Settles, course_of, here, parts_of};
+    ghost use Rattle.ados_shell.specs.Views.{Serves, ServesInUse, ServesNames, seen};
 
     /// Opens a command's output, and lets it do its work; its input has these lines, if there is one.
     pub fn begin(
@@ -100,16 +100,29 @@ impl Draft {
             ≡ action_in builtin line.now (option_copied target.entry) (here scene.now self.old) (course_of scene.now self.old)) }
         ensures same { self.new ≡ record self.old { args = self.new.args } }
     {
-        let others = Others {
-            busy: self.busy_for(scene, builtin, target)?,
-            names: self.names_for(scene, builtin, &line.command)?,
-        };
+        let others = self.others_for(scene, builtin, &line.command, target)?;
         let shared = match &self.shared {
             None => scene.shared,
             Some(new) => new,
         };
         let args = &mut self.args;
         self.shell.perform(scene, builtin, line, shared, others, args)
+    }
+
+    /// What the command of this word, whose output leads there, sees of the shells that run.
+    fn others_for(
+        &self,
+        scene: &Scene,
+        builtin: Builtin,
+        word: &Text,
+        target: Option<&Target>,
+    ) -> Result<Others, NoMemory>
+        ensures { IfOk result (λ others. Serves builtin (seen (parts_of scene.now self.now) others.busy others.names)
+            (view_of word.now (option_copied target.entry) (course_of scene.now self.now))) }
+    {
+        let busy = self.busy_for(scene, builtin, target)?;
+        let names = self.names_for(scene, builtin, word)?;
+        Ok(Others { busy, names })
     }
 
     /// What is in use, for a command whose output leads there. It is gathered only for those that read it.

@@ -20,7 +20,7 @@ use ados_text::{NoMemory, Result2, Text, Texts};
 use std::alloc::Global;
 
 impl Draft {
-    ghost use Rattle.ados_shell.specs.Drafts.{IsUnset, Settles, course_of, frames_of, here};
+    ghost use Rattle.ados_shell.specs.Drafts.{HasBegun, IsUnset, Settles, course_of, frames_of, here};
     ghost use Rattle.ados_shell.specs.Outputs.{IsPut};
 
     /// Reads the input of a Run, if it has one, which nothing takes, and runs its text.
@@ -204,6 +204,22 @@ impl Draft {
         let Some(number) = free_number(scene.shells) else {
             return Ok(Codes::failed(Result2::OBJECT_IN_USE));
         };
+        self.draft_shell(scene, number, commands, output)?;
+        let line = number_line(scene.alloc, number)?;
+        self.put(scene, output, line, Codes::NONE)
+    }
+
+    /// Drafts the shell of a number for these commands, whose output leads there.
+    fn draft_shell(
+        &mut self,
+        scene: &Scene,
+        number: u8,
+        commands: Texts,
+        output: Option<&Target>,
+    ) -> Result<(), NoMemory>
+        requires { IsUnset self.old }
+        ensures { OnOk result (HasBegun scene.now self.old self.new number commands (option_copied output.entry)) }
+    {
         let begun = Begun {
             directory: self.directory(scene).copy()?,
             settings: scene.shell.settings().copied(scene.alloc, number)?,
@@ -211,8 +227,7 @@ impl Draft {
             output: copy_own(output)?,
         };
         self.begun = Some(Box::new(scene.alloc, begun)?);
-        let line = number_line(scene.alloc, number)?;
-        self.put(scene, output, line, Codes::NONE)
+        Ok(())
     }
 }
 

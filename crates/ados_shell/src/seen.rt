@@ -1,5 +1,5 @@
 // What a turn knows of all shells.
-ghost use Rattle.std.specs.Prelude.{◌≡◌, ◌++◌, ◌-◌, [], Some, map, reverse, IfOk, OnOk};
+ghost use Rattle.std.specs.Prelude.{◌≡◌, ◌≤◌, ◌+◌, length, ◌++◌, ◌-◌, [], Some, map, reverse, IfOk, OnOk};
 ghost use Rattle.std.specs.List.{slice_set};
 ghost use Rattle.std.specs.Option.{option_copied};
 ghost use Rattle.ados_assign.specs.InUse.{busy_of};
@@ -8,7 +8,7 @@ ghost use Rattle.ados_machine.specs.Shells.{seen_of};
 ghost use Rattle.ados_machine.specs.Sinks.{held_while, outputs_in};
 ghost use Rattle.ados_machine.specs.Lines.{name_seen};
 ghost use Rattle.ados_machine.specs.Names.{name_in, waiting_word};
-ghost use Rattle.ados_machine.specs.Numbers.{free_number};
+ghost use Rattle.ados_machine.specs.Numbers.{free_from, free_number};
 ghost use Rattle.ados_find.specs.Targets.{open_at};
 ghost use Rattle.ados_machine.specs.World.{seen_in};
 
@@ -198,16 +198,32 @@ fn script_name(alloc: Global, frames: &[Frame]) -> Result<Text, NoMemory>
 }
 
 /// The lowest free number of a shell, from 2 to 20.
+#[tactic(auto, using(crate::proofs::NumberLemmas::free_seen))]
 pub fn free_number(shells: &[Option<Shell>; 20]) -> Option<u8>
     ensures shells { result ≡ free_number shells.now }
     ensures seen { result ≡ free_number (seen_in shells.now) }
 {
-    let mut number = 2;
-    for shell in &shells[1..] {
-        if shell.is_none() {
-            return Some(number);
-        }
-        number += 1;
+    free_place(shells)
+}
+
+fn free_place(shells: &[Option<Shell>]) -> Option<u8>
+    requires { length shells.now ≤ 20 }
+    ensures { result ≡ free_number shells.now }
+{
+    match shells.split_first() {
+        None => None,
+        Some((_, further)) => free_from(2, further),
     }
-    None
+}
+
+/// The first number without a shell, counted on from a number.
+fn free_from(number: u8, shells: &[Option<Shell>]) -> Option<u8>
+    requires { number + length shells.now ≤ 21 }
+    ensures { result ≡ free_from number shells.now }
+{
+    match shells.split_first() {
+        None => None,
+        Some((None, _)) => Some(number),
+        Some((Some(_), further)) => free_from(number + 1, further),
+    }
 }

@@ -1,12 +1,15 @@
 // A shell: its frames, what it waits for, its parts.
-ghost use Rattle.std.specs.Prelude.{◌≡◌, reverse, IfOk};
+ghost use Rattle.std.specs.Prelude.{◌≡◌, ◌∷◌, [], reverse, IfOk};
 ghost use Rattle.ados_machine.specs.Shells.{begun_shell, fresh_shell};
+ghost use Rattle.ados_flow.specs.Frames.{began, first_limit};
+ghost use Rattle.ados_flow.specs.declared.kinds.Kind.TheVariants.{Lines};
 
 use crate::begun::Begun;
-use ados_find::{Codes, Settings};
+use ados_find::{Codes, Settings, Target};
 use ados_flow::{FIRST_LIMIT, Frame, Kind};
 use ados_machine::Phase;
 use ados_ram::Place;
+use ados_script::Script;
 use ados_text::{Code, NoMemory, Octets};
 use std::alloc::Global;
 use std::marker::Model;
@@ -87,16 +90,8 @@ impl Shell {
             commands,
             output,
         } = begun;
-        let mut frames = Vec::new(alloc);
-        frames.push(Frame::new(
-            alloc,
-            Kind::Lines,
-            commands,
-            FIRST_LIMIT,
-            output,
-        )?)?;
         Ok(Shell {
-            frames,
+            frames: single_frame(alloc, commands, output)?,
             phase: None,
             number,
             directory,
@@ -167,4 +162,18 @@ impl Shell {
             Some(Phase::Waiting(_)) => has_lines,
         }
     }
+}
+
+/// The frame of a Run's commands alone.
+fn single_frame(
+    alloc: Global,
+    commands: Script,
+    output: Option<Target>,
+) -> Result<Vec<Frame>, NoMemory>
+    ensures { IfOk result (λ frames. frames.items ≡ began Lines commands first_limit output ∷ []) }
+{
+    let frame = Frame::new(alloc, Kind::Lines, commands, FIRST_LIMIT, output)?;
+    let mut frames = Vec::new(alloc);
+    frames.push(frame)?;
+    Ok(frames)
 }

@@ -140,7 +140,7 @@ impl Stack {
     pub fn limit_behind(&self, shell: &Shell, limit: Code) -> Code
         ensures { result ≡ limit_behind (frames_in shell.now self.now) limit }
     {
-        if has_script(self.own.as_slice()) || has_script(self.lent(shell)) {
+        if any_script(self.own.as_slice(), self.lent(shell)) {
             limit
         } else {
             FIRST_LIMIT
@@ -153,7 +153,8 @@ impl Stack {
     {
         match way_of(self.own.as_slice()) {
             Way::Below => sink_of(way_of(self.lent(shell))),
-            way => sink_of(way),
+            Way::Kept => Ok(Sink::Kept),
+            Way::To(target) => Ok(Sink::To(copy(target)?)),
         }
     }
 }
@@ -199,13 +200,21 @@ fn way_of(frames: &[Frame]) -> Way<'_>
 
 /// The sink to which that leads; that of the console, where nothing stands below.
 fn sink_of(way: Way) -> Result<Sink, NoMemory>
-    ensures { IfOk result (λ sink. sink_of sink ≡ sink_by_way way Console) }
+    ensures { IfOk result (λ sink. sink_of sink ≡ sink_by_way way.entry Console) }
 {
     match way {
         Way::Below => Ok(Sink::Console),
         Way::Kept => Ok(Sink::Kept),
         Way::To(target) => Ok(Sink::To(copy(target)?)),
     }
+}
+
+/// One of some frames, or of those below them, is a script.
+#[tactic(auto, using(crate::proofs::StackLemmas::script_append))]
+fn any_script(frames: &[Frame], below: &[Frame]) -> bool
+    ensures { result ≡ has_script (reverse frames.now ++ reverse below.now) }
+{
+    has_script(frames) || has_script(below)
 }
 
 /// One of these frames is a script.

@@ -128,8 +128,7 @@ fn joined(kept: Octets, output: &[u8]) -> Result<Octets, NoMemory>
     ensures { IfOk result (λ joined. joined ≡ take tick_limit (kept ++ output.now)) }
 {
     let mut bytes = kept.into_vec();
-    let room = TICK_LIMIT.saturating_sub(bytes.len());
-    bytes.extend_from_slice(&output[..room.min(output.len())])?;
+    bytes.extend_from_slice(output)?;
     bytes.truncate(TICK_LIMIT);
     Ok(Octets::from_vec(bytes))
 }

@@ -1,7 +1,8 @@
 // A turn of a shell.
 ghost use Rattle.std.specs.Prelude.{◌≡◌, [], IfOk, OnErr, OnOk, OnSome};
 ghost use Rattle.std.specs.Option.{option_copied};
-ghost use Rattle.ados_machine.specs.Lines.{answer_deed, line_deed};
+ghost use Rattle.ados_machine.specs.Lines.{answer_deed, line_deed, parted_deed};
+ghost use Rattle.ados_machine.specs.NewShells.{gathered_deed, joined_deed};
 ghost use Rattle.ados_machine.specs.Settle.{here_of, settle};
 ghost use Rattle.ados_shell.specs.Stacks.{HasRoom};
 ghost use Rattle.ados_shell.specs.Turnings.{next_of};
@@ -9,7 +10,7 @@ ghost use Rattle.ados_shell.specs.Turnings.{next_of};
 use crate::drafts::Draft;
 use crate::scenes::{Input, Scene};
 use crate::shells::Shell;
-use ados_machine::{Asking, Gathering, Phase, Wait};
+use ados_machine::{Asking, Gathering, Parted, Phase, Wait};
 use ados_text::{NoMemory, Text};
 
 /// What a turn of a shell comes to.
@@ -43,18 +44,30 @@ impl Draft {
         ensures turn { IfOk result (λ turn. GivesTurning scene.now input.now turn self.new) }
         ensures memory { OnErr result (TakesTurn scene.now input.now) }
     {
-        match scene.shell.phase.as_deref() {
-            None | Some(Phase::Ready) => self.ready_turn(scene, input),
-            Some(Phase::GoingOn(parted)) => {
-                self.begin_turn(scene.shell);
-                self.go_on(scene, parted)?;
-                Ok(Turning::Goes)
-            }
-            Some(Phase::Waiting(Wait::ForAnswer(asking))) => self.answer_turn(scene, asking, input),
-            Some(Phase::Waiting(Wait::ForLines(gathering))) => {
-                self.gathering_turn(scene, gathering, input)
-            }
+        let shell = scene.shell;
+        match &shell.phase {
+            None => self.ready_turn(scene, input),
+            Some(phase) => match &**phase {
+                Phase::Ready => self.ready_turn(scene, input),
+                Phase::GoingOn(parted) => {
+                    self.take_parted(scene, parted)?;
+                    Ok(Turning::Goes)
+                }
+                Phase::Waiting(Wait::ForAnswer(asking)) => self.answer_turn(scene, asking, input),
+                Phase::Waiting(Wait::ForLines(gathering)) => {
+                    self.gathering_turn(scene, gathering, input)
+                }
+            },
         }
+    }
+
+    /// A line whose tick has ended goes on.
+    fn take_parted(&mut self, scene: &Scene, parted: &Parted) -> Result<(), NoMemory>
+        ensures { OnOk result (IsDrafted scene.now self.new
+            (settle (parted_deed parted.now (here_of scene.now.shell.now.frames) (start_of scene.now)) scene.now.shell.now.frames)) }
+    {
+        self.begin_turn(scene.shell);
+        self.go_on(scene, parted)
     }
 
     /// A turn of a shell that is ready.
@@ -62,7 +75,8 @@ impl Draft {
         ensures turn { IfOk result (λ turn. GivesReady scene.now input.now turn self.new) }
         ensures memory { OnErr result (TakesReady scene.now input.now) }
     {
-        if scene.shell.frames.is_empty() {
+        let shell = scene.shell;
+        if shell.frames.is_empty() {
             self.console_turn(scene, input)
         } else {
             self.script_turn(scene)?;
@@ -82,17 +96,38 @@ impl Draft {
     {
         match input.line {
             Some(line) => {
-                self.begin_turn(scene.shell);
-                self.join(scene, gathering, line)?;
+                self.take_command(scene, gathering, line)?;
                 Ok(Turning::Takes)
             }
             None if !input.is_ended => Ok(Turning::NotReady),
             None => {
-                self.begin_turn(scene.shell);
-                self.gather_no_more(scene, gathering)?;
+                self.take_no_command(scene, gathering)?;
                 Ok(Turning::Goes)
             }
         }
+    }
+
+    /// A further line is taken for a Run that gathers.
+    fn take_command(
+        &mut self,
+        scene: &Scene,
+        gathering: &Gathering,
+        line: &Text,
+    ) -> Result<(), NoMemory>
+        ensures { OnOk result (IsDrafted scene.now self.new
+            (settle (joined_deed gathering.now line.now (here_of scene.now.shell.now.frames).sink (start_of scene.now)) scene.now.shell.now.frames)) }
+    {
+        self.begin_turn(scene.shell);
+        self.join(scene, gathering, line)
+    }
+
+    /// No further line comes for a Run that gathers.
+    fn take_no_command(&mut self, scene: &Scene, gathering: &Gathering) -> Result<(), NoMemory>
+        ensures { OnOk result (IsDrafted scene.now self.new
+            (settle (gathered_deed gathering.now (here_of scene.now.shell.now.frames).sink (start_of scene.now)) scene.now.shell.now.frames)) }
+    {
+        self.begin_turn(scene.shell);
+        self.gather_no_more(scene, gathering)
     }
 
     /// A turn of a shell that waits for the answer to a prompt.

@@ -1,0 +1,14 @@
+-- The numbers of shells: what is seen of them stands where they do.
+use Rattle.std.proofs.Common.{◌≡◌, ℕ, suc, List, [], ◌∷◌, Option, Some, None, refl}
+use Rattle.ados_machine.specs.Numbers.{free_from, free_number}
+use Rattle.ados_machine.specs.Shells.{ShellState}
+use Rattle.ados_machine.specs.World.{seen_in}
+
+from-seen : (n : ℕ) (shells : List (Option ShellState)) → free_from n (seen_in shells) ≡ free_from n shells
+from-seen n [] = refl
+from-seen n (None ∷ shells) = refl
+from-seen n (Some shell ∷ shells) = from-seen (suc n) shells
+
+pub free_seen : (shells : List (Option ShellState)) → free_number (seen_in shells) ≡ free_number shells
+free_seen [] = refl
+free_seen (first ∷ shells) = from-seen 2 shells

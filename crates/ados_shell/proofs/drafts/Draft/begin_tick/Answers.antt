@@ -1,0 +1,23 @@
+use Rattle.std.proofs.Common.{◌≡◌, ◌∙◌, ◌++◌, ◌∷◌, [], List, None, Some, ap, refl, reverse, sym}
+use Rattle.std.proofs.lemmas.Result.{on_ok_weaker}
+use Rattle.ados_text.specs.Text.{Bytes}
+use Rattle.ados_flow.specs.Frames.{began}
+use Rattle.ados_flow.specs.declared.kinds.Kind.TheVariants.{Tick}
+use Rattle.ados_shell.specs.declared.drafts.Draft.{Draft}
+use Rattle.ados_shell.specs.Drafts.{course_of, frames_of}
+use Rattle.ados_shell.proofs.TurnLemmas.{tick-goes}
+use Rattle.ados_shell.proofs.drafts.Draft.begin_tick.Goals as goal
+
+pub returns : goal.returns
+returns c =
+    let scene = c.args.scene.now in
+    let before = c.args.self.now in
+    on_ok_weaker c.push-2.result
+    (λ g. tick-goes scene before _ c.args.tick.before c.args.tick.command c.args.tick.after
+    (g scene.shell.now ∙ ap (λ x. x ∷ frames_of scene before)
+    (c.in_ok-frame.ensures ∙ ap (λ s. began (Tick c.args.tick.before c.args.tick.after) s before.shell.limit None) c.in_ok-script.ensures))
+    refl
+    (ap (λ k. record (course_of scene before) { kept = k })
+    (ap reverse c.in_ok-push.ensures.items ∙ ?))
+    refl)
+    c.push-2.ensures
