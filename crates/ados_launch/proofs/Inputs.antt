@@ -89,8 +89,11 @@ applied-takes w out k codes (Takes queue turned) ends some e =
     let moved = moved_in w turned in
     let carried = first-carried moved w.shells parts.0 in
     let begun = first-begun turned.course.begun (free_number w.shells) (carried_shells moved w.shells) carried in
-    rw (first-replaced (with_begun turned.course.begun (free_number w.shells) (carried_shells moved w.shells)) (k - 1) (left k moved turned)
-    (λ first. first-left k moved turned (omega (arith, some, first))) begun, parts.1) refl
+    rw (
+      first-replaced (with_begun turned.course.begun (free_number w.shells) (carried_shells moved w.shells)) (k - 1) (left k moved turned)
+          (λ first. first-left k moved turned (omega (arith, some, first))) begun,
+      parts.1,
+    ) refl
 
 turned-takes : (w : WorldState) (out : Out) (k : ℕ) (found : Option ShellState) → shell_at w k ≡ found → takes_input w ≡ true → takes_input (world_after w (Ok out) (turned w k found)) ≡ true
 turned-takes w out k None at e = e

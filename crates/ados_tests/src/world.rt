@@ -216,7 +216,10 @@ const SHELL_OF_A_SCRIPT: &[Row] = &[
     (Turn(2), "RAM:e\n"),
     (Type("Run nosuch"), ""),
     (Turn(1), "[CLI 2]\n"),
-    (Turn(2), "nosuch: object not found\nnosuch failed returncode 10\n"),
+    (
+        Turn(2),
+        "nosuch: object not found\nnosuch failed returncode 10\n",
+    ),
 ];
 
 // A Run of a script, a directory that moves under its shell, a question in the background, and a number that is given

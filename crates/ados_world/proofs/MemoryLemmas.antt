@@ -16,7 +16,7 @@ use Rattle.ados_machine.specs.Runs.{IsAnswer}
 use Rattle.ados_machine.specs.Settle.{Turned}
 use Rattle.ados_machine.specs.Shells.{ShellState}
 use Rattle.ados_machine.specs.Stacks.{Standing, stack_of}
-use Rattle.ados_machine.specs.Step.{applied, begun_items, is_done, left, moved_in, of_shell, queue_behind, shells_behind, start, took, turned, with_begun}
+use Rattle.ados_machine.specs.Step.{applied, begun_items, ended_with, is_done, left, moved_in, of_shell, queue_behind, shells_behind, start, took, turned, with_begun}
 use Rattle.ados_machine.specs.Trace.{frames_of}
 use Rattle.ados_machine.specs.Turning as turning
 use Rattle.ados_machine.specs.World.{WorldState, has_frame, input_of, shell_at}
@@ -46,7 +46,7 @@ runs-on w k shell t sane here goes none =
     elim (cases_eq k 1) [
       | inl first ↦ rw (eq-eqb k 1 first) refl
       | inr other ↦ (let stays : has_frame t.frames ≡ true = stack-frame t.frames shell.frames (silent-frames shell t goes none) (runs-frame (shell_at w k) shell here (sane.background k other)) in
-      rw stays (nobody (not (k == 1))))
+          rw stays (nobody (not (k == 1))))
     ]
   where
     nobody : (b : Bool) → (b && false) ≡ false
@@ -78,12 +78,21 @@ log-wants : (k : ℕ) (world : WorldState) (all log : List Item) (more : List (�
 log-wants k world all [] more e runs = may-want k world more (runs e)
 log-wants k world all (item ∷ log) more e runs = tt
 
+-- the world behind a turn
+abbrev behind : WorldState → ℕ → List (List ℕ) → Turned → WorldState
+behind w k rest t = record w {
+  shells = shells_behind w.shells k (moved_in w t) t;
+  ended = ended_with (is_done k t.frames) k t.course.parts.codes w.ended;
+  queue = queue_behind k w.queue rest;
+  shared = t.course.shared;
+}
+
 wants : (w : WorldState) (k : ℕ) (shell : ShellState) (turning : turning.Turning) → IsSane w → shell_at w k ≡ Some shell
     → TurningGoes shell.parts shell.frames turning → MayWantMemory turning → IsAnswer (event.Turn k) (Err NoMemory) (applied w k shell.parts.codes turning)
 wants w k shell (turning.Refuses why) sane here goes m = absurd m
 wants w k shell turning.Ends sane here goes m = absurd m
 wants w k shell (turning.Takes rest t) sane here goes m =
-    log-wants k _ t.log t.log (begun_items t.course.begun (free_number w.shells)) refl (shell-stays w k shell t sane here goes)
+    log-wants k (behind w k rest t) t.log t.log (begun_items t.course.begun (free_number w.shells)) refl (shell-stays w k shell t sane here goes)
 
 -- a turn that was accepted may want memory
 pub turn-may : (w : WorldState) (k : ℕ) (shell : ShellState) → IsSane w → shell_at w k ≡ Some shell

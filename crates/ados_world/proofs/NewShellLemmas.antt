@@ -34,9 +34,9 @@ free-within n [] m e = cc
 free-within n (None ∷ places) m e = (let same : n ≡ m = cc in (omega (arith, same), omega (arith, same)))
 free-within n (Some shell ∷ places) m e = (let later = free-within (suc n) places m e in (omega (arith, later.0), omega (arith, later.1)))
 
-pub number-within : (shells : List (Option ShellState)) (m : ℕ) → length shells ≡ 20 → free_number shells ≡ Some m → IsShellNumber m
-number-within [] m twenty e = cc
-number-within (first ∷ shells) m twenty e =
+pub number_within : (shells : List (Option ShellState)) (m : ℕ) → length shells ≡ 20 → free_number shells ≡ Some m → IsShellNumber m
+number_within [] m twenty e = cc
+number_within (first ∷ shells) m twenty e =
     (let within = free-within 2 shells m e in record { first = omega (arith, within.0); last = omega (arith, twenty, within.1) })
 
 -- the shell that begins stands among the others as the machine says

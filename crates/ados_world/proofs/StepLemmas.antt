@@ -32,7 +32,8 @@ use Rattle.ados_shell.specs.declared.scenes.Input.{Input}
 use Rattle.ados_shell.specs.Turnings.{IsTurning, MayWantMemory, turning_in}
 use Rattle.ados_world.specs.Endings.{codes_left, ended_left, shells_left}
 use Rattle.ados_world.specs.NewShells.{joined, new_shell}
-use Rattle.ados_world.specs.Steps.{answering, ended_world, shells_by, shells_with, taken}
+use Rattle.ados_world.specs.Shells.{shells_by}
+use Rattle.ados_world.specs.Steps.{answering, ended_world, shells_with, taken}
 use Rattle.ados_world.proofs.MemoryLemmas.{turn-may}
 use Rattle.ados_world.proofs.NewShellLemmas.{begun-behind, codes-left, codes_of_end, ended-left, joined-is, shells-left}
 
@@ -100,6 +101,24 @@ behind_turn w k t = record w {
   ended = ended_with (is_done k t.frames) k t.course.parts.codes w.ended;
   shared = t.course.shared;
 }
+
+-- what a turn changes, moved in part by part
+pub taken-by : (w : WorldState) (k : ℕ) (draft : Draft) (begun : Option ShellState) (moved : Option Renamed) (changed all rest : List (Option ShellState)) (ended : List Codes) (queue : List (List ℕ)) (input_ended : Bool) (shared : SharedState)
+    → begun ≡ new_shell (option_map (λ b. b.value) draft.begun) (free_number w.shells)
+    → moved ≡ moved_by w.shared (version w.shared draft.shared) (option_map (λ r. r.value) draft.renamed)
+    → changed ≡ shells_by k draft.shell moved w.shells → all ≡ joined begun changed
+    → rest ≡ shells_left (codes_left k (found all k)) k all → ended ≡ ended_left (codes_left k (found all k)) k w.ended
+    → queue ≡ w.queue → input_ended ≡ w.input_ended → shared ≡ version w.shared draft.shared
+    → taken k draft w ≡ record { shells = rest; ended = ended; queue = queue; input_ended = input_ended; shared = shared }
+taken-by w k draft begun moved changed all rest ended queue input_ended shared b m c a r e q i s =
+    let whole : all ≡ shells_with k draft w =
+    a ∙ ap (λ x. joined x changed) b ∙ ap (joined (new_shell (option_map (λ b. b.value) draft.begun) (free_number w.shells))) (c ∙ ap (λ x. shells_by k draft.shell x w.shells) m) in
+    ap (λ l. without w k l (version w.shared draft.shared) (codes_left k (found l k))) (sym whole)
+    ∙ ap (λ l. record w { shells = l; ended = ended_left (codes_left k (found all k)) k w.ended; shared = version w.shared draft.shared }) (sym r)
+    ∙ ap (λ l. record w { shells = rest; ended = l; shared = version w.shared draft.shared }) (sym e)
+    ∙ ap (λ l. record { shells = rest; ended = ended; queue = l; input_ended = w.input_ended; shared = version w.shared draft.shared }) (sym q)
+    ∙ ap (λ b. record { shells = rest; ended = ended; queue = queue; input_ended = b; shared = version w.shared draft.shared }) (sym i)
+    ∙ ap (λ x. record { shells = rest; ended = ended; queue = queue; input_ended = input_ended; shared = x }) (sym s)
 
 taken-is : (w : WorldState) (k : ℕ) (shell : ShellState) (scene : Scene) (draft : Draft) (t : Turned)
     → Shows w k shell scene → IsDrafted scene draft t → taken k draft w ≡ behind_turn w k t

@@ -25,6 +25,11 @@ abbrev pub carried_in : ℕ → Renamed → ShellDraft → List (Option ShellSta
 carried_in number moved draft shells =
     with_shell number (λ shell. carried_shell moved (behind draft shell)) shells (carried_shells (Some moved) shells)
 
+-- the same where an object may have been moved
+abbrev pub shells_by : ℕ → ShellDraft → Option Renamed → List (Option ShellState) → List (Option ShellState)
+shells_by number draft None shells = moved_in number draft shells
+shells_by number draft (Some moved) shells = carried_in number moved draft shells
+
 -- the current directories of all shells, where what was moved has gone along
 abbrev pub carried_directories : Renamed → List (Option ShellState) → List (Option Place)
 carried_directories moved shells = map (option_map (carried_directory moved)) shells

@@ -1,7 +1,6 @@
 -- What a step moves in, and what it is answered.
 use Rattle.std.specs.Prelude.{◌-◌, ℕ, List, [], ◌∷◌, ◌++◌, Option, Some, None, Result, Ok, Err, option_map, slice_set}
 use Rattle.ados_find.specs.declared.codes.Codes.{Codes}
-use Rattle.ados_find.specs.declared.outcomes.Renamed.{Renamed}
 use Rattle.ados_find.specs.Shared.{version}
 use Rattle.ados_machine.specs.declared.outs.Out.{Out}
 use Rattle.ados_machine.specs.declared.refusals.Refusal.{Refusal}
@@ -10,14 +9,9 @@ use Rattle.ados_machine.specs.Carrying.{moved_by}
 use Rattle.ados_machine.specs.Numbers.{free_number}
 use Rattle.ados_machine.specs.World.{WorldState, flatten, numbered}
 use Rattle.ados_shell.specs.declared.drafts.Draft.{Draft}
-use Rattle.ados_shell.specs.declared.drafts.ShellDraft.{ShellDraft}
 use Rattle.ados_world.specs.Endings.{codes_left, ended_left, shells_left}
 use Rattle.ados_world.specs.NewShells.{joined, new_shell}
-use Rattle.ados_world.specs.Shells.{moved_in, carried_in}
-
-abbrev pub shells_by : ℕ → ShellDraft → Option Renamed → List (Option ShellState) → List (Option ShellState)
-shells_by number draft None shells = moved_in number draft shells
-shells_by number draft (Some moved) shells = carried_in number moved draft shells
+use Rattle.ados_world.specs.Shells.{shells_by}
 
 -- the shells behind what a turn makes of one of them, with the one that begins, at the lowest free number
 abbrev pub shells_with : ℕ → Draft → WorldState → List (Option ShellState)

@@ -21,12 +21,7 @@ pub fn end_done(shells: &mut [Option<Shell>; 20], ended: &mut [Codes; 20], numbe
 }
 
 /// The shell of a number ends, and these codes of it stay.
-pub fn end(
-    shells: &mut [Option<Shell>; 20],
-    ended: &mut [Codes; 20],
-    number: u8,
-    codes: Codes,
-)
+pub fn end(shells: &mut [Option<Shell>; 20], ended: &mut [Codes; 20], number: u8, codes: Codes)
     requires { IsShellNumber number }
     ensures shells { shells.new ≡ slice_set shells.old (number - 1) None }
     ensures ended { ended.new ≡ slice_set ended.old (number - 1) codes }

@@ -3,7 +3,7 @@ ghost use Rattle.std.specs.Prelude.{◌≡◌, None, map, replicate, is_some, If
 ghost use Rattle.std.specs.List.{list_any};
 ghost use Rattle.std.specs.Option.{option_copied};
 ghost use Rattle.ados_machine.specs.World.{flatten, numbered};
-ghost use Rattle.ados_world.specs.Shells.{IsShellNumber, carried_in, moved_in};
+ghost use Rattle.ados_world.specs.Shells.{IsShellNumber, carried_in, moved_in, shells_by};
 
 use crate::carrying::{carried_directories, place_all};
 use ados_find::Renamed;
@@ -52,10 +52,31 @@ pub fn find_shell(shells: &[Option<Shell>; 20], number: u8) -> Option<&Shell>
     }
 }
 
+/// Moves in what a turn makes of the shell of a number that runs; where an object was moved, the current directories of
+/// all shells are carried.
+///
+/// `NoMemory` where there is no room for its frames or a directory; the shells are then as they were.
+pub fn change_shell(
+    shells: &mut [Option<Shell>; 20],
+    number: u8,
+    draft: &mut ShellDraft,
+    moved: Option<&Renamed>,
+) -> Result<(), NoMemory>
+    requires number { IsShellNumber number }
+    requires runs { is_some (flatten (numbered shells.old number)) ≡ true }
+    ensures ok { OnOk result (shells.new ≡ shells_by number draft.old (option_copied moved.entry) shells.old) }
+    ensures err { OnErr result (shells.new ≡ shells.old) }
+{
+    match moved {
+        None => move_in(shells, number, draft),
+        Some(moved) => carry_in(shells, number, draft, moved),
+    }
+}
+
 /// Moves in what a turn makes of the shell of a number; where that has no shell, nothing is done.
 ///
 /// `NoMemory` where there is no room for its frames; the shells are then as they were.
-pub fn move_in(
+fn move_in(
     shells: &mut [Option<Shell>; 20],
     number: u8,
     draft: &mut ShellDraft,
@@ -71,7 +92,7 @@ pub fn move_in(
 }
 
 /// The same of a shell that runs, where an object was moved: the current directories of all shells are carried.
-pub fn carry_in(
+fn carry_in(
     shells: &mut [Option<Shell>; 20],
     number: u8,
     draft: &mut ShellDraft,

@@ -13,7 +13,7 @@ ghost use Rattle.ados_world.specs.Steps.{answering, ended_world, taken};
 use crate::carrying::moved_by;
 use crate::endings::{end, end_done};
 use crate::new_shells::{join, new_shell};
-use crate::shells::{carry_in, move_in};
+use crate::shells::change_shell;
 use crate::worlds::World;
 use ados_find::Codes;
 use ados_machine::{Event, Out, Refusal};
@@ -130,11 +130,7 @@ impl World {
             draft.shared.as_ref(),
             draft.renamed.as_deref(),
         );
-        let placed = match moved {
-            None => move_in(&mut self.shells, number, &mut draft.shell),
-            Some(moved) => carry_in(&mut self.shells, number, &mut draft.shell, moved),
-        };
-        let Ok(()) = placed else {
+        let Ok(()) = change_shell(&mut self.shells, number, &mut draft.shell, moved) else {
             return Err(Refusal::NoMemory);
         };
         join(&mut self.shells, begun);

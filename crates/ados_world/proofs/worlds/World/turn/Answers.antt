@@ -126,3 +126,21 @@ returns-in-Ok-Takes-clause-answer c =
     (turn-takes w k shell c.scene.result c.input.result c.turn.new.self shows c.input.ensures.is_ended (given (input_of w k).queue c.input.ensures.line))
     (takes-wants w k shell c.scene.result c.input.result c.turn.new.self (rw c.self.view_is at c.self.invariant) shows c.input.ensures.is_ended (given (input_of w k).queue c.input.ensures.line))
     c.take_typed.ensures.out c.take_typed.ensures.refusal
+
+pub returns-in-Ok-Takes-clause-world : goal.returns-in-Ok-Takes-clause-world
+returns-in-Ok-Takes-clause-world c =
+    let w = c.args.self.now in
+    let k = c.args.number in
+    let shell = c.in-Some.shell.now in
+    let shows : Shows w k shell c.scene.result = record {
+      here = sym c.in-Some.ensures.shell;
+      number_is = c.scene.ensures.number;
+      shell_is = c.scene.ensures.shell;
+      shells_are = c.scene.ensures.shells;
+      shared_is = c.scene.ensures.shared;
+    } in
+    let P : Turning → Type 0 = λ t. GivesTurning c.scene.result c.input.result t c.turn.new.self in
+    let given = subst P c.in-Ok-Takes.field-0-is c.in-Ok-Takes.ensures.turn in
+    answers w _ c.take_typed.new.self _ _ c.take_typed.result _
+    (turn-takes w k shell c.scene.result c.input.result c.turn.new.self shows c.input.ensures.is_ended (given (input_of w k).queue c.input.ensures.line))
+    c.take_typed.ensures.world c.take_typed.ensures.unchanged
