@@ -1,6 +1,6 @@
 -- A turn that goes on may want memory: it leaves something in the trace, or its shell runs on behind it.
-use Rattle.std.proofs.Common.{◌≡◌, ◌≢◌, ◌∙◌, ◌-◌, ℕ, List, [], ◌∷◌, ◌++◌, Bool, true, false, not, ◌&&◌, Option, Some, None, Err, ap, refl, subst}
-use Rattle.std.specs.Prelude.{◌==◌, if◌then◌else◌, is_some}
+use Rattle.std.proofs.Common.{◌≡◌, ◌∙◌, ℕ, List, [], ◌∷◌, ◌++◌, Bool, true, false, not, ◌&&◌, Option, Some, None, Err, ap, refl}
+use Rattle.std.specs.Prelude.{◌==◌, is_some}
 use Rattle.std.proofs.Common.{inl, inr}
 use Rattle.std.proofs.lemmas.Bool.{cases_eq, eq-eqb}
 use Rattle.ados_find.specs.declared.outcomes.Renamed.{Renamed}
@@ -15,9 +15,8 @@ use Rattle.ados_machine.specs.Runs as memory
 use Rattle.ados_machine.specs.Runs.{IsAnswer}
 use Rattle.ados_machine.specs.Settle.{Turned}
 use Rattle.ados_machine.specs.Shells.{ShellState}
-use Rattle.ados_machine.specs.Stacks.{Standing, stack_of}
-use Rattle.ados_machine.specs.Step.{applied, begun_items, ended_with, is_done, left, moved_in, of_shell, queue_behind, shells_behind, start, took, turned, with_begun}
-use Rattle.ados_machine.specs.Trace.{frames_of}
+use Rattle.ados_machine.specs.Stacks.{stack_of}
+use Rattle.ados_machine.specs.Step.{applied, begun_items, ended_with, is_done, left, moved_in, of_shell, queue_behind, shells_behind, start, turned, with_begun}
 use Rattle.ados_machine.specs.Turning as turning
 use Rattle.ados_machine.specs.World.{WorldState, has_frame, input_of, shell_at}
 use Rattle.ados_machine.proofs.Shells.{carried-free, carried-runs, found, found-carried, found-placed_other, found-set_same, free-number}

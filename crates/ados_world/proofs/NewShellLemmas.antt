@@ -1,7 +1,6 @@
 -- The shells behind a turn: its own, the one that begins, and the end of a background shell.
-use Rattle.std.proofs.Common.{◌≡◌, ◌≢◌, ◌∙◌, ◌≤◌, ◌+◌, ◌-◌, ℕ, zero, suc, List, [], ◌∷◌, Bool, true, false, Option, Some, None, length, arith, ap, refl, sym}
+use Rattle.std.proofs.Common.{◌≡◌, ◌≢◌, ◌≤◌, ◌+◌, ◌-◌, ℕ, zero, suc, List, [], ◌∷◌, Bool, true, false, Option, Some, None, length, arith, ap, refl, sym}
 use Rattle.std.specs.Prelude.{if◌then◌else◌, slice_get, slice_set}
-use Rattle.std.proofs.lemmas.Option.{slice_get_within}
 use Rattle.ados_find.specs.declared.codes.Codes.{Codes}
 use Rattle.ados_find.specs.declared.outcomes.Renamed.{Renamed}
 use Rattle.ados_machine.specs.Carrying.{carried_by}
@@ -9,7 +8,7 @@ use Rattle.ados_machine.specs.Numbers.{free_from, free_number}
 use Rattle.ados_machine.specs.Settle.{Turned}
 use Rattle.ados_machine.specs.Shells.{Begun, begun_shell, ShellState}
 use Rattle.ados_machine.specs.Step.{ended_with, is_done, shell_of_turn, with_begun}
-use Rattle.ados_machine.proofs.Shells.{IsFree, found, free-number}
+use Rattle.ados_machine.proofs.Shells.{IsFree, found}
 use Rattle.ados_world.specs.Endings.{codes_left, ended_left, shells_left}
 use Rattle.ados_world.specs.NewShells.{joined, new_shell}
 use Rattle.ados_world.specs.Shells.{IsShellNumber}

@@ -1,6 +1,6 @@
 -- What a turn changes, moved in, is the machine's world behind the turn.
-use Rattle.std.proofs.Common.{◌≡◌, ◌∙◌, ◌-◌, ◌++◌, ℕ, List, [], ◌∷◌, Bool, true, false, Option, Some, None, Result, Ok, Err, IfErr, OnErr, OnOk, drop, ap, sym, refl, subst}
-use Rattle.std.specs.Prelude.{◌==◌, if◌then◌else◌, is_some, option_map, slice_set}
+use Rattle.std.proofs.Common.{◌≡◌, ◌∙◌, ◌-◌, ◌++◌, ℕ, List, [], Bool, false, Option, Some, None, Result, Ok, Err, IfErr, OnErr, OnOk, drop, ap, sym, refl, subst}
+use Rattle.std.specs.Prelude.{◌==◌, if◌then◌else◌, option_map, slice_set}
 use Rattle.std.proofs.Common.{inl, inr}
 use Rattle.std.proofs.lemmas.Bool.{cases_Bool}
 use Rattle.ados_find.specs.declared.codes.Codes.{Codes}

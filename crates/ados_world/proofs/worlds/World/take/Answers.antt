@@ -1,4 +1,4 @@
-use Rattle.std.proofs.Common.{rules, ◌≡◌, Option, refl, subst}
+use Rattle.std.proofs.Common.{rules, Option, refl, subst}
 use Rattle.std.specs.Prelude.{option_map}
 use Rattle.ados_find.specs.declared.outcomes.Renamed.{Renamed}
 use Rattle.ados_find.specs.Shared.{version}
