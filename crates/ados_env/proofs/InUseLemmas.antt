@@ -4,7 +4,7 @@ use Rattle.ados_readargs.specs.declared.args.Arg.{Arg}
 use Rattle.ados_find.specs.Shared.{SharedState}
 use Rattle.ados_find.specs.Views.{IgnoresInUse}
 use Rattle.ados_env.specs.declared.commands.Command.{Command}
-use Rattle.ados_env.specs.declared.commands.Command.TheVariants.{Alias, Assign, Cd, Echo, Eval, FailAt, Fault, Get, GetEnv, Path, Set, SetEnv, Status, Unalias, Unset, UnsetEnv, Which, Why}
+use Rattle.ados_env.specs.declared.commands.Command.TheVariants.{Alias, Assign, Cd, Echo, Eval, FailAt, Fault, Get, GetEnv, Path, Resident, Set, SetEnv, Status, Unalias, Unset, UnsetEnv, Which, Why}
 use Rattle.ados_env.specs.Commands.{reads_in_use}
 use Rattle.ados_env.specs.Rows.{row_of}
 
@@ -19,6 +19,7 @@ ignores Fault shared args e = λ view busy. refl
 ignores Get shared args e = λ view busy. refl
 ignores GetEnv shared args e = λ view busy. refl
 ignores Path shared args e = λ view busy. refl
+ignores Resident shared args e = cc
 ignores Set shared args e = λ view busy. refl
 ignores SetEnv shared args e = cc
 ignores Status shared args e = λ view busy. refl

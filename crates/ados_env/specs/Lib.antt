@@ -16,4 +16,5 @@ pub mod Globals
 pub mod Path
 pub mod Which
 pub mod Status
+pub mod Resident
 pub mod Rows

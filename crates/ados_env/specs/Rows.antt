@@ -5,7 +5,7 @@ use Rattle.ados_find.specs.Shared.{SharedState}
 use Rattle.ados_find.specs.Effects.{Effect}
 use Rattle.ados_readargs.specs.declared.args.Arg.{Arg}
 use Rattle.ados_env.specs.declared.commands.Command.{Command}
-use Rattle.ados_env.specs.declared.commands.Command.TheVariants.{Alias, Assign, Cd, Echo, Eval, FailAt, Fault, Get, GetEnv, Path, Set, SetEnv, Status, Unalias, Unset, UnsetEnv, Which, Why}
+use Rattle.ados_env.specs.declared.commands.Command.TheVariants.{Alias, Assign, Cd, Echo, Eval, FailAt, Fault, Get, GetEnv, Path, Resident, Set, SetEnv, Status, Unalias, Unset, UnsetEnv, Which, Why}
 use Rattle.ados_env.specs.Aliases.{alias_row, unalias_row}
 use Rattle.ados_env.specs.Assign.{assign_row}
 use Rattle.ados_env.specs.Cd.{cd_row}
@@ -15,6 +15,7 @@ use Rattle.ados_env.specs.FailAt.{fail_at_row}
 use Rattle.ados_env.specs.Fault.{fault_row}
 use Rattle.ados_env.specs.Globals.{get_env_row, set_env_row, unset_env_row}
 use Rattle.ados_env.specs.Path.{path_row}
+use Rattle.ados_env.specs.Resident.{resident_row}
 use Rattle.ados_env.specs.Status.{status_row}
 use Rattle.ados_env.specs.Variables.{get_row, set_row, unset_row}
 use Rattle.ados_env.specs.Which.{which_row}
@@ -32,6 +33,7 @@ row_of Fault shared view args = fault_row shared args
 row_of Get shared view args = get_row shared view args
 row_of GetEnv shared view args = get_env_row shared args
 row_of Path shared view args = path_row shared view args
+row_of Resident shared view args = resident_row shared view args
 row_of Set shared view args = set_row shared view args
 row_of SetEnv shared view args = set_env_row shared view args
 row_of Status shared view args = status_row shared view args

@@ -14,6 +14,7 @@ pub enum Command {
     Get,
     GetEnv,
     Path,
+    Resident,
     Set,
     SetEnv,
     Status,
@@ -25,11 +26,11 @@ pub enum Command {
 }
 
 impl Command {
-    ghost use Rattle.ados_env.specs.Commands.{reads_in_use, reads_names, template_of_command};
+    ghost use Rattle.ados_env.specs.Commands.{reads_in_use, reads_shells, template_of_command};
     ghost use Rattle.std.specs.Prelude.{List, false};
     ghost use Rattle.ados_readargs.specs.declared.args.Arg.{Arg};
     ghost use Rattle.ados_find.specs.Shared.{SharedState};
-    ghost use Rattle.ados_find.specs.Views.{IgnoresInUse, IgnoresNames};
+    ghost use Rattle.ados_find.specs.Views.{IgnoresInUse, IgnoresShells};
     ghost use Rattle.ados_env.specs.Rows.{row_of};
 
     /// The text of its template.
@@ -47,6 +48,7 @@ impl Command {
             Command::Get => "NAME/A",
             Command::GetEnv => "NAME/A",
             Command::Path => "PATH/M,ADD/S,SHOW/S,RESET/S,REMOVE/S",
+            Command::Resident => "NAME,FILE,REMOVE/S,ADD/S,REPLACE/S,PURE=FORCE/S,SYSTEM/S",
             Command::Set => "NAME,STRING/F",
             Command::SetEnv => "NAME,STRING/F",
             Command::Status => "PROCESS/N,COM=COMMAND/K",
@@ -65,7 +67,7 @@ impl Command {
         ensures ignores { result ≡ false → (shared : SharedState) (args : List Arg) → IgnoresInUse (λ view. row_of self shared view args) }
     {
         match self {
-            Command::SetEnv | Command::UnsetEnv => true,
+            Command::Resident | Command::SetEnv | Command::UnsetEnv => true,
             Command::Alias
             | Command::Assign
             | Command::Cd
@@ -85,14 +87,14 @@ impl Command {
         }
     }
 
-    /// Whether its row reads what the shells are called.
-    #[tactic(auto, using(crate::proofs::NamesLemmas::ignores))]
-    pub fn reads_names(self) -> bool
-        ensures value { result ≡ reads_names self }
-        ensures ignores { result ≡ false → (shared : SharedState) (args : List Arg) → IgnoresNames (λ view. row_of self shared view args) }
+    /// Whether its row reads what the shells are called and run from.
+    #[tactic(auto, using(crate::proofs::ShellsLemmas::ignores))]
+    pub fn reads_shells(self) -> bool
+        ensures value { result ≡ reads_shells self }
+        ensures ignores { result ≡ false → (shared : SharedState) (args : List Arg) → IgnoresShells (λ view. row_of self shared view args) }
     {
         match self {
-            Command::Status => true,
+            Command::Resident | Command::Status => true,
             Command::Alias
             | Command::Assign
             | Command::Cd

@@ -3,5 +3,5 @@ pub mod CopyStays
 pub mod RenameStays
 pub mod PartLemmas
 pub mod DeleteStays
-pub mod NamesLemmas
+pub mod ShellsLemmas
 mod RenameLemmas

@@ -1,40 +1,35 @@
--- Program files: their bytes tell which command one is, whatever it is called.
-use Rattle.std.specs.Prelude.{true, false, List, [], ◌∷◌, ◌++◌, Option, None, length, drop, nat_eq, codes, if◌then◌else◌}
-use Rattle.std.specs.List.{starts_with}
-use Rattle.ados_text.specs.Text.{Bytes}
+-- The program files that a world begins with.
+use Rattle.std.specs.Prelude.{true, false, List, [], ◌∷◌, codes}
+use Rattle.ados_text.specs.Text.{Bytes, Text}
 use Rattle.ados_ram.specs.Place.{Place, key_of, last_name}
 use Rattle.ados_ram.specs.Files.{Files}
 use Rattle.ados_ram.specs.FileOperations.{write_as_of}
 use Rattle.ados_ram.specs.declared.entries.Bits.{Bits}
-use Rattle.ados_find.specs.declared.disk_commands.DiskCommand.{DiskCommand}
-use Rattle.ados_find.specs.DiskCommands.{name_of, disk_named}
-
--- what the program file of a disk command begins with: 00 00 03 F3, and a `B`
-abbrev pub mark : Bytes
-mark = 0 ∷ 0 ∷ 3 ∷ 243 ∷ 66 ∷ []
-
--- the bytes of a command's program file: its name stands behind the mark
-abbrev pub program_of : DiskCommand → Bytes
-program_of command = mark ++ name_of command
-
--- the command whose program these bytes are, case ignored in its name; no other bytes are a program's
-abbrev pub command_in : Bytes → Option DiskCommand
-command_in bytes = if starts_with nat_eq bytes mark then disk_named (drop (length mark) bytes) else None
+use Rattle.ados_resident.specs.declared.disk_commands.DiskCommand.{DiskCommand}
+use Rattle.ados_resident.specs.declared.hosts.HostEntry.{HostEntry}
+use Rattle.ados_resident.specs.DiskCommands.{name_of}
+use Rattle.ados_resident.specs.Programs.{disk_file, host_file}
 
 -- the bits of a program file: --p-rwed
 abbrev pub program_bits : Bits
 program_bits = record { hold = false; script = false; pure = true; archive = false; read = true; write = true; execute = true; delete = true }
 
--- where a program is at first
-abbrev pub program_place : DiskCommand → Place
-program_place command = codes "C" ∷ name_of command ∷ []
+-- where the program of a name is at first
+abbrev pub program_place : Text → Place
+program_place name = codes "C" ∷ name ∷ []
 
--- the files with the program of a command there
-abbrev pub with_program : Files → DiskCommand → Files
-with_program files command =
-    write_as_of files (key_of (program_place command)) (last_name (program_place command)) (program_of command) program_bits
+-- the files with a program of a name there
+abbrev pub with_program : Files → Text → Bytes → Files
+with_program files name bytes =
+    write_as_of files (key_of (program_place name)) (last_name (program_place name)) bytes program_bits
 
--- the files with the programs of commands
-abbrev pub with_programs : Files → List DiskCommand → Files
-with_programs files [] = files
-with_programs files (command ∷ commands) = with_programs (with_program files command) commands
+-- the files with the programs of disk commands
+abbrev pub with_disk_programs : Files → List DiskCommand → Files
+with_disk_programs files [] = files
+with_disk_programs files (command ∷ commands) =
+    with_disk_programs (with_program files (name_of command) (disk_file command)) commands
+
+-- the files with the programs of the host's commands
+abbrev pub with_host_programs : Files → List HostEntry → Files
+with_host_programs files [] = files
+with_host_programs files (host ∷ hosts) = with_host_programs (with_program files host.name (host_file host)) hosts

@@ -1,3 +1,3 @@
 pub mod GatheringLemmas
 pub mod InUseLemmas
-pub mod NamesLemmas
+pub mod ShellsLemmas

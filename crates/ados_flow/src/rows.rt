@@ -1,7 +1,7 @@
 // What each command does.
 ghost use Rattle.std.specs.Prelude.{◌≡◌, IfOk};
 ghost use Rattle.std.specs.Option.{option_copied};
-ghost use Rattle.ados_find.specs.Views.{IgnoresNames};
+ghost use Rattle.ados_find.specs.Views.{IgnoresShells};
 ghost use Rattle.ados_flow.specs.Actions.{acting};
 ghost use Rattle.ados_flow.specs.Frames.{script_line_of};
 ghost use Rattle.ados_flow.specs.Rows.{row_of};
@@ -20,7 +20,7 @@ use std::alloc::Global;
 
 /// What a command does, by the shared parts, the newest frame, its shell's view, and the arguments that its template
 /// gave. It reads nothing of what the shells are called.
-#[tactic(auto, using(crate::proofs::NamesLemmas::ignores_names))]
+#[tactic(auto, using(crate::proofs::ShellsLemmas::ignores_shells))]
 pub fn run(
     alloc: Global,
     command: Command,
@@ -30,7 +30,7 @@ pub fn run(
     args: &Args,
 ) -> Result<Action, NoMemory>
     ensures row { IfOk result (λ action. acting shared.now action ≡ row_of command shared.now (script_line_of (option_copied frame.entry)) view.now args.now) }
-    ensures names { IgnoresNames (λ v. row_of command shared.now (script_line_of (option_copied frame.entry)) v args.now) }
+    ensures names { IgnoresShells (λ v. row_of command shared.now (script_line_of (option_copied frame.entry)) v args.now) }
 {
     match command {
         Command::Ask => ask(alloc, shared, args),

@@ -1,5 +1,5 @@
 pub mod InUseLemmas
-pub mod NamesLemmas
+pub mod ShellsLemmas
 pub mod RunLemmas
 pub mod Follows
 pub mod Keeps

@@ -4,17 +4,17 @@ use Rattle.ados_readargs.specs.declared.args.Arg.{Arg}
 use Rattle.ados_readargs.specs.declared.errors.ArgFault.{ArgFault}
 use Rattle.ados_readargs.specs.Faults.{result2_of}
 use Rattle.ados_readargs.specs.Fill.{fill_of}
-use Rattle.ados_find.specs.declared.disk_commands.DiskCommand.{DiskCommand}
-use Rattle.ados_find.specs.declared.disk_commands.DiskCommand.TheVariants as disk
-use Rattle.ados_find.specs.declared.internal_commands.InternalCommand.{InternalCommand}
-use Rattle.ados_find.specs.declared.internal_commands.InternalCommand.TheVariants as internal
+use Rattle.ados_resident.specs.declared.disk_commands.DiskCommand.{DiskCommand}
+use Rattle.ados_resident.specs.declared.disk_commands.DiskCommand.TheVariants as disk
+use Rattle.ados_resident.specs.declared.internal_commands.InternalCommand.{InternalCommand}
+use Rattle.ados_resident.specs.declared.internal_commands.InternalCommand.TheVariants as internal
 use Rattle.ados_find.specs.Shared.{SharedState}
 use Rattle.ados_find.specs.Views.{View}
 use Rattle.ados_files.specs.declared.commands.Command.TheVariants as files
 use Rattle.ados_files.specs.Commands.{template_of_command as file_template}
 use Rattle.ados_files.specs.Rows.{row_of as file_row_of}
 use Rattle.ados_env.specs.declared.commands.Command.TheVariants as env
-use Rattle.ados_env.specs.Commands.{template_of_command as env_template, reads_in_use as env_reads_in_use, reads_names as env_reads_names}
+use Rattle.ados_env.specs.Commands.{template_of_command as env_template, reads_in_use as env_reads_in_use, reads_shells as env_reads_shells}
 use Rattle.ados_env.specs.Rows.{row_of as env_row_of}
 use Rattle.ados_flow.specs.declared.commands.Command.TheVariants as flow
 use Rattle.ados_flow.specs.Commands.{template_of_command as flow_template, reads_in_use as flow_reads_in_use}
@@ -82,10 +82,10 @@ reads_in_use (Files command) = true
 reads_in_use (Flow command) = flow_reads_in_use command
 
 -- whether what a command does reads the names of the shells that run
-abbrev pub reads_names : Builtin → Bool
-reads_names (Env command) = env_reads_names command
-reads_names (Files command) = false
-reads_names (Flow command) = false
+abbrev pub reads_shells : Builtin → Bool
+reads_shells (Env command) = env_reads_shells command
+reads_shells (Files command) = false
+reads_shells (Flow command) = false
 
 -- what a command does with its arguments, which stands at a line of a script or in none
 abbrev pub row_of : Builtin → SharedState → Option ScriptLine → View → List Arg → Action

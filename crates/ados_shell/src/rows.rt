@@ -151,7 +151,7 @@ impl Draft {
     ) -> Result<ShellNames, NoMemory>
         ensures { IfOk result (λ names. ServesNames builtin names (names_in word.now (course_of scene.now self.now))) }
     {
-        if builtin.reads_names() {
+        if builtin.reads_shells() {
             names_while(scene.alloc, scene.shells, scene.shell.number(), word)
         } else {
             Ok(ShellNames::new(scene.alloc))

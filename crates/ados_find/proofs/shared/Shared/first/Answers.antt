@@ -1,7 +1,7 @@
 use Rattle.std.proofs.Common.{◌∙◌, ap}
 use Rattle.ados_ram.specs.Files.{Files, first_files}
 use Rattle.ados_assign.specs.Assigns.{AssignMap}
-use Rattle.ados_find.specs.declared.disk_commands.TheConstants.DiskCommand.{ALL}
+use Rattle.ados_resident.specs.declared.disk_commands.TheConstants.DiskCommand.{ALL}
 use Rattle.ados_find.specs.Programs.{with_programs}
 use Rattle.ados_find.specs.Shared.{SharedState}
 use Rattle.ados_find.proofs.shared.Shared.first.Goals as goal

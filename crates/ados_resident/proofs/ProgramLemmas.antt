@@ -1,9 +1,9 @@
 -- The bytes of each program file tell which command it is.
 use Rattle.std.proofs.Common.{◌≡◌, Some, refl}
-use Rattle.ados_find.specs.declared.disk_commands.DiskCommand.{DiskCommand}
-use Rattle.ados_find.specs.declared.disk_commands.DiskCommand.TheVariants as disk
-use Rattle.ados_find.specs.DiskCommands.{disk_named}
-use Rattle.ados_find.specs.Programs.{command_in, program_of}
+use Rattle.ados_resident.specs.declared.disk_commands.DiskCommand.{DiskCommand}
+use Rattle.ados_resident.specs.declared.disk_commands.DiskCommand.TheVariants as disk
+use Rattle.ados_resident.specs.DiskCommands.{disk_named}
+use Rattle.ados_resident.specs.Programs.{command_in, program_of}
 
 pub told : (command : DiskCommand) → command_in (program_of command) ≡ Some command
 unfolding disk_named

@@ -1,7 +1,7 @@
 ghost use Rattle.std.specs.Prelude.{◌≡◌};
 ghost use Rattle.ados_text.specs.Text.{is_same};
-ghost use Rattle.ados_find.specs.Commands.{first_with_name};
-ghost use Rattle.ados_find.specs.DiskCommands.{name_of, disk_named};
+ghost use Rattle.ados_resident.specs.Commands.{first_with_name};
+ghost use Rattle.ados_resident.specs.DiskCommands.{name_of, disk_named};
 
 /// The disk commands: each is a program file in C:.
 #[derive(Clone, Copy)]

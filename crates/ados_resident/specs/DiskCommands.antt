@@ -1,10 +1,10 @@
 -- The disk commands: each is a program file in C:.
 use Rattle.std.specs.Prelude.{Option, codes}
 use Rattle.ados_text.specs.Text.{Text}
-use Rattle.ados_find.specs.Commands.{first_with_name}
-use Rattle.ados_find.specs.declared.disk_commands.DiskCommand.{DiskCommand}
-use Rattle.ados_find.specs.declared.disk_commands.DiskCommand.TheVariants.{Assign, Copy, Delete, Dir, Eval, Execute, Filenote, Join, List, MakeDir, Protect, Rename, Status, «Type», Which}
-use Rattle.ados_find.specs.declared.disk_commands.TheConstants.DiskCommand.{ALL}
+use Rattle.ados_resident.specs.Commands.{first_with_name}
+use Rattle.ados_resident.specs.declared.disk_commands.DiskCommand.{DiskCommand}
+use Rattle.ados_resident.specs.declared.disk_commands.DiskCommand.TheVariants.{Assign, Copy, Delete, Dir, Eval, Execute, Filenote, Join, List, MakeDir, Protect, Rename, Status, «Type», Which}
+use Rattle.ados_resident.specs.declared.disk_commands.TheConstants.DiskCommand.{ALL}
 
 abbrev pub name_of : DiskCommand → Text
 name_of Assign = codes "Assign"

@@ -1,0 +1,75 @@
+-- No command here reads what the shells are called.
+use Rattle.std.proofs.Common.{List, [], Option, Some, None, Result, Ok, Err, ap, refl}
+use Rattle.std.specs.Prelude.{unwrap_or}
+use Rattle.ados_text.specs.Text.{Bytes, Text}
+use Rattle.ados_text.specs.declared.codes.Result2.{Result2}
+use Rattle.ados_ram.specs.FileOperations.{read_at}
+use Rattle.ados_ram.specs.Place.{Place}
+use Rattle.ados_readargs.specs.declared.args.Arg.{Arg}
+use Rattle.ados_readargs.specs.Args.{is_on, text_at}
+use Rattle.ados_find.specs.declared.codes.Codes.{Codes}
+use Rattle.ados_find.specs.Paths.{place_of}
+use Rattle.ados_find.specs.Shared.{SharedState}
+use Rattle.ados_find.specs.Views.{IgnoresShells}
+use Rattle.ados_flow.specs.declared.commands.Command.{Command}
+use Rattle.ados_flow.specs.declared.commands.Command.TheVariants.{Ask, Else, EndIf, EndSkip, Execute, If, Lab, Quit, Skip}
+use Rattle.ados_flow.specs.declared.tests.Test.{Test}
+use Rattle.ados_flow.specs.declared.tests.Test.TheVariants.{Warn, Error, Fail, Equal, Greater, GreaterOrEqual, Exists}
+use Rattle.ados_flow.specs.Branches.{decided, if_row}
+use Rattle.ados_flow.specs.Execute.{execute_file, script_at, script_by, script_place, script_read, script_row}
+use Rattle.ados_flow.specs.Frames.{ScriptLine}
+use Rattle.ados_flow.specs.Rows.{row_of}
+use Rattle.ados_flow.specs.Tests.{exists, holds, tested_by, test_of}
+
+exists-ignores : (shared : SharedState) (word : Option Text) → IgnoresShells (λ view. exists shared view word)
+exists-ignores shared None = λ view names uses. refl
+exists-ignores shared (Some word) = λ view names uses. refl
+
+holds-ignores : (shared : SharedState) (args : List Arg) (test : Test) → IgnoresShells (λ view. holds shared view args test)
+holds-ignores shared args Warn = λ view names uses. refl
+holds-ignores shared args Error = λ view names uses. refl
+holds-ignores shared args Fail = λ view names uses. refl
+holds-ignores shared args Equal = λ view names uses. refl
+holds-ignores shared args Greater = λ view names uses. refl
+holds-ignores shared args GreaterOrEqual = λ view names uses. refl
+holds-ignores shared args Exists = λ view names uses. ap Ok (exists-ignores shared (text_at args 9) view names uses)
+
+tested-ignores : (shared : SharedState) (args : List Arg) (test : Result Test Codes) → IgnoresShells (λ view. tested_by shared view args test)
+tested-ignores shared args (Err codes) = λ view names uses. refl
+tested-ignores shared args (Ok test) = holds-ignores shared args test
+
+if-ignores : (shared : SharedState) (script_line : Option ScriptLine) (args : List Arg) → IgnoresShells (λ view. if_row shared script_line view args)
+if-ignores shared None args = λ view names uses. refl
+if-ignores shared (Some here) args = λ view names uses.
+    ap (decided shared (is_on args 0) here) (tested-ignores shared args (test_of args) view names uses)
+
+read-ignores : (shared : SharedState) (place : Place) (args : Text) (read : Result Bytes Result2) → IgnoresShells (λ view. script_read shared view place args read)
+read-ignores shared place args (Err fault) = λ view names uses. refl
+read-ignores shared place args (Ok bytes) = λ view names uses. refl
+
+pub script-ignores : (shared : SharedState) (place : Place) (args : Text) → IgnoresShells (λ view. script_row shared view place args)
+unfolding script_row
+script-ignores shared place args = λ view names uses. read-ignores shared place args (read_at shared.files view.busy.outputs place) view names uses
+
+at-ignores : (shared : SharedState) (args : Text) (place : Result Place Codes) → IgnoresShells (λ view. script_at shared view args place)
+at-ignores shared args (Err codes) = λ view names uses. refl
+at-ignores shared args (Ok place) = script-ignores shared place args
+
+word-ignores : (shared : SharedState) (word args : Text) (place : Result Place Codes) → IgnoresShells (λ view. script_by shared view word args place)
+word-ignores shared word args (Err codes) = λ view names uses. refl
+word-ignores shared word args (Ok place) = λ view names uses. at-ignores shared args (script_place shared view.parts.directory word place) view names uses
+
+file-ignores : (shared : SharedState) (word : Option Text) (args : Text) → IgnoresShells (λ view. execute_file shared view word args)
+file-ignores shared None args = λ view names uses. refl
+file-ignores shared (Some word) args = λ view names uses. word-ignores shared word args (place_of shared view.parts.directory word) view names uses
+
+pub ignores_shells : (command : Command) (shared : SharedState) (script_line : Option ScriptLine) (args : List Arg) → IgnoresShells (λ view. row_of command shared script_line view args)
+ignores_shells Ask shared script_line args = λ view names uses. refl
+ignores_shells Else shared script_line args = λ view names uses. refl
+ignores_shells EndIf shared script_line args = λ view names uses. refl
+ignores_shells EndSkip shared script_line args = λ view names uses. refl
+ignores_shells Execute shared script_line args = file-ignores shared (text_at args 0) (unwrap_or (text_at args 1) [])
+ignores_shells If shared script_line args = if-ignores shared script_line args
+ignores_shells Lab shared script_line args = λ view names uses. refl
+ignores_shells Quit shared script_line args = λ view names uses. refl
+ignores_shells Skip shared script_line args = λ view names uses. refl
