@@ -42,6 +42,16 @@ outputs_of [] = []
 outputs_of (None ∷ seen) = outputs_of seen
 outputs_of (Some shell ∷ seen) = shell.outputs ++ outputs_of seen
 
+abbrev pub with_use : Option Text → List Text → List Text
+with_use None uses = uses
+with_use (Some entry) uses = entry ∷ uses
+
+-- the resident entries, by their names, of the shells that run from one, in order of their numbers
+abbrev pub uses_of : List (Option Seen) → List Text
+uses_of [] = []
+uses_of (None ∷ seen) = uses_of seen
+uses_of (Some shell ∷ seen) = with_use shell.entry (uses_of seen)
+
 -- what was put out, and what the command answers then
 pub record Put : Type 0 where
   pub codes : Codes

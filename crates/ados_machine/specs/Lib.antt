@@ -2,6 +2,7 @@ pub mod CodeRule
 pub mod Commands
 pub mod Items
 pub mod Numbers
+pub mod Requests
 pub mod Sinks
 pub mod Names
 pub mod Shells
@@ -11,6 +12,8 @@ pub mod Opening
 pub mod Prompts
 pub mod Questions
 pub mod NewShells
+pub mod Hosted
+pub mod Answers
 pub mod Lines
 pub mod Settled
 pub mod Settle

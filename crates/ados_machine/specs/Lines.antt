@@ -37,10 +37,13 @@ use Rattle.ados_flow.specs.Execute.{script_row}
 use Rattle.ados_machine.specs.Commands.{internal_builtin, disk_builtin, action_of}
 use Rattle.ados_machine.specs.Sinks.{sink_or}
 use Rattle.ados_machine.specs.Shells.{Seen}
-use Rattle.ados_machine.specs.Course.{Course, printing, directories_of, outputs_of, Put, put}
+use Rattle.ados_machine.specs.Course.{Course, printing, directories_of, outputs_of, uses_of, Put, put}
 use Rattle.ados_machine.specs.Prompts.{with_args, asks, first_of, is_end, prompt}
 use Rattle.ados_machine.specs.Deeds.{Here, Deed, Passes, Answers, Jumps, Calls, Ticks, Waits, line_fault, with_input, with_output}
 use Rattle.ados_machine.specs.NewShells.{run_deed}
+use Rattle.ados_machine.specs.Hosted.{host_deed}
+use Rattle.ados_resident.specs.declared.programs.Program.{Program}
+use Rattle.ados_resident.specs.declared.programs.Program.TheVariants.{Disk, Host}
 use Rattle.ados_machine.specs.Questions.{ask_deed, reply_deed}
 
 -- what is in use while a command runs whose output leads there: that output, what the shells that run keep, and the
@@ -57,11 +60,11 @@ names_in word course = slice_set (map name_seen course.seen) (course.parts.numbe
 
 -- what the command of a word, whose output leads there, reads of its shell and of the others
 abbrev pub view_of : Text → Option Target → Course → View
-view_of word target course = record { parts = course.parts; busy = busy_in target course; names = names_in word course }
+view_of word target course = record { parts = course.parts; busy = busy_in target course; names = names_in word course; uses = uses_of course.seen }
 
--- what the call of a script reads, whose output leads there: no names
+-- what the call of a script reads, whose output leads there: nothing of what the shells are called and run from
 abbrev pub nameless : Option Target → Course → View
-nameless target course = record { parts = course.parts; busy = busy_in target course; names = [] }
+nameless target course = record { parts = course.parts; busy = busy_in target course; names = []; uses = [] }
 
 -- what a command's effect leaves of the course: its change of the shell's parts, the shared parts, and what was renamed
 abbrev pub with_effect : Effect → Course → Course
@@ -148,10 +151,16 @@ abbrev pub internal_deed : Option Builtin → Line → Here → Course → Deed
 internal_deed None line here course = run_deed line here course
 internal_deed (Some builtin) line here course = builtin_deed builtin line here course
 
+-- a program, which runs from an entry or from a file: a disk command, or a program of the host
+abbrev pub program_deed : Option Text → Program → Line → Here → Course → Deed
+program_deed entry (Disk command) line here course = builtin_deed (disk_builtin command) line here course
+program_deed entry (Host program) line here course = host_deed entry program line course
+
 -- what the search found for the line's command; what is not known, or can't be run, reads and opens nothing
 abbrev pub found_deed : Found → Line → Here → Course → Deed
 found_deed (found.Internal command) line here course = internal_deed (internal_builtin command) line here course
-found_deed (found.File program) line here course = builtin_deed (disk_builtin program.command) line here course
+found_deed (found.Resident entry) line here course = program_deed (Some entry.name) entry.program line here course
+found_deed (found.File file) line here course = program_deed None file.program line here course
 found_deed (found.Script place) line here course = script_deed place line here course
 found_deed (found.Directory place) line here course = directory_deed place line here course
 found_deed (found.NotExecutable fault) line here course = Answers line.command (erred fault) false course

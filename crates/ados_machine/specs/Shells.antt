@@ -9,6 +9,8 @@ use Rattle.ados_find.specs.declared.settings.Settings.{Settings}
 use Rattle.ados_find.specs.declared.targets.Target.{Target}
 use Rattle.ados_flow.specs.declared.kinds.Kind.TheVariants.{Lines}
 use Rattle.ados_flow.specs.Frames.{FrameState, began, first_limit}
+use Rattle.ados_machine.specs.declared.phases.Wait.{Wait}
+use Rattle.ados_machine.specs.declared.phases.Wait.TheVariants.{ForAnswer, ForLines, ForStart, ForPiece, ForEnd}
 use Rattle.ados_machine.specs.declared.phases.Phase.{Phase}
 use Rattle.ados_machine.specs.declared.phases.Phase.TheVariants.{Ready}
 use Rattle.ados_machine.specs.Sinks.{outputs_in, held_by}
@@ -45,16 +47,32 @@ begun_shell number begun = record {
   kept = [];
 }
 
--- what others see of a shell: its current directory, its open outputs, and its name in Status
+-- what others see of a shell: its current directory, its open outputs, the resident entry that it runs from, by its name,
+-- and its name in Status
 pub record Seen : Type 0 where
   pub directory : Place
   pub outputs : List Place
+  pub entry : Option Text
   pub name : Text
+
+-- the resident entry from which a shell runs that starts a program, reads of it or waits for its end
+abbrev pub entry_while : Wait → Option Text
+entry_while (ForAnswer asking) = None
+entry_while (ForLines gathering) = None
+entry_while (ForStart starting) = starting.entry
+entry_while (ForPiece child) = child.entry
+entry_while (ForEnd child) = child.entry
+
+abbrev pub entry_in : Phase → Option Text
+entry_in Ready = None
+entry_in (GoingOn parted) = None
+entry_in (Waiting wait) = entry_while wait
 
 -- what is seen of a shell
 abbrev pub seen_of : ShellState → Seen
 seen_of shell = record {
   directory = shell.parts.directory;
   outputs = outputs_in shell.frames ++ held_by shell.phase;
+  entry = entry_in shell.phase;
   name = named_by (name_in shell.frames) shell.phase;
 }

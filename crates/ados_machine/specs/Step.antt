@@ -3,12 +3,15 @@ use Rattle.std.specs.Prelude.{ℕ, List, [], ◌∷◌, ◌++◌, length, Bool, 
 use Rattle.ados_line.specs.Cut.{line_limit}
 use Rattle.ados_find.specs.declared.codes.Codes.{Codes}
 use Rattle.ados_find.specs.declared.outcomes.Renamed.{Renamed}
+use Rattle.ados_machine.specs.declared.answers.Answer.{Answer as Reply}
 use Rattle.ados_machine.specs.declared.events.Event.{Event}
 use Rattle.ados_machine.specs.declared.events.Event.TheVariants.{Typed, EndOfInput, Turn, Answer}
 use Rattle.ados_machine.specs.declared.outs.Out.{Out}
+use Rattle.ados_machine.specs.declared.requests.Request.{Request}
+use Rattle.ados_machine.specs.Requests.{request_of}
 use Rattle.ados_machine.specs.declared.outs.EndReport.{EndReport}
 use Rattle.ados_machine.specs.declared.refusals.Refusal.{Refusal}
-use Rattle.ados_machine.specs.declared.refusals.Refusal.TheVariants.{Over, NoSuchShell, NotReady, WrongAnswer, QueueFull, LineTooLong}
+use Rattle.ados_machine.specs.declared.refusals.Refusal.TheVariants.{Over, NoSuchShell, NotReady, QueueFull, LineTooLong}
 use Rattle.ados_machine.specs.Items.{Item, Began, reports_of}
 use Rattle.ados_machine.specs.Shells.{Begun, begun_shell, ShellState}
 use Rattle.ados_machine.specs.Course.{Course}
@@ -17,7 +20,7 @@ use Rattle.ados_flow.specs.declared.kinds.Kind.TheVariants.{Lines}
 use Rattle.ados_flow.specs.Frames.{FrameState, first_limit}
 use Rattle.ados_machine.specs.Numbers.{free_number}
 use Rattle.ados_machine.specs.Settle.{Turned}
-use Rattle.ados_machine.specs.Turning.{Turning, Refuses, Ends, Takes, turning}
+use Rattle.ados_machine.specs.Turning.{Turning, Refuses, Ends, Takes, turning, answering}
 use Rattle.ados_machine.specs.World.{WorldState, shell_at, is_over, has_frame, seen_in, input_of}
 
 -- what an event is answered: the first refusal that holds, or the world behind it, what it gives, and what
@@ -26,9 +29,9 @@ pub data Response : Type 0 where
   Refused : Refusal → Response
   Accepted : (world : WorldState) (out : Out) (items : List (ℕ × Item)) → Response
 
--- what an event gives that printed these bytes, and at which these scripts ended
-abbrev pub giving : List ℕ → List EndReport → Out
-giving bytes reports = record { bytes = bytes; request = None; reports = reports }
+-- what an event gives that printed these bytes, asks this of the launcher, and at which these scripts ended
+abbrev pub giving : List ℕ → Option Request → List EndReport → Out
+giving bytes request reports = record { bytes = bytes; request = request; reports = reports }
 
 -- the items of one shell, with its number
 abbrev pub of_shell : ℕ → List Item → List (ℕ × Item)
@@ -88,13 +91,13 @@ took w k queue turned =
       queue = queue_behind k w.queue queue;
       shared = turned.course.shared;
     })
-    (giving turned.course.printed (reports_of k turned.log))
+    (giving turned.course.printed (request_of k turned.phase) (reports_of k turned.log))
     (of_shell k turned.log ++ begun_items turned.course.begun (free_number w.shells))
 
 -- the shell of this number ended; its codes stay
 abbrev pub shell_ended : WorldState → ℕ → Codes → Response
 shell_ended w k codes =
-    Accepted (record w { shells = slice_set w.shells (k - 1) None; ended = slice_set w.ended (k - 1) codes }) (giving [] []) []
+    Accepted (record w { shells = slice_set w.shells (k - 1) None; ended = slice_set w.ended (k - 1) codes }) (giving [] None []) []
 
 -- an event of a shell begins: nothing is done yet
 abbrev pub start : WorldState → ShellState → Course
@@ -119,10 +122,11 @@ abbrev pub turned : WorldState → ℕ → Option ShellState → Response
 turned w k None = Refused NoSuchShell
 turned w k (Some shell) = applied w k shell.parts.codes (turning (input_of w k) shell.frames (start w shell) shell.phase)
 
--- an answer for the shell of this number, if it runs: no shell waits for one yet
-abbrev pub replied : Option ShellState → Response
-replied None = Refused NoSuchShell
-replied (Some shell) = Refused WrongAnswer
+-- an answer for the shell of this number, if it runs
+abbrev pub answered : WorldState → ℕ → Reply → Option ShellState → Response
+answered w k reply None = Refused NoSuchShell
+answered w k reply (Some shell) =
+    applied w k shell.parts.codes (answering (input_of w k) shell.frames (start w shell) shell.phase reply)
 
 -- so many typed lines wait at most
 abbrev pub queue_limit : ℕ
@@ -134,18 +138,18 @@ typed w line =
     if w.input_ended then Refused NotReady else
     (if nat_le queue_limit (length w.queue) then Refused QueueFull else
     (if nat_lt line_limit (length line) then Refused LineTooLong else
-    Accepted (record w { queue = w.queue ++ line ∷ [] }) (giving [] []) []))
+    Accepted (record w { queue = w.queue ++ line ∷ [] }) (giving [] None []) []))
 
 -- no further line will be typed
 abbrev pub end_of_input : WorldState → Response
-end_of_input w = if w.input_ended then Refused NotReady else Accepted (record w { input_ended = true }) (giving [] []) []
+end_of_input w = if w.input_ended then Refused NotReady else Accepted (record w { input_ended = true }) (giving [] None []) []
 
 -- an event, where a shell is left
 abbrev pub happened : WorldState → Event → Response
 happened w (Typed line) = typed w line
 happened w EndOfInput = end_of_input w
 happened w (Turn k) = turned w k (shell_at w k)
-happened w (Answer k answer) = replied (shell_at w k)
+happened w (Answer k reply) = answered w k reply (shell_at w k)
 
 -- an event; where no shell is left, each is refused
 abbrev pub step_of : WorldState → Event → Response

@@ -8,6 +8,10 @@ use Rattle.ados_find.specs.Shared.{SharedState, first_shared}
 use Rattle.ados_machine.specs.declared.requests.Request.{Request}
 use Rattle.ados_machine.specs.declared.phases.Phase.{Phase}
 use Rattle.ados_machine.specs.declared.phases.Phase.TheVariants.{Ready, GoingOn, Waiting}
+use Rattle.ados_machine.specs.declared.phases.Wait.{Wait}
+use Rattle.ados_machine.specs.declared.phases.Wait.TheVariants.{ForAnswer, ForLines, ForStart, ForPiece, ForEnd}
+use Rattle.ados_resident.specs.declared.hosts.HostEntry.{HostEntry}
+use Rattle.ados_machine.specs.Requests.{request_of}
 use Rattle.ados_flow.specs.Frames.{FrameState}
 use Rattle.ados_machine.specs.Shells.{ShellState, Seen, fresh_shell, seen_of}
 use Rattle.ados_machine.specs.Turning.{Input}
@@ -25,14 +29,14 @@ pub record WorldState : Type 0 where
   -- what all shells share
   pub shared : SharedState
 
--- a world begins with shell 1 alone, and the first files
-abbrev pub fresh_world : WorldState
-fresh_world = record {
+-- a world begins with shell 1 alone, the host's commands and the first files
+abbrev pub fresh_world : List HostEntry → WorldState
+fresh_world hosts = record {
   shells = Some (fresh_shell 1) ∷ replicate 19 None;
   ended = replicate 20 went_well;
   queue = [];
   input_ended = false;
-  shared = first_shared;
+  shared = first_shared hosts;
 }
 
 abbrev pub flatten : {X : Type 0} → Option (Option X) → Option X
@@ -69,11 +73,19 @@ abbrev pub has_frame : List FrameState → Bool
 has_frame [] = false
 has_frame (frame ∷ frames) = true
 
+-- what it waits for is a line of its input
+abbrev pub is_for_input : Wait → Bool
+is_for_input (ForAnswer asking) = true
+is_for_input (ForLines gathering) = true
+is_for_input (ForStart starting) = false
+is_for_input (ForPiece child) = false
+is_for_input (ForEnd child) = false
+
 -- something is there to take: a line of its newest frame, or one whose tick has ended, or input
 abbrev pub can_take : Input → List FrameState → Phase → Bool
 can_take input frames Ready = has_frame frames || has_input input
 can_take input frames (GoingOn parted) = true
-can_take input frames (Waiting wait) = has_input input
+can_take input frames (Waiting wait) = is_for_input wait && has_input input
 
 abbrev pub can_turn : Input → Option ShellState → Bool
 can_turn input None = false
@@ -83,9 +95,19 @@ can_turn input (Some shell) = can_take input shell.frames shell.phase
 abbrev pub is_ready : WorldState → ℕ → Bool
 is_ready w k = can_turn (input_of w k) (shell_at w k)
 
--- a line is wanted: shell 1 runs and has nothing to take
+-- a shell takes of its input next: it runs no frame, or waits for a line
+abbrev pub takes_input : List FrameState → Phase → Bool
+takes_input frames Ready = not (has_frame frames)
+takes_input frames (GoingOn parted) = false
+takes_input frames (Waiting wait) = is_for_input wait
+
+abbrev pub wants_input : Option ShellState → Bool
+wants_input None = false
+wants_input (Some shell) = takes_input shell.frames shell.phase
+
+-- a line is wanted: shell 1 takes of its input next, and nothing is there
 abbrev pub wants_line : WorldState → Bool
-wants_line w = is_some (shell_at w 1) && not (is_ready w 1)
+wants_line w = wants_input (shell_at w 1) && not (has_input (input_of w 1))
 
 -- the last codes of a number's last shell; 0 and 0 for one that was never given
 abbrev pub ended_at : WorldState → ℕ → Codes
@@ -103,6 +125,10 @@ codes_at w k = shell_codes (shell_at w k) (ended_at w k)
 abbrev pub running : WorldState → List Bool
 running w = map is_some w.shells
 
--- what a shell asked a launcher for, and waits for; no phase asks for anything yet
+-- what a shell asked a launcher for, and waits for
+abbrev pub pending_by : ℕ → Option ShellState → Option Request
+pending_by k None = None
+pending_by k (Some shell) = request_of k shell.phase
+
 abbrev pub pending_of : WorldState → ℕ → Option Request
-pending_of w k = None
+pending_of w k = pending_by k (shell_at w k)

@@ -24,6 +24,6 @@ pub use laws::{
     scripts_end_where_the_rule_says,
 };
 pub use outs::{EndReport, Out, Reports};
-pub use phases::{Asking, Gathering, Parted, Phase, Question, Wait};
+pub use phases::{Asking, Child, Gathering, Parted, Phase, Question, Starting, Wait};
 pub use refusals::Refusal;
 pub use requests::{Job, Request};

@@ -71,13 +71,13 @@ pub struct Out {
 impl Out {
     ghost use Rattle.ados_machine.specs.Step.{giving};
 
-    /// Of an event that printed these bytes, and at which these scripts ended.
-    pub fn giving(bytes: Vec<u8>, reports: Vec<EndReport>) -> Out
-        ensures { result ≡ giving bytes.items reports.items }
+    /// Of an event that printed these bytes, asks this of the launcher, and at which these scripts ended.
+    pub fn giving(bytes: Vec<u8>, request: Option<Request>, reports: Vec<EndReport>) -> Out
+        ensures { result ≡ giving bytes.items request reports.items }
     {
         Out {
             bytes: Octets::from_vec(bytes),
-            request: None,
+            request,
             reports: Reports::from_vec(reports),
         }
     }

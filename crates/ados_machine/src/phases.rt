@@ -1,7 +1,7 @@
 use crate::builtins::Builtin;
 use ados_find::Target;
-use ados_line::Line;
-use ados_text::{Octets, Text, Texts};
+use ados_line::{Line, Redirection};
+use ados_text::{Octets, Result2, Text, Texts};
 
 /// What a shell does next.
 #[derive(Drop)]
@@ -32,6 +32,12 @@ pub enum Wait {
     ForAnswer(Asking),
     /// Further lines of the console, for a Run.
     ForLines(Gathering),
+    /// The start of a program of the host.
+    ForStart(Starting),
+    /// A piece of its output.
+    ForPiece(Child),
+    /// Its end.
+    ForEnd(Child),
 }
 
 /// What a command asked for.
@@ -63,4 +69,32 @@ pub struct Gathering {
     pub output: Option<Target>,
     /// The commands so far.
     pub commands: Texts,
+}
+
+/// A program of the host that is to be started for a command.
+#[derive(Drop)]
+pub struct Starting {
+    /// The word of its command.
+    pub word: Text,
+    /// The name of the resident entry that it runs from, if it runs from one.
+    pub entry: Option<Text>,
+    /// The program.
+    pub program: Text,
+    /// Its arguments.
+    pub args: Texts,
+    /// The output that its line names, which is opened once it has started.
+    pub output: Option<Redirection>,
+}
+
+/// A program of the host that was started for a command.
+#[derive(Drop)]
+pub struct Child {
+    /// The word of its command.
+    pub word: Text,
+    /// The name of the resident entry that it runs from, if it runs from one.
+    pub entry: Option<Text>,
+    /// The output of its own, which is open until its command ends, or until its bytes do not fit there.
+    pub output: Option<Target>,
+    /// The first fault that came. Behind it no byte is put out.
+    pub fault: Option<Result2>,
 }
