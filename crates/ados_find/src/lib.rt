@@ -4,8 +4,6 @@
 
 mod changes;
 mod codes;
-mod disk_commands;
-mod internal_commands;
 mod outcomes;
 mod paths;
 mod programs;
@@ -19,14 +17,13 @@ mod targets;
 mod views;
 mod work;
 
+pub use ados_resident::{DiskCommand, InternalCommand};
 pub use changes::Change;
 pub use codes::Codes;
-pub use disk_commands::DiskCommand;
-pub use internal_commands::InternalCommand;
 pub use outcomes::{Outcome, Renamed};
 pub use paths::place_of;
 pub use refusals::Refusal;
-pub use search::{Found, Program, find, find_file};
+pub use search::{Found, ProgramFile, find, find_file};
 pub use search_path::SearchPath;
 pub use settings::{Setting, Settings};
 pub use shared::Shared;
