@@ -23,17 +23,35 @@ use Rattle.ados_machine.specs.declared.phases.Asking.TheVariants.{Arguments, Rep
 use Rattle.ados_machine.specs.declared.phases.Question.{Question}
 use Rattle.ados_machine.specs.Commands.{internal_builtin, disk_builtin}
 use Rattle.ados_find.specs.Parts.{Parts}
-use Rattle.ados_machine.specs.Course.{Course, printing}
+use Rattle.ados_machine.specs.Course.{Course, printing, put, put_unless}
 use Rattle.ados_machine.specs.Opening.{Opened, opening}
 use Rattle.ados_machine.specs.Prompts.{with_args, asks, first_of, prompt, input_lines}
 use Rattle.ados_machine.specs.Deeds.{FrameLines, Here, Deed, Passes, Answers, Jumps, Calls, Ticks, Waits, opened_by, read_by}
 use Rattle.ados_machine.specs.Questions.{ask_deed, replied}
 use Rattle.ados_flow.specs.Gathering.{run_limit, before_plus, asks_nothing}
-use Rattle.ados_machine.specs.Sinks.{Sink}
+use Rattle.ados_machine.specs.Sinks.{Sink, Console, Kept, To, sink_or}
 use Rattle.ados_machine.specs.declared.phases.Gathering.{Gathering}
 use Rattle.ados_machine.specs.declared.phases.Parted.{Parted}
 use Rattle.ados_machine.specs.NewShells.{console_run, run_at, run_into, running_deed, run_deed, joined_by, joined_deed}
-use Rattle.ados_machine.specs.Lines.{action_in, action_deed, work_deed, command_deed, prompt_deed, asked_deed, builtin_deed, arrived_deed, arriving_deed, directory_deed, called_deed, calling_deed, script_deed, nameless, found_in, found_deed, expanded_deed, variables_in, line_deed, parted_deed, answer_deed, internal_deed}
+use Rattle.ados_machine.specs.Lines.{action_in, action_deed, work_deed, command_deed, prompt_deed, asked_deed, builtin_deed, arrived_deed, arriving_deed, directory_deed, called_deed, calling_deed, script_deed, nameless, found_in, found_deed, expanded_deed, variables_in, line_deed, parted_deed, answer_deed, internal_deed, program_deed}
+use Rattle.ados_items.specs.Items.{words_of}
+use Rattle.ados_resident.specs.declared.programs.Program.{Program}
+use Rattle.ados_resident.specs.declared.programs.Program.TheVariants.{Disk, Host}
+use Rattle.ados_machine.specs.Hosted.{start_deed, tested_deed, host_by}
+use Rattle.ados_ram.specs.Files.{Files}
+use Rattle.ados_ram.specs.FileOperations.{put_open_of, put_open_fault}
+use Rattle.ados_ram.specs.Place.{key_of, last_name}
+use Rattle.ados_find.specs.Codes.{went_well}
+use Rattle.ados_find.specs.declared.targets.Target.TheVariants.{Nil, At}
+use Rattle.ados_machine.specs.declared.answers.Answer.{Answer}
+use Rattle.ados_machine.specs.declared.answers.Answer.TheVariants.{Started, NotFound, Denied, Memory, Other, «Bytes» as Piece, End, PipeFault, Exit, Signal, WaitFault}
+use Rattle.ados_machine.specs.declared.phases.Child.{Child}
+use Rattle.ados_machine.specs.declared.phases.Phase.{Phase}
+use Rattle.ados_machine.specs.declared.phases.Phase.TheVariants as phase
+use Rattle.ados_machine.specs.declared.phases.Starting.{Starting}
+use Rattle.ados_machine.specs.declared.phases.Wait.{Wait}
+use Rattle.ados_machine.specs.declared.phases.Wait.TheVariants.{ForAnswer, ForLines, ForStart, ForPiece, ForEnd}
+use Rattle.ados_machine.specs.Answers.{started_deed, piece_deed, is_piece, ended_deed, answered_deed, answered_in}
 
 -- where no command answers, these parts stand on
 abbrev pub KeepsParts : Parts → Deed → Type 0
@@ -148,9 +166,30 @@ internal-keeps : (builtin : Option Builtin) (line : Line) (here : Here) (course 
 internal-keeps None line here course = run-keeps line here course
 internal-keeps (Some builtin) line here course = builtin-keeps builtin line here course
 
+start-keeps : (entry : Option Text) (program : Text) (line : Line) (course : Course) (words : Option (List Text)) →
+    KeepsParts course.parts (start_deed entry program line course words)
+start-keeps entry program line course None = tt
+start-keeps entry program line course (Some words) = refl
+
+tested-keeps : (entry : Option Text) (program : Text) (line : Line) (course : Course) (opened : Result Opened Result2) →
+    KeepsParts course.parts (tested_deed entry program line course opened)
+tested-keeps entry program line course (Err fault) = tt
+tested-keeps entry program line course (Ok opened) = start-keeps entry program line course (words_of line.args)
+
+host-keeps : (entry : Option Text) (program : Text) (line : Line) (course : Course) (input : Option Text) →
+    KeepsParts course.parts (host_by entry program line course input)
+host-keeps entry program line course (Some input) = tt
+host-keeps entry program line course None = tested-keeps entry program line course (opening course line.output)
+
+program-keeps : (entry : Option Text) (program : Program) (line : Line) (here : Here) (course : Course) →
+    KeepsParts course.parts (program_deed entry program line here course)
+program-keeps entry (Disk command) line here course = builtin-keeps (disk_builtin command) line here course
+program-keeps entry (Host program) line here course = host-keeps entry program line course line.input
+
 found-keeps : (word : Found) (line : Line) (here : Here) (course : Course) → KeepsParts course.parts (found_deed word line here course)
 found-keeps (found.Internal command) line here course = internal-keeps (internal_builtin command) line here course
-found-keeps (found.File program) line here course = builtin-keeps (disk_builtin program.command) line here course
+found-keeps (found.Resident entry) line here course = program-keeps (Some entry.name) entry.program line here course
+found-keeps (found.File file) line here course = program-keeps None file.program line here course
 found-keeps (found.Script place) line here course = script-keeps place line here course
 found-keeps (found.Directory place) line here course = directory-keeps place line here course
 found-keeps (found.NotExecutable fault) line here course = tt
@@ -173,3 +212,59 @@ pub answer-keeps : (raw : List ℕ) (asking : Asking) (here : Here) (course : Co
     KeepsParts course.parts (answer_deed raw asking here course)
 answer-keeps raw (Arguments builtin line) here course = command-keeps builtin (with_args line raw) None here course
 answer-keeps raw (Reply question) here course = replied-keeps (reply_of raw) question course
+
+-- what is put out keeps them too
+unless-parts : (fault : Option Result2) (codes : Codes) (files : Files) (course : Course) → (put_unless fault codes files course).course.parts ≡ course.parts
+unless-parts None codes files course = refl
+unless-parts (Some fault) codes files course = refl
+
+put-parts : (sink : Sink) (bytes : List ℕ) (codes : Codes) (course : Course) → (put sink bytes codes course).course.parts ≡ course.parts
+put-parts Console bytes codes course = refl
+put-parts Kept bytes codes course = refl
+put-parts (To Nil) bytes codes course = refl
+put-parts (To (At place)) [] codes course = refl
+put-parts (To (At place)) (byte ∷ bytes) codes course =
+    let files = course.shared.files in
+    unless-parts (put_open_fault files (key_of place) (last_name place) (byte ∷ bytes)) codes
+    (put_open_of files (key_of place) (last_name place) (byte ∷ bytes)) course
+
+-- an answer that a shell takes keeps them where it does not finish the command
+abbrev pub KeepsIf : Parts → Option Deed → Type 0
+KeepsIf parts None = Unit {0}
+KeepsIf parts (Some deed) = KeepsParts parts deed
+
+started-keeps : (starting : Starting) (course : Course) (opened : Result Opened Result2) → KeepsParts course.parts (started_deed starting course opened)
+started-keeps starting course (Err fault) = refl
+started-keeps starting course (Ok opened) = refl
+
+piece-keeps : (child : Child) (bytes : List ℕ) (sink : Sink) (course : Course) (fault : Option Result2) →
+    KeepsParts course.parts (piece_deed child bytes sink course fault)
+piece-keeps child bytes sink course (Some fault) = refl
+piece-keeps child bytes sink course None = put-parts (sink_or child.output sink) bytes went_well course
+
+ended-keeps : (child : Child) (codes : Codes) (course : Course) (fault : Option Result2) → KeepsParts course.parts (ended_deed child codes course fault)
+ended-keeps child codes course None = tt
+ended-keeps child codes course (Some fault) = tt
+
+wait-keeps : (sink : Sink) (course : Course) (wait : Wait) (answer : Answer) → KeepsIf course.parts (answered_deed sink course wait answer)
+wait-keeps sink course (ForStart starting) Started = started-keeps starting course (opening course starting.output)
+wait-keeps sink course (ForStart starting) NotFound = tt
+wait-keeps sink course (ForStart starting) Denied = tt
+wait-keeps sink course (ForStart starting) Memory = tt
+wait-keeps sink course (ForStart starting) Other = tt
+wait-keeps sink course (ForPiece child) (Piece bytes) =
+    elim (cases_Bool (is_piece bytes)) [
+      | inl e ↦ rw e (piece-keeps child bytes sink course child.fault)
+      | inr e ↦ rw e tt
+    ]
+wait-keeps sink course (ForPiece child) End = refl
+wait-keeps sink course (ForPiece child) PipeFault = refl
+wait-keeps sink course (ForEnd child) (Exit status) = ended-keeps child _ course child.fault
+wait-keeps sink course (ForEnd child) Signal = ended-keeps child _ course child.fault
+wait-keeps sink course (ForEnd child) WaitFault = ended-keeps child _ course child.fault
+wait-keeps sink course wait answer = tt
+
+pub reply-keeps : (sink : Sink) (course : Course) (now : Phase) (answer : Answer) → KeepsIf course.parts (answered_in sink course now answer)
+reply-keeps sink course phase.Ready answer = tt
+reply-keeps sink course (phase.GoingOn parted) answer = tt
+reply-keeps sink course (phase.Waiting wait) answer = wait-keeps sink course wait answer

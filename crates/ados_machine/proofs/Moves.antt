@@ -8,6 +8,7 @@ use Rattle.std.proofs.lemmas.Bool.{eq-eqb, ne_eqb, cases_eq, cases_Bool, and_par
 use Rattle.std.proofs.lemmas.Option.{slice_get_within}
 use Rattle.ados_find.specs.declared.codes.Codes.{Codes}
 use Rattle.ados_find.specs.declared.outcomes.Renamed.{Renamed}
+use Rattle.ados_machine.specs.declared.answers.Answer.{Answer as Reply}
 use Rattle.ados_machine.specs.declared.events.Event.{Event}
 use Rattle.ados_machine.specs.declared.events.Event.TheVariants.{Typed, EndOfInput, Turn, Answer}
 use Rattle.ados_machine.specs.declared.outs.Out.{Out}
@@ -18,17 +19,17 @@ use Rattle.ados_machine.specs.Items.{Item, Began}
 use Rattle.ados_machine.specs.Shells.{Begun, begun_shell, ShellState}
 use Rattle.ados_machine.specs.Numbers.{free_number}
 use Rattle.ados_machine.specs.Settle.{Turned}
-use Rattle.ados_machine.specs.Turning.{Turning, Refuses, Ends, Takes, turning}
+use Rattle.ados_machine.specs.Turning.{Turning, Refuses, Ends, Takes, turning, answering}
 use Rattle.ados_machine.specs.World.{WorldState, shell_at, is_over, has_frame, input_of}
 use Rattle.ados_machine.specs.Carrying.{carried_shells, carried_by}
-use Rattle.ados_machine.specs.Step.{Response, Refused, Accepted, of_shell, shell_of_turn, with_begun, begun_items, is_done, left, moved_in, shells_behind, start, applied, turned, replied, typed, end_of_input, happened, step_of}
+use Rattle.ados_machine.specs.Step.{Response, Refused, Accepted, of_shell, shell_of_turn, with_begun, begun_items, is_done, left, moved_in, shells_behind, start, applied, turned, answered, typed, end_of_input, happened, step_of}
 use Rattle.ados_machine.specs.Runs.{world_after}
 use Rattle.ados_machine.specs.Trace.{items_after, own, frames_in}
 use Rattle.ados_machine.specs.Limits.{AllRunOn, RunsFrame}
 use Rattle.ados_machine.specs.Stacks.{stack_of, Standing, standing_of, Leaves}
 use Rattle.ados_machine.proofs.Follows.{ShellFollows, Follows-left}
 use Rattle.ados_machine.proofs.Turns.{Goes}
-use Rattle.ados_machine.proofs.Turnings.{TurningGoes, turning-goes}
+use Rattle.ados_machine.proofs.Turnings.{TurningGoes, turning-goes, answering-goes}
 use Rattle.ados_machine.proofs.Shells.{found, own-append, place_before, slice_get-set_same, IsFree, free-number, carried-free, found-placed_other, own-of_shell_same, own-of_shell_other, found-set_same, found-set_other, runs_pos, found-carried, carried_found, carried-frames, carried-runs}
 
 -- the frames of a number among shells
@@ -227,9 +228,11 @@ turned-leads w k (Some shell) sane is =
     applied-leads w k shell shell.parts.codes (turning (input_of w k) shell.frames (start w shell) shell.phase) sane is
     (turning-goes (input_of w k) shell.frames (start w shell) shell.phase (rw is at (sane.each k)))
 
-replied-leads : (w : WorldState) (o : Option ShellState) → Leads w (replied o)
-replied-leads w None = tt
-replied-leads w (Some shell) = tt
+answered-leads : (w : WorldState) (k : ℕ) (reply : Reply) (o : Option ShellState) → AllSane w.shells → shell_at w k ≡ o → Leads w (answered w k reply o)
+answered-leads w k reply None sane is = tt
+answered-leads w k reply (Some shell) sane is =
+    applied-leads w k shell shell.parts.codes (answering (input_of w k) shell.frames (start w shell) shell.phase reply) sane is
+    (answering-goes (input_of w k) shell.frames (start w shell) shell.phase reply (rw is at (sane.each k)))
 
 typed-leads : (w : WorldState) (line : List ℕ) → AllSane w.shells → Leads w (typed w line)
 typed-leads w line sane =
@@ -255,7 +258,7 @@ happened-leads : (w : WorldState) (event : Event) → AllSane w.shells → Leads
 happened-leads w (Typed line) sane = typed-leads w line sane
 happened-leads w EndOfInput sane = end-leads w sane
 happened-leads w (Turn k) sane = turned-leads w k (shell_at w k) sane refl
-happened-leads w (Answer k answer) sane = replied-leads w (shell_at w k)
+happened-leads w (Answer k reply) sane = answered-leads w k reply (shell_at w k) sane refl
 
 step-leads : (w : WorldState) (event : Event) → AllSane w.shells → Leads w (step_of w event)
 step-leads w event sane =

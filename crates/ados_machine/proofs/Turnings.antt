@@ -1,8 +1,11 @@
--- Every turn of a shell moves its stack by its trace.
+-- Every turn of a shell, and every answer that it takes, moves its stack by its trace.
 use Rattle.std.proofs.Common.{◌≡◌, ℕ, List, [], ◌∷◌, Bool, true, false, Option, Some, None, refl, slice_get}
 use Rattle.ados_machine.specs.declared.phases.Phase.{Phase}
 use Rattle.ados_machine.specs.declared.phases.Phase.TheVariants.{Ready, GoingOn, Waiting}
-use Rattle.ados_machine.specs.declared.phases.Wait.TheVariants.{ForAnswer, ForLines}
+use Rattle.ados_machine.specs.declared.phases.Wait.TheVariants.{ForAnswer, ForLines, ForStart, ForPiece, ForEnd}
+use Rattle.ados_machine.specs.declared.answers.Answer.{Answer}
+use Rattle.ados_machine.specs.Answers.{answered_in}
+use Rattle.ados_machine.specs.Sinks.{sink_in}
 use Rattle.ados_flow.specs.Frames.{FrameState, moved}
 use Rattle.ados_find.specs.Parts.{Parts}
 use Rattle.ados_machine.specs.Course.{Course}
@@ -10,9 +13,9 @@ use Rattle.ados_machine.specs.Deeds.{Deed, Passes}
 use Rattle.ados_machine.specs.Lines.{line_deed, parted_deed, answer_deed}
 use Rattle.ados_machine.specs.NewShells.{gathered_deed, joined_deed}
 use Rattle.ados_machine.specs.Settle.{here_of, settle}
-use Rattle.ados_machine.specs.Turning.{Input, Turning, Refuses, Ends, Takes, frame_turned, at_end, console_turning, ready_turning, input_turning, turning}
+use Rattle.ados_machine.specs.Turning.{Input, Turning, Refuses, Ends, Takes, frame_turned, at_end, console_turning, ready_turning, input_turning, turning, replied, answering}
 use Rattle.ados_machine.specs.Limits.{AllRunOn}
-use Rattle.ados_machine.proofs.Keeps.{KeepsParts, line-keeps, parted-keeps, answer-keeps, joined-keeps}
+use Rattle.ados_machine.proofs.Keeps.{KeepsParts, KeepsIf, line-keeps, parted-keeps, answer-keeps, joined-keeps, reply-keeps}
 use Rattle.ados_machine.proofs.Turns.{Goes, settle-goes}
 
 -- a turn of a shell with these parts and frames moves them; it ends only where there are no frames
@@ -65,3 +68,16 @@ turning-goes input frames course (Waiting (ForAnswer asking)) runs =
     let here = here_of frames in
     input-goes course.parts frames input.queue input.is_ended (λ line. answer_deed line asking here course) (answer_deed [] asking here course)
     (λ line. answer-keeps line asking here course) (answer-keeps [] asking here course) runs
+turning-goes input frames course (Waiting (ForStart starting)) runs = tt
+turning-goes input frames course (Waiting (ForPiece child)) runs = tt
+turning-goes input frames course (Waiting (ForEnd child)) runs = tt
+
+replied-goes : (input : Input) (frames : List FrameState) (parts : Parts) (deed : Option Deed) → KeepsIf parts deed → AllRunOn frames →
+    TurningGoes parts frames (replied input frames deed)
+replied-goes input frames parts None keeps runs = tt
+replied-goes input frames parts (Some deed) keeps runs = settle-goes parts deed frames keeps runs
+
+pub answering-goes : (input : Input) (frames : List FrameState) (course : Course) (phase : Phase) (answer : Answer) → AllRunOn frames →
+    TurningGoes course.parts frames (answering input frames course phase answer)
+answering-goes input frames course phase answer runs =
+    replied-goes input frames course.parts (answered_in (sink_in frames) course phase answer) (reply-keeps (sink_in frames) course phase answer) runs

@@ -8,6 +8,8 @@ ghost use Rattle.ados_machine.specs.Laws.{
 };
 ghost use Rattle.ados_machine.specs.Limits.{IsSane};
 ghost use Rattle.ados_machine.specs.World.{fresh_world};
+ghost use Rattle.ados_resident.specs.declared.hosts.HostEntry.{HostEntry};
+ghost use Rattle.std.specs.Prelude.{List};
 
 /// In every run of a world in which no script runs on behind a failure, as a fresh one is and events keep it: in
 /// every shell each script ends early exactly at its first command whose code reaches the limit behind it, and
@@ -20,7 +22,7 @@ pub fn scripts_end_where_the_rule_says()
 /// No script runs on behind a command whose code reached its limit: a fresh world has none that
 /// does, and no event leaves one.
 pub fn no_script_runs_on_behind_a_failure()
-    ensures fresh { IsSane fresh_world }
+    ensures fresh { (hosts : List HostEntry) → IsSane (fresh_world hosts) }
     ensures kept { EventsKeepWorldsSane }
 {}
 
