@@ -91,7 +91,7 @@ took w k queue turned =
       queue = queue_behind k w.queue queue;
       shared = turned.course.shared;
     })
-    (giving turned.course.printed (request_of k turned.phase) (reports_of k turned.log))
+    (giving turned.course.printed (request_of turned.course.parts.number turned.phase) (reports_of k turned.log))
     (of_shell k turned.log ++ begun_items turned.course.begun (free_number w.shells))
 
 -- the shell of this number ended; its codes stay

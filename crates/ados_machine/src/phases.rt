@@ -1,7 +1,15 @@
+ghost use Rattle.std.specs.Prelude.{◌≡◌, IfOk};
+ghost use Rattle.ados_machine.specs.Answers.{behind_piece, child_of, with_fault};
+ghost use Rattle.ados_machine.specs.Requests.{job_of, request_of, request_while};
+ghost use Rattle.ados_machine.specs.Shells.{entry_while};
+ghost use Rattle.ados_machine.specs.World.{is_for_input};
+ghost use Rattle.std.specs.Option.{option_copied};
+
 use crate::builtins::Builtin;
+use crate::requests::{Job, Request};
 use ados_find::Target;
 use ados_line::{Line, Redirection};
-use ados_text::{Octets, Result2, Text, Texts};
+use ados_text::{NoMemory, Octets, Result2, Text, Texts};
 
 /// What a shell does next.
 #[derive(Drop)]
@@ -97,4 +105,132 @@ pub struct Child {
     pub output: Option<Target>,
     /// The first fault that came. Behind it no byte is put out.
     pub fault: Option<Result2>,
+}
+
+impl Phase {
+    /// What the shell of a number asks a launcher for in this phase.
+    pub fn request(&self, number: u8) -> Result<Option<Request>, NoMemory>
+        ensures { IfOk result (λ request. request ≡ request_of number self.now) }
+    {
+        match self {
+            Phase::Ready | Phase::GoingOn(_) => Ok(None),
+            Phase::Waiting(wait) => wait.request(number),
+        }
+    }
+}
+
+impl Wait {
+    // What the shell of a number asks a launcher for while it waits for this.
+    fn request(&self, number: u8) -> Result<Option<Request>, NoMemory>
+        ensures { IfOk result (λ request. request ≡ request_while number self.now) }
+    {
+        match self {
+            Wait::ForAnswer(_) | Wait::ForLines(_) => Ok(None),
+            Wait::ForStart(starting) => Ok(Some(Request::Start(starting.job(number)?))),
+            Wait::ForPiece(_) => Ok(Some(Request::Read(number))),
+            Wait::ForEnd(_) => Ok(Some(Request::Wait(number))),
+        }
+    }
+
+    /// It is a line of the shell's input that is waited for.
+    pub fn is_for_input(&self) -> bool
+        ensures { result ≡ is_for_input self.now }
+    {
+        match self {
+            Wait::ForAnswer(_) | Wait::ForLines(_) => true,
+            Wait::ForStart(_) | Wait::ForPiece(_) | Wait::ForEnd(_) => false,
+        }
+    }
+
+    /// The resident entry from which a program runs that is waited for, by its name.
+    pub fn entry(&self) -> Option<&Text>
+        ensures { option_copied result ≡ entry_while self.now }
+    {
+        match self {
+            Wait::ForAnswer(_) | Wait::ForLines(_) => None,
+            Wait::ForStart(starting) => starting.entry.as_ref(),
+            Wait::ForPiece(child) | Wait::ForEnd(child) => child.entry.as_ref(),
+        }
+    }
+}
+
+impl Child {
+    /// An equal child.
+    pub fn copy(&self) -> Result<Child, NoMemory>
+        ensures { IfOk result (λ child. child ≡ self.now) }
+    {
+        Ok(Child {
+            word: self.word.copy()?,
+            entry: copied(self.entry.as_ref())?,
+            output: copied_target(self.output.as_ref())?,
+            fault: self.fault,
+        })
+    }
+
+    /// The same behind a piece of its output: a fault of that is its first, and closes its output.
+    pub fn behind_piece(&self, fault: Option<Result2>) -> Result<Child, NoMemory>
+        ensures { IfOk result (λ child. child ≡ behind_piece self.now fault) }
+    {
+        let mut child = self.copy()?;
+        if fault.is_some() {
+            child.output = None;
+            child.fault = fault;
+        }
+        Ok(child)
+    }
+
+    /// The same, at whose output a fault came; the first fault stays.
+    pub fn with_fault(&self, fault: Result2) -> Result<Child, NoMemory>
+        ensures { IfOk result (λ child. child ≡ with_fault self.now fault) }
+    {
+        let mut child = self.copy()?;
+        child.fault = child.fault.or(Some(fault));
+        Ok(child)
+    }
+}
+
+impl Starting {
+    // The program that the shell of a number is to start.
+    fn job(&self, number: u8) -> Result<Job, NoMemory>
+        ensures { IfOk result (λ job. job ≡ job_of number self.now) }
+    {
+        Ok(Job {
+            shell: number,
+            program: self.program.copy()?,
+            args: self.args.copy()?,
+        })
+    }
+
+    /// The program once it has started, with an output of its own or none, and a fault that came or none.
+    pub fn child(&self, output: Option<Target>, fault: Option<Result2>) -> Result<Child, NoMemory>
+        ensures { IfOk result (λ child. child ≡ child_of self.now output fault) }
+    {
+        Ok(Child {
+            word: self.word.copy()?,
+            entry: copied(self.entry.as_ref())?,
+            output,
+            fault,
+        })
+    }
+}
+
+// A copy of a text, if there is one.
+fn copied(text: Option<&Text>) -> Result<Option<Text>, NoMemory>
+    ensures { IfOk result (λ copy. copy ≡ option_copied text.entry) }
+{
+    match text {
+        None => Ok(None),
+        Some(text) => Ok(Some(text.copy()?)),
+    }
+}
+
+// A copy of a target, if there is one.
+fn copied_target(target: Option<&Target>) -> Result<Option<Target>, NoMemory>
+    ensures { IfOk result (λ copy. copy ≡ option_copied target.entry) }
+{
+    match target {
+        None => Ok(None),
+        Some(Target::Nil) => Ok(Some(Target::Nil)),
+        Some(Target::At(place)) => Ok(Some(Target::At(place.copy()?))),
+    }
 }

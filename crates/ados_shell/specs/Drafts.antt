@@ -61,7 +61,7 @@ behind draft shell = record {
 
 -- what an event gives that a draft holds
 abbrev pub out_of : Draft → Out
-out_of draft = giving draft.printed.items draft.reports.items
+out_of draft = giving draft.printed.items draft.request draft.reports.items
 
 abbrev pub frames_of : Scene → Draft → List FrameState
 frames_of scene draft = frames_in scene.shell.now draft.shell.frames

@@ -5,3 +5,4 @@ pub mod Drafts
 pub mod Outputs
 pub mod Turnings
 pub mod Views
+pub mod Answerings

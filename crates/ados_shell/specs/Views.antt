@@ -21,9 +21,16 @@ ServesNames builtin names other =
     (shared : SharedState) (script_line : Option ScriptLine) (args : List ℕ) (view : View) →
     action_of builtin shared script_line (record view { names = names }) args ≡ action_of builtin shared script_line (record view { names = other }) args
 
--- what commands read of a shell with these parts, where this is in use, and the shells that run have these names
-abbrev pub seen : Parts → InUse → List (Option Text) → View
-seen parts busy names = record { parts = parts; busy = busy; names = names }
+-- and the entries from which they run
+abbrev pub ServesUses : Builtin → List Text → List Text → Type 0
+ServesUses builtin uses other =
+    (shared : SharedState) (script_line : Option ScriptLine) (args : List ℕ) (view : View) →
+    action_of builtin shared script_line (record view { uses = uses }) args ≡ action_of builtin shared script_line (record view { uses = other }) args
+
+-- what commands read of a shell with these parts, where this is in use, and the shells that run have these names and run
+-- from these entries
+abbrev pub seen : Parts → InUse → List (Option Text) → List Text → View
+seen parts busy names uses = record { parts = parts; busy = busy; names = names; uses = uses }
 
 -- to a command one view is as good as another
 abbrev pub Serves : Builtin → View → View → Type 0

@@ -9,7 +9,7 @@ use ados_find::{ShellNames, Target};
 use ados_flow::{Action, call_script};
 use ados_line::Line;
 use ados_ram::{FsFault, Place};
-use ados_text::NoMemory;
+use ados_text::{NoMemory, Texts};
 
 impl Draft {
     ghost use Rattle.std.specs.Prelude.{IfOk};
@@ -76,6 +76,7 @@ impl Draft {
         let others = Others {
             busy: self.in_use(scene, target)?,
             names: ShellNames::new(scene.alloc),
+            uses: Texts::new(scene.alloc),
         };
         let view = self.shell.view(scene.shell, others);
         call_script(

@@ -1,5 +1,5 @@
 // What a turn has changed so far, ready to be moved in.
-ghost use Rattle.std.specs.Prelude.{◌≡◌, [], None, OnErr, OnOk, option_map};
+ghost use Rattle.std.specs.Prelude.{◌≡◌, [], None, IfOk, OnErr, OnOk, option_map};
 ghost use Rattle.ados_find.specs.Shared.{version};
 ghost use Rattle.ados_machine.specs.Step.{giving};
 
@@ -10,7 +10,7 @@ use crate::shells::Shell;
 use crate::stacks::Stack;
 use ados_find::{Change, Codes, Renamed, Setting, Shared, ShellView};
 use ados_flow::FIRST_LIMIT;
-use ados_machine::{EndReport, Out, Phase};
+use ados_machine::{EndReport, Out, Phase, Request};
 use ados_ram::Place;
 use ados_readargs::Args;
 use ados_text::{Code, NoMemory, Octets};
@@ -29,6 +29,8 @@ pub struct Draft {
     pub begun: Option<Box<Begun>>,
     /// What is printed on the console.
     pub printed: Vec<u8>,
+    /// What the launcher is asked for.
+    pub request: Option<Request>,
     /// The scripts that ended, innermost first.
     pub reports: Vec<EndReport>,
     /// Room for the arguments of the line at work; between two lines it says nothing.
@@ -62,6 +64,7 @@ impl Drop for Draft {
             renamed: _renamed,
             begun: _begun,
             printed: _printed,
+            request: _request,
             reports: _reports,
             args: _args,
         } = self;
@@ -83,11 +86,12 @@ impl Drop for ShellDraft {
 }
 
 impl Draft {
-    ghost use Rattle.ados_shell.specs.Drafts.{HoldsEffect, IsFresh, IsUnset, out_of, parts_of};
+    ghost use Rattle.ados_shell.specs.Drafts.{HoldsEffect, IsFresh, IsUnset, out_of, parts_of, phase_in};
+    ghost use Rattle.ados_machine.specs.Requests.{request_of};
 
     /// A draft in which nothing is changed yet.
     pub fn new(alloc: Global) -> Draft
-        ensures { out_of result ≡ giving [] [] }
+        ensures { out_of result ≡ giving [] None [] }
     {
         Draft {
             shell: ShellDraft {
@@ -103,6 +107,7 @@ impl Draft {
             renamed: None,
             begun: None,
             printed: Vec::new(alloc),
+            request: None,
             reports: Vec::new(alloc),
             args: Args::new(alloc),
         }
@@ -120,15 +125,24 @@ impl Draft {
         self.reports.clear();
     }
 
-    /// Nothing is printed, and no script ended.
+    /// Nothing is printed, nothing is asked for, and no script ended.
     pub fn give_nothing(&mut self)
-        ensures { out_of self.new ≡ giving [] [] }
+        ensures { out_of self.new ≡ giving [] None [] }
     {
         self.printed.clear();
+        self.request = None;
         self.reports.clear();
     }
 
-    /// What the event gives that printed this, and at which these scripts ended.
+    /// The launcher is asked for what the shell waits for behind its event.
+    pub fn ask_for(&mut self, shell: &Shell) -> Result<(), NoMemory>
+        ensures { OnOk result (self.new ≡ record self.old { request = request_of shell.now.parts.number (phase_in self.old.shell) }) }
+    {
+        self.request = self.shell.request(shell.number())?;
+        Ok(())
+    }
+
+    /// What the event gives that printed this, asks for this, and at which these scripts ended.
     pub fn into_out(self) -> Out
         ensures { result ≡ out_of self }
     {
@@ -138,10 +152,11 @@ impl Draft {
             renamed: _,
             begun: _,
             printed,
+            request,
             reports,
             args: _,
         } = self;
-        Out::giving(printed, reports)
+        Out::giving(printed, request, reports)
     }
 
     /// The current directory as it stands.
@@ -185,7 +200,8 @@ impl Draft {
 impl ShellDraft {
     ghost use Rattle.ados_find.specs.Changes.{changed_by};
     ghost use Rattle.ados_machine.specs.Shells.{ShellState};
-    ghost use Rattle.ados_shell.specs.Drafts.{IsUnchanged, behind};
+    ghost use Rattle.ados_shell.specs.Drafts.{IsUnchanged, behind, phase_in};
+    ghost use Rattle.ados_machine.specs.Requests.{request_of};
     ghost use Rattle.ados_shell.specs.Views.{seen};
 
     /// A turn of a shell begins: nothing is changed yet.
@@ -201,12 +217,22 @@ impl ShellDraft {
         self.kept = None;
     }
 
+    /// What the shell of a number asks a launcher for behind its turn.
+    pub fn request(&self, number: u8) -> Result<Option<Request>, NoMemory>
+        ensures { IfOk result (λ request. request ≡ request_of number (phase_in self.now)) }
+    {
+        match self.phase.as_deref() {
+            None => Ok(None),
+            Some(phase) => phase.request(number),
+        }
+    }
+
     /// What commands read of the shell as it stands, and of the shells that run.
     pub fn view<'b>(&'b self, shell: &'b Shell, others: Others) -> ShellView<'b>
         requires { self.now.setting ≡ None }
-        ensures { result ≡ seen (behind self.now shell.now).parts others.busy others.names }
+        ensures { result ≡ seen (behind self.now shell.now).parts others.busy others.names others.uses }
     {
-        let Others { busy, names } = others;
+        let Others { busy, names, uses } = others;
         ShellView {
             number: shell.number,
             directory: self.directory(shell),
@@ -215,6 +241,7 @@ impl ShellDraft {
             settings: shell.settings(),
             busy,
             names,
+            uses,
         }
     }
 
@@ -245,11 +272,13 @@ impl ShellDraft {
 
     /// Moves in what a turn makes of its shell.
     ///
-    /// `NoMemory` where there is no room for the frames or for a new name; the shell is then as it was.
+    /// `NoMemory` where there is no room for the frames, for a new name or for what is asked for; the shell is then as it
+    /// was.
     pub fn move_in(&mut self, shell: &mut Shell) -> Result<(), NoMemory>
         ensures ok { OnOk result (shell.new ≡ behind self.old shell.old) }
         ensures err { OnErr result (shell.new ≡ shell.old) }
     {
+        let request = self.request(shell.number)?;
         let Stack { kept, own } = &mut self.frames;
         shell.frames.reserve(own.len())?;
         if let Some(setting) = self.setting.take() {
@@ -260,6 +289,7 @@ impl ShellDraft {
             unreachable!();
         };
         shell.phase = self.phase.take();
+        shell.request = request;
         shell.limit = self.limit;
         shell.codes = self.codes;
         if let Some(kept) = self.kept.take() {

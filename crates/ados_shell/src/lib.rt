@@ -1,6 +1,8 @@
 #![tactic(auto)]
-//! One shell: its frames, what it waits for and its parts; and a turn of it, which fills a draft with what it changes.
+//! One shell: its frames, what it waits for and its parts; and a turn of it, or a launcher's answer for it, which fills a
+//! draft with what it changes.
 
+mod answers;
 mod arrivals;
 mod begun;
 mod calls;
@@ -9,6 +11,7 @@ mod code_rule;
 mod commands;
 mod console;
 mod drafts;
+mod hosted;
 mod inputs;
 mod lines;
 mod outputs;
@@ -23,6 +26,7 @@ mod stacks;
 mod ticks;
 mod turnings;
 
+pub use answers::Answering;
 pub use begun::Begun;
 pub use commands::Commands;
 pub use drafts::{Draft, ShellDraft};

@@ -89,7 +89,10 @@ impl Draft {
                 Some(builtin) => self.prepare(scene, builtin, line),
                 None => self.run(scene, line),
             },
-            Found::File(program) => self.prepare(scene, Builtin::from(program.command), line),
+            Found::Resident(entry) => {
+                self.run_program(scene, Some(entry.name), entry.program, line)
+            }
+            Found::File(file) => self.run_program(scene, None, file.program, line),
             Found::Script(place) => self.run_script(scene, place, line),
             Found::Directory(place) => self.arrive(scene, place, line),
             Found::NotExecutable(fault) => self.answer(scene, word, Codes::erred(fault), false),

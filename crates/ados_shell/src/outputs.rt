@@ -67,7 +67,7 @@ impl Draft {
     ghost use Rattle.ados_shell.specs.Drafts.{course_of, here};
 
     /// Opens what a redirection names, as the shell and the shared parts stand.
-    fn open(&self, scene: &Scene, output: Option<&Redirection>) -> Result<Opened, FsFault>
+    pub fn open(&self, scene: &Scene, output: Option<&Redirection>) -> Result<Opened, FsFault>
         ensures { IsOpened (course_of scene.now self.now).shared result (opening (course_of scene.now self.now) (option_copied output.entry)) }
     {
         match output {

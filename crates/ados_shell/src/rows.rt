@@ -7,18 +7,19 @@ ghost use Rattle.ados_machine.specs.Lines.{action_deed, action_in, busy_in, comm
 
 use crate::drafts::{Draft, ShellDraft};
 use crate::scenes::Scene;
-use crate::seen::{Others, in_use, names_while};
+use crate::seen::{Others, in_use, names_while, uses};
 use ados_find::{Outcome, Shared, ShellNames, Target};
 use ados_flow::Action;
 use ados_line::Line;
 use ados_machine::{Builtin, Question};
 use ados_ram::{Busy, FsFault};
 use ados_readargs::Args;
-use ados_text::{NoMemory, Text};
+use ados_text::{NoMemory, Text, Texts};
 
 impl Draft {
     ghost use Rattle.ados_shell.specs.Drafts.{IsUnset, Settles, course_of, here, parts_of};
-    ghost use Rattle.ados_shell.specs.Views.{Serves, ServesInUse, ServesNames, seen};
+    ghost use Rattle.ados_shell.specs.Views.{Serves, ServesInUse, ServesNames, ServesUses, seen};
+    ghost use Rattle.ados_machine.specs.Course.{uses_of};
 
     /// Opens a command's output, and lets it do its work; its input has these lines, if there is one.
     pub fn begin(
@@ -118,12 +119,13 @@ impl Draft {
         word: &Text,
         target: Option<&Target>,
     ) -> Result<Others, NoMemory>
-        ensures { IfOk result (λ others. Serves builtin (seen (parts_of scene.now self.now) others.busy others.names)
+        ensures { IfOk result (λ others. Serves builtin (seen (parts_of scene.now self.now) others.busy others.names others.uses)
             (view_of word.now (option_copied target.entry) (course_of scene.now self.now))) }
     {
         let busy = self.busy_for(scene, builtin, target)?;
         let names = self.names_for(scene, builtin, word)?;
-        Ok(Others { busy, names })
+        let uses = self.uses_for(scene, builtin)?;
+        Ok(Others { busy, names, uses })
     }
 
     /// What is in use, for a command whose output leads there. It is gathered only for those that read it.
@@ -155,6 +157,17 @@ impl Draft {
             names_while(scene.alloc, scene.shells, scene.shell.number(), word)
         } else {
             Ok(ShellNames::new(scene.alloc))
+        }
+    }
+
+    /// The entries from which the shells run, for a command. They are gathered only for those that read them.
+    fn uses_for(&self, scene: &Scene, builtin: Builtin) -> Result<Texts, NoMemory>
+        ensures { IfOk result (λ uses. ServesUses builtin uses (uses_of (course_of scene.now self.now).seen)) }
+    {
+        if builtin.reads_shells() {
+            uses(scene.alloc, scene.shells)
+        } else {
+            Ok(Texts::new(scene.alloc))
         }
     }
 
@@ -217,7 +230,7 @@ impl ShellDraft {
     ) -> Result<Action, NoMemory>
         requires { self.now.setting ≡ None }
         ensures { IfOk result (λ action. acting shared.now action ≡ action_of builtin shared.now
-            (script_line_of (newest (frames_in scene.now.shell.now self.now.frames))) (seen (behind self.now scene.now.shell.now).parts others.busy others.names) line.now.args) }
+            (script_line_of (newest (frames_in scene.now.shell.now self.now.frames))) (seen (behind self.now scene.now.shell.now).parts others.busy others.names others.uses) line.now.args) }
     {
         let view = self.view(scene.shell, others);
         let frame = self.frames.newest(scene.shell);

@@ -3,7 +3,7 @@ ghost use Rattle.std.specs.Prelude.{◌≡◌, ◌≤◌, ◌+◌, length, ◌++
 ghost use Rattle.std.specs.List.{slice_set};
 ghost use Rattle.std.specs.Option.{option_copied};
 ghost use Rattle.ados_assign.specs.InUse.{busy_of};
-ghost use Rattle.ados_machine.specs.Course.{directories_of, outputs_of};
+ghost use Rattle.ados_machine.specs.Course.{directories_of, outputs_of, uses_of, with_use};
 ghost use Rattle.ados_machine.specs.Shells.{seen_of};
 ghost use Rattle.ados_machine.specs.Sinks.{held_while, outputs_in};
 ghost use Rattle.ados_machine.specs.Lines.{name_seen};
@@ -18,7 +18,7 @@ use ados_find::{ShellNames, Target};
 use ados_flow::{Frame, Kind};
 use ados_machine::{Asking, Phase, Wait};
 use ados_ram::{Busy, Place};
-use ados_text::{NoMemory, Text};
+use ados_text::{NoMemory, Text, Texts};
 use std::alloc::Global;
 
 /// What a command reads of the shells that run.
@@ -28,6 +28,8 @@ pub struct Others {
     pub busy: Busy,
     /// The name in Status of each number's shell.
     pub names: ShellNames,
+    /// The resident entries, by their names, of the shells that run from one.
+    pub uses: Texts,
 }
 
 /// The open outputs of the shells that run, in order of their numbers; nothing else is in use.
@@ -105,6 +107,8 @@ fn push_held(places: &mut Vec<Place>, wait: &Wait) -> Result<(), NoMemory>
         Wait::ForAnswer(Asking::Arguments { .. }) => Ok(()),
         Wait::ForAnswer(Asking::Reply(question)) => push_output(places, question.output.as_ref()),
         Wait::ForLines(gathering) => push_output(places, gathering.output.as_ref()),
+        Wait::ForStart(_) => Ok(()),
+        Wait::ForPiece(child) | Wait::ForEnd(child) => push_output(places, child.output.as_ref()),
     }
 }
 
@@ -129,6 +133,40 @@ fn push_output(places: &mut Vec<Place>, target: Option<&Target>) -> Result<(), N
             places.push(place.copy()?)?;
             Ok(())
         }
+    }
+}
+
+/// The resident entries, by their names, of the shells that run from one, in order of their numbers.
+pub fn uses(alloc: Global, shells: &[Option<Shell>; 20]) -> Result<Texts, NoMemory>
+    ensures { IfOk result (λ uses. uses ≡ uses_of (seen_in shells.now)) }
+{
+    let mut uses = Texts::new(alloc);
+    for shell in shells {
+        match shell {
+            None => {}
+            Some(shell) => push_use(&mut uses, shell)?,
+        }
+    }
+    Ok(uses)
+}
+
+/// The resident entry from which a shell runs, if it runs from one, behind others.
+fn push_use(uses: &mut Texts, shell: &Shell) -> Result<(), NoMemory>
+    ensures { OnOk result (uses.new ≡ uses.old ++ with_use (seen_of shell.now).entry []) }
+{
+    match entry(shell) {
+        None => Ok(()),
+        Some(entry) => uses.push(entry.copy()?),
+    }
+}
+
+/// The resident entry from which a shell runs, by its name.
+fn entry(shell: &Shell) -> Option<&Text>
+    ensures { option_copied result ≡ (seen_of shell.now).entry }
+{
+    match shell.phase.as_deref() {
+        Some(Phase::Waiting(wait)) => wait.entry(),
+        _ => None,
     }
 }
 
@@ -181,6 +219,8 @@ fn word(wait: &Wait) -> &Text
         Wait::ForAnswer(Asking::Arguments { line, .. }) => &line.command,
         Wait::ForAnswer(Asking::Reply(question)) => &question.word,
         Wait::ForLines(gathering) => &gathering.word,
+        Wait::ForStart(starting) => &starting.word,
+        Wait::ForPiece(child) | Wait::ForEnd(child) => &child.word,
     }
 }
 

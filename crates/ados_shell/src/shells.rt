@@ -1,5 +1,6 @@
 // A shell: its frames, what it waits for, its parts.
 ghost use Rattle.std.specs.Prelude.{◌≡◌, ◌∷◌, [], reverse, IfOk};
+ghost use Rattle.std.specs.Option.{option_copied};
 ghost use Rattle.ados_machine.specs.Shells.{begun_shell, fresh_shell};
 ghost use Rattle.ados_flow.specs.Frames.{began, first_limit};
 ghost use Rattle.ados_flow.specs.declared.kinds.Kind.TheVariants.{Lines};
@@ -7,7 +8,7 @@ ghost use Rattle.ados_flow.specs.declared.kinds.Kind.TheVariants.{Lines};
 use crate::begun::Begun;
 use ados_find::{Codes, Settings, Target};
 use ados_flow::{FIRST_LIMIT, Frame, Kind};
-use ados_machine::Phase;
+use ados_machine::{Phase, Request};
 use ados_ram::Place;
 use ados_script::Script;
 use ados_text::{Code, NoMemory, Octets};
@@ -20,6 +21,8 @@ pub struct Shell {
     pub(crate) frames: Vec<Frame>,
     // `None` where it is ready.
     pub(crate) phase: Option<Box<Phase>>,
+    // What it asked a launcher for, and waits for.
+    pub(crate) request: Option<Request>,
     pub(crate) number: u8,
     pub(crate) directory: Place,
     pub(crate) limit: Code,
@@ -35,6 +38,7 @@ impl Drop for Shell {
         let Shell {
             frames: _frames,
             phase: _phase,
+            request: _request,
             number: _number,
             directory: _directory,
             limit: _limit,
@@ -49,6 +53,8 @@ impl Model for Shell {
     ghost use Rattle.std.specs.Prelude.{option_map, reverse};
     ghost use Rattle.ados_machine.specs.Shells.{ShellState};
     ghost use Rattle.ados_shell.specs.Shells.{phase_of};
+    ghost use Rattle.ados_machine.specs.Requests.{request_of};
+    ghost use Rattle.std.specs.Prelude.{◌≡◌};
 
     ghost Value = { ShellState };
 
@@ -58,11 +64,15 @@ impl Model for Shell {
       parts = record { number = s.number; directory = s.directory; limit = s.limit; codes = s.codes; settings = s.settings };
       kept = reverse s.kept.items;
     } };
+
+    // What it asked for is what its phase asks for.
+    ghost invariant = { λ s. s.request ≡ request_of s.number (phase_of (option_map (λ p. p.value) s.phase)) };
 }
 
 impl Shell {
     ghost use Rattle.ados_machine.specs.Turning.{Input};
-    ghost use Rattle.ados_machine.specs.World.{can_take, has_frame, has_input};
+    ghost use Rattle.ados_machine.specs.Requests.{request_of};
+    ghost use Rattle.ados_machine.specs.World.{can_take, has_frame, has_input, takes_input};
 
     /// The shell of a number in which nothing has answered yet, in the root.
     pub fn new(alloc: Global, number: u8) -> Result<Shell, NoMemory>
@@ -71,6 +81,7 @@ impl Shell {
         Ok(Shell {
             frames: Vec::new(alloc),
             phase: None,
+            request: None,
             number,
             directory: Place::root(alloc),
             limit: FIRST_LIMIT,
@@ -93,6 +104,7 @@ impl Shell {
         Ok(Shell {
             frames: single_frame(alloc, commands, output)?,
             phase: None,
+            request: None,
             number,
             directory,
             limit: FIRST_LIMIT,
@@ -159,8 +171,26 @@ impl Shell {
         match self.phase.as_deref() {
             None | Some(Phase::Ready) => has_lines || !self.frames.is_empty(),
             Some(Phase::GoingOn(_)) => true,
-            Some(Phase::Waiting(_)) => has_lines,
+            Some(Phase::Waiting(wait)) => wait.is_for_input() && has_lines,
         }
+    }
+
+    /// It takes of its input next: it is ready and runs no frame, or waits for a line.
+    pub fn takes_input(&self) -> bool
+        ensures { result ≡ takes_input self.now.frames self.now.phase }
+    {
+        match self.phase.as_deref() {
+            None | Some(Phase::Ready) => self.frames.is_empty(),
+            Some(Phase::GoingOn(_)) => false,
+            Some(Phase::Waiting(wait)) => wait.is_for_input(),
+        }
+    }
+
+    /// What it asked a launcher for, and waits for.
+    pub fn request(&self) -> Option<&Request>
+        ensures { option_copied result ≡ request_of self.now.parts.number self.now.phase }
+    {
+        self.request.as_ref()
     }
 }
 

@@ -34,7 +34,8 @@ impl Draft {
     /// changed, and what the draft held before is forgotten.
     ///
     /// A shell that waits for the answer to a prompt takes a line of its input, and at its end an empty one; one whose Run
-    /// gathers takes a line, and goes on without one at the end. A line whose tick has ended goes on. A shell that is
+    /// gathers takes a line, and goes on without one at the end; one that waits for a launcher takes nothing. A line whose
+    /// tick has ended goes on. A shell that is
     /// ready takes the next line of its newest frame; without a frame it takes a line of its input, and ends at the end
     /// of that.
     ///
@@ -56,6 +57,9 @@ impl Draft {
                 Phase::Waiting(Wait::ForAnswer(asking)) => self.answer_turn(scene, asking, input),
                 Phase::Waiting(Wait::ForLines(gathering)) => {
                     self.gathering_turn(scene, gathering, input)
+                }
+                Phase::Waiting(Wait::ForStart(_) | Wait::ForPiece(_) | Wait::ForEnd(_)) => {
+                    Ok(Turning::NotReady)
                 }
             },
         }

@@ -1,6 +1,40 @@
--- Hosts.
-use Rattle.std.specs.Prelude.{List, [], ◌∷◌, Bool, true, false}
+-- The host's commands that a world is made with.
+use Rattle.std.specs.Prelude.{◌≡◌, ℕ, suc, List, [], ◌∷◌, take, length, slice_get, Bool, not, ◌||◌, nat_lt, Option, Some, None, is_some, Result, Ok, Err, if◌then◌else◌}
+use Rattle.std.specs.Option.{option_or}
+use Rattle.std.specs.List.{list_any}
+use Rattle.ados_text.specs.Text.{Text, is_same}
+use Rattle.ados_names.specs.Names.{is_name}
+use Rattle.ados_resident.specs.declared.hosts.HostEntry.{HostEntry}
+use Rattle.ados_resident.specs.InternalCommands.{internal_named}
+use Rattle.ados_resident.specs.DiskCommands.{disk_named}
+use Rattle.ados_world.specs.declared.hosts.NewFault.{NewFault}
+use Rattle.ados_world.specs.declared.hosts.NewFault.TheVariants.{TooMany, BadName, Double, NoMemory}
 
-abbrev pub is_nil : {X : Type 0} → List X → Bool
-is_nil [] = true
-is_nil (x ∷ xs) = false
+-- so many a world takes at most
+abbrev pub host_limit : ℕ
+host_limit = 64
+
+-- a command has the name: an internal one, a disk command, or one of these
+abbrev pub is_taken : List HostEntry → Text → Bool
+is_taken hosts name = is_some (internal_named name) || (is_some (disk_named name) || list_any (λ host. is_same name host.name) hosts)
+
+-- why a name is refused, which has this place from 1 on and these before it: it is none, or a command's
+abbrev pub name_fault : List HostEntry → ℕ → Text → Option NewFault
+name_fault before place name =
+    if not (is_name name) then Some (BadName place) else (if is_taken before name then Some (Double place) else None)
+
+-- the fault of the first of these that has one; so many are before them
+abbrev pub faults_from : List HostEntry → ℕ → List HostEntry → Option NewFault
+faults_from hosts before [] = None
+faults_from hosts before (entry ∷ entries) =
+    option_or (name_fault (take before hosts) (suc before) entry.name) (faults_from hosts (suc before) entries)
+
+-- why a world is not made with these: they are too many, or else the fault of the first that has one
+abbrev pub hosts_fault : List HostEntry → Option NewFault
+hosts_fault hosts = if nat_lt host_limit (length hosts) then Some TooMany else faults_from hosts 0 hosts
+
+-- a world is made where there is no fault, and else the refusal is the fault; want of memory comes only where there is none
+abbrev pub Answers : {X : Type 0} → Result X NewFault → Option NewFault → Type 0
+Answers (Ok x) fault = fault ≡ None
+Answers (Err NoMemory) fault = fault ≡ None
+Answers (Err why) fault = fault ≡ Some why

@@ -1,22 +1,81 @@
+// The host's commands that a world is made with.
+ghost use Rattle.std.specs.Prelude.{◌≡◌};
+ghost use Rattle.ados_text.specs.Text.{is_same};
+ghost use Rattle.ados_world.specs.Hosts.{faults_from, hosts_fault, is_taken, name_fault};
+
+use ados_names::is_name;
+use ados_resident::{DiskCommand, HostEntry, InternalCommand};
 use ados_text::Text;
 use thiserror::Error;
 
-/// A command that is a program of the host.
-#[derive(Debug, Drop)]
-pub struct HostEntry {
-    /// The command's name.
-    pub name: Text,
-    /// The program that it starts.
-    pub program: Text,
-}
+/// So many commands of the host a world takes at most.
+const HOST_LIMIT: usize = 64;
 
 /// Why a world can't be made.
 #[derive(Clone, Copy, Debug, PartialEq, Eq, Error)]
 pub enum NewFault {
-    /// More hosts than a world takes; it takes none yet.
+    /// More than 64 commands of the host.
     #[error("too many hosts")]
     TooMany,
+    /// The name of this one, counted from 1, is no name: 1 to 30 printable characters without colon and slash.
+    #[error("host {0} has no name")]
+    BadName(usize),
+    /// The name of this one, counted from 1, is that of a command, or of an earlier one.
+    #[error("host {0} has the name of another")]
+    Double(usize),
     /// There was no memory for the templates of the commands or for the files of the beginning.
     #[error("no free store")]
     NoMemory,
+}
+
+/// Why a world is not made with these commands of the host: there are too many, or else the fault of the first that has
+/// one.
+pub fn hosts_fault(hosts: &[HostEntry]) -> Option<NewFault>
+    ensures { result ≡ hosts_fault hosts.now }
+{
+    if hosts.len() > HOST_LIMIT {
+        return Some(NewFault::TooMany);
+    }
+    first_fault(hosts)
+}
+
+/// The fault of the first that has one.
+fn first_fault(hosts: &[HostEntry]) -> Option<NewFault>
+    ensures { result ≡ faults_from hosts.now 0 hosts.now }
+{
+    for place in 0..hosts.len() {
+        if let Some(fault) = name_fault(&hosts[..place], place + 1, &hosts[place].name) {
+            return Some(fault);
+        }
+    }
+    None
+}
+
+/// Why a name is refused, which has this place from 1 on and these before it.
+fn name_fault(before: &[HostEntry], place: usize, name: &Text) -> Option<NewFault>
+    ensures { result ≡ name_fault before.now place name.now }
+{
+    if !is_name(name) {
+        Some(NewFault::BadName(place))
+    } else if is_taken(before, name) {
+        Some(NewFault::Double(place))
+    } else {
+        None
+    }
+}
+
+/// A command has the name: an internal one, a disk command, or one of these.
+fn is_taken(hosts: &[HostEntry], name: &Text) -> bool
+    ensures { result ≡ is_taken hosts.now name.now }
+{
+    InternalCommand::named(name).is_some()
+        || DiskCommand::named(name.as_bytes()).is_some()
+        || hosts.iter().any(|host| is_called(host, name))
+}
+
+/// The name is this one's; case is ignored.
+fn is_called(host: &HostEntry, name: &Text) -> bool
+    ensures { result ≡ is_same name.now host.now.name }
+{
+    name.as_bytes().eq_ignore_ascii_case(host.name.as_bytes())
 }

@@ -1,6 +1,6 @@
 #![tactic(auto)]
-//! The world of shells: it takes events one by one, and answers what is printed and which scripts
-//! ended.
+//! The world of shells: it takes events one by one, and answers what is printed, what a launcher is asked for, and which
+//! scripts ended.
 
 mod carrying;
 mod endings;
@@ -13,7 +13,8 @@ mod steps;
 mod worlds;
 
 pub use ados_machine::{Answer, Codes, EndReport, Event, Job, Out, Refusal, Reports, Request};
+pub use ados_resident::HostEntry;
 pub use ados_shell::Draft;
-pub use hosts::{HostEntry, NewFault};
+pub use hosts::NewFault;
 pub use runs::{Outs, Run};
 pub use worlds::World;

@@ -18,8 +18,8 @@ const QUEUE_LINES: usize = 256;
 impl World {
     /// A copy of a line joins the queue.
     pub(crate) fn queue_copy(&mut self, line: &Text) -> Result<(), Refusal>
-        ensures answer { IsAnswer (Event.Typed line.now) (answering (giving [] []) result) (typed self.old line.now) }
-        ensures world { self.new ≡ world_after self.old (answering (giving [] []) result) (typed self.old line.now) }
+        ensures answer { IsAnswer (Event.Typed line.now) (answering (giving [] None []) result) (typed self.old line.now) }
+        ensures world { self.new ≡ world_after self.old (answering (giving [] None []) result) (typed self.old line.now) }
     {
         self.admit(line)?;
         match line.copy() {
@@ -30,7 +30,7 @@ impl World {
 
     /// A line may join the queue, but for want of memory.
     pub(crate) fn admit(&self, line: &Text) -> Result<(), Refusal>
-        ensures ok { OnOk result (typed self.now line.now ≡ Accepted (with_line line.now self.now) (giving [] []) []) }
+        ensures ok { OnOk result (typed self.now line.now ≡ Accepted (with_line line.now self.now) (giving [] None []) []) }
         ensures err { IfErr result (λ why. typed self.now line.now ≡ Refused why) }
     {
         if self.input_ended {
@@ -59,8 +59,8 @@ impl World {
 
     /// No further line will be typed.
     pub(crate) fn end_input(&mut self) -> Result<(), Refusal>
-        ensures answer { IsAnswer Event.EndOfInput (answering (giving [] []) result) (end_of_input self.old) }
-        ensures world { self.new ≡ world_after self.old (answering (giving [] []) result) (end_of_input self.old) }
+        ensures answer { IsAnswer Event.EndOfInput (answering (giving [] None []) result) (end_of_input self.old) }
+        ensures world { self.new ≡ world_after self.old (answering (giving [] None []) result) (end_of_input self.old) }
     {
         if self.input_ended {
             return Err(Refusal::NotReady);

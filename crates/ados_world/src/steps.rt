@@ -1,9 +1,8 @@
 // The step: what an event makes of a world.
 ghost use Rattle.std.specs.Prelude.{◌≡◌, [], drop, false, Err, IfErr, OnErr, OnOk, is_some, true};
-ghost use Rattle.ados_machine.specs.declared.answers.Answer.{Answer as Reply};
 ghost use Rattle.ados_machine.specs.Limits.{IsSane};
 ghost use Rattle.ados_machine.specs.World.{is_over, shell_at};
-ghost use Rattle.ados_machine.specs.Step.{step_of, turned, replied, giving, queue_behind};
+ghost use Rattle.ados_machine.specs.Step.{step_of, turned, answered, giving, queue_behind};
 ghost use Rattle.ados_machine.specs.Runs.{IsAnswer, world_after};
 ghost use Rattle.ados_machine.specs.declared.refusals.Refusal.TheVariants.{NoMemory};
 ghost use Rattle.ados_shell.specs.Drafts.{out_of};
@@ -16,8 +15,8 @@ use crate::new_shells::{join, new_shell};
 use crate::shells::change_shell;
 use crate::worlds::World;
 use ados_find::Codes;
-use ados_machine::{Event, Out, Refusal};
-use ados_shell::{Draft, Turning};
+use ados_machine::{Answer, Event, Out, Refusal};
+use ados_shell::{Answering, Draft, Turning};
 use ados_text::Text;
 
 impl World {
@@ -53,14 +52,14 @@ impl World {
                 self.end_input()
             }
             Event::Turn(number) => self.turn(*number, draft),
-            Event::Answer(number, _) => Err(self.refusal_of_answer(*number)),
+            Event::Answer(number, answer) => self.answer(*number, answer, draft),
         }
     }
 
     /// A line was typed: the event of that name, which gives nothing, by a line that the world keeps.
     pub fn type_line(&mut self, line: Text) -> Result<(), Refusal>
-        ensures answer { IsAnswer (Event.Typed line) (answering (giving [] []) result) (step_of self.old (Event.Typed line)) }
-        ensures world { self.new ≡ world_after self.old (answering (giving [] []) result) (step_of self.old (Event.Typed line)) }
+        ensures answer { IsAnswer (Event.Typed line) (answering (giving [] None []) result) (step_of self.old (Event.Typed line)) }
+        ensures world { self.new ≡ world_after self.old (answering (giving [] None []) result) (step_of self.old (Event.Typed line)) }
     {
         if self.is_over() {
             return Err(Refusal::Over);
@@ -89,8 +88,40 @@ impl World {
                 self.end_shell(number, codes);
                 Ok(())
             }
-            Ok(Turning::Goes) => self.take(number, draft),
-            Ok(Turning::Takes) => self.take_typed(number, draft),
+            Ok(Turning::Goes) => {
+                let Ok(()) = draft.ask_for(shell) else {
+                    return Err(Refusal::NoMemory);
+                };
+                self.take(number, draft)
+            }
+            Ok(Turning::Takes) => {
+                let Ok(()) = draft.ask_for(shell) else {
+                    return Err(Refusal::NoMemory);
+                };
+                self.take_typed(number, draft)
+            }
+        }
+    }
+
+    fn answer(&mut self, number: u8, answer: &Answer, draft: &mut Draft) -> Result<(), Refusal>
+        requires { is_over self.old ≡ false }
+        ensures answer { IsAnswer (Event.Answer number answer.now) (answering (out_of draft.new) result) (answered self.old number answer.now (shell_at self.old number)) }
+        ensures world { self.new ≡ world_after self.old (answering (out_of draft.new) result) (answered self.old number answer.now (shell_at self.old number)) }
+    {
+        // By this an answer knows what holds of every world, as a turn does.
+        let _ = &self.alloc;
+        let Some(shell) = self.shell(number) else {
+            return Err(Refusal::NoSuchShell);
+        };
+        match draft.take_answer_of(&self.scene(number, shell), answer) {
+            Err(_) => Err(Refusal::NoMemory),
+            Ok(Answering::WrongAnswer) => Err(Refusal::WrongAnswer),
+            Ok(Answering::Goes) => {
+                let Ok(()) = draft.ask_for(shell) else {
+                    return Err(Refusal::NoMemory);
+                };
+                self.take(number, draft)
+            }
         }
     }
 
@@ -149,15 +180,5 @@ impl World {
         ensures { self.new ≡ ended_world number codes self.old }
     {
         end(&mut self.shells, &mut self.ended, number, codes);
-    }
-
-    /// Why an answer is refused: no shell waits for one yet.
-    fn refusal_of_answer(&self, number: u8) -> Refusal
-        ensures { (answer : Reply) → IsAnswer (Event.Answer number answer) (Err result) (replied (shell_at self.now number)) }
-    {
-        match self.shell(number) {
-            Some(_) => Refusal::WrongAnswer,
-            None => Refusal::NoSuchShell,
-        }
     }
 }

@@ -1,18 +1,19 @@
 // A world, and what it shows.
-ghost use Rattle.std.specs.Prelude.{◌≡◌, [], IfOk, IfErr, MatchBool, OnSome};
+ghost use Rattle.std.specs.Prelude.{◌≡◌, IfOk, OnSome};
 ghost use Rattle.std.specs.Option.{option_copied};
-ghost use Rattle.ados_world.specs.Hosts.{is_nil};
+ghost use Rattle.ados_world.specs.Hosts.{Answers, hosts_fault};
 ghost use Rattle.ados_world.specs.Shells.{IsShellNumber};
 ghost use Rattle.ados_machine.specs.World.{fresh_world, shell_at, is_over, is_ready, wants_line, codes_at, ended_at, running, pending_of};
 
-use crate::hosts::{HostEntry, NewFault};
+use crate::hosts::{NewFault, hosts_fault};
 use crate::shells::{any_runs, find_shell, no_shells, taken};
 use ados_assign::Assigns;
 use ados_find::{Codes, Shared};
 use ados_machine::Request;
+use ados_resident::{HostEntry, Hosts, Residents};
 use ados_ram::Ram;
 use ados_shell::{Commands, Scene, Shell};
-use ados_text::Text;
+use ados_text::{NoMemory, Text};
 use std::alloc::Global;
 use std::collections::VecDeque;
 use std::marker::Model;
@@ -47,26 +48,32 @@ impl Model for World {
 }
 
 impl World {
-    /// A world with shell 1 alone, in which nothing was typed, and the files of the beginning.
+    /// A world with shell 1 alone, in which nothing was typed, with these commands that are programs of the host, and the
+    /// files of the beginning.
     ///
-    /// `TooMany` for any host, since no host's program can be started yet; without one, `NoMemory` where there is
-    /// none for the templates of the commands, the first files or the variables of shell 1.
+    /// `TooMany` for more than 64 commands; else, of the first of them that is refused, `BadName` where its name is none,
+    /// and `Double` where a command has it, or an earlier one of these; `NoMemory`, where nothing is refused, for want of
+    /// memory.
     pub fn new(alloc: Global, hosts: &[HostEntry]) -> Result<World, NewFault>
-        ensures world { IfOk result (λ world. (world ≡ fresh_world) × (hosts.now ≡ [])) }
-        ensures too_many { IfErr result (λ fault. MatchBool (is_nil hosts.now) (fault ≡ NewFault.NoMemory) (fault ≡ NewFault.TooMany)) }
+        ensures world { IfOk result (λ world. world ≡ fresh_world hosts.now) }
+        ensures fault { Answers result (hosts_fault hosts.now) }
     {
-        if !hosts.is_empty() {
-            return Err(NewFault::TooMany);
+        if let Some(fault) = hosts_fault(hosts) {
+            return Err(fault);
         }
-        let Ok(commands) = Commands::new(alloc) else {
-            return Err(NewFault::NoMemory);
-        };
-        let Ok(shared) = Shared::first(alloc) else {
-            return Err(NewFault::NoMemory);
-        };
-        let Ok(first) = Shell::new(alloc, 1) else {
-            return Err(NewFault::NoMemory);
-        };
+        match World::fresh(alloc, hosts) {
+            Ok(world) => Ok(world),
+            Err(NoMemory) => Err(NewFault::NoMemory),
+        }
+    }
+
+    // A world that begins.
+    fn fresh(alloc: Global, hosts: &[HostEntry]) -> Result<World, NoMemory>
+        ensures { IfOk result (λ world. world ≡ fresh_world hosts.now) }
+    {
+        let commands = Commands::new(alloc)?;
+        let shared = Shared::first(alloc, Hosts::of(alloc, hosts)?)?;
+        let first = Shell::new(alloc, 1)?;
         let mut shells = no_shells();
         shells[0] = Some(first);
         Ok(World {
@@ -108,7 +115,7 @@ impl World {
 
     /// The shell of this number can take a turn: it is ready and runs a frame, a line of it goes on behind its tick, or it
     /// takes of its input and a line waits there or it has ended. One that waits for the answer to a prompt, or whose
-    /// Run gathers, takes of its input alone. The input of a background shell is at its end.
+    /// Run gathers, takes of its input alone, and one that waits for a launcher takes nothing. The input of a background shell is at its end.
     pub fn ready(&self, number: u8) -> bool
         ensures { result ≡ is_ready self.now number }
     {
@@ -119,20 +126,23 @@ impl World {
     }
 
     /// What the shell of this number asked a launcher for, and waits for.
-    ///
-    /// Always `None`, since no shell starts a program yet.
     pub fn pending(&self, number: u8) -> Option<&Request>
         ensures { option_copied result ≡ pending_of self.now number }
     {
-        let _ = number;
-        None
+        match self.shell(number) {
+            None => None,
+            Some(shell) => shell.request(),
+        }
     }
 
-    /// Shell 1 runs and has nothing to take, and a line can still be typed.
+    /// Shell 1 takes of its input next, and nothing is there, and a line can still be typed.
     pub fn wants_line(&self) -> bool
         ensures { result ≡ wants_line self.now }
     {
-        self.shell(1).is_some() && !self.ready(1)
+        match self.shell(1) {
+            None => false,
+            Some(shell) => shell.takes_input() && !self.has_input(1),
+        }
     }
 
     /// The files as they stand.
@@ -147,6 +157,13 @@ impl World {
         ensures { result.now ≡ self.now.shared.assigns }
     {
         &self.shared.assigns
+    }
+
+    /// The resident list as it stands.
+    pub fn residents(&self) -> &Residents
+        ensures { result.now ≡ self.now.shared.residents }
+    {
+        &self.shared.residents
     }
 
     /// What a turn of the shell of a number sees.

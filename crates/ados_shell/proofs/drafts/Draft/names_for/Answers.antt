@@ -6,4 +6,4 @@ use Rattle.ados_shell.proofs.drafts.Draft.names_for.Goals as goal
 pub returns-else-reads_shells : goal.returns-else-reads_shells
 returns-else-reads_shells c = λ shared script_line args view.
     let ignores = c.reads_shells.ensures.ignores c.if-reads_shells.false shared script_line args view in
-    ignores c.new.result ∙ sym (ignores (names_in c.args.word.now (course_of c.args.scene.now c.args.self.now)))
+    ignores c.new.result view.uses ∙ sym (ignores (names_in c.args.word.now (course_of c.args.scene.now c.args.self.now)) view.uses)

@@ -1,0 +1,36 @@
+-- What a launcher's answer to a shell comes to.
+use Rattle.std.specs.Prelude.{◌≡◌, ℕ, List, Option, Some, None, is_some, true}
+use Rattle.ados_machine.specs.declared.answers.Answer.{Answer}
+use Rattle.ados_machine.specs.declared.refusals.Refusal.TheVariants as refusal
+use Rattle.ados_machine.specs.Deeds.{Deed}
+use Rattle.ados_machine.specs.Turning as machine
+use Rattle.ados_shell.specs.declared.answers.Answering.{Answering}
+use Rattle.ados_shell.specs.declared.answers.Answering.TheVariants.{WrongAnswer, Goes}
+use Rattle.ados_shell.specs.declared.scenes.Scene.{Scene}
+use Rattle.ados_shell.specs.declared.drafts.Draft.{Draft}
+use Rattle.ados_shell.specs.Drafts.{IsDrafted, Settles, start_of}
+use Rattle.ados_shell.specs.Turnings.{MayWantMemory}
+
+-- the machine's answering of the scene's shell, with this input
+abbrev pub answering_in : Scene → machine.Input → Answer → machine.Turning
+answering_in scene input answer = machine.answering input scene.shell.now.frames (start_of scene) scene.shell.now.phase answer
+
+-- an answering is that of the machine: the shell does not wait for the answer, or goes on by it; its lines wait on
+abbrev pub IsAnswering : Scene → List (List ℕ) → Answering → Draft → machine.Turning → Type 0
+IsAnswering scene queue WrongAnswer draft (machine.Refuses why) = why ≡ refusal.WrongAnswer
+IsAnswering scene queue Goes draft (machine.Takes rest turned) = (rest ≡ queue) × IsDrafted scene draft turned
+IsAnswering scene queue _ draft _ = ⊥
+
+-- the answering of the scene's shell, whatever its input
+abbrev pub GivesReply : Scene → Answer → Answering → Draft → Type 0
+GivesReply scene answer answering draft = (input : machine.Input) → IsAnswering scene input.queue answering draft (answering_in scene input answer)
+
+-- the machine goes on by the answer, for which memory may be wanting
+abbrev pub TakesReply : Scene → Answer → Type 0
+TakesReply scene answer = (input : machine.Input) → MayWantMemory (answering_in scene input answer)
+
+-- a turn went on by the deed that an answer comes to, if it comes to one
+abbrev pub IsReplied : Scene → Draft → Draft → Answering → Option Deed → Type 0
+IsReplied scene before after WrongAnswer None = Unit {0}
+IsReplied scene before after Goes (Some deed) = Settles scene before after deed
+IsReplied scene before after _ _ = ⊥

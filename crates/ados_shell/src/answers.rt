@@ -1,0 +1,273 @@
+// Answers of a launcher, for a shell that waits for one.
+ghost use Rattle.std.specs.Prelude.{◌≡◌, IfOk, OnErr, OnOk, is_some, true};
+ghost use Rattle.std.specs.Option.{option_copied};
+ghost use Rattle.ados_machine.specs.Answers.{answered_deed, answered_in, code_of, ended_deed, fault_in, is_piece, piece_deed, started_deed};
+ghost use Rattle.std.specs.Prelude.{None};
+ghost use Rattle.ados_machine.specs.Opening.{opening};
+ghost use Rattle.ados_text.specs.declared.codes.TheConstants.Result2.{NONE};
+ghost use Rattle.ados_machine.specs.declared.phases.Wait.TheVariants.{ForEnd as EndOf, ForPiece as PieceOf, ForStart as StartOf};
+
+use crate::drafts::Draft;
+use crate::scenes::Scene;
+use ados_find::Codes;
+use ados_machine::{Answer, Child, Phase, Starting, Wait};
+use ados_ram::FsFault;
+use ados_text::{Code, NoMemory, Octets, Result2, Text};
+
+/// What an answer for a shell comes to.
+#[derive(Clone, Copy)]
+pub enum Answering {
+    /// The shell does not wait for it.
+    WrongAnswer,
+    /// The shell went on by it.
+    Goes,
+}
+
+/// A piece of a program's output has so many bytes at most.
+const PIECE_LIMIT: usize = 4096;
+
+impl Draft {
+    ghost use Rattle.ados_shell.specs.Answerings.{GivesReply, IsReplied, TakesReply};
+    ghost use Rattle.ados_shell.specs.Drafts.{Settles, course_of, here};
+
+    /// A launcher's answer for the scene's shell: where it waits for one of this kind, the draft is filled with what is
+    /// to be changed. Nothing else is changed, and what the draft held before is forgotten.
+    ///
+    /// A program that has started has its output opened, and is read until that ends; then its end is waited for, and its
+    /// command answers. A piece of no byte, or of more than 4,096, is none that is waited for.
+    ///
+    /// `NoMemory` where there is none for what the answer makes, and only where the shell waits for it.
+    pub fn take_answer_of(
+        &mut self,
+        scene: &Scene,
+        answer: &Answer,
+    ) -> Result<Answering, NoMemory>
+        ensures answering { IfOk result (λ answering. GivesReply scene.now answer.now answering self.new) }
+        ensures memory { OnErr result (TakesReply scene.now answer.now) }
+    {
+        self.begin_turn(scene.shell);
+        self.reply_by(scene, answer)
+    }
+
+    /// An answer for the scene's shell, of which nothing is changed yet.
+    fn reply_by(&mut self, scene: &Scene, answer: &Answer) -> Result<Answering, NoMemory>
+        ensures deed { IfOk result (λ answering. IsReplied scene.now self.old self.new answering
+            (answered_in (here scene.now self.old).sink (course_of scene.now self.old) scene.now.shell.now.phase answer.now)) }
+        ensures memory { OnErr result (is_some (answered_in (here scene.now self.old).sink (course_of scene.now self.old) scene.now.shell.now.phase answer.now) ≡ true) }
+    {
+        match scene.shell.phase.as_deref() {
+            Some(Phase::Waiting(wait)) => self.reply_while(scene, wait, answer),
+            _ => Ok(Answering::WrongAnswer),
+        }
+    }
+
+    /// An answer for the shell, which waits for this.
+    fn reply_while(
+        &mut self,
+        scene: &Scene,
+        wait: &Wait,
+        answer: &Answer,
+    ) -> Result<Answering, NoMemory>
+        ensures deed { IfOk result (λ answering. IsReplied scene.now self.old self.new answering
+            (answered_deed (here scene.now self.old).sink (course_of scene.now self.old) wait.now answer.now)) }
+        ensures memory { OnErr result (is_some (answered_deed (here scene.now self.old).sink (course_of scene.now self.old) wait.now answer.now) ≡ true) }
+    {
+        match wait {
+            Wait::ForAnswer(_) | Wait::ForLines(_) => Ok(Answering::WrongAnswer),
+            Wait::ForStart(starting) => self.reply_to_start(scene, starting, answer),
+            Wait::ForPiece(child) => self.reply_to_read(scene, child, answer),
+            Wait::ForEnd(child) => self.reply_to_wait(scene, child, answer),
+        }
+    }
+
+    /// An answer for a shell that waits for a start. A program that could not be started is its command's fault.
+    fn reply_to_start(
+        &mut self,
+        scene: &Scene,
+        starting: &Starting,
+        answer: &Answer,
+    ) -> Result<Answering, NoMemory>
+        ensures deed { IfOk result (λ answering. IsReplied scene.now self.old self.new answering
+            (answered_deed (here scene.now self.old).sink (course_of scene.now self.old) (StartOf starting.now) answer.now)) }
+        ensures memory { OnErr result (is_some (answered_deed (here scene.now self.old).sink (course_of scene.now self.old) (StartOf starting.now) answer.now) ≡ true) }
+    {
+        let word = &starting.word;
+        match answer {
+            Answer::Started => self.begin_to_read(scene, starting)?,
+            Answer::NotFound => self.refuse(scene, word, Result2::OBJECT_NOT_FOUND)?,
+            Answer::Denied => self.refuse(scene, word, Result2::NOT_EXECUTABLE)?,
+            Answer::Memory => self.refuse(scene, word, Result2::NO_FREE_STORE)?,
+            Answer::Other => self.refuse(scene, word, Result2::NOT_IMPLEMENTED)?,
+            Answer::Bytes(_)
+            | Answer::End
+            | Answer::PipeFault
+            | Answer::Exit(_)
+            | Answer::Signal
+            | Answer::WaitFault => return Ok(Answering::WrongAnswer),
+        }
+        Ok(Answering::Goes)
+    }
+
+    /// The program has started: its output is opened by its text, and the shell waits for a piece. That the output is
+    /// refused is the program's first fault.
+    fn begin_to_read(&mut self, scene: &Scene, starting: &Starting) -> Result<(), NoMemory>
+        ensures { OnOk result (Settles scene.now self.old self.new
+            (started_deed starting.now (course_of scene.now self.old) (opening (course_of scene.now self.old) starting.now.output))) }
+    {
+        match self.open_own(scene, starting.output.as_ref()) {
+            Err(FsFault::NoMemory) => Err(NoMemory),
+            Err(FsFault::Refused(fault)) => {
+                let child = starting.child(None, Some(fault))?;
+                self.wait(scene, Wait::ForPiece(child))
+            }
+            Ok(target) => {
+                let child = starting.child(target, None)?;
+                self.wait(scene, Wait::ForPiece(child))
+            }
+        }
+    }
+
+    /// An answer for a shell that waits for a piece.
+    fn reply_to_read(
+        &mut self,
+        scene: &Scene,
+        child: &Child,
+        answer: &Answer,
+    ) -> Result<Answering, NoMemory>
+        ensures deed { IfOk result (λ answering. IsReplied scene.now self.old self.new answering
+            (answered_deed (here scene.now self.old).sink (course_of scene.now self.old) (PieceOf child.now) answer.now)) }
+        ensures memory { OnErr result (is_some (answered_deed (here scene.now self.old).sink (course_of scene.now self.old) (PieceOf child.now) answer.now) ≡ true) }
+    {
+        match answer {
+            Answer::Bytes(bytes) if is_piece(bytes) => self.take_piece(scene, child, bytes)?,
+            Answer::End => self.wait(scene, Wait::ForEnd(child.copy()?))?,
+            Answer::PipeFault => {
+                let child = child.with_fault(Result2::PIPE_FAULT)?;
+                self.wait(scene, Wait::ForEnd(child))?;
+            }
+            Answer::Bytes(_)
+            | Answer::Started
+            | Answer::NotFound
+            | Answer::Denied
+            | Answer::Memory
+            | Answer::Other
+            | Answer::Exit(_)
+            | Answer::Signal
+            | Answer::WaitFault => return Ok(Answering::WrongAnswer),
+        }
+        Ok(Answering::Goes)
+    }
+
+    /// A piece of the program's output goes out as it comes, and the shell waits for the next; behind a fault it is
+    /// dropped.
+    fn take_piece(
+        &mut self,
+        scene: &Scene,
+        child: &Child,
+        bytes: &Octets,
+    ) -> Result<(), NoMemory>
+        ensures { OnOk result (Settles scene.now self.old self.new
+            (piece_deed child.now bytes.now (here scene.now self.old).sink (course_of scene.now self.old) child.now.fault)) }
+    {
+        match child.fault {
+            Some(_) => self.wait(scene, Wait::ForPiece(child.copy()?)),
+            None => self.put_piece(scene, child, bytes),
+        }
+    }
+
+    /// A piece of the program's output is put out, and the shell waits for the next. That it does not fit is the program's
+    /// first fault, and closes its output.
+    fn put_piece(&mut self, scene: &Scene, child: &Child, bytes: &Octets) -> Result<(), NoMemory>
+        ensures { OnOk result (Settles scene.now self.old self.new
+            (piece_deed child.now bytes.now (here scene.now self.old).sink (course_of scene.now self.old) None)) }
+    {
+        let output = child.output.as_ref();
+        let codes = self.put(scene, output, bytes.copy()?, Codes::NONE)?;
+        let child = child.behind_piece(fault_in(codes))?;
+        self.wait(scene, Wait::ForPiece(child))
+    }
+
+    /// An answer for a shell that waits for the end of a program, whose command answers then.
+    fn reply_to_wait(
+        &mut self,
+        scene: &Scene,
+        child: &Child,
+        answer: &Answer,
+    ) -> Result<Answering, NoMemory>
+        ensures deed { IfOk result (λ answering. IsReplied scene.now self.old self.new answering
+            (answered_deed (here scene.now self.old).sink (course_of scene.now self.old) (EndOf child.now) answer.now)) }
+        ensures memory { OnErr result (is_some (answered_deed (here scene.now self.old).sink (course_of scene.now self.old) (EndOf child.now) answer.now) ≡ true) }
+    {
+        match answer {
+            Answer::Exit(status) => self.end_program(scene, child, codes_of(*status))?,
+            Answer::Signal => {
+                let codes = Codes::failed(Result2::ENDED_BY_SIGNAL);
+                self.end_program(scene, child, codes)?;
+            }
+            Answer::WaitFault => {
+                let codes = Codes::failed(Result2::WAIT_FAULT);
+                self.end_program(scene, child, codes)?;
+            }
+            Answer::Started
+            | Answer::NotFound
+            | Answer::Denied
+            | Answer::Memory
+            | Answer::Other
+            | Answer::Bytes(_)
+            | Answer::End
+            | Answer::PipeFault => return Ok(Answering::WrongAnswer),
+        }
+        Ok(Answering::Goes)
+    }
+
+    /// The program has ended: the first fault that came is its command's, and without one it answers so.
+    fn end_program(&mut self, scene: &Scene, child: &Child, codes: Codes) -> Result<(), NoMemory>
+        ensures { OnOk result (Settles scene.now self.old self.new (ended_deed child.now codes (course_of scene.now self.old) child.now.fault)) }
+    {
+        match child.fault {
+            Some(fault) => self.refuse(scene, &child.word, fault),
+            None => self.answer(scene, child.word.as_bytes(), codes, false),
+        }
+    }
+}
+
+/// The fault of what was put out, if there was one.
+fn fault_in(codes: Codes) -> Option<Result2>
+    ensures { result ≡ fault_in codes }
+{
+    if codes.result2 == Result2::NONE {
+        None
+    } else {
+        Some(codes.result2)
+    }
+}
+
+/// A piece has 1 to 4,096 bytes.
+fn is_piece(bytes: &Octets) -> bool
+    ensures { result ≡ is_piece bytes.now }
+{
+    let bytes = bytes.as_bytes();
+    !bytes.is_empty() && bytes.len() <= PIECE_LIMIT
+}
+
+/// What the command of a program answers that ended with a status.
+fn codes_of(status: u8) -> Codes
+    ensures { result ≡ record { code = code_of status; result2 = NONE } }
+{
+    Codes {
+        code: code_of(status),
+        result2: Result2::NONE,
+    }
+}
+
+/// The code of a program that ended with a status.
+fn code_of(status: u8) -> Code
+    ensures { result ≡ code_of status }
+{
+    match status {
+        0 => Code::OK,
+        1..=9 => Code::WARN,
+        10..=19 => Code::ERROR,
+        20..=255 => Code::FAIL,
+    }
+}

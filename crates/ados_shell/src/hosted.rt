@@ -1,0 +1,126 @@
+// A line whose command is a program: a disk command, or a program of the host, which is to be started.
+ghost use Rattle.std.specs.Prelude.{◌≡◌, ℕ, List, Option, Some, IfOk, OnOk};
+ghost use Rattle.ados_items.specs.Items.{words_of};
+ghost use Rattle.std.specs.Option.{option_copied};
+ghost use Rattle.ados_machine.specs.Hosted.{host_deed, start_deed, tested_deed};
+ghost use Rattle.ados_machine.specs.Lines.{program_deed};
+ghost use Rattle.ados_machine.specs.Opening.{opening};
+
+use crate::drafts::Draft;
+use crate::scenes::Scene;
+use ados_items::{ItemFault, words};
+use ados_line::{Line, Redirection};
+use ados_machine::{Builtin, Starting, Wait};
+use ados_ram::FsFault;
+use ados_resident::Program;
+use ados_text::{NoMemory, Result2, Text, Texts};
+
+impl Draft {
+    ghost use Rattle.ados_shell.specs.Drafts.{IsUnset, Settles, course_of, here};
+
+    /// Works a line whose command is a program, which runs from an entry of the resident list, or from a file.
+    pub fn run_program(
+        &mut self,
+        scene: &Scene,
+        entry: Option<Text>,
+        program: Program,
+        line: &Line,
+    ) -> Result<(), NoMemory>
+        requires { IsUnset self.old }
+        ensures { OnOk result (Settles scene.now self.old self.new
+            (program_deed entry program line.now (here scene.now self.old) (course_of scene.now self.old))) }
+    {
+        match program {
+            Program::Disk(command) => self.prepare(scene, Builtin::from(command), line),
+            Program::Host(program) => self.host(scene, entry, program, line),
+        }
+    }
+
+    /// A program of the host takes no input.
+    fn host(
+        &mut self,
+        scene: &Scene,
+        entry: Option<Text>,
+        program: Text,
+        line: &Line,
+    ) -> Result<(), NoMemory>
+        ensures { OnOk result (Settles scene.now self.old self.new (host_deed entry program line.now (course_of scene.now self.old))) }
+    {
+        match &line.input {
+            Some(_) => self.refuse(scene, &line.command, Result2::NOT_IMPLEMENTED),
+            None => self.test_output(scene, entry, program, line),
+        }
+    }
+
+    /// Its output is only tested: nothing is opened before it has started.
+    fn test_output(
+        &mut self,
+        scene: &Scene,
+        entry: Option<Text>,
+        program: Text,
+        line: &Line,
+    ) -> Result<(), NoMemory>
+        ensures { OnOk result (Settles scene.now self.old self.new
+            (tested_deed entry program line.now (course_of scene.now self.old) (opening (course_of scene.now self.old) line.now.output))) }
+    {
+        match self.open(scene, line.output.as_ref()) {
+            Err(FsFault::NoMemory) => Err(NoMemory),
+            Err(FsFault::Refused(fault)) => self.refuse(scene, &line.command, fault),
+            Ok(_) => self.ask_to_start(scene, entry, program, line),
+        }
+    }
+
+    /// The shell waits for the start of the program, with the words of its arguments.
+    fn ask_to_start(
+        &mut self,
+        scene: &Scene,
+        entry: Option<Text>,
+        program: Text,
+        line: &Line,
+    ) -> Result<(), NoMemory>
+        ensures { OnOk result ((words : Option (List (List ℕ))) → words ≡ words_of line.now.args →
+            Settles scene.now self.old self.new (start_deed entry program line.now (course_of scene.now self.old) words)) }
+    {
+        match words(scene.alloc, line.args.as_bytes()) {
+            Err(ItemFault::NoMemory) => Err(NoMemory),
+            Err(ItemFault::Unmatched) => {
+                self.refuse(scene, &line.command, Result2::UNMATCHED_QUOTES)
+            }
+            Ok(args) => self.wait_for_start(scene, entry, program, args, line),
+        }
+    }
+
+    /// The shell waits for the start of the program, with these arguments.
+    fn wait_for_start(
+        &mut self,
+        scene: &Scene,
+        entry: Option<Text>,
+        program: Text,
+        args: Texts,
+        line: &Line,
+    ) -> Result<(), NoMemory>
+        ensures { OnOk result (Settles scene.now self.old self.new (start_deed entry program line.now (course_of scene.now self.old) (Some args))) }
+    {
+        let starting = Starting {
+            word: line.command.copy()?,
+            entry,
+            program,
+            args,
+            output: copied(line.output.as_ref())?,
+        };
+        self.wait(scene, Wait::ForStart(starting))
+    }
+}
+
+/// A copy of a redirection, if there is one.
+fn copied(output: Option<&Redirection>) -> Result<Option<Redirection>, NoMemory>
+    ensures { IfOk result (λ copy. copy ≡ option_copied output.entry) }
+{
+    match output {
+        None => Ok(None),
+        Some(output) => Ok(Some(Redirection {
+            name: output.name.copy()?,
+            append: output.append,
+        })),
+    }
+}
