@@ -1,6 +1,6 @@
 #![tactic(auto)]
 //! The commands that print and set: Assign, CD, Echo, Eval, FailAt, Fault, Status and Why, those of variables and
-//! aliases, Path and Which.
+//! aliases, Path, Resident and Which.
 
 mod aliases;
 mod assign;
@@ -16,6 +16,7 @@ mod globals;
 mod operators;
 mod pairs;
 mod path;
+mod resident;
 mod rows;
 mod status;
 mod variables;

@@ -13,6 +13,7 @@ use crate::fail_at::fail_at;
 use crate::fault::fault;
 use crate::globals::{get_env, set_env, unset_env};
 use crate::path::path;
+use crate::resident::resident;
 use crate::status::status;
 use crate::variables::{get, set, unset};
 use crate::which::which;
@@ -44,6 +45,7 @@ pub fn run(
         Command::Get => get(alloc, view, args),
         Command::GetEnv => get_env(alloc, shared, args),
         Command::Path => path(alloc, shared, view, args),
+        Command::Resident => resident(alloc, shared, view, args),
         Command::Set => set(alloc, view, args),
         Command::SetEnv => set_env(alloc, shared, view, args),
         Command::Status => status(alloc, view, args),
