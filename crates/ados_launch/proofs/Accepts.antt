@@ -5,7 +5,7 @@ use Rattle.std.proofs.lemmas.Grind.{common_steps}
 use Rattle.std.specs.List.{list_any}
 use Rattle.ados_find.specs.declared.codes.Codes.{Codes}
 use Rattle.ados_flow.specs.Frames.{FrameState}
-use Rattle.ados_machine.specs.World.{WorldState, shell_at, has_frame, can_take, can_turn, is_ready, wants_line, is_over, has_input, input_of, flatten}
+use Rattle.ados_machine.specs.World.{WorldState, shell_at, has_frame, can_take, can_turn, is_ready, wants_input, wants_line, is_over, has_input, input_of, flatten}
 use Rattle.ados_machine.specs.Shells.{ShellState}
 use Rattle.ados_machine.specs.Course.{Course}
 use Rattle.ados_machine.specs.Deeds.{Deed}
@@ -13,7 +13,7 @@ use Rattle.ados_machine.specs.Turning.{Input, Turning, Refuses, Ends, Takes, tur
 use Rattle.ados_machine.specs.Step.{step_of, turned, applied, start}
 use Rattle.ados_machine.specs.declared.phases.Phase.{Phase}
 use Rattle.ados_machine.specs.declared.phases.Phase.TheVariants.{Ready, GoingOn, Waiting}
-use Rattle.ados_machine.specs.declared.phases.Wait.TheVariants.{ForAnswer, ForLines}
+use Rattle.ados_machine.specs.declared.phases.Wait.TheVariants.{ForAnswer, ForLines, ForStart, ForPiece, ForEnd}
 use Rattle.ados_machine.specs.declared.events.Event.TheVariants.{Typed, EndOfInput, Turn}
 use Rattle.ados_launch.specs.Schedule.{is_accepted, is_due}
 
@@ -28,31 +28,33 @@ runs-on : (w : WorldState) (k : ℕ) → is_some (shell_at w k) ≡ true → is_
 runs-on w zero e = cc
 runs-on w (suc k) e = ap not (any_some w.shells k e)
 
+wanted-runs : (found : Option ShellState) → wants_input found ≡ true → is_some found ≡ true
+wanted-runs None e = cc
+wanted-runs (Some shell) e = refl
+
 runs-where_wanted : (w : WorldState) → wants_line w ≡ true → is_over w ≡ false
-runs-where_wanted w e = runs-on w 1 (and_parts (is_some (shell_at w 1)) (not (is_ready w 1)) e).0
+runs-where_wanted w e = runs-on w 1 (wanted-runs (shell_at w 1) (and_parts (wants_input (shell_at w 1)) (not (has_input (input_of w 1))) e).0)
 
-phase-wants : (input : Input) (frames : List FrameState) (phase : Phase) → not (can_take input frames phase) ≡ true → has_input input ≡ false
-phase-wants input frames Ready e = grind (arith, common_steps)
-phase-wants input frames (GoingOn parted) e = cc
-phase-wants input frames (Waiting wait) e = grind (arith, common_steps)
-
--- a shell that could take something wants no line
-nothing-to-take : (input : Input) (found : Option ShellState) → (is_some found && not (can_turn input found)) ≡ true → has_input input ≡ false
-nothing-to-take input None e = cc
-nothing-to-take input (Some shell) e = phase-wants input shell.frames shell.phase e
+-- where a line is wanted nothing is there to take
+nothing-to-take : (w : WorldState) → wants_line w ≡ true → has_input (input_of w 1) ≡ false
+nothing-to-take w e = opposite (has_input (input_of w 1)) (and_parts (wants_input (shell_at w 1)) (not (has_input (input_of w 1))) e).1
+  where
+    opposite : (b : Bool) → not b ≡ true → b ≡ false
+    opposite true h = cc
+    opposite false h = refl
 
 -- where a line is wanted the input's end is accepted
 pub end-accepted : (w : WorldState) → wants_line w ≡ true → is_accepted (step_of w EndOfInput) ≡ true
 end-accepted w e =
     let left : is_over w ≡ false = runs-where_wanted w e in
-    let none : (nat_lt 0 (length w.queue) || w.input_ended) ≡ false = nothing-to-take (input_of w 1) (shell_at w 1) e in
+    let none : (nat_lt 0 (length w.queue) || w.input_ended) ≡ false = nothing-to-take w e in
     grind (arith, common_steps)
 
 -- where a line is wanted one of at most 512 bytes is accepted
 pub line-accepted : (w : WorldState) (line : List ℕ) → wants_line w ≡ true → length line ≤ 512 → is_accepted (step_of w (Typed line)) ≡ true
 line-accepted w line e h =
     let left : is_over w ≡ false = runs-where_wanted w e in
-    let none : (nat_lt 0 (length w.queue) || w.input_ended) ≡ false = nothing-to-take (input_of w 1) (shell_at w 1) e in
+    let none : (nat_lt 0 (length w.queue) || w.input_ended) ≡ false = nothing-to-take w e in
     grind (arith, common_steps)
 
 -- an event of a shell is not refused
@@ -86,6 +88,9 @@ turning-taken input frames course Ready e = ready-taken input frames course e
 turning-taken input frames course (GoingOn parted) e = refl
 turning-taken input frames course (Waiting (ForAnswer asking)) e = input-taken input.queue input.is_ended frames _ _ e
 turning-taken input frames course (Waiting (ForLines gathering)) e = input-taken input.queue input.is_ended frames _ _ e
+turning-taken input frames course (Waiting (ForStart starting)) e = e
+turning-taken input frames course (Waiting (ForPiece child)) e = e
+turning-taken input frames course (Waiting (ForEnd child)) e = e
 
 turned-accepted : (w : WorldState) (k : ℕ) (found : Option ShellState) → can_turn (input_of w k) found ≡ true → is_accepted (turned w k found) ≡ true
 turned-accepted w k None e = cc

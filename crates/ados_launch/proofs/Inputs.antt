@@ -1,25 +1,28 @@
 -- What an event makes of the input: shell 1 ends only where it has ended.
-use Rattle.std.proofs.Common.{◌≡◌, ◌≢◌, ℕ, zero, suc, ◌-◌, ◌∷◌, List, [], Option, Some, None, Ok, true, false, not, refl, ap, sym, ◌∙◌, is_some, slice_get, slice_set, ◌⊎◌, inl, inr, arith, Bool}
+use Rattle.std.proofs.Common.{◌≡◌, ◌≢◌, ℕ, zero, suc, ◌-◌, ◌∷◌, List, [], Option, Some, None, Ok, true, false, not, ◌&&◌, refl, ap, sym, ◌∙◌, is_some, slice_get, slice_set, ◌⊎◌, inl, inr, arith, Bool}
 use Rattle.std.proofs.lemmas.Bool.{cases_Bool, and_parts, true≢false}
 use Rattle.std.proofs.lemmas.Grind.{common_steps}
 use Rattle.ados_find.specs.declared.codes.Codes.{Codes}
 use Rattle.ados_find.specs.declared.outcomes.Renamed.{Renamed}
 use Rattle.ados_flow.specs.Frames.{FrameState}
-use Rattle.ados_machine.specs.World.{WorldState, shell_at, is_ready, wants_line, is_over, input_of, flatten}
+use Rattle.ados_machine.specs.Requests.{request_of}
+use Rattle.ados_machine.specs.World.{WorldState, shell_at, can_take, can_turn, has_input, is_ready, pending_by, pending_of, takes_input as phase_takes, wants_input, wants_line, is_over, input_of, flatten}
 use Rattle.ados_machine.specs.Numbers.{free_number}
 use Rattle.ados_machine.specs.Settle.{Turned}
 use Rattle.ados_machine.specs.Shells.{Begun, begun_shell, ShellState}
 use Rattle.ados_machine.specs.Course.{Course}
 use Rattle.ados_machine.specs.Carrying.{carried_shells}
+use Rattle.ados_machine.specs.Answers.{answered_in}
+use Rattle.ados_machine.specs.Sinks.{sink_in}
 use Rattle.ados_machine.specs.Deeds.{Deed}
-use Rattle.ados_machine.specs.Turning.{Input, Turning, Refuses, Ends, Takes, turning, console_turning, ready_turning, input_turning}
-use Rattle.ados_machine.specs.Step.{step_of, turned, applied, left, start, moved_in, replied, with_begun}
+use Rattle.ados_machine.specs.Turning.{Input, Turning, Refuses, Ends, Takes, turning, console_turning, ready_turning, input_turning, replied}
+use Rattle.ados_machine.specs.Step.{step_of, turned, applied, left, start, moved_in, answered, with_begun}
 use Rattle.ados_machine.specs.Runs.{world_after}
 use Rattle.ados_machine.specs.declared.answers.Answer.{Answer as Reply}
 use Rattle.ados_machine.specs.declared.outs.Out.{Out}
 use Rattle.ados_machine.specs.declared.phases.Phase.{Phase}
 use Rattle.ados_machine.specs.declared.phases.Phase.TheVariants.{Ready, GoingOn, Waiting}
-use Rattle.ados_machine.specs.declared.phases.Wait.TheVariants.{ForAnswer, ForLines}
+use Rattle.ados_machine.specs.declared.phases.Wait.TheVariants.{ForAnswer, ForLines, ForStart, ForPiece, ForEnd}
 use Rattle.ados_machine.specs.declared.events.Event.TheVariants.{Typed, Turn, Answer}
 use Rattle.ados_launch.specs.Schedule.{takes_input}
 
@@ -80,6 +83,9 @@ turning-ends input frames course Ready e = ready-ends input frames course e
 turning-ends input frames course (GoingOn parted) e = cc
 turning-ends input frames course (Waiting (ForAnswer asking)) e = input-ends input.queue input.is_ended frames _ _ e
 turning-ends input frames course (Waiting (ForLines gathering)) e = input-ends input.queue input.is_ended frames _ _ e
+turning-ends input frames course (Waiting (ForStart starting)) e = cc
+turning-ends input frames course (Waiting (ForPiece child)) e = cc
+turning-ends input frames course (Waiting (ForEnd child)) e = cc
 
 applied-takes : (w : WorldState) (out : Out) (k : ℕ) (codes : Codes) (t : Turning) → (t ≡ Ends → k ≢ 1) → k ≢ 0 → takes_input w ≡ true → takes_input (world_after w (Ok out) (applied w k codes t)) ≡ true
 applied-takes w out k codes (Refuses why) ends some e = e
@@ -115,22 +121,47 @@ turn-takes w out k e =
       | inr running ↦ rw running (turned-takes w out k (shell_at w k) refl e)
     ]
 
--- no shell waits for an answer yet
-replied-takes : (w : WorldState) (out : Out) (found : Option ShellState) → takes_input w ≡ true → takes_input (world_after w (Ok out) (replied found)) ≡ true
-replied-takes w out None e = e
-replied-takes w out (Some shell) e = e
+-- no shell ends by an answer but a background shell
+replied-never : (input : Input) (frames : List FrameState) (deed : Option Deed) → replied input frames deed ≡ Ends → ⊥
+replied-never input frames None e = cc
+replied-never input frames (Some deed) e = cc
+
+answered-takes : (w : WorldState) (out : Out) (k : ℕ) (reply : Reply) (found : Option ShellState) → shell_at w k ≡ found → takes_input w ≡ true →
+    takes_input (world_after w (Ok out) (answered w k reply found)) ≡ true
+answered-takes w out k reply None at e = e
+answered-takes w out k reply (Some shell) at e =
+    applied-takes w out k shell.parts.codes _
+    (λ ends. absurd (replied-never (input_of w k) shell.frames (answered_in (sink_in shell.frames) (start w shell) shell.phase reply) ends))
+    (λ none. let nothing : None ≡ Some shell = rw none at at in cc)
+    e
 
 pub answer-takes : (w : WorldState) (out : Out) (k : ℕ) (reply : Reply) → takes_input w ≡ true → takes_input (world_after w (Ok out) (step_of w (Answer k reply))) ≡ true
 answer-takes w out k reply e =
     elim (cases_Bool (is_over w)) [
       | inl over ↦ rw over e
-      | inr running ↦ rw running (replied-takes w out (shell_at w k) e)
+      | inr running ↦ rw running (answered-takes w out k reply (shell_at w k) refl e)
     ]
 
--- where shell 1 takes input, a line is wanted or shell 1 is ready
-pub takes-due : (w : WorldState) → takes_input w ≡ true → (wants_line w ≡ true) ⊎ (is_ready w 1 ≡ true)
-takes-due w e =
+-- where shell 1 takes input and waits for no launcher, a line is wanted or shell 1 is ready
+due-by-phase : (input : Input) (k : ℕ) (frames : List FrameState) (phase : Phase) → request_of k phase ≡ None → can_take input frames phase ≡ false →
+    (phase_takes frames phase && not (has_input input)) ≡ true
+due-by-phase input k [] Ready none e = grind (arith, common_steps)
+due-by-phase input k (frame ∷ frames) Ready none e = cc
+due-by-phase input k frames (GoingOn parted) none e = cc
+due-by-phase input k frames (Waiting (ForAnswer asking)) none e = grind (arith, common_steps)
+due-by-phase input k frames (Waiting (ForLines gathering)) none e = grind (arith, common_steps)
+due-by-phase input k frames (Waiting (ForStart starting)) none e = cc
+due-by-phase input k frames (Waiting (ForPiece child)) none e = cc
+due-by-phase input k frames (Waiting (ForEnd child)) none e = cc
+
+found-due : (input : Input) (found : Option ShellState) → is_some found ≡ true → pending_by found ≡ None → can_turn input found ≡ false →
+    (wants_input found && not (has_input input)) ≡ true
+found-due input None some none e = cc
+found-due input (Some shell) some none e = due-by-phase input shell.parts.number shell.frames shell.phase none e
+
+pub takes-due : (w : WorldState) → pending_of w 1 ≡ None → takes_input w ≡ true → (wants_line w ≡ true) ⊎ (is_ready w 1 ≡ true)
+takes-due w none e =
     elim (cases_Bool (is_ready w 1)) [
       | inl ready ↦ inr ready
-      | inr unready ↦ inl (rw (unready, (and_parts (is_some (shell_at w 1)) (not w.input_ended) e).0) refl)
+      | inr unready ↦ inl (found-due (input_of w 1) (shell_at w 1) (and_parts (is_some (shell_at w 1)) (not w.input_ended) e).0 none unready)
     ]

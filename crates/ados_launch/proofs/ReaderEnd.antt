@@ -2,7 +2,7 @@
 use Rattle.std.proofs.Common.{◌≡◌, ℕ, ◌∷◌, List, [], length, Option, Some, None, true, refl, ap, sym, ◌∙◌, ◌⊎◌, inl, inr, arith}
 use Rattle.std.proofs.lemmas.Bool.{true≢false}
 use Rattle.std.proofs.lemmas.Grind.{common_steps}
-use Rattle.ados_machine.specs.World.{WorldState}
+use Rattle.ados_machine.specs.World.{WorldState, pending_of}
 use Rattle.ados_machine.specs.Runs.{Runs}
 use Rattle.ados_machine.specs.declared.events.Event.TheVariants.{Typed, EndOfInput, Turn, Answer}
 use Rattle.ados_launch.specs.declared.lines.LineKind.TheVariants.{End}
@@ -42,10 +42,10 @@ run-reads w left (Given event out ∷ taken) last run lines r =
 run-reads w left (LongLine ∷ taken) last run lines r =
     run-reads w (left_behind left LongLine) taken last run lines.1 (item-reads w left LongLine lines.0 r)
 
--- where nothing is due, shell 1 takes no input
-idle-takes : (w : WorldState) → IsIdle w → takes_input w ≡ true → ⊥
-idle-takes w idle e =
-    elim (takes-due w e) [
+-- where nothing is due, and shell 1 waits for no launcher, it takes no input
+idle-takes : (w : WorldState) → IsIdle w → pending_of w 1 ≡ None → takes_input w ≡ true → ⊥
+idle-takes w idle none e =
+    elim (takes-due w none e) [
       | inl wants ↦ true≢false (sym wants ∙ idle 0 (omega arith))
       | inr ready ↦ true≢false (sym ready ∙ idle 1 (omega arith))
     ]
@@ -57,9 +57,9 @@ none_ahead (b ∷ held) (Some ys) xs e h = cc
 
 -- where nothing is due any more, the reader came to its end
 pub reader-ended : (w : WorldState) (bytes : List ℕ) (taken : List Taken) (last : WorldState) (held : List ℕ) (left : Option (List ℕ))
-    → Runs w (events_in taken) (outs_in taken) last → AreRead bytes taken → ahead held left ≡ Some (left_after bytes taken) → IsIdle last → takes_input w ≡ true → left ≡ Some []
-reader-ended w bytes taken last held left run lines left_is idle e =
+    → Runs w (events_in taken) (outs_in taken) last → AreRead bytes taken → ahead held left ≡ Some (left_after bytes taken) → IsIdle last → pending_of last 1 ≡ None → takes_input w ≡ true → left ≡ Some []
+reader-ended w bytes taken last held left run lines left_is idle waits e =
     elim (run-reads w bytes taken last run lines (inl e)) [
-      | inl takes ↦ absurd (idle-takes last idle takes)
+      | inl takes ↦ absurd (idle-takes last idle waits takes)
       | inr none ↦ none_ahead held left (left_after bytes taken) left_is none
     ]

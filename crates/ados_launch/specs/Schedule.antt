@@ -4,7 +4,7 @@ use Rattle.std.specs.Prelude.{◌≡◌, ℕ, zero, suc, ◌+◌, ◌-◌, ◌�
 use Rattle.std.specs.List.{find, range_with_len}
 use Rattle.ados_machine.specs.declared.events.Event.{Event}
 use Rattle.ados_machine.specs.declared.events.Event.TheVariants.{Typed, EndOfInput, Turn, Answer}
-use Rattle.ados_machine.specs.World.{WorldState, shell_at, is_ready, wants_line}
+use Rattle.ados_machine.specs.World.{WorldState, shell_at, is_ready, pending_of, wants_line}
 use Rattle.ados_machine.specs.Step.{Response, Refused, Accepted}
 use Rattle.ados_launch.specs.Taken.{Taken, Given, LongLine, world_behind}
 
@@ -69,6 +69,6 @@ is_accepted (Refused why) = false
 abbrev pub takes_input : WorldState → Bool
 takes_input w = is_some (shell_at w 1) && not w.input_ended
 
--- no shell runs
-abbrev pub NoneRuns : WorldState → Type 0
-NoneRuns w = (k : ℕ) → k ≤ 20 → shell_at w k ≡ None
+-- each shell that runs waits for a launcher
+abbrev pub OnlyWaits : WorldState → Type 0
+OnlyWaits w = (k : ℕ) → k ≤ 20 → pending_of w k ≡ None → shell_at w k ≡ None

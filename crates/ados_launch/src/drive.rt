@@ -1,10 +1,10 @@
 // A world driven by a reader's lines.
 ghost use Rattle.std.specs.Prelude.{◌≡◌, ◌⊎◌, ◌<◌, ◌≤◌, ◌^◌, ◌-◌, ◌+◌, ℕ, true, List, [], length, take, Some, IfOk, OnOk, IsErrOf};
 ghost use Rattle.std.specs.Io.KnownBytes.{Appends};
-ghost use Rattle.ados_machine.specs.World.{codes_at};
+ghost use Rattle.ados_machine.specs.World.{codes_at, pending_of};
 ghost use Rattle.ados_launch.specs.Faults.{one_more};
 ghost use Rattle.ados_launch.specs.Lines.{Known, kind_of};
-ghost use Rattle.ados_launch.specs.Schedule.{IsIdle, IsReading, IsRunning, NoneRuns, takes_input};
+ghost use Rattle.ados_launch.specs.Schedule.{IsIdle, IsReading, IsRunning, OnlyWaits, takes_input};
 ghost use Rattle.ados_launch.specs.Session.{Session, Stands, StandsCut, IsReadAhead};
 ghost use Rattle.ados_launch.specs.Taken.{Taken, written_for, left_after};
 
@@ -84,17 +84,17 @@ pub fn drive_lines<S: Source, K: Sink>(
         Stands world.old (S.left reader.old) end.events world.new (K.contents writer.old) (K.contents writer.new)) }
     // Nothing is due in the world that is left.
     ensures idle { OnOk result (IsIdle world.new) }
-    // No shell is left.
-    ensures over { OnOk result (NoneRuns world.new) }
+    // No shell is left but those that wait for a launcher.
+    ensures over { OnOk result (OnlyWaits world.new) }
     ensures within { IfOk result (λ end. end.events ≤ turns) }
     ensures code { IfOk result (λ end. end.code ≡ (codes_at world.new 1).code) }
     ensures result2 { IfOk result (λ end. end.result2 ≡ (codes_at world.new 1).result2) }
     // No read and no write failed, and no write took nothing.
     ensures honest { OnOk result ((S.faults reader.new ≡ S.faults reader.old)
         × (K.faults writer.new ≡ K.faults writer.old) × (K.stalls writer.new ≡ K.stalls writer.old)) }
-    // The reader came to its end, unless shell 1 or its input had ended before.
+    // The reader came to its end, unless shell 1 or its input had ended before, or shell 1 waits for a launcher.
     ensures reader_ended { OnOk result (Known (S.left reader.old) (λ bytes.
-        takes_input world.old ≡ true → S.left reader.new ≡ Some [])) }
+        pending_of world.new 1 ≡ None → takes_input world.old ≡ true → S.left reader.new ≡ Some [])) }
 
     // As many as were allowed were taken, all of their bytes were written, and something is due.
     ensures turns { IsErrOf result DriveFault.Turns →

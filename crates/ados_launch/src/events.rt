@@ -104,8 +104,8 @@ fn give(world: &mut World, event: &Event, draft: &mut Draft) -> Result<(), Drive
 // Gives the world a line that it accepts, unless memory is wanting.
 fn give_line(world: &mut World, line: Text) -> Result<(), DriveFault>
     requires { is_accepted (step_of world.old (Event.Typed line)) ≡ true }
-    ensures answer { OnOk result (IsAnswer (Event.Typed line) (Ok (giving [] [])) (step_of world.old (Event.Typed line))) }
-    ensures world { OnOk result (world.new ≡ world_after world.old (Ok (giving [] [])) (step_of world.old (Event.Typed line))) }
+    ensures answer { OnOk result (IsAnswer (Event.Typed line) (Ok (giving [] None [])) (step_of world.old (Event.Typed line))) }
+    ensures world { OnOk result (world.new ≡ world_after world.old (Ok (giving [] None [])) (step_of world.old (Event.Typed line))) }
     ensures memory { OnErr result (result ≡ Err DriveFault.Memory) }
     ensures err { OnErr result (world.new ≡ world.old) }
 {

@@ -1,5 +1,5 @@
 -- A line whose input was read, or whose output was opened.
-use Rattle.std.proofs.Common.{◌≡◌, ◌∙◌, List, Option, Some, Result, Ok, Err, ap, drop, subst}
+use Rattle.std.proofs.Common.{◌≡◌, ◌∙◌, List, Option, Some, None, Result, Ok, Err, ap, drop, subst}
 use Rattle.ados_text.specs.Text.{Text}
 use Rattle.ados_text.specs.declared.codes.Result2.{Result2}
 use Rattle.ados_line.specs.declared.lines.Line.{Line}
@@ -9,7 +9,13 @@ use Rattle.ados_find.specs.declared.targets.Target.{Target}
 use Rattle.ados_machine.specs.declared.builtins.Builtin.{Builtin}
 use Rattle.ados_flow.specs.Frames.{FrameState}
 use Rattle.ados_machine.specs.Course.{Course, printing}
-use Rattle.ados_machine.specs.Deeds.{Deed, Here, opened_by, read_by, refused}
+use Rattle.ados_machine.specs.Answers.{child_of, started_deed}
+use Rattle.ados_machine.specs.Deeds.{Deed, Here, Waits, opened_by, read_by, refused}
+use Rattle.ados_machine.specs.Hosted.{tested_deed}
+use Rattle.ados_machine.specs.declared.phases.Child.{Child}
+use Rattle.ados_machine.specs.declared.phases.Starting.{Starting}
+use Rattle.ados_machine.specs.declared.phases.Wait.TheVariants.{ForPiece}
+use Rattle.ados_find.specs.Shared.{SharedState}
 use Rattle.ados_machine.specs.Lines.{command_deed, prompt_deed}
 use Rattle.ados_machine.specs.Opening.{Opened}
 use Rattle.ados_machine.specs.Prompts.{first_of, prompt, with_args}
@@ -17,7 +23,7 @@ use Rattle.ados_machine.specs.Settle.{here_of, settle}
 use Rattle.ados_shell.specs.declared.scenes.Scene.{Scene}
 use Rattle.ados_shell.specs.declared.drafts.Draft.{Draft}
 use Rattle.ados_shell.specs.Drafts.{Settles, course_of, frames_of, here}
-use Rattle.ados_shell.specs.Outputs.{HasOpened}
+use Rattle.ados_shell.specs.Outputs.{HasOpened, IsOpened}
 use Rattle.ados_shell.specs.Stacks.{frames_in}
 use Rattle.ados_shell.proofs.TurnLemmas.{goes-same}
 
@@ -77,3 +83,26 @@ prompt-goes scene before mid after builtin line lines f c r g =
     (ap (λ frames. settle (deed frames (course_of scene mid)) frames) f
     ∙ ap (λ course. settle (deed (frames_of scene before) course) (frames_of scene before)) c)
     g
+
+-- the output of a program of the host was tested, and is refused
+pub tested-refused : (scene : Scene) (before after : Draft) (shared : SharedState) (entry : Option Text) (program : Text) (line : Line) (fault : Result2) (opened : Result Opened Result2)
+    → IsOpened shared (Err (Refused fault)) opened
+    → Settles scene before after (refused line.command fault (course_of scene before))
+    → Settles scene before after (tested_deed entry program line (course_of scene before) opened)
+tested-refused scene before after shared entry program line fault (Err other) h g =
+    let P : Result2 → Type 0 = λ f. Settles scene before after (refused line.command f (course_of scene before)) in
+    subst P h g
+tested-refused scene before after shared entry program line fault (Ok opened) h g = absurd h
+
+-- a program has started, whose output is refused
+pub started-refused : (scene : Scene) (before mid after : Draft) (starting : Starting) (child : Child) (fault : Result2) (opened : Result Opened Result2)
+    → HasOpened scene before mid (Err (Refused fault)) opened
+    → child ≡ child_of starting None (Some fault)
+    → Settles scene mid after (Waits (ForPiece child) (course_of scene mid))
+    → Settles scene before after (started_deed starting (course_of scene before) opened)
+started-refused scene before mid after starting child fault (Err other) h e g =
+    let P : Draft → Type 0 = λ d. Settles scene d after (Waits (ForPiece child) (course_of scene d)) in
+    let Q : Child → Type 0 = λ x. Settles scene before after (Waits (ForPiece x) (course_of scene before)) in
+    let R : Result2 → Type 0 = λ f. Settles scene before after (Waits (ForPiece (child_of starting None (Some f))) (course_of scene before)) in
+    subst R h.0 (subst Q e (subst P h.1 g))
+started-refused scene before mid after starting child fault (Ok opened) h e g = absurd h

@@ -1,5 +1,5 @@
 -- What a launcher's answer to a shell comes to.
-use Rattle.std.specs.Prelude.{◌≡◌, ℕ, List, Option, Some, None, is_some, true}
+use Rattle.std.specs.Prelude.{◌≡◌, ℕ, List, Option, Some, None}
 use Rattle.ados_machine.specs.declared.answers.Answer.{Answer}
 use Rattle.ados_machine.specs.declared.refusals.Refusal.TheVariants as refusal
 use Rattle.ados_machine.specs.Deeds.{Deed}

@@ -4,7 +4,8 @@ use Rattle.ados_text.specs.declared.codes.Result2.{Result2}
 use Rattle.ados_ram.specs.declared.faults.FsFault.{FsFault}
 use Rattle.ados_ram.specs.declared.faults.FsFault.TheVariants.{Refused, NoMemory}
 use Rattle.ados_find.specs.declared.codes.Codes.{Codes}
-use Rattle.ados_find.specs.Shared.{SharedState}
+use Rattle.ados_find.specs.Shared.{SharedState, with_files}
+use Rattle.ados_ram.specs.Files.{Files}
 use Rattle.ados_find.specs.declared.targets.Target.{Target}
 use Rattle.ados_find.specs.declared.targets.Target.TheVariants.{Nil as Null, At}
 use Rattle.ados_machine.specs.Course as course
@@ -44,4 +45,10 @@ pub record IsPut (scene : Scene) (before after : Draft) (codes : Codes) (done : 
   pub frames : after.shell.frames ≡ before.shell.frames
   pub codes_are : codes ≡ done.codes
   pub course : course_of scene after ≡ done.course
+  pub reports : after.reports.items ≡ before.reports.items
+
+-- a turn after other files were held
+pub record HoldsFiles (scene : Scene) (before after : Draft) (files : Files) : Type 0 where
+  pub frames : after.shell.frames ≡ before.shell.frames
+  pub course : course_of scene after ≡ record (course_of scene before) { shared = with_files (course_of scene before).shared files }
   pub reports : after.reports.items ≡ before.reports.items

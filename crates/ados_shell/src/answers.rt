@@ -55,9 +55,13 @@ impl Draft {
             (answered_in (here scene.now self.old).sink (course_of scene.now self.old) scene.now.shell.now.phase answer.now)) }
         ensures memory { OnErr result (is_some (answered_in (here scene.now self.old).sink (course_of scene.now self.old) scene.now.shell.now.phase answer.now) ≡ true) }
     {
-        match scene.shell.phase.as_deref() {
-            Some(Phase::Waiting(wait)) => self.reply_while(scene, wait, answer),
-            _ => Ok(Answering::WrongAnswer),
+        let shell = scene.shell;
+        match &shell.phase {
+            None => Ok(Answering::WrongAnswer),
+            Some(phase) => match &**phase {
+                Phase::Waiting(wait) => self.reply_while(scene, wait, answer),
+                Phase::Ready | Phase::GoingOn(_) => Ok(Answering::WrongAnswer),
+            },
         }
     }
 

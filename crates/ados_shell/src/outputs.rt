@@ -1,10 +1,12 @@
 // The output of a command: its opening, and what is put there.
-ghost use Rattle.std.specs.Prelude.{◌≡◌, Ok, Some, IfOk};
+ghost use Rattle.std.specs.Prelude.{◌≡◌, Ok, Some, IfOk, OnOk};
 ghost use Rattle.std.specs.Option.{option_copied};
 ghost use Rattle.ados_machine.specs.Opening.{opened_at, opening, opening_by};
 ghost use Rattle.ados_machine.specs.Course.{put};
 ghost use Rattle.ados_machine.specs.Sinks.{To, sink_or};
 ghost use Rattle.ados_find.specs.declared.targets.Target.TheVariants.{At};
+ghost use Rattle.ados_ram.specs.FileOperations.{Answers, put_open_fault, put_open_of};
+ghost use Rattle.ados_ram.specs.Place.{key_of, last_name};
 
 use crate::console::push_output;
 use crate::drafts::Draft;
@@ -13,7 +15,7 @@ use crate::seen::open_outputs;
 use crate::stacks::Sink;
 use ados_find::{Codes, Shared, Target, target_of};
 use ados_line::Redirection;
-use ados_ram::{Busy, FsFault, Place};
+use ados_ram::{Busy, FsFault, Place, Ram};
 use ados_text::{NoMemory, Octets};
 use std::alloc::Global;
 
@@ -63,7 +65,7 @@ impl Opened {
 }
 
 impl Draft {
-    ghost use Rattle.ados_shell.specs.Outputs.{HasOpened, IsOpened, IsPut};
+    ghost use Rattle.ados_shell.specs.Outputs.{HasOpened, HoldsFiles, IsOpened, IsPut};
     ghost use Rattle.ados_shell.specs.Drafts.{course_of, here};
 
     /// Opens what a redirection names, as the shell and the shared parts stand.
@@ -161,14 +163,31 @@ impl Draft {
         if output.is_empty() {
             return Ok(codes);
         }
-        let current = self.current(scene);
-        match current.ram.put_open(place, output) {
+        match self.files_with(scene, place, output) {
             Err(FsFault::NoMemory) => Err(NoMemory),
             Err(FsFault::Refused(fault)) => Ok(Codes::failed(fault)),
-            Ok(ram) => {
-                self.shared = Some(current.with_files(ram)?);
+            Ok(files) => {
+                self.hold_files(scene, files)?;
                 Ok(codes)
             }
         }
+    }
+
+    /// The files once bytes were put at a place, where an output is open.
+    ///
+    /// 221 where they do not fit.
+    fn files_with(&self, scene: &Scene, place: &Place, output: &[u8]) -> Result<Ram, FsFault>
+        ensures ok { IfOk result (λ files. files ≡ put_open_of (course_of scene.now self.now).shared.files (key_of place.now) (last_name place.now) output.now) }
+        ensures fault { Answers result (put_open_fault (course_of scene.now self.now).shared.files (key_of place.now) (last_name place.now) output.now) }
+    {
+        self.current(scene).ram.put_open(place, output)
+    }
+
+    /// Holds other files.
+    fn hold_files(&mut self, scene: &Scene, files: Ram) -> Result<(), NoMemory>
+        ensures { OnOk result (HoldsFiles scene.now self.old self.new files) }
+    {
+        self.shared = Some(self.current(scene).with_files(files)?);
+        Ok(())
     }
 }

@@ -6,10 +6,11 @@ use Rattle.std.proofs.lemmas.Bool.{cases_Bool}
 use Rattle.ados_find.specs.declared.codes.Codes.{Codes}
 use Rattle.ados_find.specs.declared.outcomes.Renamed.{Renamed}
 use Rattle.ados_find.specs.Shared.{SharedState, version}
+use Rattle.ados_machine.specs.declared.events.Event.{Event}
 use Rattle.ados_machine.specs.declared.events.Event.TheVariants as event
 use Rattle.ados_machine.specs.declared.outs.Out.{Out}
 use Rattle.ados_machine.specs.declared.refusals.Refusal.{Refusal}
-use Rattle.ados_machine.specs.declared.refusals.Refusal.TheVariants.{NoMemory, Over}
+use Rattle.ados_machine.specs.declared.refusals.Refusal.TheVariants.{NoMemory, Over, WrongAnswer}
 use Rattle.ados_machine.specs.Items.{Item, reports_of}
 use Rattle.ados_machine.specs.Shells.{ShellState}
 use Rattle.ados_machine.specs.Carrying.{carried_by, carried_shell, carried_shells, moved_by}
@@ -20,20 +21,24 @@ use Rattle.ados_machine.specs.Turning as turning
 use Rattle.ados_machine.specs.World.{WorldState, input_of, is_over, seen_in, shell_at}
 use Rattle.ados_machine.specs.Course.{Course}
 use Rattle.ados_machine.specs.Numbers.{free_number}
-use Rattle.ados_machine.specs.Step.{Response, Refused, Accepted, applied, begun_items, ended_with, giving, is_done, moved_in as moved_of, of_shell, queue_behind, shell_of_turn, shells_behind, start, turned, with_begun}
+use Rattle.ados_machine.specs.Requests.{request_of}
+use Rattle.ados_machine.specs.declared.answers.Answer.{Answer as Reply}
+use Rattle.ados_shell.specs.declared.answers.Answering.TheVariants as reply
+use Rattle.ados_shell.specs.Answerings.{IsAnswering, answering_in}
+use Rattle.ados_machine.specs.Step.{Response, Refused, Accepted, applied, begun_items, ended_with, giving, is_done, moved_in as moved_of, of_shell, queue_behind, shell_of_turn, shells_behind, start, turned, answered as answered_of, with_begun}
 use Rattle.ados_machine.proofs.Sane.{sane-after}
 use Rattle.ados_machine.proofs.Shells.{carried-free, carried-runs, found, found-carried, found-placed_other, found-set_same, free-number}
 use Rattle.ados_shell.specs.declared.drafts.Draft.{Draft}
 use Rattle.ados_shell.specs.declared.drafts.ShellDraft.{ShellDraft}
 use Rattle.ados_shell.specs.declared.scenes.Scene.{Scene}
 use Rattle.ados_shell.specs.declared.turnings.Turning.TheVariants as turn
-use Rattle.ados_shell.specs.Drafts.{IsDrafted, behind, out_of, start_of}
+use Rattle.ados_shell.specs.Drafts.{IsDrafted, behind, phase_in, start_of}
 use Rattle.ados_shell.specs.declared.scenes.Input.{Input}
 use Rattle.ados_shell.specs.Turnings.{IsTurning, MayWantMemory, turning_in}
 use Rattle.ados_world.specs.Endings.{codes_left, ended_left, shells_left}
 use Rattle.ados_world.specs.NewShells.{joined, new_shell}
 use Rattle.ados_world.specs.Shells.{shells_by}
-use Rattle.ados_world.specs.Steps.{answering, ended_world, shells_with, taken}
+use Rattle.ados_world.specs.Steps.{answering, asked_by, ended_world, shells_with, taken}
 use Rattle.ados_world.proofs.MemoryLemmas.{turn-may}
 use Rattle.ados_world.proofs.NewShellLemmas.{begun-behind, codes-left, codes_of_end, ended-left, joined-is, shells-left}
 
@@ -135,9 +140,12 @@ taken-is w k shell scene draft t s d =
 
 -- what an event gives that a draft holds
 gives : (w : WorldState) (k : ℕ) (shell : ShellState) (scene : Scene) (draft : Draft) (t : Turned) → Shows w k shell scene → IsDrafted scene draft t
-    → out_of draft ≡ giving t.course.printed (reports_of k t.log)
+    → asked_by (shell_at w k) draft ≡ giving t.course.printed (request_of t.course.parts.number t.phase) (reports_of k t.log)
 gives w k shell scene draft t s d =
-    ap (λ b. giving b draft.reports.items) d.printed_is ∙ ap (λ r. giving t.course.printed r) (d.reports_are ∙ ap (λ n. reports_of n t.log) s.number_is)
+    ap (λ o. asked_by o draft) s.here
+    ∙ ap (λ b. giving b (request_of shell.parts.number (phase_in draft.shell)) draft.reports.items) d.printed_is
+    ∙ ap (λ (x : ShellState). giving t.course.printed (request_of x.parts.number x.phase) draft.reports.items) (ap (behind draft.shell) (sym s.shell_is) ∙ d.shell_is)
+    ∙ ap (λ r. giving t.course.printed (request_of t.course.parts.number t.phase) r) (d.reports_are ∙ ap (λ n. reports_of n t.log) s.number_is)
 
 queue-stays : (w : WorldState) (k : ℕ) → queue_behind k w.queue (input_of w k).queue ≡ w.queue
 queue-stays w k = elim (cases_Bool (k == 1)) [ inl e ↦ rw e refl | inr e ↦ rw e refl ]
@@ -176,12 +184,12 @@ Accepts response world given = (items : List (ℕ × Item)) × response ≡ Acce
 goes : (w : WorldState) (k : ℕ) (shell : ShellState) (scene : Scene) (draft : Draft) (turning : turning.Turning)
     → Shows w k shell scene
     → IsTurning scene (input_of w k).queue turn.Goes draft turning
-    → Accepts (applied w k shell.parts.codes turning) (taken k draft w) (out_of draft)
+    → Accepts (applied w k shell.parts.codes turning) (taken k draft w) (asked_by (shell_at w k) draft)
 goes w k shell scene draft (turning.Refuses why) s t = absurd t
 goes w k shell scene draft turning.Ends s t = absurd t
 goes w k shell scene draft (turning.Takes rest turned) s t =
     let items = of_shell k turned.log ++ begun_items turned.course.begun (free_number w.shells) in
-    let given = giving turned.course.printed (reports_of k turned.log) in (
+    let given = giving turned.course.printed (request_of turned.course.parts.number turned.phase) (reports_of k turned.log) in (
       items,
       ap (λ q. Accepted (record (behind_turn w k turned) { queue = q }) given items)
           (ap (queue_behind k w.queue) t.0 ∙ queue-stays w k)
@@ -193,12 +201,12 @@ goes w k shell scene draft (turning.Takes rest turned) s t =
 takes : (w : WorldState) (k : ℕ) (shell : ShellState) (scene : Scene) (draft : Draft) (turning : turning.Turning)
     → Shows w k shell scene
     → IsTurning scene (input_of w k).queue turn.Takes draft turning
-    → Accepts (applied w k shell.parts.codes turning) (record (taken k draft w) { queue = queue_behind k w.queue (drop 1 w.queue) }) (out_of draft)
+    → Accepts (applied w k shell.parts.codes turning) (record (taken k draft w) { queue = queue_behind k w.queue (drop 1 w.queue) }) (asked_by (shell_at w k) draft)
 takes w k shell scene draft (turning.Refuses why) s t = absurd t
 takes w k shell scene draft turning.Ends s t = absurd t
 takes w k shell scene draft (turning.Takes rest turned) s t =
     let items = of_shell k turned.log ++ begun_items turned.course.begun (free_number w.shells) in
-    let given = giving turned.course.printed (reports_of k turned.log) in
+    let given = giving turned.course.printed (request_of turned.course.parts.number turned.phase) (reports_of k turned.log) in
     let queue = queue_behind k w.queue (drop 1 w.queue) in (
       items,
       ap (λ q. Accepted (record (behind_turn w k turned) { queue = q }) given items)
@@ -210,7 +218,7 @@ takes w k shell scene draft (turning.Takes rest turned) s t =
 -- a turn at which the shell ended
 ends : (w : WorldState) (k : ℕ) (shell : ShellState) (scene : Scene) (draft : Draft) (turning : turning.Turning)
     → IsTurning scene (input_of w k).queue turn.Ends draft turning
-    → Accepts (applied w k shell.parts.codes turning) (ended_world k shell.parts.codes w) (giving [] [])
+    → Accepts (applied w k shell.parts.codes turning) (ended_world k shell.parts.codes w) (giving [] None [])
 ends w k shell scene draft (turning.Refuses why) t = absurd t
 ends w k shell scene draft turning.Ends t = ([], refl)
 ends w k shell scene draft (turning.Takes rest turned) t = absurd t
@@ -252,14 +260,14 @@ sane-behind w world k given sane over (items, e) =
     (let P : Response → Type 0 = λ r. IsSane (world_after w (Ok given) r) in
     subst P (ap (λ b. if b then Refused Over else turned w k (shell_at w k)) over ∙ e) (sane-after w (event.Turn k) (Ok given) sane))
 
--- the turn was accepted, unless memory was wanting: what was answered is the step's answer
-pub answered : {X : Type 0} (world : WorldState) (k : ℕ) (given out : Out) (result : Result X Refusal) (response : Response)
-    → Accepts response world given → IsAnswer (event.Turn k) (Err NoMemory) response → out ≡ given → IfErr result (λ why. why ≡ NoMemory)
-    → IsAnswer (event.Turn k) (answering out result) response
-answered world k given out (Ok accepted) response (items, e) wants g n =
-    (let P : Response → Type 0 = λ r. IsAnswer (event.Turn k) (Ok out) r in subst P (sym e) g)
-answered world k given out (Err why) response (items, e) wants g n =
-    (let Q : Refusal → Type 0 = λ y. IsAnswer (event.Turn k) (Err y) response in subst Q (sym n) wants)
+-- the event was accepted, unless memory was wanting: what was answered is the step's answer
+pub answered : {X : Type 0} (world : WorldState) (e : Event) (given out : Out) (result : Result X Refusal) (response : Response)
+    → Accepts response world given → IsAnswer e (Err NoMemory) response → OnOk result (out ≡ given) → IfErr result (λ why. why ≡ NoMemory)
+    → IsAnswer e (answering out result) response
+answered world e given out (Ok accepted) response (items, a) wants g n =
+    (let P : Response → Type 0 = λ r. IsAnswer e (Ok out) r in subst P (sym a) g)
+answered world e given out (Err why) response (items, a) wants g n =
+    (let Q : Refusal → Type 0 = λ y. IsAnswer e (Err y) response in subst Q (sym n) wants)
 
 -- what was answered is the step's answer, and its world is the world behind it
 pub answers : {X : Type 0} (w world new : WorldState) (given out : Out) (result : Result X Refusal) (response : Response) → Accepts response world given
@@ -275,7 +283,7 @@ to-turned w world k given shell here (items, e) = (items, ap (turned w k) here �
 pub turn-goes : (w : WorldState) (k : ℕ) (shell : ShellState) (scene : Scene) (input : Input) (draft : Draft)
     → Shows w k shell scene → input.is_ended ≡ (input_of w k).is_ended
     → IsTurning scene (input_of w k).queue turn.Goes draft (turning_in scene input scene.shell.now.phase (input_of w k).queue)
-    → Accepts (turned w k (shell_at w k)) (taken k draft w) (out_of draft)
+    → Accepts (turned w k (shell_at w k)) (taken k draft w) (asked_by (shell_at w k) draft)
 turn-goes w k shell scene input draft s e t =
     (let P : turning.Turning → Type 0 = λ x. IsTurning scene (input_of w k).queue turn.Goes draft x in
     to-turned w _ k _ shell s.here (goes w k shell scene draft _ s (subst P (turning-is w k shell scene input s e) t)))
@@ -283,7 +291,7 @@ turn-goes w k shell scene input draft s e t =
 pub turn-takes : (w : WorldState) (k : ℕ) (shell : ShellState) (scene : Scene) (input : Input) (draft : Draft)
     → Shows w k shell scene → input.is_ended ≡ (input_of w k).is_ended
     → IsTurning scene (input_of w k).queue turn.Takes draft (turning_in scene input scene.shell.now.phase (input_of w k).queue)
-    → Accepts (turned w k (shell_at w k)) (record (taken k draft w) { queue = queue_behind k w.queue (drop 1 w.queue) }) (out_of draft)
+    → Accepts (turned w k (shell_at w k)) (record (taken k draft w) { queue = queue_behind k w.queue (drop 1 w.queue) }) (asked_by (shell_at w k) draft)
 turn-takes w k shell scene input draft s e t =
     (let P : turning.Turning → Type 0 = λ x. IsTurning scene (input_of w k).queue turn.Takes draft x in
     to-turned w _ k _ shell s.here (takes w k shell scene draft _ s (subst P (turning-is w k shell scene input s e) t)))
@@ -291,12 +299,80 @@ turn-takes w k shell scene input draft s e t =
 pub turn-ends : (w : WorldState) (k : ℕ) (shell : ShellState) (scene : Scene) (input : Input) (draft : Draft) (codes : Codes)
     → Shows w k shell scene → input.is_ended ≡ (input_of w k).is_ended → codes ≡ shell.parts.codes
     → IsTurning scene (input_of w k).queue turn.Ends draft (turning_in scene input scene.shell.now.phase (input_of w k).queue)
-    → Accepts (turned w k (shell_at w k)) (ended_world k codes w) (giving [] [])
+    → Accepts (turned w k (shell_at w k)) (ended_world k codes w) (giving [] None [])
 turn-ends w k shell scene input draft codes s e c t =
     (let P : turning.Turning → Type 0 = λ x. IsTurning scene (input_of w k).queue turn.Ends draft x in
-    let Q : Codes → Type 0 = λ x. Accepts (turned w k (shell_at w k)) (ended_world k x w) (giving [] []) in
+    let Q : Codes → Type 0 = λ x. Accepts (turned w k (shell_at w k)) (ended_world k x w) (giving [] None []) in
     subst Q (sym c) (to-turned w _ k _ shell s.here (ends w k shell scene draft _ (subst P (turning-is w k shell scene input s e) t))))
 
 -- the same world with other lines that wait
 pub sane-taken : (w : WorldState) (queue : List (List ℕ)) → IsSane (record w { queue = queue }) → IsSane w
 sane-taken w queue sane = record { each = sane.each; background = sane.background }
+
+-- the machine's answering of a shell, by what the scene shows
+answering-is : (w : WorldState) (k : ℕ) (shell : ShellState) (scene : Scene) (answer : Reply) → Shows w k shell scene
+    → answering_in scene (input_of w k) answer ≡ turning.answering (input_of w k) shell.frames (start w shell) shell.phase answer
+answering-is w k shell scene answer s =
+    ap (λ x. turning.answering (input_of w k) x.frames (start_in scene.shared.now scene.shells.now x) x.phase answer) s.shell_is
+    ∙ ap (λ x. turning.answering (input_of w k) shell.frames (start_in x scene.shells.now shell) shell.phase answer) s.shared_is
+    ∙ ap (λ x. turning.answering (input_of w k) shell.frames (start_in w.shared x shell) shell.phase answer) s.shells_are
+
+-- an answer by which a shell goes on is to its world as a turn is
+as-turning : (scene : Scene) (queue : List (List ℕ)) (draft : Draft) (turning : turning.Turning)
+    → IsAnswering scene queue reply.Goes draft turning → IsTurning scene queue turn.Goes draft turning
+as-turning scene queue draft (turning.Refuses why) t = absurd t
+as-turning scene queue draft turning.Ends t = absurd t
+as-turning scene queue draft (turning.Takes rest turned) t = t
+
+-- an answer by which the shell went on
+pub answer-goes : (w : WorldState) (k : ℕ) (shell : ShellState) (scene : Scene) (answer : Reply) (draft : Draft) → Shows w k shell scene
+    → IsAnswering scene (input_of w k).queue reply.Goes draft (answering_in scene (input_of w k) answer)
+    → Accepts (answered_of w k answer (shell_at w k)) (taken k draft w) (asked_by (shell_at w k) draft)
+answer-goes w k shell scene answer draft s t =
+    (let P : turning.Turning → Type 0 = λ x. IsAnswering scene (input_of w k).queue reply.Goes draft x in
+    let accepts = goes w k shell scene draft _ s (as-turning scene _ draft _ (subst P (answering-is w k shell scene answer s) t)) in
+    (accepts.0, ap (answered_of w k answer) s.here ∙ accepts.1))
+
+-- an answer that is accepted may be refused for want of memory
+pub accepted-wants : (w world : WorldState) (k : ℕ) (answer : Reply) (given : Out) (response : Response) → Accepts response world given
+    → IsAnswer (event.Answer k answer) (Err NoMemory) response
+accepted-wants w world k answer given (Accepted other out items) accepts = tt
+accepted-wants w world k answer given (Refused why) (items, e) = cc
+
+-- the machine goes on, for which memory may be wanting
+took-wants : (k : ℕ) (answer : Reply) (w : WorldState) (codes : Codes) (turning : turning.Turning) → MayWantMemory turning
+    → IsAnswer (event.Answer k answer) (Err NoMemory) (applied w k codes turning)
+took-wants k answer w codes (turning.Refuses why) m = absurd m
+took-wants k answer w codes turning.Ends m = absurd m
+took-wants k answer w codes (turning.Takes rest turned) m = tt
+
+pub answer-wants : (w : WorldState) (k : ℕ) (shell : ShellState) (scene : Scene) (answer : Reply) → Shows w k shell scene
+    → MayWantMemory (answering_in scene (input_of w k) answer)
+    → IsAnswer (event.Answer k answer) (Err NoMemory) (answered_of w k answer (shell_at w k))
+answer-wants w k shell scene answer s m =
+    (let P : Response → Type 0 = λ r. IsAnswer (event.Answer k answer) (Err NoMemory) r in
+    subst P (sym (ap (answered_of w k answer) s.here))
+    (took-wants k answer w shell.parts.codes _ (subst MayWantMemory (answering-is w k shell scene answer s) m)))
+
+-- an answer of another kind is refused
+refuses-wrong : (scene : Scene) (queue : List (List ℕ)) (draft : Draft) (k : ℕ) (answer : Reply) (w : WorldState) (codes : Codes) (turning : turning.Turning)
+    → IsAnswering scene queue reply.WrongAnswer draft turning → IsAnswer (event.Answer k answer) (Err WrongAnswer) (applied w k codes turning)
+refuses-wrong scene queue draft k answer w codes (turning.Refuses why) t = sym t
+refuses-wrong scene queue draft k answer w codes turning.Ends t = absurd t
+refuses-wrong scene queue draft k answer w codes (turning.Takes rest turned) t = absurd t
+
+pub answer-wrong : (w : WorldState) (k : ℕ) (shell : ShellState) (scene : Scene) (answer : Reply) (draft : Draft) → Shows w k shell scene
+    → IsAnswering scene (input_of w k).queue reply.WrongAnswer draft (answering_in scene (input_of w k) answer)
+    → IsAnswer (event.Answer k answer) (Err WrongAnswer) (answered_of w k answer (shell_at w k))
+answer-wrong w k shell scene answer draft s t =
+    (let P : Response → Type 0 = λ r. IsAnswer (event.Answer k answer) (Err WrongAnswer) r in
+    let Q : turning.Turning → Type 0 = λ x. IsAnswering scene (input_of w k).queue reply.WrongAnswer draft x in
+    subst P (sym (ap (answered_of w k answer) s.here))
+    (refuses-wrong scene _ draft k answer w shell.parts.codes _ (subst Q (answering-is w k shell scene answer s) t)))
+
+-- no script runs on behind a failure in the world that an answer leaves
+pub sane-answered : (w world : WorldState) (k : ℕ) (answer : Reply) (given : Out) → IsSane w → is_over w ≡ false
+    → Accepts (answered_of w k answer (shell_at w k)) world given → IsSane world
+sane-answered w world k answer given sane over (items, e) =
+    (let P : Response → Type 0 = λ r. IsSane (world_after w (Ok given) r) in
+    subst P (ap (λ b. if b then Refused Over else answered_of w k answer (shell_at w k)) over ∙ e) (sane-after w (event.Answer k answer) (Ok given) sane))

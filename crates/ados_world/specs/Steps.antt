@@ -1,5 +1,5 @@
 -- What a step moves in, and what it is answered.
-use Rattle.std.specs.Prelude.{◌-◌, ℕ, List, [], ◌∷◌, ◌++◌, Option, None, Result, Ok, Err, option_map, slice_set}
+use Rattle.std.specs.Prelude.{◌-◌, ℕ, List, [], ◌∷◌, ◌++◌, Option, Some, None, Result, Ok, Err, option_map, slice_set}
 use Rattle.ados_find.specs.declared.codes.Codes.{Codes}
 use Rattle.ados_find.specs.Shared.{version}
 use Rattle.ados_machine.specs.declared.outs.Out.{Out}
@@ -7,8 +7,11 @@ use Rattle.ados_machine.specs.declared.refusals.Refusal.{Refusal}
 use Rattle.ados_machine.specs.Shells.{ShellState}
 use Rattle.ados_machine.specs.Carrying.{moved_by}
 use Rattle.ados_machine.specs.Numbers.{free_number}
+use Rattle.ados_machine.specs.Requests.{request_of}
+use Rattle.ados_machine.specs.Step.{giving}
 use Rattle.ados_machine.specs.World.{WorldState, flatten, numbered}
 use Rattle.ados_shell.specs.declared.drafts.Draft.{Draft}
+use Rattle.ados_shell.specs.Drafts.{out_of, phase_in}
 use Rattle.ados_world.specs.Endings.{codes_left, ended_left, shells_left}
 use Rattle.ados_world.specs.NewShells.{joined, new_shell}
 use Rattle.ados_world.specs.Shells.{shells_by}
@@ -29,6 +32,11 @@ taken number draft w =
       ended = ended_left codes number w.ended;
       shared = version w.shared draft.shared;
     })
+
+-- what an event gives by a draft that changes a shell: it asks for what the shell waits for then
+abbrev pub asked_by : Option ShellState → Draft → Out
+asked_by None draft = out_of draft
+asked_by (Some shell) draft = giving draft.printed.items (request_of shell.parts.number (phase_in draft.shell)) draft.reports.items
 
 -- the world behind the end of a shell, whose codes stay
 abbrev pub ended_world : ℕ → Codes → WorldState → WorldState

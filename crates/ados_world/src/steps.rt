@@ -4,10 +4,10 @@ ghost use Rattle.ados_machine.specs.Limits.{IsSane};
 ghost use Rattle.ados_machine.specs.World.{is_over, shell_at};
 ghost use Rattle.ados_machine.specs.Step.{step_of, turned, answered, giving, queue_behind};
 ghost use Rattle.ados_machine.specs.Runs.{IsAnswer, world_after};
-ghost use Rattle.ados_machine.specs.declared.refusals.Refusal.TheVariants.{NoMemory};
+ghost use Rattle.ados_machine.specs.declared.refusals.Refusal.TheVariants.{NoMemory as WantOfMemory};
 ghost use Rattle.ados_shell.specs.Drafts.{out_of};
 ghost use Rattle.ados_world.specs.Shells.{IsShellNumber};
-ghost use Rattle.ados_world.specs.Steps.{answering, ended_world, taken};
+ghost use Rattle.ados_world.specs.Steps.{answering, asked_by, ended_world, taken};
 
 use crate::carrying::moved_by;
 use crate::endings::{end, end_done};
@@ -17,7 +17,7 @@ use crate::worlds::World;
 use ados_find::Codes;
 use ados_machine::{Answer, Event, Out, Refusal};
 use ados_shell::{Answering, Draft, Turning};
-use ados_text::Text;
+use ados_text::{NoMemory, Text};
 
 impl World {
     /// Takes one event, or refuses it and stays as it was.
@@ -88,18 +88,8 @@ impl World {
                 self.end_shell(number, codes);
                 Ok(())
             }
-            Ok(Turning::Goes) => {
-                let Ok(()) = draft.ask_for(shell) else {
-                    return Err(Refusal::NoMemory);
-                };
-                self.take(number, draft)
-            }
-            Ok(Turning::Takes) => {
-                let Ok(()) = draft.ask_for(shell) else {
-                    return Err(Refusal::NoMemory);
-                };
-                self.take_typed(number, draft)
-            }
+            Ok(Turning::Goes) => self.take(number, draft),
+            Ok(Turning::Takes) => self.take_typed(number, draft),
         }
     }
 
@@ -116,12 +106,7 @@ impl World {
         match draft.take_answer_of(&self.scene(number, shell), answer) {
             Err(_) => Err(Refusal::NoMemory),
             Ok(Answering::WrongAnswer) => Err(Refusal::WrongAnswer),
-            Ok(Answering::Goes) => {
-                let Ok(()) = draft.ask_for(shell) else {
-                    return Err(Refusal::NoMemory);
-                };
-                self.take(number, draft)
-            }
+            Ok(Answering::Goes) => self.take(number, draft),
         }
     }
 
@@ -130,9 +115,9 @@ impl World {
         requires number { IsShellNumber number }
         requires runs { is_some (shell_at self.old number) ≡ true }
         requires sane { IsSane (taken number draft.old self.old) }
-        ensures out { out_of draft.new ≡ out_of draft.old }
+        ensures out { OnOk result (out_of draft.new ≡ asked_by (shell_at self.old number) draft.old) }
         ensures world { OnOk result (self.new ≡ record (taken number draft.old self.old) { queue = queue_behind number self.old.queue (drop 1 self.old.queue) }) }
-        ensures refusal { IfErr result (λ why. why ≡ NoMemory) }
+        ensures refusal { IfErr result (λ why. why ≡ WantOfMemory) }
         ensures unchanged { OnErr result (self.new ≡ self.old) }
     {
         self.take(number, draft)?;
@@ -142,17 +127,20 @@ impl World {
         Ok(())
     }
 
-    /// Moves in what a turn changes: the shell that it makes stands at its number, and the turn's own shell ends where
+    /// Moves in what a turn, or an answer, changes: the shell that it makes stands at its number, and the turn's own shell ends where
     /// it is a background shell that runs no frame any more.
     fn take(&mut self, number: u8, draft: &mut Draft) -> Result<(), Refusal>
         requires number { IsShellNumber number }
         requires runs { is_some (shell_at self.old number) ≡ true }
         requires sane { IsSane (taken number draft.old self.old) }
-        ensures out { out_of draft.new ≡ out_of draft.old }
+        ensures out { OnOk result (out_of draft.new ≡ asked_by (shell_at self.old number) draft.old) }
         ensures world { OnOk result (self.new ≡ taken number draft.old self.old) }
-        ensures refusal { IfErr result (λ why. why ≡ NoMemory) }
+        ensures refusal { IfErr result (λ why. why ≡ WantOfMemory) }
         ensures unchanged { OnErr result (self.new ≡ self.old) }
     {
+        let Ok(()) = self.ask(number, draft) else {
+            return Err(Refusal::NoMemory);
+        };
         let Ok(begun) = new_shell(self.alloc, &self.shells, draft.begun.take()) else {
             return Err(Refusal::NoMemory);
         };
@@ -171,6 +159,17 @@ impl World {
             Some(new) => self.shared = new,
         }
         Ok(())
+    }
+
+    /// The launcher is asked for what the shell of this number waits for behind the event.
+    fn ask(&self, number: u8, draft: &mut Draft) -> Result<(), NoMemory>
+        ensures out { OnOk result (out_of draft.new ≡ asked_by (shell_at self.now number) draft.old) }
+        ensures same { OnOk result (draft.new ≡ record draft.old { request = draft.new.request }) }
+    {
+        match self.shell(number) {
+            None => Ok(()),
+            Some(shell) => draft.ask_for(shell),
+        }
     }
 
     /// The shell of this number ends; its codes stay.

@@ -25,5 +25,5 @@ pub returns-in_ok-text-in-Short-clause-took : goal.returns-in_ok-text-in-Short-c
 returns-in_ok-text-in-Short-clause-took g c =
     let P : List ℕ → Type 0 = λ b. OnOk c.give_line.result (TakesAt c.args.world.now (ahead c.args.held.now (g.S.Source.left c.args.reader.now)) 0 c.give_line.new.world (ahead c.next_line.new.held (g.S.Source.left c.next_line.new.source)) b) in
     subst P (sym (ap (λ o. o.bytes) c.give_nothing.ensures))
-    (took-event _ _ _ _ _ (Typed c.in_ok-text-in-Short.text) (giving [] []) c.give_line.result c.give_line.ensures.answer c.give_line.ensures.world refl
+    (took-event _ _ _ _ _ (Typed c.in_ok-text-in-Short.text) (giving [] None []) c.give_line.result c.give_line.ensures.answer c.give_line.ensures.world refl
     (λ bytes e. next-short bytes _ _ _ _ _ (c.in_ok-next_line.ensures.taken bytes e) c.in-Short.is c.in_ok-text-in-Short.ensures c.as_slice.ensures.value))

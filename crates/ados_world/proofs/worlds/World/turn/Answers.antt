@@ -1,5 +1,6 @@
 use Rattle.std.proofs.Common.{sym, subst}
 use Rattle.ados_machine.specs.World.{input_of}
+use Rattle.ados_machine.specs.declared.events.Event.TheVariants as event
 use Rattle.ados_shell.specs.declared.turnings.Turning.{Turning}
 use Rattle.ados_shell.specs.Turnings.{GivesTurning}
 use Rattle.ados_world.proofs.StepLemmas.{Shows, answered, answers, goes-wants, sane-behind, sane-taken, takes-wants, turn-ends, turn-goes, turn-takes, turn-wants}
@@ -85,7 +86,7 @@ returns-in-Ok-Goes-clause-answer c =
     } in
     let P : Turning → Type 0 = λ t. GivesTurning c.scene.result c.input.result t c.turn.new.self in
     let given = subst P c.in-Ok-Goes.field-0-is c.in-Ok-Goes.ensures.turn in
-    answered _ k _ _ c.take.result _
+    answered _ (event.Turn k) _ _ c.take.result _
     (turn-goes w k shell c.scene.result c.input.result c.turn.new.self shows c.input.ensures.is_ended (given (input_of w k).queue c.input.ensures.line))
     (goes-wants w k shell c.scene.result c.input.result c.turn.new.self (rw c.self.view_is at c.self.invariant) shows c.input.ensures.is_ended (given (input_of w k).queue c.input.ensures.line))
     c.take.ensures.out c.take.ensures.refusal
@@ -122,7 +123,7 @@ returns-in-Ok-Takes-clause-answer c =
     } in
     let P : Turning → Type 0 = λ t. GivesTurning c.scene.result c.input.result t c.turn.new.self in
     let given = subst P c.in-Ok-Takes.field-0-is c.in-Ok-Takes.ensures.turn in
-    answered _ k _ _ c.take_typed.result _
+    answered _ (event.Turn k) _ _ c.take_typed.result _
     (turn-takes w k shell c.scene.result c.input.result c.turn.new.self shows c.input.ensures.is_ended (given (input_of w k).queue c.input.ensures.line))
     (takes-wants w k shell c.scene.result c.input.result c.turn.new.self (rw c.self.view_is at c.self.invariant) shows c.input.ensures.is_ended (given (input_of w k).queue c.input.ensures.line))
     c.take_typed.ensures.out c.take_typed.ensures.refusal
