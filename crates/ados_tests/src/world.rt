@@ -1,6 +1,6 @@
 use crate::wrong::{Wrong, expect, expect_row};
 use ados_text::{NoMemory, Text};
-use ados_world::{Codes, Event, HostEntry, NewFault, Out, Refusal, World};
+use ados_world::{Codes, Event, Out, Refusal, World};
 use std::alloc::Global;
 
 // The helpers have no contract, and few own a world: what the prover need not know costs nothing.
@@ -227,17 +227,4 @@ const SHELL_OF_A_SCRIPT: &[Row] = &[
 #[test]
 fn want_of_memory_moves_and_ends_no_background_shell(rt: HostRuntime) -> Result<(), Wrong> {
     dialogue(rt.alloc(), SHELL_OF_A_SCRIPT)
-}
-
-fn host(alloc: Global) -> Result<HostEntry, NoMemory> {
-    Ok(HostEntry {
-        name: Text::from_bytes(alloc, b"h")?,
-        program: Text::from_bytes(alloc, b"/bin/true")?,
-    })
-}
-
-#[test]
-fn no_host_is_taken_yet(rt: HostRuntime) -> Result<(), Wrong> {
-    let answer = World::new(rt.alloc(), &[host(rt.alloc())?]);
-    expect(answer.err() == Some(NewFault::TooMany), "a host")
 }
