@@ -368,7 +368,8 @@ answer-wrong w k shell scene answer draft s t =
     (let P : Response → Type 0 = λ r. IsAnswer (event.Answer k answer) (Err WrongAnswer) r in
     let Q : turning.Turning → Type 0 = λ x. IsAnswering scene (input_of w k).queue reply.WrongAnswer draft x in
     subst P (sym (ap (answered_of w k answer) s.here))
-    (refuses-wrong scene _ draft k answer w shell.parts.codes _ (subst Q (answering-is w k shell scene answer s) t)))
+    (refuses-wrong scene (input_of w k).queue draft k answer w shell.parts.codes
+    (turning.answering (input_of w k) shell.frames (start w shell) shell.phase answer) (subst Q (answering-is w k shell scene answer s) t)))
 
 -- no script runs on behind a failure in the world that an answer leaves
 pub sane-answered : (w world : WorldState) (k : ℕ) (answer : Reply) (given : Out) → IsSane w → is_over w ≡ false

@@ -1,5 +1,5 @@
 -- The host's commands that a world is made with.
-use Rattle.std.specs.Prelude.{◌≡◌, ℕ, suc, List, [], ◌∷◌, take, length, slice_get, Bool, not, ◌||◌, nat_lt, Option, Some, None, is_some, Result, Ok, Err, if◌then◌else◌}
+use Rattle.std.specs.Prelude.{◌≡◌, ◌⊎◌, ℕ, suc, List, [], ◌∷◌, take, length, Bool, not, ◌||◌, nat_lt, Option, Some, None, is_some, Result, Ok, Err, if◌then◌else◌}
 use Rattle.std.specs.Option.{option_or}
 use Rattle.std.specs.List.{list_any}
 use Rattle.ados_text.specs.Text.{Text, is_same}
@@ -14,9 +14,17 @@ use Rattle.ados_world.specs.declared.hosts.NewFault.TheVariants.{TooMany, BadNam
 abbrev pub host_limit : ℕ
 host_limit = 64
 
+-- it is the name of an internal command, or of a disk command
+abbrev pub is_command : Text → Bool
+is_command name = is_some (internal_named name) || is_some (disk_named name)
+
+-- one of these has the name
+abbrev pub is_host : List HostEntry → Text → Bool
+is_host hosts name = list_any (λ host. is_same name host.name) hosts
+
 -- a command has the name: an internal one, a disk command, or one of these
 abbrev pub is_taken : List HostEntry → Text → Bool
-is_taken hosts name = is_some (internal_named name) || (is_some (disk_named name) || list_any (λ host. is_same name host.name) hosts)
+is_taken hosts name = is_command name || is_host hosts name
 
 -- why a name is refused, which has this place from 1 on and these before it: it is none, or a command's
 abbrev pub name_fault : List HostEntry → ℕ → Text → Option NewFault
@@ -36,5 +44,4 @@ hosts_fault hosts = if nat_lt host_limit (length hosts) then Some TooMany else f
 -- a world is made where there is no fault, and else the refusal is the fault; want of memory comes only where there is none
 abbrev pub Answers : {X : Type 0} → Result X NewFault → Option NewFault → Type 0
 Answers (Ok x) fault = fault ≡ None
-Answers (Err NoMemory) fault = fault ≡ None
-Answers (Err why) fault = fault ≡ Some why
+Answers (Err why) fault = (fault ≡ Some why) ⊎ ((why ≡ NoMemory) × (fault ≡ None))

@@ -1,7 +1,7 @@
 // The host's commands that a world is made with.
 ghost use Rattle.std.specs.Prelude.{◌≡◌};
 ghost use Rattle.ados_text.specs.Text.{is_same};
-ghost use Rattle.ados_world.specs.Hosts.{faults_from, hosts_fault, is_taken, name_fault};
+ghost use Rattle.ados_world.specs.Hosts.{faults_from, hosts_fault, is_command, is_host, is_taken, name_fault};
 
 use ados_names::is_name;
 use ados_resident::{DiskCommand, HostEntry, InternalCommand};
@@ -68,9 +68,21 @@ fn name_fault(before: &[HostEntry], place: usize, name: &Text) -> Option<NewFaul
 fn is_taken(hosts: &[HostEntry], name: &Text) -> bool
     ensures { result ≡ is_taken hosts.now name.now }
 {
-    InternalCommand::named(name).is_some()
-        || DiskCommand::named(name.as_bytes()).is_some()
-        || hosts.iter().any(|host| is_called(host, name))
+    is_command(name) || is_host(hosts, name)
+}
+
+/// It is the name of an internal command, or of a disk command.
+fn is_command(name: &Text) -> bool
+    ensures { result ≡ is_command name.now }
+{
+    InternalCommand::named(name).is_some() || DiskCommand::named(name.as_bytes()).is_some()
+}
+
+/// One of these has the name.
+fn is_host(hosts: &[HostEntry], name: &Text) -> bool
+    ensures { result ≡ is_host hosts.now name.now }
+{
+    hosts.iter().any(|host| is_called(host, name))
 }
 
 /// The name is this one's; case is ignored.

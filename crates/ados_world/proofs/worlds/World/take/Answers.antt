@@ -13,7 +13,7 @@ invariant_of-self-in-Some c =
     let draft = c.args.draft.now in
     let moved : Option Renamed = moved_by w.shared (version w.shared draft.shared) (option_map (λ r. r.value) draft.renamed) in
     subst IsSane
-    (taken-by w c.args.number draft c.in-Ok.begun moved c.change_shell.new.shells c.join.new.shells c.end_done.new.shells c.end_done.new.ended
+    (taken-by w c.args.number draft c.in-Ok-new_shell.begun moved c.change_shell.new.shells c.join.new.shells c.end_done.new.shells c.end_done.new.ended
     c.self.inside.queue.items c.self.inside.input_ended c.in-Some.new
     (search rules) refl (search rules) (search rules) (search rules) (search rules) (search rules) (search rules) (search rules))
     c.requires.sane
