@@ -2,7 +2,7 @@
 
 use crate::texts::{push_all, push_count, push_lines};
 use ados_text::{NoMemory, push_number};
-use ados_world::{EndReport, Job, Out, Refusal, Request};
+use ados_world::{EndReport, Job, NewFault, Out, Refusal, Request};
 
 /// Adds what the world answered to an event.
 pub fn push_answer(text: &mut Vec<u8>, answer: &Result<Out, Refusal>) -> Result<(), NoMemory> {
@@ -21,6 +21,14 @@ fn name_of(refusal: Refusal) -> &'static str {
         Refusal::QueueFull => "QueueFull",
         Refusal::LineTooLong => "LineTooLong",
         Refusal::NoMemory => "NoMemory",
+    }
+}
+
+/// Adds why a world with these hosts is not made.
+pub fn push_new_fault(text: &mut Vec<u8>, fault: NewFault) -> Result<(), NoMemory> {
+    match fault {
+        NewFault::TooMany => push_all(text, &[b"refused: TooMany\n"]),
+        NewFault::NoMemory => Err(NoMemory),
     }
 }
 

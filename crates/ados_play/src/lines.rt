@@ -1,7 +1,7 @@
 //! The lines of a list.
 
 use ados_text::{NoMemory, Octets, Text};
-use ados_world::{Answer, Event};
+use ados_world::{Answer, Event, HostEntry};
 use std::alloc::Global;
 
 /// What a line of a list asks for.
@@ -9,6 +9,8 @@ use std::alloc::Global;
 pub enum Line {
     /// Nothing: it is blank or a comment.
     Nothing,
+    /// A command of the next fresh world that is a program of the host.
+    Host,
     /// A fresh world.
     Fresh,
     /// What the world shows.
@@ -39,10 +41,23 @@ pub fn line_of(text: &str) -> Line {
     if text == "fresh" {
         return Line::Fresh;
     }
+    if text.starts_with("host ") {
+        return Line::Host;
+    }
     match view_of(text) {
         Some(view) => Line::Show(view),
         None => Line::Event,
     }
+}
+
+/// The command of the host that a line names, and its program, which is all that stands behind the name.
+pub fn host_of(alloc: Global, text: &str) -> Result<HostEntry, NoMemory> {
+    let (_, rest) = parted(text);
+    let (name, program) = parted(rest);
+    Ok(HostEntry {
+        name: Text::from_bytes(alloc, name.as_bytes())?,
+        program: Text::from_bytes(alloc, program.as_bytes())?,
+    })
 }
 
 // The view that a line asks for.

@@ -1,11 +1,11 @@
 //! A world to which a list is played.
 
-use crate::answers::push_answer;
-use crate::lines::{Line, event_of, line_of};
+use crate::answers::{push_answer, push_new_fault};
+use crate::lines::{Line, event_of, host_of, line_of};
 use crate::texts::push_all;
 use crate::views::push_view;
 use ados_text::NoMemory;
-use ados_world::{Event, Out, Refusal, World};
+use ados_world::{Event, HostEntry, Out, Refusal, World};
 use std::alloc::Global;
 use std::mem::replace;
 use thiserror::Error;
@@ -36,11 +36,12 @@ impl From<NoMemory> for Fault {
     }
 }
 
-/// A world, and the events that are still to be played to it, each with its line.
+/// A world, the events that are still to be played to it, each with its line, and the hosts of the next one.
 #[derive(Drop)]
 struct Player<'a> {
     alloc: Global,
     way: Way,
+    hosts: Vec<HostEntry>,
     world: World,
     lines: Vec<&'a str>,
     events: Vec<Event>,
@@ -53,6 +54,7 @@ pub fn played(alloc: Global, way: Way, list: &str) -> Result<Vec<u8>, Fault> {
     let mut player = Player {
         alloc,
         way,
+        hosts: Vec::new(alloc),
         world: fresh(alloc)?,
         lines: Vec::new(alloc),
         events: Vec::new(alloc),
@@ -79,10 +81,15 @@ impl<'a> Player<'a> {
         match line_of(line) {
             Line::Nothing => {}
             Line::Event => return self.take_event(line),
+            Line::Host => {
+                self.play(text)?;
+                push_line(text, line)?;
+                self.hosts.push(host_of(self.alloc, line)?)?;
+            }
             Line::Fresh => {
                 self.play(text)?;
-                self.world = fresh(self.alloc)?;
                 push_line(text, line)?;
+                self.begin(text)?;
             }
             Line::Show(view) => {
                 self.play(text)?;
@@ -91,6 +98,16 @@ impl<'a> Player<'a> {
             }
         }
         Ok(true)
+    }
+
+    // Goes on with a fresh world that has the hosts named for it; where it is refused, with the world so far.
+    fn begin(&mut self, text: &mut Vec<u8>) -> Result<(), NoMemory> {
+        match World::new(self.alloc, &self.hosts) {
+            Ok(world) => self.world = world,
+            Err(fault) => push_new_fault(text, fault)?,
+        }
+        self.hosts.clear();
+        Ok(())
     }
 
     // Keeps the event of a line, to be played.
@@ -107,6 +124,9 @@ impl<'a> Player<'a> {
 
     // Plays the events that are still to be played.
     fn play(&mut self, text: &mut Vec<u8>) -> Result<(), NoMemory> {
+        if self.events.is_empty() {
+            return Ok(());
+        }
         let answers = self.answers()?;
         for (line, answer) in self.lines.iter().zip(&answers) {
             push_line(text, line)?;
@@ -131,7 +151,7 @@ fn push_line(text: &mut Vec<u8>, line: &str) -> Result<(), NoMemory> {
     push_all(text, &[b"> ", line.as_bytes(), b"\n"])
 }
 
-// A world in which nothing happened.
+// A world in which nothing happened, without hosts.
 fn fresh(alloc: Global) -> Result<World, NoMemory> {
     match World::new(alloc, &[]) {
         Ok(world) => Ok(world),
