@@ -28,8 +28,18 @@ fn name_of(refusal: Refusal) -> &'static str {
 pub fn push_new_fault(text: &mut Vec<u8>, fault: NewFault) -> Result<(), NoMemory> {
     match fault {
         NewFault::TooMany => push_all(text, &[b"refused: TooMany\n"]),
+        NewFault::BadName(host) => push_host_fault(text, b"BadName ", host),
+        NewFault::Double(host) => push_host_fault(text, b"Double ", host),
         NewFault::NoMemory => Err(NoMemory),
     }
+}
+
+// Adds the fault of the host of a number.
+fn push_host_fault(text: &mut Vec<u8>, fault: &[u8], host: usize) -> Result<(), NoMemory> {
+    push_all(text, &[b"refused: ", fault])?;
+    push_count(text, host)?;
+    text.push(b'\n')?;
+    Ok(())
 }
 
 fn push_out(text: &mut Vec<u8>, out: &Out) -> Result<(), NoMemory> {

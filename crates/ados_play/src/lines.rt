@@ -31,6 +31,7 @@ pub enum View {
     WantsLine,
     Files,
     Assigns,
+    Residents,
 }
 
 /// What a line asks for.
@@ -72,6 +73,7 @@ fn view_of(text: &str) -> Option<View> {
         "wants" => Some(View::WantsLine),
         "files" => Some(View::Files),
         "assigns" => Some(View::Assigns),
+        "residents" => Some(View::Residents),
         _ => None,
     }
 }

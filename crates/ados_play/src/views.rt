@@ -5,7 +5,8 @@ use crate::lines::View;
 use crate::texts::{push_all, push_count, push_lines};
 use ados_assign::Assign;
 use ados_ram::{Bits, Entry, Place, Ram};
-use ados_text::{NoMemory, push_number};
+use ados_resident::{Program, Resident};
+use ados_text::{NoMemory, Text, push_number, same};
 use ados_vars::Vars;
 use ados_world::{Codes, Request, World};
 
@@ -20,6 +21,7 @@ pub fn push_view(text: &mut Vec<u8>, world: &World, view: View) -> Result<(), No
         View::WantsLine => push_answer(text, world.wants_line()),
         View::Files => push_files(text, world.files()),
         View::Assigns => push_assigns(text, world.files(), world.assigns().list()),
+        View::Residents => push_residents(text, world),
     }
 }
 
@@ -141,4 +143,47 @@ fn push_assigns(text: &mut Vec<u8>, files: &Ram, assigns: &[Assign]) -> Result<(
         push_all(text, &[b"= ", name, b": ", path.as_bytes(), b"\n"])?;
     }
     Ok(())
+}
+
+// Adds a line of each internal command that is disabled, and of each entry.
+fn push_residents(text: &mut Vec<u8>, world: &World) -> Result<(), NoMemory> {
+    let residents = world.residents();
+    for internal in residents.internals() {
+        if internal.is_disabled {
+            let name = internal.command.name().as_bytes();
+            push_all(text, &[b"= disabled ", name, b"\n"])?;
+        }
+    }
+    for entry in residents.entries() {
+        push_resident(text, world, entry)?;
+    }
+    Ok(())
+}
+
+// Adds a line of an entry: its program, and how many shells run from it, unless it is one of the system.
+fn push_resident(text: &mut Vec<u8>, world: &World, entry: &Resident) -> Result<(), NoMemory> {
+    push_all(text, &[b"= entry ", entry.name.as_bytes()])?;
+    match &entry.program {
+        Program::Disk(command) => push_all(text, &[b" disk ", command.name().as_bytes()])?,
+        Program::Host(program) => push_all(text, &[b" host \"", program.as_bytes(), b"\""])?,
+    }
+    if entry.is_system {
+        return push_all(text, &[b" system\n"]);
+    }
+    text.extend_from_slice(b" used ")?;
+    push_count(text, count_of_uses(world, &entry.name))?;
+    text.push(b'\n')?;
+    Ok(())
+}
+
+// How many shells run from the entry of a name.
+fn count_of_uses(world: &World, name: &Text) -> usize {
+    let mut count = 0;
+    for number in 1..=20 {
+        let entry = world.shell(number).and_then(|shell| shell.entry());
+        if entry.is_some_and(|entry| same(entry, name)) {
+            count += 1;
+        }
+    }
+    count
 }

@@ -154,19 +154,9 @@ pub fn uses(alloc: Global, shells: &[Option<Shell>; 20]) -> Result<Texts, NoMemo
 fn push_use(uses: &mut Texts, shell: &Shell) -> Result<(), NoMemory>
     ensures { OnOk result (uses.new ≡ uses.old ++ with_use (seen_of shell.now).entry []) }
 {
-    match entry(shell) {
+    match shell.entry() {
         None => Ok(()),
         Some(entry) => uses.push(entry.copy()?),
-    }
-}
-
-/// The resident entry from which a shell runs, by its name.
-fn entry(shell: &Shell) -> Option<&Text>
-    ensures { option_copied result ≡ (seen_of shell.now).entry }
-{
-    match shell.phase.as_deref() {
-        Some(Phase::Waiting(wait)) => wait.entry(),
-        _ => None,
     }
 }
 

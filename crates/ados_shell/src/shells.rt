@@ -1,7 +1,7 @@
 // A shell: its frames, what it waits for, its parts.
 ghost use Rattle.std.specs.Prelude.{◌≡◌, ◌∷◌, [], reverse, IfOk};
 ghost use Rattle.std.specs.Option.{option_copied};
-ghost use Rattle.ados_machine.specs.Shells.{begun_shell, fresh_shell};
+ghost use Rattle.ados_machine.specs.Shells.{begun_shell, entry_in, fresh_shell};
 ghost use Rattle.ados_flow.specs.Frames.{began, first_limit};
 ghost use Rattle.ados_flow.specs.declared.kinds.Kind.TheVariants.{Lines};
 
@@ -11,7 +11,7 @@ use ados_flow::{FIRST_LIMIT, Frame, Kind};
 use ados_machine::{Phase, Request};
 use ados_ram::Place;
 use ados_script::Script;
-use ados_text::{Code, NoMemory, Octets};
+use ados_text::{Code, NoMemory, Octets, Text};
 use std::alloc::Global;
 use std::marker::Model;
 
@@ -183,6 +183,17 @@ impl Shell {
             None | Some(Phase::Ready) => self.frames.is_empty(),
             Some(Phase::GoingOn(_)) => false,
             Some(Phase::Waiting(wait)) => wait.is_for_input(),
+        }
+    }
+
+    /// The name of the resident entry from which it runs: where it starts a program from one, reads its output, or waits
+    /// for its end.
+    pub fn entry(&self) -> Option<&Text>
+        ensures { option_copied result ≡ entry_in self.now.phase }
+    {
+        match self.phase.as_deref() {
+            Some(Phase::Waiting(wait)) => wait.entry(),
+            _ => None,
         }
     }
 

@@ -3,6 +3,7 @@ use Rattle.std.proofs.lemmas.List.{length-map}
 use Rattle.ados_text.specs.Text.{to_ascii}
 use Rattle.ados_machine.specs.declared.events.Event.TheVariants.{Typed, EndOfInput}
 use Rattle.ados_machine.specs.Step.{giving}
+use Rattle.std.specs.Prelude.{None}
 use Rattle.ados_shell.specs.Drafts.{out_of}
 use Rattle.ados_launch.specs.Lines.{ahead}
 use Rattle.ados_launch.specs.Session.{TakesAt}
