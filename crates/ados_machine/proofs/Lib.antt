@@ -10,3 +10,5 @@ pub mod Moves
 pub mod Sane
 pub mod Traces
 pub mod Ends
+pub mod Starts
+pub mod Asked

@@ -25,4 +25,5 @@ pub mod Runs
 pub mod Trace
 pub mod Limits
 pub mod Stacks
+pub mod Starts
 pub mod Laws

@@ -7,6 +7,7 @@ ghost use Rattle.ados_machine.specs.Laws.{
   EachFrameEndsOnce,
 };
 ghost use Rattle.ados_machine.specs.Limits.{IsSane};
+ghost use Rattle.ados_machine.specs.Starts.{FailedStartsChangeTheCodes};
 ghost use Rattle.ados_machine.specs.World.{fresh_world};
 ghost use Rattle.ados_resident.specs.declared.hosts.HostEntry.{HostEntry};
 ghost use Rattle.std.specs.Prelude.{List};
@@ -37,4 +38,11 @@ pub fn each_end_is_reported_once()
 /// command.
 pub fn each_frame_ends_once()
     ensures { EachFrameEndsOnce }
+{}
+
+/// An answer that a program could not be started changes the codes of the shell that asked, and what these change: its
+/// limit, its phase, the last record of its newest frame, and which of its frames go on. What all shells share, the
+/// other shells and their codes, and the input stay, and the use of its resident entry is given back.
+pub fn failed_starts_change_the_codes()
+    ensures { FailedStartsChangeTheCodes }
 {}
