@@ -12,3 +12,4 @@ pub mod Traces
 pub mod Ends
 pub mod Starts
 pub mod Asked
+pub mod InVain
