@@ -13,3 +13,5 @@ pub mod Ends
 pub mod Starts
 pub mod Asked
 pub mod InVain
+pub mod Alike
+pub mod Erased

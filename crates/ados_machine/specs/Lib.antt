@@ -26,4 +26,5 @@ pub mod Trace
 pub mod Limits
 pub mod Stacks
 pub mod Starts
+pub mod Quiet
 pub mod Laws

@@ -7,6 +7,7 @@ ghost use Rattle.ados_machine.specs.Laws.{
   EachFrameEndsOnce,
 };
 ghost use Rattle.ados_machine.specs.Limits.{IsSane};
+ghost use Rattle.ados_machine.specs.Quiet.{QuietShellsAreInvisible};
 ghost use Rattle.ados_machine.specs.Starts.{FailedStartsChangeTheCodes, FailedStartsLeaveNothing};
 ghost use Rattle.ados_machine.specs.World.{fresh_world};
 ghost use Rattle.ados_resident.specs.declared.hosts.HostEntry.{HostEntry};
@@ -49,4 +50,12 @@ pub fn each_frame_ends_once()
 pub fn failed_starts_change_the_codes()
     ensures step { FailedStartsChangeTheCodes }
     ensures run { FailedStartsLeaveNothing }
+{}
+
+/// A shell whose events each leave what is seen of it as it was can be taken out of every run: without its events the
+/// others are answered the same, and what all share, the other shells and their codes are left the same. What is seen of
+/// a shell is its directory, its open outputs, the resident entry that it runs from and its name, which numbers have a
+/// shell, and what all share.
+pub fn quiet_shells_are_invisible()
+    ensures { QuietShellsAreInvisible }
 {}
