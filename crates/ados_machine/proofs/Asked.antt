@@ -1,5 +1,5 @@
 -- A turn that asks for a program's start hands on the course that it was handed.
-use Rattle.std.proofs.Common.{◌++◌, ◌≡◌, ℕ, ◌-◌, List, [], ◌∷◌, Bool, true, false, length, nat_le, drop, Option, Some, None, Result, Ok, Err, refl, inl, inr, slice_get}
+use Rattle.std.proofs.Common.{◌≡◌, ℕ, ◌-◌, List, [], ◌∷◌, Bool, true, false, length, nat_le, drop, Option, Some, None, Result, Ok, Err, refl, inl, inr, slice_get}
 use Rattle.std.proofs.lemmas.Bool.{cases_Bool}
 use Rattle.ados_text.specs.Text.{Text}
 use Rattle.ados_text.specs.declared.codes.Result2.{Result2}
@@ -29,7 +29,6 @@ use Rattle.ados_machine.specs.declared.builtins.Builtin.{Builtin}
 use Rattle.ados_machine.specs.declared.phases.Asking.{Asking}
 use Rattle.ados_machine.specs.declared.phases.Asking.TheVariants.{Arguments, Reply}
 use Rattle.ados_machine.specs.declared.phases.Gathering.{Gathering}
-use Rattle.ados_machine.specs.declared.phases.Parted.{Parted}
 use Rattle.ados_machine.specs.declared.phases.Phase.{Phase}
 use Rattle.ados_machine.specs.declared.phases.Phase.TheVariants as phase
 use Rattle.ados_machine.specs.declared.phases.Question.{Question}
@@ -47,7 +46,7 @@ use Rattle.ados_machine.specs.NewShells.{console_run, run_at, run_into, running_
 use Rattle.ados_machine.specs.Hosted.{start_deed, tested_deed, host_by}
 use Rattle.ados_machine.specs.Lines.{action_in, action_deed, work_deed, command_deed, prompt_deed, asked_deed, builtin_deed, arrived_deed, arriving_deed, directory_deed, called_deed, calling_deed, script_deed, nameless, found_in, found_deed, expanded_deed, variables_in, line_deed, parted_deed, answer_deed, internal_deed, program_deed}
 use Rattle.ados_machine.specs.Settled.{Said, Settled, told, with_limit, faulted, after_end, finish, passed, finished}
-use Rattle.ados_machine.specs.Settle.{Turned, here_of, begun, called, ticked, jumped_in, ruled, said_of, by_rule, settle}
+use Rattle.ados_machine.specs.Settle.{Turned, here_of, called, ticked, jumped_in, said_of, by_rule, settle}
 use Rattle.ados_machine.specs.Turning.{Input, Turning, Refuses, Ends, Takes, frame_turned, at_end, console_turning, ready_turning, input_turning, turning}
 
 -- the deed asks for no start

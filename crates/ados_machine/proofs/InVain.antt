@@ -27,7 +27,7 @@ use Rattle.ados_machine.specs.World.{WorldState, shell_at, ended_at, is_over, in
 use Rattle.ados_machine.specs.Carrying.{carried_shells, carried_by}
 use Rattle.ados_machine.specs.Step.{Response, Refused, Accepted, with_begun, is_done, shell_of_turn, left, moved_in, shells_behind, shell_ended, start, applied, answered, step_of}
 use Rattle.ados_machine.specs.Runs.{IsAnswer, world_after, Runs}
-use Rattle.ados_machine.specs.Starts.{IsFailure, KeepsSettings, IsBehindFailure, use_count, own_use, StartFails, AllRefused, KeepsSettingsIf, FailedStartsLeaveNothing}
+use Rattle.ados_machine.specs.Starts.{IsFailure, IsBehindFailure, use_count, own_use, StartFails, AllRefused, KeepsSettingsIf, FailedStartsLeaveNothing}
 use Rattle.ados_machine.proofs.Shells.{found, found-set_same, found-set_other, runs_pos, free-number, carried-free, found-carried, carried-runs, found-placed_other}
 use Rattle.ados_machine.proofs.Starts.{plain-shells, plain-shell, not-moved, uses-found, ended-other, Fails, step-fails}
 use Rattle.ados_machine.proofs.Asked.{TurningHands, turning-hands}

@@ -1,6 +1,5 @@
 -- A failed start changes its shell's codes alone.
-use Rattle.std.proofs.Common.{◌++◌, ◌≡◌, ◌≢◌, ◌∙◌, sym, ℕ, ◌+◌, ◌<◌, zero, suc, ◌-◌, List, [], ◌∷◌, Bool, true, false, Option, Some, None, refl, ap, arith, inl, inr, ◌==◌, not, ◌||◌, ◌&&◌, unwrap_or, slice_get, length}
-use Rattle.std.specs.Prelude.{filter}
+use Rattle.std.proofs.Common.{◌≡◌, ◌≢◌, ◌∙◌, ℕ, ◌+◌, ◌<◌, zero, suc, ◌-◌, List, [], ◌∷◌, Bool, true, false, Option, Some, None, refl, ap, arith, inl, inr, ◌==◌, not, ◌||◌, ◌&&◌, unwrap_or, slice_get}
 use Rattle.std.specs.List.{slice_set}
 use Rattle.std.proofs.lemmas.Bool.{cases_Bool, and_parts, eq-eqb}
 use Rattle.ados_text.specs.Text.{Text, is_same}
@@ -19,20 +18,20 @@ use Rattle.ados_machine.specs.declared.events.Event.TheVariants.{Answer}
 use Rattle.ados_machine.specs.declared.phases.Phase.{Phase}
 use Rattle.ados_machine.specs.declared.phases.Phase.TheVariants.{Ready, GoingOn, Waiting}
 use Rattle.ados_machine.specs.declared.phases.Wait.{Wait}
-use Rattle.ados_machine.specs.declared.phases.Wait.TheVariants.{ForAnswer, ForLines, ForStart, ForPiece, ForEnd}
-use Rattle.ados_machine.specs.Shells.{Begun, ShellState, seen_of, entry_in}
+use Rattle.ados_machine.specs.declared.phases.Wait.TheVariants.{ForStart, ForPiece, ForEnd}
+use Rattle.ados_machine.specs.Shells.{Begun, ShellState, entry_in}
 use Rattle.ados_machine.specs.Course.{Course, with_use, uses_of}
 use Rattle.ados_machine.specs.Deeds.{Deed, refused}
 use Rattle.ados_machine.specs.Settled.{Said, Settled, faulted, told, with_limit, after_end, finish}
 use Rattle.ados_machine.specs.Settle.{Turned, said_of, settle}
 use Rattle.ados_machine.specs.Answers.{answered_deed, answered_in}
-use Rattle.ados_machine.specs.Turning.{replied, answering}
+use Rattle.ados_machine.specs.Turning.{replied}
 use Rattle.ados_machine.specs.Sinks.{Sink, sink_in}
 use Rattle.ados_machine.specs.Numbers.{free_number}
 use Rattle.ados_machine.specs.World.{WorldState, flatten, numbered, shell_at, seen_in, is_over as no_shell, has_frame, input_of}
 use Rattle.ados_machine.specs.Carrying.{moved_by, carried_shells, carried_by}
 use Rattle.ados_machine.specs.Step.{Response, Refused, Accepted, with_begun, is_done, shell_of_turn, left, moved_in, ended_with, queue_behind, shells_behind, took, start, applied, step_of}
-use Rattle.ados_machine.specs.Starts.{IsFailure, may_end, AreLeftOf, KeepsTicks, KeepsSettings, OnlyAnswers, IsBehindFailure, use_count, own_use, StartFails, FailedStartsChangeTheCodes}
+use Rattle.ados_machine.specs.Starts.{IsFailure, may_end, AreLeftOf, KeepsTicks, KeepsSettings, IsBehindFailure, own_use, StartFails, FailedStartsChangeTheCodes}
 use Rattle.ados_machine.proofs.Shells.{found, found-set_same, found-set_other, runs_pos, place_before, slice_get-set_other}
 
 -- what the code rule changes
