@@ -1,7 +1,7 @@
 -- A failed start changes its shell's codes alone.
-use Rattle.std.proofs.Common.{◌≡◌, ◌≢◌, ◌∙◌, ℕ, ◌+◌, ◌<◌, zero, suc, ◌-◌, List, [], ◌∷◌, Bool, true, false, Option, Some, None, refl, ap, arith, inl, inr, ◌==◌, not, ◌||◌, ◌&&◌, unwrap_or, slice_get}
+use Rattle.std.proofs.Common.{◌≡◌, ◌≢◌, ◌∙◌, sym, ℕ, ◌+◌, ◌<◌, zero, suc, ◌-◌, List, [], ◌∷◌, Bool, true, false, Option, Some, None, refl, ap, arith, inl, inr, ◌==◌, not, ◌||◌, ◌&&◌, unwrap_or, slice_get}
 use Rattle.std.specs.List.{slice_set}
-use Rattle.std.proofs.lemmas.Bool.{cases_Bool, and_parts, eq-eqb}
+use Rattle.std.proofs.lemmas.Bool.{cases_Bool, and_parts, eq-eqb, ne_eqb}
 use Rattle.ados_text.specs.Text.{Text, is_same}
 use Rattle.ados_text.specs.declared.codes.Result2.{Result2}
 use Rattle.ados_find.specs.declared.codes.Codes.{Codes}
@@ -31,25 +31,28 @@ use Rattle.ados_machine.specs.Numbers.{free_number}
 use Rattle.ados_machine.specs.World.{WorldState, flatten, numbered, shell_at, seen_in, is_over as no_shell, has_frame, input_of}
 use Rattle.ados_machine.specs.Carrying.{moved_by, carried_shells, carried_by}
 use Rattle.ados_machine.specs.Step.{Response, Refused, Accepted, with_begun, is_done, shell_of_turn, left, moved_in, ended_with, queue_behind, shells_behind, took, start, applied, step_of}
-use Rattle.ados_machine.specs.Starts.{IsFailure, may_end, AreLeftOf, KeepsTicks, KeepsSettings, IsBehindFailure, own_use, StartFails, FailedStartsChangeTheCodes}
+use Rattle.ados_machine.specs.Starts.{IsFailure, may_end, MayAllEnd, IsBehindEnd, HasAnswered, KeepsSettings, IsBehindFailure, own_use, StartFails, FailedStartsChangeTheCodes}
 use Rattle.ados_machine.proofs.Shells.{found, found-set_same, found-set_other, runs_pos, place_before, slice_get-set_other}
+
+-- the shell that the code rule leaves
+abbrev pub shell_of : Settled → ShellState
+shell_of settled = record { frames = settled.frames; phase = settled.phase; parts = settled.said.parts; kept = settled.said.kept }
 
 -- what the code rule changes
 pub record Rules (frames : List FrameState) (said : Said) (settled : Settled) : Type 0 where
   pub parts : KeepsSettings said.parts settled.said.parts
-  pub frames_are : AreLeftOf frames settled.frames
-  pub ticks : KeepsTicks said.kept settled.phase settled.said.kept
+  pub answered : HasAnswered frames said.kept (shell_of settled)
 
-end-rules : (kind : Kind) (further : Settled) (frame : FrameState) (frames : List FrameState) (said : Said) → may_end frame ≡ true →
-    Rules frames said further → Rules (frame ∷ frames) said (after_end kind further frames said)
-end-rules (Script name command) further frame frames said ends rules = record {
-  parts = rules.parts;
-  frames_are = inr (ends, inr rules.frames_are);
-  ticks = rules.ticks;
-}
-end-rules Lines further frame frames said ends rules = record { parts = refl; frames_are = inr (ends, inl refl); ticks = inl (refl, refl) }
-end-rules (Tick before after) further frame frames said ends rules =
-    record { parts = refl; frames_are = inr (ends, inl refl); ticks = inr (before, after, refl, refl) }
+-- what it changes behind the end of a frame
+record EndRules (kind : Kind) (frames : List FrameState) (said : Said) (settled : Settled) : Type 0 where
+  parts : KeepsSettings said.parts settled.said.parts
+  behind_end : IsBehindEnd kind (HasAnswered frames said.kept (shell_of settled)) frames said.kept (shell_of settled)
+
+end-rules : (kind : Kind) (further : Settled) (frames : List FrameState) (said : Said) → Rules frames said further →
+    EndRules kind frames said (after_end kind further frames said)
+end-rules (Script name command) further frames said rules = record { parts = rules.parts; behind_end = rules.answered }
+end-rules Lines further frames said rules = record { parts = refl; behind_end = (refl, refl, refl) }
+end-rules (Tick before after) further frames said rules = record { parts = refl; behind_end = (refl, refl, refl) }
 
 -- a frame that ends is a script, or has no line left
 ends-may : (script over reached : Bool) → (over || (script && reached)) ≡ true → (script || over) ≡ true
@@ -59,22 +62,18 @@ ends-may false false reached e = e
 
 finish-rules : (word : List ℕ) (answer : Codes) (quits : Bool) (frames : List FrameState) (said : Said) →
     Rules frames said (finish word answer quits frames said)
-finish-rules word answer quits [] said = record { parts = refl; frames_are = refl; ticks = inl (refl, refl) }
+finish-rules word answer quits [] said = record { parts = refl; answered = (refl, refl, refl) }
 finish-rules word answer quits (frame ∷ frames) said =
     let done = told word answer said in
     let below = with_limit (limit_behind frames frame.limit) done in
     let further = finish (maker frame.kind) answer false frames below in
     let more = finish-rules (maker frame.kind) answer false frames below in
-    let same : Rules frames done further = record { parts = more.parts; frames_are = more.frames_are; ticks = more.ticks } in
+    let same : Rules frames done further = record { parts = more.parts; answered = more.answered } in
     elim (cases_Bool (is_ended quits answer said.parts.limit frame)) [
       | inl e ↦ rw e
-          (let end = end-rules frame.kind further frame frames done (ends-may (is_script frame.kind) (is_over frame) _ e) same in
-          record { parts = end.parts; frames_are = end.frames_are; ticks = end.ticks })
-      | inr e ↦ rw e (record {
-        parts = refl;
-        frames_are = inl (entry_of (frame ∷ frames) answer said.parts.limit, refl);
-        ticks = inl (refl, refl);
-      })
+          (let end = end-rules frame.kind further frames done same in
+          record { parts = end.parts; answered = inr (ends-may (is_script frame.kind) (is_over frame) _ e, end.behind_end) })
+      | inr e ↦ rw e (record { parts = refl; answered = inl (entry_of (frame ∷ frames) answer said.parts.limit, (refl, refl, refl)) })
     ]
 
 -- behind a failure an event hands on what it began with, the codes aside
@@ -83,14 +82,13 @@ pub record Keeps (frames : List FrameState) (course : Course) (t : Turned) : Typ
   pub renamed : t.course.renamed ≡ course.renamed
   pub begun : t.course.begun ≡ course.begun
   pub parts : KeepsSettings course.parts t.course.parts
-  pub frames_are : AreLeftOf frames t.frames
-  pub ticks : KeepsTicks course.kept t.phase t.course.kept
+  pub answered : HasAnswered frames course.kept (shell_of_turn t)
 
 refused-keeps : (word : List ℕ) (fault : Result2) (frames : List FrameState) (course : Course) →
     Keeps frames course (settle (refused word fault course) frames)
 refused-keeps word fault frames course =
     let rules = finish-rules word (failed fault) false frames (faulted word fault (said_of course)) in
-    record { shared = refl; renamed = refl; begun = refl; parts = rules.parts; frames_are = rules.frames_are; ticks = rules.ticks }
+    record { shared = refl; renamed = refl; begun = refl; parts = rules.parts; answered = rules.answered }
 
 -- a failure is taken only for a start, and finishes its command
 abbrev pub OnlyFinishes : List FrameState → Course → Option Deed → Type 0
@@ -134,9 +132,33 @@ not-moved old new None e = refl
 not-moved old new (Some renamed) e = cc
 
 -- the shell behind the answer
-no-frame : (frames old : List FrameState) → not (has_frame frames) ≡ true → AreLeftOf old frames → AreLeftOf old []
-no-frame [] old e left = left
-no-frame (frame ∷ frames) old e left = cc
+-- where no frame is left each has ended
+below-ended : (kind : Kind) (answers : Type 0) (frames : List FrameState) (kept : List (List ℕ)) (shell : ShellState) → shell.frames ≡ [] →
+    (answers → MayAllEnd frames) → IsBehindEnd kind answers frames kept shell → MayAllEnd frames
+below-ended (Script name command) answers frames kept shell none further answered = further answered
+below-ended Lines answers frames kept shell none further answered = rw (sym answered.0 ∙ none) tt
+below-ended (Tick before after) answers frames kept shell none further answered = rw (sym answered.0 ∙ none) tt
+
+all-end : (frames : List FrameState) (kept : List (List ℕ)) (shell : ShellState) → shell.frames ≡ [] → HasAnswered frames kept shell →
+    MayAllEnd frames
+all-end [] kept shell none answered = tt
+all-end (frame ∷ frames) kept shell none (inl stands) = absurd (never (sym none ∙ stands.1.0))
+  where
+    never : {x : FrameState} {xs : List FrameState} → [] ≡ x ∷ xs → ⊥
+    never e = cc
+all-end (frame ∷ frames) kept shell none (inr ended) =
+    (ended.0, below-ended frame.kind (HasAnswered frames kept shell) frames kept shell none (all-end frames kept shell none) ended.1)
+
+no-frame : (frames : List FrameState) → not (has_frame frames) ≡ true → frames ≡ []
+no-frame [] e = refl
+no-frame (frame ∷ frames) e = cc
+
+runs-frame : (k : ℕ) (frames : List FrameState) → is_done k frames ≡ false → k ≢ 1 → has_frame frames ≡ true
+runs-frame k [] e ne = absurd (never (rw (ne_eqb k 1 ne) at e))
+  where
+    never : true ≡ false → ⊥
+    never f = cc
+runs-frame k (frame ∷ frames) e ne = refl
 
 not-first : (k : ℕ) → not (k == 1) ≡ true → k ≢ 1
 not-first k e same = never (rw (eq-eqb k 1 same) at e)
@@ -149,8 +171,12 @@ left-behind : (k : ℕ) (old : ShellState) (moved : Option Renamed) (w : WorldSt
 left-behind k old moved w t keeps none =
     elim (cases_Bool (is_done k t.frames)) [
       | inl d ↦ (let both = and_parts (not (k == 1)) (not (has_frame t.frames)) d in
-          rw d (not-first k both.0, no-frame t.frames old.frames both.1 keeps.frames_are))
-      | inr d ↦ rw (d, plain-shell moved (shell_of_turn t) none) (record { parts = keeps.parts; frames = keeps.frames_are; ticks = keeps.ticks })
+          rw d (not-first k both.0, all-end old.frames old.kept (shell_of_turn t) (no-frame t.frames both.1) keeps.answered))
+      | inr d ↦ rw (d, plain-shell moved (shell_of_turn t) none) (record {
+        parts = keeps.parts;
+        answered = keeps.answered;
+        background = λ ne. runs-frame k t.frames d ne;
+      })
     ]
 
 -- use counts, over the shells of a world
@@ -202,9 +228,17 @@ uses-found shells (suc i) old now name e =
     rw (place_before i) (uses-set shells i (Some old) now name (there-is (slice_get shells i) old e))
 
 -- behind a failure the shell runs from no entry
-entry-none : (old new : List (List ℕ)) (phase : Phase) → KeepsTicks old phase new → entry_in phase ≡ None
-entry-none old new phase (inl ready) = rw ready.0 refl
-entry-none old new phase (inr goes) = rw goes.2 refl
+end-none : (kind : Kind) (answers : Type 0) (frames : List FrameState) (kept : List (List ℕ)) (shell : ShellState) →
+    (answers → entry_in shell.phase ≡ None) → IsBehindEnd kind answers frames kept shell → entry_in shell.phase ≡ None
+end-none (Script name command) answers frames kept shell further answered = further answered
+end-none Lines answers frames kept shell further answered = rw answered.1 refl
+end-none (Tick before after) answers frames kept shell further answered = rw answered.1 refl
+
+entry-none : (frames : List FrameState) (kept : List (List ℕ)) (shell : ShellState) → HasAnswered frames kept shell → entry_in shell.phase ≡ None
+entry-none [] kept shell answered = rw answered.1 refl
+entry-none (frame ∷ frames) kept shell (inl stands) = rw stands.1.1 refl
+entry-none (frame ∷ frames) kept shell (inr ended) =
+    end-none frame.kind (HasAnswered frames kept shell) frames kept shell (entry-none frames kept shell) ended.1
 
 left-uses : (k : ℕ) (moved : Option Renamed) (t : Turned) (name : Text) → moved ≡ None → entry_in t.phase ≡ None → uses_by (left k moved t) name ≡ 0
 left-uses k moved t name none entry =
@@ -249,7 +283,7 @@ took-fails k shell w t is keeps =
       own = rw (ap (λ s. found s k) shells ∙ found-set_same w.shells k shell (left k moved t) is) (left-behind k shell moved w t keeps none);
       uses = λ name. rw shells
           (let more = uses-found w.shells k shell (left k moved t) name is in
-          let gone = left-uses k moved t name none (entry-none _ _ t.phase keeps.ticks) in
+          let gone = left-uses k moved t name none (entry-none shell.frames shell.kept (shell_of_turn t) keeps.answered) in
           omega (arith, more, gone));
     }
 

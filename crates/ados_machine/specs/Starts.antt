@@ -2,6 +2,8 @@
 use Rattle.std.specs.Prelude.{◌≡◌, ◌≢◌, ◌⊎◌, ℕ, ◌+◌, List, [], ◌∷◌, ◌++◌, drop, Bool, true, ◌||◌, Option, Some, None, Result, Ok, Err}
 use Rattle.ados_text.specs.Text.{Bytes, Text}
 use Rattle.ados_find.specs.Parts.{Parts}
+use Rattle.ados_flow.specs.declared.kinds.Kind.{Kind}
+use Rattle.ados_flow.specs.declared.kinds.Kind.TheVariants.{Script, Lines, Tick}
 use Rattle.ados_flow.specs.declared.records.Record.{Record}
 use Rattle.ados_flow.specs.Frames.{FrameState, is_script, is_over}
 use Rattle.ados_resident.specs.Residents.{count_of}
@@ -11,13 +13,12 @@ use Rattle.ados_machine.specs.declared.events.Event.{Event}
 use Rattle.ados_machine.specs.declared.events.Event.TheVariants.{Turn, Answer}
 use Rattle.ados_machine.specs.declared.outs.Out.{Out}
 use Rattle.ados_machine.specs.declared.refusals.Refusal.{Refusal}
-use Rattle.ados_machine.specs.declared.phases.Phase.{Phase}
 use Rattle.ados_machine.specs.declared.phases.Phase.TheVariants.{Ready, GoingOn}
 use Rattle.ados_machine.specs.Items.{Item}
 use Rattle.ados_machine.specs.Shells.{ShellState, entry_in}
 use Rattle.ados_machine.specs.Course.{with_use, uses_of}
 use Rattle.ados_machine.specs.Settled.{newest_kept}
-use Rattle.ados_machine.specs.World.{WorldState, shell_at, seen_in, ended_at}
+use Rattle.ados_machine.specs.World.{WorldState, has_frame, shell_at, seen_in, ended_at}
 use Rattle.ados_machine.specs.Step.{Accepted, step_of}
 use Rattle.ados_machine.specs.Runs.{Runs}
 
@@ -33,34 +34,50 @@ IsFailure reply = ⊥
 abbrev pub may_end : FrameState → Bool
 may_end frame = is_script frame.kind || is_over frame
 
--- of these frames others are left: the newest ones may have ended, and the newest that is left may have another last record
-abbrev pub AreLeftOf : List FrameState → List FrameState → Type 0
-AreLeftOf [] left = left ≡ []
-AreLeftOf (frame ∷ frames) left =
-    ((last : Record) × (left ≡ record frame { last = Some last } ∷ frames))
-    ⊎ ((may_end frame ≡ true) × ((left ≡ frames) ⊎ AreLeftOf frames left))
+-- the shell is ready above these frames, with this output of its ticks
+abbrev pub IsReady : List FrameState → List Bytes → ShellState → Type 0
+IsReady frames kept shell = (shell.frames ≡ frames) × (shell.phase ≡ Ready) × (shell.kept ≡ kept)
 
--- the shell is ready, with what its ticks put out; or its newest tick has ended, and what that put out stands in the line
--- that waited
-abbrev pub KeepsTicks : List Bytes → Phase → List Bytes → Type 0
-KeepsTicks old phase new =
-    ((phase ≡ Ready) × (new ≡ old))
-    ⊎ ((before after : Text) × (phase ≡ GoingOn (record { before = before; output = newest_kept old; after = after })) × (new ≡ drop 1 old))
+-- a line goes on above these frames, with what the newest tick put out
+abbrev pub GoesOn : Text → Text → List FrameState → List Bytes → ShellState → Type 0
+GoesOn before after frames kept shell =
+    (shell.frames ≡ frames)
+    × (shell.phase ≡ GoingOn (record { before = before; output = newest_kept kept; after = after }))
+    × (shell.kept ≡ drop 1 kept)
+
+-- a frame has ended above these: behind a script its caller answers, behind a Run's commands the shell is ready, and behind
+-- a tick the line goes on that waited for it
+abbrev pub IsBehindEnd : Kind → Type 0 → List FrameState → List Bytes → ShellState → Type 0
+IsBehindEnd (Script name command) answers frames kept shell = answers
+IsBehindEnd Lines answers frames kept shell = IsReady frames kept shell
+IsBehindEnd (Tick before after) answers frames kept shell = GoesOn before after frames kept shell
+
+-- a command answered above these frames: the newest has another last record, or it has ended
+abbrev pub HasAnswered : List FrameState → List Bytes → ShellState → Type 0
+HasAnswered [] kept shell = IsReady [] kept shell
+HasAnswered (frame ∷ frames) kept shell =
+    ((last : Record) × IsReady (record frame { last = Some last } ∷ frames) kept shell)
+    ⊎ ((may_end frame ≡ true) × IsBehindEnd frame.kind (HasAnswered frames kept shell) frames kept shell)
 
 -- the same number, directory and settings: the limit and the codes alone may be others
 abbrev pub KeepsSettings : Parts → Parts → Type 0
 KeepsSettings old new = new ≡ record old { limit = new.limit; codes = new.codes }
 
--- a shell whose start failed, against what it was
-pub record OnlyAnswers (old new : ShellState) : Type 0 where
+-- the shell of a number runs on behind a failure, against what it was
+pub record RunsOn (k : ℕ) (old new : ShellState) : Type 0 where
   pub parts : KeepsSettings old.parts new.parts
-  pub frames : AreLeftOf old.frames new.frames
-  pub ticks : KeepsTicks old.kept new.phase new.kept
+  pub answered : HasAnswered old.frames old.kept new
+  pub background : k ≢ 1 → has_frame new.frames ≡ true
 
--- what is left of the shell of a number: it is gone only where all its frames have ended, and shell 1 never is
+-- each of these frames may have ended
+abbrev pub MayAllEnd : List FrameState → Type 0
+MayAllEnd [] = Unit {0}
+MayAllEnd (frame ∷ frames) = (may_end frame ≡ true) × MayAllEnd frames
+
+-- what a failure leaves at a shell's number: the shell, which is gone only where all its frames have ended; shell 1 stays
 abbrev pub IsBehindFailure : ℕ → ShellState → Option ShellState → Type 0
-IsBehindFailure k old None = (k ≢ 1) × AreLeftOf old.frames []
-IsBehindFailure k old (Some new) = OnlyAnswers old new
+IsBehindFailure k old None = (k ≢ 1) × MayAllEnd old.frames
+IsBehindFailure k old (Some new) = RunsOn k old new
 
 -- how many shells run from the resident entry of a name
 abbrev pub use_count : WorldState → Text → ℕ
