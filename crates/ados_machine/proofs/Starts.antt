@@ -31,22 +31,22 @@ use Rattle.ados_machine.specs.Numbers.{free_number}
 use Rattle.ados_machine.specs.World.{WorldState, flatten, numbered, shell_at, seen_in, is_over as no_shell, has_frame, input_of}
 use Rattle.ados_machine.specs.Carrying.{moved_by, carried_shells, carried_by}
 use Rattle.ados_machine.specs.Step.{Response, Refused, Accepted, with_begun, is_done, shell_of_turn, left, moved_in, ended_with, queue_behind, shells_behind, took, start, applied, step_of}
-use Rattle.ados_machine.specs.Starts.{IsFailure, may_end, MayAllEnd, IsBehindEnd, HasAnswered, KeepsSettings, IsBehindFailure, own_use, StartFails, FailedStartsChangeTheCodes}
+use Rattle.ados_machine.specs.Starts.{IsFailure, MayAllEnd, IsBehindEnd, HasAnswered, KeepsSettings, IsBehindFailure, own_use, StartFails, FailedStartsChangeTheCodes}
 use Rattle.ados_machine.proofs.Shells.{found, found-set_same, found-set_other, runs_pos, place_before, slice_get-set_other}
 
 -- the shell that the code rule leaves
-abbrev pub shell_of : Settled → ShellState
-shell_of settled = record { frames = settled.frames; phase = settled.phase; parts = settled.said.parts; kept = settled.said.kept }
+abbrev pub settled_shell : Settled → ShellState
+settled_shell settled = record { frames = settled.frames; phase = settled.phase; parts = settled.said.parts; kept = settled.said.kept }
 
 -- what the code rule changes
 pub record Rules (frames : List FrameState) (said : Said) (settled : Settled) : Type 0 where
   pub parts : KeepsSettings said.parts settled.said.parts
-  pub answered : HasAnswered frames said.kept (shell_of settled)
+  pub answered : HasAnswered frames said.kept (settled_shell settled)
 
 -- what it changes behind the end of a frame
 record EndRules (kind : Kind) (frames : List FrameState) (said : Said) (settled : Settled) : Type 0 where
   parts : KeepsSettings said.parts settled.said.parts
-  behind_end : IsBehindEnd kind (HasAnswered frames said.kept (shell_of settled)) frames said.kept (shell_of settled)
+  behind_end : IsBehindEnd kind (HasAnswered frames said.kept (settled_shell settled)) frames said.kept (settled_shell settled)
 
 end-rules : (kind : Kind) (further : Settled) (frames : List FrameState) (said : Said) → Rules frames said further →
     EndRules kind frames said (after_end kind further frames said)
