@@ -10,3 +10,8 @@ pub mod Moves
 pub mod Sane
 pub mod Traces
 pub mod Ends
+pub mod Starts
+pub mod Asked
+pub mod InVain
+pub mod Alike
+pub mod Erased

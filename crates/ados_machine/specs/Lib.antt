@@ -25,4 +25,6 @@ pub mod Runs
 pub mod Trace
 pub mod Limits
 pub mod Stacks
+pub mod Starts
+pub mod Quiet
 pub mod Laws

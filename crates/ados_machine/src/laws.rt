@@ -7,6 +7,8 @@ ghost use Rattle.ados_machine.specs.Laws.{
   EachFrameEndsOnce,
 };
 ghost use Rattle.ados_machine.specs.Limits.{IsSane};
+ghost use Rattle.ados_machine.specs.Quiet.{QuietShellsAreInvisible};
+ghost use Rattle.ados_machine.specs.Starts.{FailedStartsChangeTheCodes, FailedStartsLeaveNothing};
 ghost use Rattle.ados_machine.specs.World.{fresh_world};
 ghost use Rattle.ados_resident.specs.declared.hosts.HostEntry.{HostEntry};
 ghost use Rattle.std.specs.Prelude.{List};
@@ -37,4 +39,23 @@ pub fn each_end_is_reported_once()
 /// command.
 pub fn each_frame_ends_once()
     ensures { EachFrameEndsOnce }
+{}
+
+/// An answer that a program of the host could not be started changes the codes of the shell that asked, and what these
+/// change: its limit, its phase, the last record of its newest frame, and which of its frames go on. What all shells
+/// share, the other shells and their codes, and the input stay, and the use of its resident entry is given back. In a
+/// run where that answer is the next event accepted behind the turn that asked, nothing is left of the attempt: what
+/// all shells share, the other shells and each use count are as before that turn, and so are the shell's number,
+/// directory and settings.
+pub fn failed_starts_change_the_codes()
+    ensures step { FailedStartsChangeTheCodes }
+    ensures run { FailedStartsLeaveNothing }
+{}
+
+/// A shell whose events each leave what is seen of it as it was can be taken out of every run: without its events the
+/// others are answered the same, and what all share, the other shells and their codes are left the same. What is seen of
+/// a shell is its directory, its open outputs, the resident entry that it runs from and its name, which numbers have a
+/// shell, and what all share.
+pub fn quiet_shells_are_invisible()
+    ensures { QuietShellsAreInvisible }
 {}

@@ -20,7 +20,8 @@ pub use answers::Answer;
 pub use builtins::Builtin;
 pub use events::Event;
 pub use laws::{
-    each_end_is_reported_once, each_frame_ends_once, no_script_runs_on_behind_a_failure,
+    each_end_is_reported_once, each_frame_ends_once, failed_starts_change_the_codes,
+    no_script_runs_on_behind_a_failure, quiet_shells_are_invisible,
     scripts_end_where_the_rule_says,
 };
 pub use outs::{EndReport, Out, Reports};
