@@ -37,11 +37,7 @@ impl Draft {
     /// command answers. A piece of no byte, or of more than 4,096, is none that is waited for.
     ///
     /// `NoMemory` where there is none for what the answer makes, and only where the shell waits for it.
-    pub fn take_answer_of(
-        &mut self,
-        scene: &Scene,
-        answer: &Answer,
-    ) -> Result<Answering, NoMemory>
+    pub fn take_answer_of(&mut self, scene: &Scene, answer: &Answer) -> Result<Answering, NoMemory>
         ensures answering { IfOk result (λ answering. GivesReply scene.now answer.now answering self.new) }
         ensures memory { OnErr result (TakesReply scene.now answer.now) }
     {
@@ -164,12 +160,7 @@ impl Draft {
 
     /// A piece of the program's output goes out as it comes, and the shell waits for the next; behind a fault it is
     /// dropped.
-    fn take_piece(
-        &mut self,
-        scene: &Scene,
-        child: &Child,
-        bytes: &Octets,
-    ) -> Result<(), NoMemory>
+    fn take_piece(&mut self, scene: &Scene, child: &Child, bytes: &Octets) -> Result<(), NoMemory>
         ensures { OnOk result (Settles scene.now self.old self.new
             (piece_deed child.now bytes.now (here scene.now self.old).sink (course_of scene.now self.old) child.now.fault)) }
     {
