@@ -1,5 +1,5 @@
 -- What is due is accepted.
-use Rattle.std.proofs.Common.{◌≡◌, ℕ, zero, suc, ◌≤◌, ◌∷◌, List, [], Option, Some, None, true, false, not, ◌&&◌, ◌||◌, refl, ap, is_some, length, slice_get, nat_lt, arith, Bool}
+use Rattle.std.proofs.Common.{◌≡◌, ℕ, zero, suc, ◌≤◌, ◌∷◌, List, [], Option, Some, None, true, false, not, ◌||◌, refl, ap, is_some, length, slice_get, nat_lt, arith, Bool}
 use Rattle.std.proofs.lemmas.Bool.{and_parts}
 use Rattle.std.proofs.lemmas.Grind.{common_steps}
 use Rattle.std.specs.List.{list_any}

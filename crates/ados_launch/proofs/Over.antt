@@ -1,11 +1,11 @@
 -- Where nothing is due, each shell that is left waits for a launcher: a background shell that does not is ready, since its
 -- input is at its end, and shell 1 is ready or wants a line.
-use Rattle.std.proofs.Common.{◌≡◌, ◌≢◌, ℕ, zero, suc, ◌∷◌, List, [], Option, Some, None, Bool, true, false, not, ◌&&◌, refl, ap, sym, ◌∙◌, arith}
+use Rattle.std.proofs.Common.{◌≡◌, ◌≢◌, ℕ, zero, suc, ◌∷◌, List, [], Option, Some, None, true, false, not, ◌&&◌, refl, ap, sym, ◌∙◌, arith}
 use Rattle.std.proofs.lemmas.Bool.{true≢false}
 use Rattle.std.proofs.lemmas.Grind.{common_steps}
 use Rattle.ados_flow.specs.Frames.{FrameState}
 use Rattle.ados_machine.specs.Requests.{request_of}
-use Rattle.ados_machine.specs.World.{WorldState, shell_at, can_take, can_turn, has_input, is_ready, input_of, pending_by, pending_of, takes_input, wants_input, wants_line}
+use Rattle.ados_machine.specs.World.{WorldState, shell_at, can_take, can_turn, has_input, input_of, pending_by, takes_input, wants_input}
 use Rattle.ados_machine.specs.Shells.{ShellState}
 use Rattle.ados_machine.specs.Turning.{Input}
 use Rattle.ados_machine.specs.declared.phases.Phase.{Phase}
