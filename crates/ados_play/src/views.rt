@@ -178,12 +178,19 @@ fn push_resident(text: &mut Vec<u8>, world: &World, entry: &Resident) -> Result<
 
 // How many shells run from the entry of a name.
 fn count_of_uses(world: &World, name: &Text) -> usize {
-    let mut count = 0;
-    for number in 1..=20 {
-        let entry = world.shell(number).and_then(|shell| shell.entry());
-        if entry.is_some_and(|entry| same(entry, name)) {
-            count += 1;
-        }
+    let numbers = 1..=20u8;
+    numbers
+        .filter(|number| runs_from(world, *number, name))
+        .count()
+}
+
+// The shell of a number runs from the entry of a name.
+fn runs_from(world: &World, number: u8, name: &Text) -> bool {
+    match world.shell(number) {
+        None => false,
+        Some(shell) => match shell.entry() {
+            None => false,
+            Some(entry) => same(entry, name),
+        },
     }
-    count
 }
