@@ -19,6 +19,7 @@ pub mod Settled
 pub mod Settle
 pub mod Turning
 pub mod World
+pub mod Children
 pub mod Carrying
 pub mod Step
 pub mod Runs

@@ -7,6 +7,7 @@
 
 mod answers;
 mod builtins;
+mod children;
 mod events;
 mod laws;
 mod outs;
@@ -18,6 +19,7 @@ pub use ados_find::{Codes, Target};
 pub use ados_flow::{Called, Record};
 pub use answers::Answer;
 pub use builtins::Builtin;
+pub use children::ChildState;
 pub use events::Event;
 pub use laws::{
     each_end_is_reported_once, each_frame_ends_once, failed_starts_change_the_codes,
