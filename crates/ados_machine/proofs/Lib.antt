@@ -3,6 +3,7 @@ pub mod ShellsLemmas
 pub mod RunLemmas
 pub mod Follows
 pub mod Keeps
+pub mod Rests
 pub mod Turns
 pub mod Turnings
 pub mod Shells
@@ -15,3 +16,4 @@ pub mod Asked
 pub mod InVain
 pub mod Alike
 pub mod Erased
+pub mod ChildLemmas
