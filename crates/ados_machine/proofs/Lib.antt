@@ -15,3 +15,10 @@ pub mod Asked
 pub mod InVain
 pub mod Alike
 pub mod Erased
+pub mod Alone
+pub mod Direct
+pub mod Fronts
+pub mod Places
+pub mod Lonely
+pub mod Loops
+pub mod Systems
