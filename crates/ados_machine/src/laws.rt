@@ -1,5 +1,6 @@
 //! The laws: what holds of every run, by the definitions alone.
 
+ghost use Rattle.ados_machine.specs.Alone.{AloneIsARun, AloneMeansWhole};
 ghost use Rattle.ados_machine.specs.Laws.{
   ScriptsEndWhereTheRuleSays,
   EventsKeepWorldsSane,
@@ -58,4 +59,14 @@ pub fn failed_starts_change_the_codes()
 /// shell, and what all share.
 pub fn quiet_shells_are_invisible()
     ensures { QuietShellsAreInvisible }
+{}
+
+/// A shell that is opened at the lowest free number, and then alone is given turns and answers, does what its lines mean
+/// by a direct recursion that knows neither frames nor phases: it ends where the meaning does, with the same world, bytes
+/// and codes, and the same events and answers left; it runs on behind the last event where the meaning wants one more;
+/// and an answer is missing, or of another kind than asked for, where the meaning says so. To run alone is a run of
+/// accepted events of that shell, which takes the answers in their order.
+pub fn alone_means_the_direct_meaning()
+    ensures meaning { AloneMeansWhole }
+    ensures run { AloneIsARun }
 {}
