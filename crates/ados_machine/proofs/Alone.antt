@@ -114,6 +114,7 @@ abbrev pub exec : ℕ → ℕ → List Reply → Go
 exec k zero answers frames phase common = none_left answers frames phase common
 exec k (suc n) answers frames phase common = one_of k (exec k n) n answers frames phase common
 
-pub exec-rests : (k n : ℕ) (answers : List Reply) (phase : Phase) (common : Common) → exec k n answers [] phase common ≡ Rested n answers common
+pub exec-rests : (k n : ℕ) (answers : List Reply) (phase : Phase) (common : Common) →
+    exec k n answers [] phase common ≡ Rested n answers common
 exec-rests k zero answers phase common = refl
 exec-rests k (suc n) answers phase common = refl

@@ -37,7 +37,8 @@ Next = ℕ → List Reply → Codes → Common → Lone
 abbrev pub ended : ℕ → FrameState → List FrameState → Next
 ended k frame frames n answers answer common =
     go_by (exec k n answers) common
-    (after_end frame.kind (finish (maker frame.kind) answer false frames (with_limit (limit_behind frames frame.limit) common.said)) frames common.said)
+    (after_end frame.kind
+    (finish (maker frame.kind) answer false frames (with_limit (limit_behind frames frame.limit) common.said)) frames common.said)
 
 abbrev pub IsRunning : List Reply → Lone → Type 0
 IsRunning answers (Going answers' frames phase common) = answers' ≡ answers
@@ -104,7 +105,8 @@ there : (xs : List Text) (i : ℕ) → nat_le (length xs) i ≡ false → slice_
 there xs i e = slice_get-get_or xs i [] (leb-false (length xs) i e)
 
 -- the newest frame goes on, or ends where no line is left
-passed-agrees : (k gas : ℕ) → AgreesAt k gas → (n : ℕ) (answers : List Reply) (common : Common) (frame : FrameState) (frames : List FrameState) → n < gas →
+passed-agrees : (k gas : ℕ) → AgreesAt k gas →
+    (n : ℕ) (answers : List Reply) (common : Common) (frame : FrameState) (frames : List FrameState) → n < gas →
     AgreesBy n (go_by (exec k n answers) common (passed (frame ∷ frames) common.said))
     (lines k gas n answers common (at_of frame frames) None)
     (ended k frame frames)
@@ -115,7 +117,8 @@ passed-agrees k gas ih n answers common frame frames lt =
     ]
 
 -- a command of the newest frame answered
-answer-agrees : (k gas : ℕ) → AgreesAt k gas → (n : ℕ) (answers : List Reply) (common : Common) (frame : FrameState) (frames : List FrameState)
+answer-agrees : (k gas : ℕ) → AgreesAt k gas →
+    (n : ℕ) (answers : List Reply) (common : Common) (frame : FrameState) (frames : List FrameState)
     (word : Text) (answer : Codes) (quits : Bool) → n < gas →
     AgreesBy n (go_by (exec k n answers) common (finish word answer quits (frame ∷ frames) common.said))
     (after_answer (lines k gas) n answers common (at_of frame frames) word answer quits)
@@ -138,7 +141,8 @@ answer-agrees k gas ih n answers common frame frames word answer quits lt =
     over true = (omega arith, refl)
     over false = (omega arith, refl)
 
-finished-agrees : (k gas : ℕ) → AgreesAt k gas → (n : ℕ) (answers : List Reply) (common : Common) (frame : FrameState) (frames : List FrameState)
+finished-agrees : (k gas : ℕ) → AgreesAt k gas →
+    (n : ℕ) (answers : List Reply) (common : Common) (frame : FrameState) (frames : List FrameState)
     (word : Text) (answer : Codes) (quits : Bool) → n < gas →
     AgreesBy n (go_by (exec k n answers) common (finished word answer quits (frame ∷ frames) common.said))
     (answered_at (lines k gas) n answers common (at_of frame frames) word answer quits)
@@ -147,7 +151,8 @@ finished-agrees k gas ih n answers common frame frames word answer quits lt =
     answer-agrees k gas ih n answers (record common { said = faulted word answer.result2 common.said }) frame frames word answer quits lt
 
 -- it goes on at another line
-jumped-agrees : (k gas : ℕ) → AgreesAt k gas → (n : ℕ) (answers : List Reply) (common : Common) (frame : FrameState) (frames : List FrameState)
+jumped-agrees : (k gas : ℕ) → AgreesAt k gas →
+    (n : ℕ) (answers : List Reply) (common : Common) (frame : FrameState) (frames : List FrameState)
     (word : Text) (answer : Codes) (line : ℕ) → n < gas →
     AgreesBy n (go_by (exec k n answers) common (finished word answer false (jumped_in line (frame ∷ frames)) common.said))
     (answered_at (lines k gas) n answers common (at_of (jumped line frame) frames) word answer false)
@@ -164,7 +169,8 @@ call-agrees k gas ih n exec (Late answers) frame frames name word commands limit
 call-agrees k gas ih n exec Short frame frames name word commands limit output lt h = h
 call-agrees k gas ih n exec (Done left answers answer common) frame frames name word commands limit output lt h =
     let limited : Common = record common { said = with_limit (limit_behind (frame ∷ frames) limit) common.said } in
-    rw h.1 (weaker left n _ (after_answer (lines k gas) left answers limited (at_of frame frames) word answer false) (ended k frame frames) h.0
+    rw h.1 (weaker left n _ (after_answer (lines k gas) left answers limited (at_of frame frames) word answer false)
+    (ended k frame frames) h.0
     (answer-agrees k gas ih left answers limited frame frames word answer false (omega (arith, h.0))))
 
 -- behind a tick the line goes on that waits for it
@@ -185,12 +191,14 @@ WaitsAgree k n answers frame frames further = (common : Common) (wait : Wait) �
     AgreesBy n (exec k n answers (frame ∷ frames) (Waiting wait) common) (further common wait) (ended k frame frames)
 
 -- what any deed comes to
-deed-agrees : (k gas : ℕ) → AgreesAt k gas → (n : ℕ) (answers : List Reply) (common : Common) (frame : FrameState) (frames : List FrameState)
+deed-agrees : (k gas : ℕ) → AgreesAt k gas →
+    (n : ℕ) (answers : List Reply) (common : Common) (frame : FrameState) (frames : List FrameState)
     (further : Common → Wait → Whole) (deed : Deed) → n < gas → WaitsAgree k n answers frame frames further →
     AgreesBy n (go_by (exec k n answers) common (ruled deed (frame ∷ frames) common.said))
     (behind_deed further (lines k gas) n answers common (at_of frame frames) deed)
     (ended k frame frames)
-deed-agrees k gas ih n answers common frame frames further (Passes course) lt waits = passed-agrees k gas ih n answers common frame frames lt
+deed-agrees k gas ih n answers common frame frames further (Passes course) lt waits =
+    passed-agrees k gas ih n answers common frame frames lt
 deed-agrees k gas ih n answers common frame frames further (Answers word answer quits course) lt waits =
     finished-agrees k gas ih n answers common frame frames word answer quits lt
 deed-agrees k gas ih n answers common frame frames further (Jumps word answer line course) lt waits =
@@ -198,21 +206,26 @@ deed-agrees k gas ih n answers common frame frames further (Jumps word answer li
 deed-agrees k gas ih n answers common frame frames further (Calls word output script course) lt waits =
     elim (cases_Bool (nat_le frame_limit (length (frame ∷ frames)))) [
       | inl e ↦ rw e (finished-agrees k gas ih n answers common frame frames word (failed TOO_MANY_LEVELS) false lt)
-      | inr e ↦ rw e (call-agrees k gas ih n _ (lines k gas n answers common (script_at (at_of frame frames) output script) None) frame frames
+      | inr e ↦ rw e (call-agrees k gas ih n _
+          (lines k gas n answers common (script_at (at_of frame frames) output script) None) frame frames
           script.name word script.script common.said.parts.limit output lt
-          (passed-agrees k gas ih n answers common (began (Script script.name word) script.script common.said.parts.limit output) (frame ∷ frames) lt))
+          (passed-agrees k gas ih n answers common (began (Script script.name word) script.script common.said.parts.limit output)
+          (frame ∷ frames) lt))
     ]
 deed-agrees k gas ih n answers common frame frames further (Ticks before command after course) lt waits =
     elim (cases_Bool (nat_le frame_limit (length (frame ∷ frames)))) [
       | inl e ↦ rw e (finished-agrees k gas ih n answers common frame frames (codes "Shell") (failed TOO_MANY_LEVELS) false lt)
-      | inr e ↦ rw e (tick-agrees k gas ih n _ (lines k gas n answers (ticking common) (tick_at (at_of frame frames) command) None) frame frames
+      | inr e ↦ rw e (tick-agrees k gas ih n _
+          (lines k gas n answers (ticking common) (tick_at (at_of frame frames) command) None) frame frames
           before after (command ∷ []) common.said.parts.limit lt
-          (ih n answers (ticking common) (began (Tick before after) (command ∷ []) common.said.parts.limit None) (frame ∷ frames) None lt refl))
+          (ih n answers (ticking common) (began (Tick before after) (command ∷ []) common.said.parts.limit None)
+          (frame ∷ frames) None lt refl))
     ]
 deed-agrees k gas ih n answers common frame frames further (Waits wait course) lt waits = waits common wait
 
 -- an event that comes to a deed
-event-agrees : (k gas : ℕ) → AgreesAt k gas → (n : ℕ) (answers : List Reply) (common : Common) (frame : FrameState) (frames : List FrameState)
+event-agrees : (k gas : ℕ) → AgreesAt k gas →
+    (n : ℕ) (answers : List Reply) (common : Common) (frame : FrameState) (frames : List FrameState)
     (further : Common → Wait → Whole) (deed : Deed) → n < gas → WaitsAgree k n answers frame frames further →
     AgreesBy (suc n) (does (exec k n answers) (frame ∷ frames) common deed)
     (deed_of further (lines k gas) n answers common (at_of frame frames) deed)
@@ -223,7 +236,8 @@ event-agrees k gas ih n answers common frame frames further deed lt waits =
     (omega arith) (deed-agrees k gas ih n answers behind frame frames further deed lt waits)
 
 -- an event that comes to the deed of a line
-work-agrees : (k gas : ℕ) → AgreesAt k gas → (n : ℕ) (answers : List Reply) (common : Common) (frame : FrameState) (frames : List FrameState)
+work-agrees : (k gas : ℕ) → AgreesAt k gas →
+    (n : ℕ) (answers : List Reply) (common : Common) (frame : FrameState) (frames : List FrameState)
     (further : Common → Wait → Whole) (work : Here → Deed) → n < gas → WaitsAgree k n answers frame frames further →
     AgreesBy (suc n) (does (exec k n answers) (frame ∷ frames) common (work (here_of (frame ∷ frames))))
     (deed_of further (lines k gas) n answers common (at_of frame frames) (work (here_at (at_of frame frames))))
@@ -233,13 +247,15 @@ work-agrees k gas ih n answers common frame frames further work lt waits =
     (event-agrees k gas ih n answers common frame frames further (work (here_at (at_of frame frames))) lt waits)
 
 -- what an answer comes to
-reply-agrees : (k gas : ℕ) → AgreesAt k gas → (n : ℕ) (answers : List Reply) (common : Common) (frame : FrameState) (frames : List FrameState)
+reply-agrees : (k gas : ℕ) → AgreesAt k gas →
+    (n : ℕ) (answers : List Reply) (common : Common) (frame : FrameState) (frames : List FrameState)
     (further : Common → Wait → Whole) (deed : Option Deed) → n < gas → WaitsAgree k n answers frame frames further →
     AgreesBy (suc n) (deed_event (exec k n answers) (frame ∷ frames) common deed)
     (reply_of (deed_of further (lines k gas) n answers common (at_of frame frames)) deed)
     (ended k frame frames)
 reply-agrees k gas ih n answers common frame frames further None lt waits = refl
-reply-agrees k gas ih n answers common frame frames further (Some deed) lt waits = event-agrees k gas ih n answers common frame frames further deed lt waits
+reply-agrees k gas ih n answers common frame frames further (Some deed) lt waits =
+    event-agrees k gas ih n answers common frame frames further deed lt waits
 
 -- what the shell waits for, one event each
 waits-agree : (k gas : ℕ) → AgreesAt k gas → (n : ℕ) (answers : List Reply) (frame : FrameState) (frames : List FrameState) → n < gas →

@@ -48,7 +48,8 @@ FinishFront bytes moved frames = (word : Text) (answer : Codes) (quits : Bool) (
     finish word answer quits frames (front bytes moved said) ≡ fronted bytes moved (finish word answer quits frames said)
 
 ending-front : (bytes : Bytes) (moved : Option Renamed) (frame : FrameState) (answer : Codes) (frames : List FrameState) (said : Said) →
-    FinishFront bytes moved frames → ending frame answer frames (front bytes moved said) ≡ fronted bytes moved (ending frame answer frames said)
+    FinishFront bytes moved frames →
+    ending frame answer frames (front bytes moved said) ≡ fronted bytes moved (ending frame answer frames said)
 ending-front bytes moved frame answer frames said below =
     let limited = with_limit (limit_behind frames frame.limit) said in
     ap (λ further. after_end frame.kind further frames (front bytes moved said)) (below (maker frame.kind) answer false limited)
@@ -62,7 +63,8 @@ finish-front bytes moved (frame ∷ frames) word answer quits said =
     let now = answered_frame frame frames answer said.parts.limit in
     let note = noted (frame ∷ frames) answer said.parts.limit in
     elim (cases_Bool (is_ended quits answer said.parts.limit frame)) [
-      | inl e ↦ rw e (ap (λ s. behind (note ∷ end_of (suc (length frames)) now ∷ []) (ending frame answer frames s)) (told-front bytes moved word answer said)
+      | inl e ↦ rw e (ap (λ s. behind (note ∷ end_of (suc (length frames)) now ∷ []) (ending frame answer frames s))
+          (told-front bytes moved word answer said)
           ∙ ap (behind (note ∷ end_of (suc (length frames)) now ∷ []))
           (ending-front bytes moved frame answer frames done (finish-front bytes moved frames)))
       | inr e ↦ rw e (ap (λ s. behind (note ∷ []) (rests (now ∷ frames) Ready s)) (told-front bytes moved word answer said))
@@ -78,13 +80,15 @@ passed-front bytes moved (frame ∷ frames) said =
       | inr e ↦ rw e refl
     ]
 
-finished-front : (bytes : Bytes) (moved : Option Renamed) (word : Text) (answer : Codes) (quits : Bool) (frames : List FrameState) (said : Said) →
+finished-front : (bytes : Bytes) (moved : Option Renamed) (word : Text) (answer : Codes) (quits : Bool) (frames : List FrameState)
+    (said : Said) →
     finished word answer quits frames (front bytes moved said) ≡ fronted bytes moved (finished word answer quits frames said)
 finished-front bytes moved word answer quits frames said =
     rw (append_assoc bytes said.printed (fault_line word answer.result2))
     (finish-front bytes moved frames word answer quits (record said { printed = said.printed ++ fault_line word answer.result2 }))
 
-called-front : (bytes : Bytes) (moved : Option Renamed) (word : Text) (output : Option Target) (script : Called) (frames : List FrameState) (said : Said) →
+called-front : (bytes : Bytes) (moved : Option Renamed) (word : Text) (output : Option Target) (script : Called)
+    (frames : List FrameState) (said : Said) →
     called word output script frames (front bytes moved said) ≡ fronted bytes moved (called word output script frames said)
 called-front bytes moved word output script frames said =
     let kind = Script script.name word in
@@ -106,7 +110,8 @@ pub ruled-front : (bytes : Bytes) (moved : Option Renamed) (deed : Deed) (frames
     ruled deed frames (front bytes moved said) ≡ fronted bytes moved (ruled deed frames said)
 ruled-front bytes moved (Passes course) frames said = passed-front bytes moved frames said
 ruled-front bytes moved (Answers word answer quits course) frames said = finished-front bytes moved word answer quits frames said
-ruled-front bytes moved (Jumps word answer line course) frames said = finished-front bytes moved word answer false (jumped_in line frames) said
+ruled-front bytes moved (Jumps word answer line course) frames said =
+    finished-front bytes moved word answer false (jumped_in line frames) said
 ruled-front bytes moved (Calls word output script course) frames said = called-front bytes moved word output script frames said
 ruled-front bytes moved (Ticks before command after course) frames said = ticked-front bytes moved before command after frames said
 ruled-front bytes moved (Waits wait course) frames said = refl

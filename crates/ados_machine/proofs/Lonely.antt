@@ -53,9 +53,11 @@ stands-at k w frames phase common stands = found-set_same common.shells k stands
 ended-at : (k : ℕ) (w : WorldState) (common : Common) → Stands k common → shell_at (world_behind k w common) k ≡ None
 ended-at k w common stands = found-set_same common.shells k stands.shell None stands.is
 
-not-over : (k : ℕ) (w : WorldState) (frames : List FrameState) (phase : Phase) (common : Common) → Stands k common → is_over (standing k w frames phase common) ≡ false
+not-over : (k : ℕ) (w : WorldState) (frames : List FrameState) (phase : Phase) (common : Common) → Stands k common →
+    is_over (standing k w frames phase common) ≡ false
 not-over k w frames phase common stands =
-    rw (any-found (standing k w frames phase common).shells k (shell_of frames phase common) (stands-at k w frames phase common stands)) refl
+    rw (any-found (standing k w frames phase common).shells k (shell_of frames phase common)
+    (stands-at k w frames phase common stands)) refl
 
 -- its input is at its end
 abbrev pub no_input : Input
@@ -70,7 +72,8 @@ starts-in k w frames phase common =
     rw (map-set (option_map seen_of) common.shells (k - 1) (Some (shell_of frames phase common))) refl
 
 -- where a shell stands it stands behind an event
-carried-stands : (k : ℕ) (moved : Option Renamed) (begun : Option Begun) (shells : List (Option ShellState)) (shell : ShellState) → found shells k ≡ Some shell →
+carried-stands : (k : ℕ) (moved : Option Renamed) (begun : Option Begun) (shells : List (Option ShellState))
+    (shell : ShellState) → found shells k ≡ Some shell →
     found (with_begun begun (free_number shells) (carried_shells moved shells)) k ≡ Some (carried_by moved shell)
 carried-stands k moved begun shells shell is =
     found-placed_other (carried_shells moved shells) begun (free_number shells) k (carried_by moved shell)
@@ -84,11 +87,15 @@ stands-behind k common course stands = record {
   is = carried-stands k (moved_by common.shared course.shared course.renamed) course.begun common.shells stands.shell stands.is;
 }
 
-stands-again : (k : ℕ) (common : Common) (course : Course) (said : Said) → Stands k common → Stands k (with_said said (absorbed common course))
-stands-again k common course said stands = let behind = stands-behind k common course stands in record { above = behind.above; shell = behind.shell; is = behind.is }
+stands-again : (k : ℕ) (common : Common) (course : Course) (said : Said) → Stands k common →
+    Stands k (with_said said (absorbed common course))
+stands-again k common course said stands =
+    let behind = stands-behind k common course stands in
+    record { above = behind.above; shell = behind.shell; is = behind.is }
 
 -- the shell behind an event
-left-same : (moved : Option Renamed) (shell : ShellState) → carried_by moved shell ≡ record shell { parts = carried_parts moved shell.parts }
+left-same : (moved : Option Renamed) (shell : ShellState) →
+    carried_by moved shell ≡ record shell { parts = carried_parts moved shell.parts }
 left-same None shell = refl
 left-same (Some renamed) shell = refl
 
@@ -107,7 +114,8 @@ abbrev common_by : Common → Course → Said → Common
 common_by common course said =
     with_said (front common.said.printed (moved_by common.shared course.shared course.renamed) said) (absorbed common course)
 
-world-same : (k : ℕ) (w : WorldState) (old : List FrameState) (phase : Phase) (common : Common) (course : Course) (frames : List FrameState) (next : Phase) (said : Said) (log : List Item) →
+world-same : (k : ℕ) (w : WorldState) (old : List FrameState) (phase : Phase) (common : Common) (course : Course)
+    (frames : List FrameState) (next : Phase) (said : Said) (log : List Item) →
     Stands k common →
     took_world (standing k w old phase common) k course (record { frames = frames; phase = next; said = said; log = log })
     ≡ world_of k w frames next (common_by common course said)
@@ -123,7 +131,8 @@ world-same k w old phase common course (frame ∷ frames) next said log stands =
     rw (
       not-first k common stands,
       left-same moved now,
-      shells-same moved course.begun common.shells k stands.shell (shell_of old phase common) (Some (record now { parts = carried_parts moved said.parts })) stands.is,
+      shells-same moved course.begun common.shells k stands.shell (shell_of old phase common)
+          (Some (record now { parts = carried_parts moved said.parts })) stands.is,
     ) refl
 
 -- how the world goes on
@@ -131,15 +140,21 @@ abbrev pub Goes : Type 0
 Goes = WorldState → Bytes → Exec
 
 -- an event that comes to a deed
-took-does : (k : ℕ) (w : WorldState) (go : Goes) (on : Go) (old : List FrameState) (phase : Phase) (common : Common) (deed : Deed) (frames : List FrameState) → Stands k common →
-    ((frames : List FrameState) (phase : Phase) (common : Common) → Stands k common → go (world_of k w frames phase common) common.said.printed ≡ lift k w (on frames phase common)) →
+took-does : (k : ℕ) (w : WorldState) (go : Goes) (on : Go) (old : List FrameState) (phase : Phase) (common : Common) (deed : Deed)
+    (frames : List FrameState) → Stands k common →
+    ((frames : List FrameState) (phase : Phase) (common : Common) → Stands k common →
+    go (world_of k w frames phase common) common.said.printed ≡ lift k w (on frames phase common)) →
     go_on go common.said.printed (took (standing k w old phase common) k [] (settle deed frames)) ≡ lift k w (does on frames common deed)
 took-does k w go on old phase common deed frames stands same =
     let course = course_of deed in
     let moved = moved_by common.shared course.shared course.renamed in
     let settled = ruled deed frames (said_of course) in
-    rw (ruled-front common.said.printed moved deed frames (said_of course), world-same k w old phase common course settled.frames settled.phase settled.said settled.log stands)
-    (same settled.frames settled.phase (common_by common course settled.said) (stands-again k common course (front common.said.printed moved settled.said) stands))
+    rw (
+      ruled-front common.said.printed moved deed frames (said_of course),
+      world-same k w old phase common course settled.frames settled.phase settled.said settled.log stands,
+    )
+    (same settled.frames settled.phase (common_by common course settled.said)
+    (stands-again k common course (front common.said.printed moved settled.said) stands))
 
 -- the world's turn of the shell
 turn-is : (k : ℕ) (w : WorldState) (frames : List FrameState) (phase : Phase) (common : Common) → Stands k common →
@@ -168,33 +183,44 @@ answer-is k w frames phase common reply stands =
 
 -- the world goes on as the shell does
 abbrev pub Same : ℕ → WorldState → Goes → Go → Type 0
-Same k w go on = (frames : List FrameState) (phase : Phase) (common : Common) → Stands k common → go (world_of k w frames phase common) common.said.printed ≡ lift k w (on frames phase common)
+Same k w go on = (frames : List FrameState) (phase : Phase) (common : Common) → Stands k common →
+    go (world_of k w frames phase common) common.said.printed ≡ lift k w (on frames phase common)
 
-line-same : (k : ℕ) (w : WorldState) (go : Goes) (on : Go) (frame : FrameState) (frames : List FrameState) (common : Common) (line : Option Text) → Stands k common → Same k w go on →
-    go_on go common.said.printed (took (standing k w (frame ∷ frames) Ready common) k [] (frame_turned frame frames (start_in k (frame ∷ frames) Ready common) line))
+line-same : (k : ℕ) (w : WorldState) (go : Goes) (on : Go) (frame : FrameState) (frames : List FrameState) (common : Common)
+    (line : Option Text) → Stands k common → Same k w go on →
+    go_on go common.said.printed
+    (took (standing k w (frame ∷ frames) Ready common) k [] (frame_turned frame frames (start_in k (frame ∷ frames) Ready common) line))
     ≡ lift k w (line_event k on frame frames common line)
 line-same k w go on frame frames common None stands same =
     took-does k w go on (frame ∷ frames) Ready common (Passes (start_in k (frame ∷ frames) Ready common)) (frame ∷ frames) stands same
 line-same k w go on frame frames common (Some line) stands same =
-    took-does k w go on (frame ∷ frames) Ready common (line_deed line (here_of (moved frame ∷ frames)) (start_in k (frame ∷ frames) Ready common)) (moved frame ∷ frames) stands same
+    took-does k w go on (frame ∷ frames) Ready common
+    (line_deed line (here_of (moved frame ∷ frames)) (start_in k (frame ∷ frames) Ready common)) (moved frame ∷ frames) stands same
 
-deed-same : (k : ℕ) (w : WorldState) (go : Goes) (on : Go) (frames : List FrameState) (phase : Phase) (common : Common) (deed : Option Deed) → Stands k common → Same k w go on →
-    go_on go common.said.printed (applied (standing k w frames phase common) k common.said.parts.codes (replied no_input frames deed)) ≡ lift k w (deed_event on frames common deed)
+deed-same : (k : ℕ) (w : WorldState) (go : Goes) (on : Go) (frames : List FrameState) (phase : Phase) (common : Common)
+    (deed : Option Deed) → Stands k common → Same k w go on →
+    go_on go common.said.printed
+    (applied (standing k w frames phase common) k common.said.parts.codes (replied no_input frames deed))
+    ≡ lift k w (deed_event on frames common deed)
 deed-same k w go on frames phase common None stands same = refl
 deed-same k w go on frames phase common (Some deed) stands same = took-does k w go on frames phase common deed frames stands same
 
-reply-same : (k : ℕ) (w : WorldState) (go : List Reply → Goes) (on : List Reply → Go) (frames : List FrameState) (phase : Phase) (common : Common) (answers : List Reply) → Stands k common →
+reply-same : (k : ℕ) (w : WorldState) (go : List Reply → Goes) (on : List Reply → Go) (frames : List FrameState) (phase : Phase)
+    (common : Common) (answers : List Reply) → Stands k common →
     ((answers : List Reply) → Same k w (go answers) (on answers)) →
     reply_next go k (standing k w frames phase common) common.said.printed answers ≡ lift k w (reply_event k on frames phase common answers)
 reply-same k w go on frames phase common [] stands same = refl
 reply-same k w go on frames phase common (reply ∷ answers) stands same =
     rw (answer-is k w frames phase common reply stands)
-    (deed-same k w (go answers) (on answers) frames phase common (answered_in (sink_in frames) (start_in k frames phase common) phase reply) stands (same answers))
+    (deed-same k w (go answers) (on answers) frames phase common
+    (answered_in (sink_in frames) (start_in k frames phase common) phase reply) stands (same answers))
 
 -- an event of the shell
-event-same : (k : ℕ) (w : WorldState) (go : List Reply → Goes) (on : List Reply → Go) (n : ℕ) (answers : List Reply) (frame : FrameState) (frames : List FrameState) (common : Common) (phase : Phase) →
+event-same : (k : ℕ) (w : WorldState) (go : List Reply → Goes) (on : List Reply → Go) (n : ℕ) (answers : List Reply)
+    (frame : FrameState) (frames : List FrameState) (common : Common) (phase : Phase) →
     Stands k common → ((answers : List Reply) → Same k w (go answers) (on answers)) →
-    event_next go k answers (standing k w (frame ∷ frames) phase common) common.said.printed n (Some (shell_of (frame ∷ frames) phase common))
+    event_next go k answers (standing k w (frame ∷ frames) phase common) common.said.printed n
+    (Some (shell_of (frame ∷ frames) phase common))
     ≡ lift k w (event_in k on answers frame frames common phase)
 event-same k w go on n answers frame frames common Ready stands same =
     rw (turn-is k w (frame ∷ frames) Ready common stands)
@@ -210,9 +236,12 @@ event-same k w go on n answers frame frames common (Waiting (ForLines gathering)
     (took-does k w (go answers) (on answers) (frame ∷ frames) (Waiting (ForLines gathering)) common
     (gathered_deed gathering (sink_in (frame ∷ frames)) (start_in k (frame ∷ frames) (Waiting (ForLines gathering)) common))
     (frame ∷ frames) stands (same answers))
-event-same k w go on n answers frame frames common (Waiting (ForStart starting)) stands same = reply-same k w go on (frame ∷ frames) (Waiting (ForStart starting)) common answers stands same
-event-same k w go on n answers frame frames common (Waiting (ForPiece child)) stands same = reply-same k w go on (frame ∷ frames) (Waiting (ForPiece child)) common answers stands same
-event-same k w go on n answers frame frames common (Waiting (ForEnd child)) stands same = reply-same k w go on (frame ∷ frames) (Waiting (ForEnd child)) common answers stands same
+event-same k w go on n answers frame frames common (Waiting (ForStart starting)) stands same =
+    reply-same k w go on (frame ∷ frames) (Waiting (ForStart starting)) common answers stands same
+event-same k w go on n answers frame frames common (Waiting (ForPiece child)) stands same =
+    reply-same k w go on (frame ∷ frames) (Waiting (ForPiece child)) common answers stands same
+event-same k w go on n answers frame frames common (Waiting (ForEnd child)) stands same =
+    reply-same k w go on (frame ∷ frames) (Waiting (ForEnd child)) common answers stands same
 
 pub alone-exec : (k : ℕ) (w : WorldState) (n : ℕ) (answers : List Reply) → Same k w (alone k n answers) (exec k n answers)
 alone-exec k w zero answers [] phase common stands = rw (ended-at k w common stands) refl

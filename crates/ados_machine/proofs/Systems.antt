@@ -33,7 +33,8 @@ free-two [] k e = cc
 free-two (first ∷ shells) k e = free-above 2 shells k e
 
 -- where a number was free its shell stands
-opened-at : (shells : List (Option ShellState)) (k : ℕ) (shell : ShellState) → IsFree shells (Some k) → found (slice_set shells (k - 1) (Some shell)) k ≡ Some shell
+opened-at : (shells : List (Option ShellState)) (k : ℕ) (shell : ShellState) → IsFree shells (Some k) →
+    found (slice_set shells (k - 1) (Some shell)) k ≡ Some shell
 opened-at shells k shell free =
     rw (free.1, place_before free.0, slice_get-set_same shells free.0 (Some shell) (slice_get_within shells free.0 None free.2)) refl
 
@@ -66,7 +67,8 @@ alone-means-whole n k w command commands answers free =
     let shell : ShellState = opened_shell k (command ∷ commands) in
     let common : Common = first_common w k (command ∷ commands) in
     let above = free-two w.shells k free in
-    let stands : Stands k common = record { above = above; shell = shell; is = opened-at w.shells k shell (rw free at (free-number w.shells)) } in
+    let is = opened-at w.shells k shell (rw free at (free-number w.shells)) in
+    let stands : Stands k common = record { above = above; shell = shell; is = is } in
     let steps : alone k n answers (opened w k (command ∷ commands)) [] ≡ lift k w (exec k n answers (frame ∷ []) Ready common) =
     rw (set-set w.shells (k - 1) (Some shell) (Some shell)) at (alone-exec k w n answers (frame ∷ []) Ready common stands) in
     rw steps (bottom-agrees k w n frame (lines k (suc n) n answers common (at_bottom (command ∷ commands)) None)
@@ -74,7 +76,8 @@ alone-means-whole n k w command commands answers free =
     (agrees k (suc n) n answers common frame [] None (omega arith) (lt-leb (length (command ∷ commands)) 0 (omega arith))))
 
 -- what the loop's end says of the meaning
-ended-from : (k : ℕ) (w : WorldState) (meaning : Whole) (x : Exec) (before printed : Bytes) (left : ℕ) (now : WorldState) → k ≤ length w.ended →
+ended-from : (k : ℕ) (w : WorldState) (meaning : Whole) (x : Exec) (before printed : Bytes) (left : ℕ) (now : WorldState) →
+    k ≤ length w.ended →
     Agrees k w meaning x → shifted before x ≡ Stopped left [] now printed →
     (bytes : Bytes) × (printed ≡ before ++ bytes) × IsEnd k w meaning left (codes_at now k) now bytes
 ended-from k w meaning (Running answers world bytes) before printed left now room h e = cc
@@ -108,18 +111,21 @@ from-none n k w listed before x e =
 
 -- the end of a loop that gave the shell its events, with all answers that were listed, whatever would have come behind them
 -- (`before` is what stood in the bytes before)
-pub system-ended : (n k : ℕ) (w : WorldState) (command : Text) (listed : List Reply) (before printed : Bytes) (left : ℕ) (now : WorldState) →
+pub system-ended : (n k : ℕ) (w : WorldState) (command : Text) (listed : List Reply) (before printed : Bytes) (left : ℕ)
+    (now : WorldState) →
     free_number w.shells ≡ Some k → k ≤ length w.ended →
     ((rest : List Reply) → alone k n (listed ++ rest) (opened w k (command ∷ [])) before ≡ alone k left rest now printed) →
     shell_at now k ≡ None →
     (bytes : Bytes) × (printed ≡ before ++ bytes) × IsEnd k w (whole n k w (command ∷ []) listed) left (codes_at now k) now bytes
 system-ended n k w command listed before printed left now free room loop gone =
     let world = opened w k (command ∷ []) in
-    ended-from k w (whole n k w (command ∷ []) listed) (alone k n listed world []) before printed left now room (alone-means-whole n k w command [] listed free)
+    ended-from k w (whole n k w (command ∷ []) listed) (alone k n listed world []) before printed left now room
+    (alone-means-whole n k w command [] listed free)
     (from-none n k world listed before (Stopped left [] now printed) (loop [] ∙ alone-stops k left [] now printed gone))
 
 -- where it runs on behind the last event; this is then a run of its events, all of them taken
-pub system-late : (n k : ℕ) (w : WorldState) (command : Text) (listed : List Reply) (before printed : Bytes) (left : ℕ) (now : WorldState) (shell : ShellState) →
+pub system-late : (n k : ℕ) (w : WorldState) (command : Text) (listed : List Reply) (before printed : Bytes) (left : ℕ)
+    (now : WorldState) (shell : ShellState) →
     free_number w.shells ≡ Some k →
     ((rest : List Reply) → alone k n (listed ++ rest) (opened w k (command ∷ [])) before ≡ alone k left rest now printed) →
     left ≡ 0 → shell_at now k ≡ Some shell →
