@@ -80,6 +80,8 @@ pub fn children_go_by_their_answers()
     ensures fitting { FittingAnswersAreAccepted }
     ensures accepted { AcceptedAnswersFit }
     ensures named { RequestsNameTheirShells }
+{}
+
 /// A shell that is opened at the lowest free number, and then alone is given turns and answers, does what its lines mean
 /// by a direct recursion that knows neither frames nor phases: it ends where the meaning does, with the same world, bytes
 /// and codes, and the same events and answers left; it runs on behind the last event where the meaning wants one more;
