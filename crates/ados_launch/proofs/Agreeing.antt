@@ -18,7 +18,7 @@ use Rattle.ados_machine.specs.Limits.{IsSane}
 use Rattle.ados_machine.specs.Runs.{IsAnswer, world_after}
 use Rattle.ados_machine.specs.Step.{Response, Accepted, Refused, step_of}
 use Rattle.ados_machine.specs.World.{WorldState, pending_of}
-use Rattle.ados_machine.proofs.Children.{turns-keep, answers-move, request-names}
+use Rattle.ados_machine.proofs.ChildLemmas.{turns-keep, answers-move, request-names}
 use Rattle.ados_launcher.specs.declared.calls.Call.{Call}
 use Rattle.ados_launcher.specs.Lives.{life_of, life_in, life_behind, is_open, state_of}
 use Rattle.ados_launch.specs.Agreement.{Agrees, AreWhole, IsWhole, IsOpenTable}
