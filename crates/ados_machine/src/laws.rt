@@ -20,10 +20,10 @@ ghost use Rattle.ados_machine.specs.World.{fresh_world};
 ghost use Rattle.ados_resident.specs.declared.hosts.HostEntry.{HostEntry};
 ghost use Rattle.std.specs.Prelude.{List};
 
-/// In every run of a world that is sane, as a fresh one is and events keep it (no script in it runs on behind a
-/// failure): in every shell each script ends early exactly at its first command whose code reaches the limit behind it, and
-/// reports the line and the code of its last command; the command that called it answers with that one's codes, at the
-/// limit that the end brings back.
+/// In every run of a world that is sane (no script runs on behind a failure), as a fresh one is and events keep it: in
+/// every shell each script ends early exactly at its first command whose code reaches the limit behind it, and reports
+/// the line and the code of its last command; the command that called it answers with that one's codes, at the limit
+/// that the end brings back.
 pub fn scripts_end_where_the_rule_says()
     ensures { ScriptsEndWhereTheRuleSays }
 {}
@@ -41,10 +41,9 @@ pub fn each_end_is_reported_once()
     ensures { ReportsAreTheEnds }
 {}
 
-/// In every run of a world that is sane, the frames of each shell go through its trace:
-/// a script begins at the limit that stands; it ends once, by the name under which it began, and only where it is the
-/// newest that is there. What stands behind the trace is the shell's own limit, and its codes are those of its last
-/// command.
+/// In every run of a world that is sane, the frames of each shell go through its trace: a script begins at the limit that
+/// stands; it ends once, by the name under which it began, and only where it is the newest that is there. What stands
+/// behind the trace is the shell's own limit, and its codes are those of its last command.
 pub fn each_frame_ends_once()
     ensures { EachFrameEndsOnce }
 {}
