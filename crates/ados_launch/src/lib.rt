@@ -7,7 +7,7 @@
 mod asks;
 mod children;
 mod counted;
-mod drive;
+mod driver;
 mod events;
 mod faults;
 mod laws;
@@ -16,8 +16,8 @@ mod read_ahead;
 mod schedule;
 mod written;
 
-pub use counted::{Counted, Sink, Source};
 pub use ados_launcher::{Call, Host, Launcher, Listed};
-pub use drive::{End, drive};
+pub use counted::{Counted, Sink, Source};
+pub use driver::{End, drive};
 pub use faults::DriveFault;
 pub use laws::sessions_obey_the_laws;
