@@ -15,6 +15,6 @@ mod worlds;
 pub use ados_machine::{Answer, Codes, EndReport, Event, Job, Out, Refusal, Reports, Request};
 pub use ados_resident::HostEntry;
 pub use ados_shell::Draft;
-pub use hosts::NewFault;
+pub use hosts::{NewFault, hosts_fault};
 pub use runs::{Outs, Run};
 pub use worlds::World;
