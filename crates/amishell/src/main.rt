@@ -77,7 +77,9 @@ fn run_typed<R: AllocGlobal + Files + Input + Print + Processes>(
         Some(file) => files::hosts_in(rt, file)?,
         None => Vec::new(rt.alloc()),
     };
-    let mut launcher = Host::new(rt.alloc(), rt)?;
+    let Ok(mut launcher) = Host::new(rt.alloc(), rt) else {
+        return Err(Fault::Memory);
+    };
     let mut reader = Counted::new(rt.reader());
     play(rt, hosts.as_slice(), &mut launcher, &mut reader, turns)
 }
@@ -98,7 +100,7 @@ fn replay<R: AllocGlobal + Files + Print>(rt: &R, file: &str) -> Result<u8, Faul
 
 // Runs a reader's lines in a world with these programs of the host, which a new launcher starts, and gives the exit status
 // that they leave.
-#[tactic(auto, using(ados_launch::proofs::Agreeing::new-pair, ados_machine::proofs::ChildLemmas::fresh-closed))]
+#[tactic(auto, using(crate::proofs::NewPair::new_pair))]
 fn play<R: AllocGlobal + Print, L: Launcher, S: Source>(
     rt: &R,
     hosts: &[HostEntry],
