@@ -125,13 +125,13 @@ number-asked w k request sane asked few = rw (request-names w k request sane ask
 pub table-asked : (w : WorldState) (k : ℕ) (was_full is_full b : Bool) (request : Request) (reply : Reply) (calls calls_now : List Call) (table : List Bool) → IsSane w → Agrees w calls →
     IsOpenTable table calls → k < length table → pending_of w k ≡ Some request → Asks request reply was_full is_full calls calls_now →
     b ≡ is_open (life_in (behind_answer request reply)) → IsOpenTable (slice_set table k b) calls_now
-table-asked w k was_full is_full b request reply calls calls_now table sane agrees open few asked asks is j =
+table-asked w k was_full is_full b request reply calls calls_now table sane agrees opened few asked asks is j =
     let named = request-names w k request sane asked in
     rw asks.calls_are
     (elim (cases_eq j k) [
       | inl same ↦ subst (λ n. get_or (slice_set table k b) n false ≡ is_open (life_of n (calls ++ asks.listed))) (sym same)
           (get_or-set_same table k b false few ∙ (is ∙ ap is_open (sym (row-here w k is_full request reply calls asks.listed agrees asked named asks.lists))))
-      | inr apart ↦ get_or-set_other table k j b false apart ∙ (open j ∙ ap is_open (sym (row-there k j is_full request reply calls asks.listed named asks.lists apart)))
+      | inr apart ↦ get_or-set_other table k j b false apart ∙ (opened j ∙ ap is_open (sym (row-there k j is_full request reply calls asks.listed named asks.lists apart)))
     ])
 
 -- a world that asks for nothing, as a fresh one does, and a launcher without a call

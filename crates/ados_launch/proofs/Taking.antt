@@ -23,21 +23,13 @@ use Rattle.ados_launch.specs.Schedule.{asks_further, asks_start, comes, place_of
 use Rattle.ados_launch.specs.Session.{Takes, TakesAt, TakesLineAt}
 use Rattle.ados_launch.proofs.Places.{comes-start, comes-late}
 
--- an event that was accepted
-took : {X E : Type 0} (w now : WorldState) (left rest : Option (List ℕ)) (event : Event) (out : Out) (result : Result X E)
-    → OnOk result (IsAnswer event (Ok out) (step_of w event)) → OnOk result (now ≡ world_after w (Ok out) (step_of w event))
-    → Known left (λ bytes. IsNext bytes (Given event out) × (rest ≡ Some (left_behind bytes (Given event out))))
-    → OnOk result (Takes w left (Given event out) now rest out.bytes)
-took w now left rest event out (Ok done) answer world lines = record { accepted = answer; world_is = world; lines = lines; bytes_are = refl }
-took w now left rest event out (Err fault) answer world lines = tt
-
 -- a line of the reader, or its end
 pub took-line : {X E : Type 0} (w now : WorldState) (left rest : Option (List ℕ)) (event : Event) (out : Out) (result : Result X E)
     → OnOk result (IsAnswer event (Ok out) (step_of w event)) → OnOk result (now ≡ world_after w (Ok out) (step_of w event)) → IsOfReader (Given event out)
     → Known left (λ bytes. IsNext bytes (Given event out) × (rest ≡ Some (left_behind bytes (Given event out))))
     → OnOk result (TakesLineAt w left now rest out.bytes)
 took-line w now left rest event out (Ok done) answer world of_reader lines =
-    (Given event out, of_reader, took w now left rest event out (Ok done) answer world lines)
+    (Given event out, of_reader, record { accepted = answer; world_is = world; lines = lines; bytes_are = refl })
 took-line w now left rest event out (Err fault) answer world of_reader lines = tt
 
 read-place : (item : Taken) → IsOfReader item → place_of item ≡ 0

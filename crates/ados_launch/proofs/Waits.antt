@@ -119,12 +119,15 @@ filter-append test (x ∷ xs) ys = by (test x) (filter-append test xs ys)
     by true e = ap (λ zs. x ∷ zs) e
     by false e = e
 
-range-more : (n a : ℕ) → range_with_len a (n + 1) ≡ range_with_len a n ++ (a + n) ∷ []
-range-more zero a = grind (arith, common_steps)
-range-more (suc n) a = ap (λ xs. a ∷ xs) (range-more n (a + 1)) ∙ ap (λ m. a ∷ (range_with_len (a + 1) n ++ m ∷ [])) (omega arith)
+range-from : (n a : ℕ) → range_with_len a (suc n) ≡ range_with_len a n ++ (a + n) ∷ []
+range-from zero a = ap (λ m. m ∷ []) (omega arith)
+range-from (suc n) a = ap (λ xs. a ∷ xs) (range-from n (a + 1)) ∙ ap (λ m. a ∷ (range_with_len (a + 1) n ++ m ∷ [])) (omega arith)
+
+range-more : (n : ℕ) → range_with_len 0 (n + 1) ≡ range_with_len 0 n ++ n ∷ []
+range-more n = ap (range_with_len 0) (add-one n) ∙ (range-from n 0 ∙ ap (λ m. range_with_len 0 n ++ m ∷ []) (omega arith))
 
 below-more : (calls : List Call) (n : ℕ) → open_below calls (n + 1) ≡ open_below calls n ++ (if is_open (life_of n calls) then n ∷ [] else [])
-below-more calls n = ap (filter (λ k. is_open (life_of k calls))) (range-more n 0) ∙ filter-append (λ k. is_open (life_of k calls)) (range_with_len 0 n) (n ∷ [])
+below-more calls n = ap (filter (λ k. is_open (life_of k calls))) (range-more n) ∙ filter-append (λ k. is_open (life_of k calls)) (range_with_len 0 n) (n ∷ [])
 
 -- one wait was asked for each open child below n, by rising number, and nothing else
 pub record WaitsBelow (n : ℕ) (before after : List Call) : Type 0 where
