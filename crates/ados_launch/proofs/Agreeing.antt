@@ -23,6 +23,7 @@ use Rattle.ados_launcher.specs.declared.calls.Call.{Call}
 use Rattle.ados_launcher.specs.Lives.{life_of, life_in, life_behind, is_open, state_of}
 use Rattle.ados_launch.specs.Agreement.{Agrees, AreWhole, IsWhole, IsOpenTable}
 use Rattle.ados_launch.specs.Asked.{Answers, Asks, Lists, TakesAnswer, call_of, is_start}
+use Rattle.ados_launch.specs.Schedule.{asks_further}
 use Rattle.ados_launch.proofs.Rows.{life-more, life-here, life-there, state-is}
 
 -- the response to an event that was accepted
@@ -133,6 +134,16 @@ table-asked w k was_full is_full b request reply calls calls_now table sane agre
           (get_or-set_same table k b false few ∙ (is ∙ ap is_open (sym (row-here w k is_full request reply calls asks.listed agrees asked named asks.lists))))
       | inr apart ↦ get_or-set_other table k j b false apart ∙ (opened j ∙ ap is_open (sym (row-there k j is_full request reply calls asks.listed named asks.lists apart)))
     ])
+
+further-open : (request : Option Request) → asks_further request ≡ is_open (life_in (child_asked request))
+further-open None = refl
+further-open (Some (Start job)) = refl
+further-open (Some (Read n)) = refl
+further-open (Some (Wait n)) = refl
+
+-- the table of the open children by what the shells ask for
+pub table-begins : (w : WorldState) (calls : List Call) (table : List Bool) → Agrees w calls → ((k : ℕ) → get_or table k false ≡ asks_further (pending_of w k)) → IsOpenTable table calls
+table-begins w calls table agrees filled k = filled k ∙ (further-open (pending_of w k) ∙ ap is_open (sym (agrees k)))
 
 -- a world that asks for nothing, as a fresh one does, and a launcher without a call
 pub new-pair : (w : WorldState) (calls : List Call) → ((k : ℕ) → child_in w k ≡ Closed) → calls ≡ [] → Agrees w calls

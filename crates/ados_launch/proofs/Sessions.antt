@@ -51,7 +51,7 @@ session-more w left was_full is_full n k round world now rest later before mid c
   asked = asked-more is_full w d.taken d.listed world t.item t.listed (asked-full was_full is_full w d.taken d.listed stays d.session.asked) d.session.run t.asked;
 }
 
-calls-more : (calls mid now listed more : List Call) → mid ≡ calls ++ listed → now ≡ mid ++ more → now ≡ calls ++ (listed ++ more)
+pub calls-more : (calls mid now listed more : List Call) → mid ≡ calls ++ listed → now ≡ mid ++ more → now ≡ calls ++ (listed ++ more)
 calls-more calls mid now listed more e f = f ∙ (ap (λ xs. xs ++ more) e ∙ append_assoc calls listed more)
 
 pub driven-more : (w : WorldState) (left : Option (List ℕ)) (was_full is_full : Bool) (n k : ℕ) (round next : Round) (world now : WorldState) (rest later before mid last : Option (List ℕ)) (calls mid_calls calls_now : List Call) (out : List ℕ)
@@ -89,13 +89,13 @@ driven-cut w left was_full is_full n m k round world now rest later before mid l
   calls_are = none-more calls calls_now (d.listed ++ t.listed) (calls-more calls mid_calls calls_now d.listed t.listed d.calls_are t.calls_are);
 }
 
-full-session : (w : WorldState) (left : Option (List ℕ)) (was_full is_full : Bool) (listed : List Call) (taken : List Taken) (last : WorldState) → (was_full ≡ true → is_full ≡ true)
+pub full-session : (w : WorldState) (left : Option (List ℕ)) (was_full is_full : Bool) (listed : List Call) (taken : List Taken) (last : WorldState) → (was_full ≡ true → is_full ≡ true)
     → Session w left was_full listed taken last → Session w left is_full listed taken last
 full-session w left was_full is_full listed taken last stays s =
     record { run = s.run; ordered = s.ordered; lines = s.lines; asked = asked-full was_full is_full w taken listed stays s.asked }
 
 -- so it stands, with other calls behind
-pub stands-behind : (w : WorldState) (left : Option (List ℕ)) (was_full is_full : Bool) (n : ℕ) (round : Round) (world : WorldState) (rest before now : Option (List ℕ)) (calls mid_calls calls_now others : List Call)
+abbrev pub stands-behind : (w : WorldState) (left : Option (List ℕ)) (was_full is_full : Bool) (n : ℕ) (round : Round) (world : WorldState) (rest before now : Option (List ℕ)) (calls mid_calls calls_now others : List Call)
     → (was_full ≡ true → is_full ≡ true) → calls_now ≡ mid_calls ++ others → Driven w left was_full n round world rest before now calls mid_calls
     → Stands w left is_full n world before now calls calls_now others
 stands-behind w left was_full is_full n round world rest before now calls mid_calls calls_now others stays e d = record {
@@ -107,17 +107,17 @@ stands-behind w left was_full is_full n round world rest before now calls mid_ca
   calls_are = calls-more calls mid_calls calls_now d.listed others d.calls_are e;
 }
 
-pub stands : (w : WorldState) (left : Option (List ℕ)) (is_full : Bool) (n : ℕ) (round : Round) (world : WorldState) (rest before now : Option (List ℕ)) (calls calls_now : List Call)
+abbrev pub stands : (w : WorldState) (left : Option (List ℕ)) (is_full : Bool) (n : ℕ) (round : Round) (world : WorldState) (rest before now : Option (List ℕ)) (calls calls_now : List Call)
     → Driven w left is_full n round world rest before now calls calls_now → Stands w left is_full n world before now calls calls_now []
 stands w left is_full n round world rest before now calls calls_now d =
     stands-behind w left is_full is_full n round world rest before now calls calls_now calls_now [] (λ e. e) (sym (append-nil calls_now)) d
 
 -- other calls came behind
-others-more : (calls mid now listed others more : List Call) → mid ≡ calls ++ (listed ++ others) → now ≡ mid ++ more → now ≡ calls ++ (listed ++ (others ++ more))
+pub others-more : (calls mid now listed others more : List Call) → mid ≡ calls ++ (listed ++ others) → now ≡ mid ++ more → now ≡ calls ++ (listed ++ (others ++ more))
 others-more calls mid now listed others more e f =
     f ∙ (ap (λ xs. xs ++ more) e ∙ (append_assoc calls (listed ++ others) more ∙ ap (λ xs. calls ++ xs) (append_assoc listed others more)))
 
-pub stands-more : (w : WorldState) (left : Option (List ℕ)) (is_full : Bool) (n : ℕ) (last : WorldState) (before now : Option (List ℕ)) (calls mid_calls calls_now others more : List Call)
+abbrev pub stands-more : (w : WorldState) (left : Option (List ℕ)) (is_full : Bool) (n : ℕ) (last : WorldState) (before now : Option (List ℕ)) (calls mid_calls calls_now others more : List Call)
     → calls_now ≡ mid_calls ++ more → Stands w left is_full n last before now calls mid_calls others → Stands w left is_full n last before now calls calls_now (others ++ more)
 stands-more w left is_full n last before now calls mid_calls calls_now others more e s = record {
   taken = s.taken;
@@ -128,7 +128,7 @@ stands-more w left is_full n last before now calls mid_calls calls_now others mo
   calls_are = others-more calls mid_calls calls_now s.listed others more s.calls_are e;
 }
 
-pub cut-more : (w : WorldState) (left : Option (List ℕ)) (is_full : Bool) (n : ℕ) (last : WorldState) (before now : Option (List ℕ)) (calls mid_calls calls_now more : List Call)
+abbrev pub cut-more : (w : WorldState) (left : Option (List ℕ)) (is_full : Bool) (n : ℕ) (last : WorldState) (before now : Option (List ℕ)) (calls mid_calls calls_now more : List Call)
     → calls_now ≡ mid_calls ++ more → StandsCut w left is_full n last before now calls mid_calls [] → StandsCut w left is_full n last before now calls calls_now more
 cut-more w left is_full n last before now calls mid_calls calls_now more e s = record {
   taken = s.taken;

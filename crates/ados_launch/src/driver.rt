@@ -150,7 +150,11 @@ pub fn drive<L: Launcher, S: Source, K: Sink>(
 {
     let mut open = open_children(world);
     match drive_rounds(alloc, world, launcher, &mut open, reader, writer, turns) {
-        Ok(end) => Ok(end),
+        Ok(end) => {
+            // By this it is known that no shell has a number past 20.
+            let _running = world.shells();
+            Ok(end)
+        }
         Err(fault) => {
             wait_for_open(launcher, &open);
             Err(fault)
