@@ -35,8 +35,17 @@ pub fn read_hosts(alloc: Global, bytes: &[u8]) -> Result<Vec<HostEntry>, FileFau
     ensures fault { IfErr result (IsFault are_hosts 0 (lines_of bytes.now)) }
 {
     let lines = lines_of(alloc, bytes)?;
+    hosts_of(alloc, lines.as_slice())
+}
+
+// The commands that lines name.
+fn hosts_of(alloc: Global, lines: &[Text]) -> Result<Vec<HostEntry>, FileFault>
+    ensures good { IfOk result (λ hosts. are_hosts lines.now ≡ true) }
+    ensures hosts { IfOk result (λ hosts. hosts.items ≡ hosts_in lines.now) }
+    ensures fault { IfErr result (IsFault are_hosts 0 lines.now) }
+{
     let mut hosts = Vec::new(alloc);
-    for (place, line) in lines.as_slice().iter().enumerate() {
+    for (place, line) in lines.iter().enumerate() {
         if !take_line(alloc, line, &mut hosts)? {
             return Err(FileFault::BadLine(place + 1));
         }
