@@ -10,12 +10,12 @@ use Rattle.ados_machine.specs.Shells.{ShellState}
 use Rattle.ados_machine.specs.Course.{Course}
 use Rattle.ados_machine.specs.Deeds.{Deed}
 use Rattle.ados_machine.specs.Turning.{Input, Turning, Refuses, Ends, Takes, turning, console_turning, ready_turning, input_turning}
-use Rattle.ados_machine.specs.Step.{step_of, turned, applied, start}
+use Rattle.ados_machine.specs.Step.{is_accepted, step_of, turned, applied, start}
 use Rattle.ados_machine.specs.declared.phases.Phase.{Phase}
 use Rattle.ados_machine.specs.declared.phases.Phase.TheVariants.{Ready, GoingOn, Waiting}
 use Rattle.ados_machine.specs.declared.phases.Wait.TheVariants.{ForAnswer, ForLines, ForStart, ForPiece, ForEnd}
 use Rattle.ados_machine.specs.declared.events.Event.TheVariants.{Typed, EndOfInput, Turn}
-use Rattle.ados_launch.specs.Schedule.{is_accepted, is_due}
+use Rattle.ados_launch.specs.Schedule.{is_due}
 
 any_some : (shells : List (Option ShellState)) (i : ℕ) → is_some (flatten (slice_get shells i)) ≡ true → list_any is_some shells ≡ true
 any_some [] zero e = e

@@ -5,7 +5,6 @@ use Rattle.std.specs.List.{find, range_with_len}
 use Rattle.ados_machine.specs.declared.events.Event.{Event}
 use Rattle.ados_machine.specs.declared.events.Event.TheVariants.{Typed, EndOfInput, Turn, Answer}
 use Rattle.ados_machine.specs.World.{WorldState, shell_at, is_ready, pending_of, wants_line}
-use Rattle.ados_machine.specs.Step.{Response, Refused, Accepted}
 use Rattle.ados_launch.specs.Taken.{Taken, Given, LongLine, world_behind}
 
 -- at place 0 a line is wanted, at place k shell k is ready
@@ -59,11 +58,6 @@ IsRunning w = (place : ℕ) × (place ≤ 20) × (is_due w place ≡ true)
 -- nothing is due at any place: no line is wanted, and no shell is ready
 abbrev pub IsIdle : WorldState → Type 0
 IsIdle w = (place : ℕ) → place ≤ 20 → is_due w place ≡ false
-
--- the answer accepts the event
-abbrev pub is_accepted : Response → Bool
-is_accepted (Accepted world out log) = true
-is_accepted (Refused why) = false
 
 -- shell 1 runs, and its input has not ended
 abbrev pub takes_input : WorldState → Bool

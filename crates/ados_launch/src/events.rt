@@ -1,10 +1,10 @@
 // Taking the event that is due.
 ghost use Rattle.std.specs.Prelude.{◌≡◌, ◌⊎◌, ◌<◌, ◌^◌, ◌-◌, ◌+◌, [], true, length, OnOk, OnErr, IsErrOf, Ok, Err};
-ghost use Rattle.ados_machine.specs.Step.{giving, step_of};
+ghost use Rattle.ados_machine.specs.Step.{giving, is_accepted, step_of};
 ghost use Rattle.ados_machine.specs.Runs.{IsAnswer, world_after};
 ghost use Rattle.ados_shell.specs.Drafts.{out_of};
 ghost use Rattle.ados_launch.specs.Lines.{ahead, Known, kind_of};
-ghost use Rattle.ados_launch.specs.Schedule.{is_due, is_accepted};
+ghost use Rattle.ados_launch.specs.Schedule.{is_due};
 ghost use Rattle.ados_launch.specs.Session.{TakesAt};
 
 use crate::Source;

@@ -1,4 +1,4 @@
--- A turn that asks for a program's start hands on the course that it was handed.
+-- Of a launcher a turn asks for a program's start alone, and then it hands on the course that it was handed.
 use Rattle.std.proofs.Common.{◌≡◌, ℕ, ◌-◌, List, [], ◌∷◌, Bool, true, false, length, nat_le, drop, Option, Some, None, Result, Ok, Err, refl, inl, inr, slice_get}
 use Rattle.std.proofs.lemmas.Bool.{cases_Bool}
 use Rattle.ados_text.specs.Text.{Text}
@@ -19,10 +19,7 @@ use Rattle.ados_flow.specs.Actions as flow
 use Rattle.ados_flow.specs.Ask.{reply_of}
 use Rattle.ados_flow.specs.Execute.{script_row}
 use Rattle.ados_flow.specs.Gathering.{run_limit, before_plus, asks_nothing}
-use Rattle.ados_flow.specs.declared.called.Called.{Called}
-use Rattle.ados_flow.specs.declared.kinds.Kind.{Kind}
-use Rattle.ados_flow.specs.declared.kinds.Kind.TheVariants as kind
-use Rattle.ados_flow.specs.Frames.{FrameState, began, frame_limit, is_ended, is_over, last_codes, limit_behind, maker, moved}
+use Rattle.ados_flow.specs.Frames.{FrameState, moved}
 use Rattle.ados_resident.specs.declared.programs.Program.{Program}
 use Rattle.ados_resident.specs.declared.programs.Program.TheVariants.{Disk, Host}
 use Rattle.ados_machine.specs.declared.builtins.Builtin.{Builtin}
@@ -32,7 +29,6 @@ use Rattle.ados_machine.specs.declared.phases.Gathering.{Gathering}
 use Rattle.ados_machine.specs.declared.phases.Phase.{Phase}
 use Rattle.ados_machine.specs.declared.phases.Phase.TheVariants as phase
 use Rattle.ados_machine.specs.declared.phases.Question.{Question}
-use Rattle.ados_machine.specs.declared.phases.Starting.{Starting}
 use Rattle.ados_machine.specs.declared.phases.Wait.{Wait}
 use Rattle.ados_machine.specs.declared.phases.Wait.TheVariants.{ForAnswer, ForLines, ForStart, ForPiece, ForEnd}
 use Rattle.ados_machine.specs.Commands.{internal_builtin, disk_builtin}
@@ -45,26 +41,36 @@ use Rattle.ados_machine.specs.Questions.{ask_deed, replied}
 use Rattle.ados_machine.specs.NewShells.{console_run, run_at, run_into, running_deed, run_deed, gathered_deed, joined_by, joined_deed}
 use Rattle.ados_machine.specs.Hosted.{start_deed, tested_deed, host_by}
 use Rattle.ados_machine.specs.Lines.{action_in, action_deed, work_deed, command_deed, prompt_deed, asked_deed, builtin_deed, arrived_deed, arriving_deed, directory_deed, called_deed, calling_deed, script_deed, nameless, found_in, found_deed, expanded_deed, variables_in, line_deed, parted_deed, answer_deed, internal_deed, program_deed}
-use Rattle.ados_machine.specs.Settled.{Said, Settled, told, with_limit, faulted, after_end, finish, passed, finished}
-use Rattle.ados_machine.specs.Settle.{Turned, here_of, called, ticked, jumped_in, said_of, by_rule, settle}
+use Rattle.ados_machine.specs.Settled.{Said, Settled}
+use Rattle.ados_machine.specs.Settle.{Turned, here_of, jumped_in, said_of, by_rule, settle}
 use Rattle.ados_machine.specs.Turning.{Input, Turning, Refuses, Ends, Takes, frame_turned, at_end, console_turning, ready_turning, input_turning, turning}
+use Rattle.ados_machine.specs.World.{is_for_input}
+use Rattle.ados_machine.proofs.Rests.{IsIdle, Rests, passed-rests, finished-rests, called-rests, ticked-rests}
 
--- the deed asks for no start
+-- the deed asks a launcher for nothing
 abbrev pub Never : Deed → Type 0
-Never (Waits (ForStart starting) course) = ⊥
+Never (Waits wait course) = is_for_input wait ≡ true
 Never deed = Unit {0}
 
--- a deed that asks for a start hands on this course
+-- of a launcher this wait asks for a start alone, and then hands on this course
+abbrev pub HandsWhile : Course → Course → Wait → Type 0
+HandsWhile course now (ForAnswer asking) = Unit {0}
+HandsWhile course now (ForLines gathering) = Unit {0}
+HandsWhile course now (ForStart starting) = now ≡ course
+HandsWhile course now (ForPiece child) = ⊥
+HandsWhile course now (ForEnd child) = ⊥
+
+-- so does a deed
 abbrev pub Hands : Course → Deed → Type 0
-Hands course (Waits (ForStart starting) now) = now ≡ course
+Hands course (Waits wait now) = HandsWhile course now wait
 Hands course deed = Unit {0}
 
 never-hands : (course : Course) (deed : Deed) → Never deed → Hands course deed
-never-hands course (Waits (ForStart starting) now) never = absurd never
 never-hands course (Waits (ForAnswer asking) now) never = tt
 never-hands course (Waits (ForLines gathering) now) never = tt
-never-hands course (Waits (ForPiece child) now) never = tt
-never-hands course (Waits (ForEnd child) now) never = tt
+never-hands course (Waits (ForStart starting) now) never = cc
+never-hands course (Waits (ForPiece child) now) never = cc
+never-hands course (Waits (ForEnd child) now) never = cc
 never-hands course (Passes now) never = tt
 never-hands course (Answers word codes quits now) never = tt
 never-hands course (Jumps word codes line now) never = tt
@@ -72,11 +78,11 @@ never-hands course (Calls word output script now) never = tt
 never-hands course (Ticks before command after now) never = tt
 
 replied-never : (answered : Option Codes) (question : Question) (course : Course) → Never (replied answered question course)
-replied-never None question course = tt
+replied-never None question course = refl
 replied-never (Some answered) question course = tt
 
 ask-never : (question : Question) (input : Option (List Text)) (course : Course) → Never (ask_deed question input course)
-ask-never question None course = tt
+ask-never question None course = refl
 ask-never question (Some lines) course = tt
 
 action-never : (word : Text) (target : Option Target) (input : Option (List Text)) (action : Action) (here : Here) (course : Course) →
@@ -105,7 +111,7 @@ command-never builtin line input here course =
 
 prompt-never : (builtin : Builtin) (line : Line) (here : Here) (course : Course) (input : Option (List Text)) →
     Never (prompt_deed builtin line here course input)
-prompt-never builtin line here course None = tt
+prompt-never builtin line here course None = refl
 prompt-never builtin line here course (Some lines) =
     command-never builtin (with_args line (first_of lines)) (Some (drop 1 lines)) here (printing (prompt builtin) course)
 
@@ -135,7 +141,7 @@ script-never place line here course =
 console_run-never : (word : Text) (output : Option Target) (text : Text) (sink : Sink) (course : Course) (command : Option Text) →
     Never (console_run word output text sink course command)
 console_run-never word output text sink course None = tt
-console_run-never word output text sink course (Some command) = tt
+console_run-never word output text sink course (Some command) = refl
 
 run_at-never : (word : Text) (output : Option Target) (text : Text) (sink : Sink) (course : Course) (frame : Option FrameLines) →
     Never (run_at word output text sink course frame)
@@ -160,7 +166,7 @@ joined_by-never gathering line sink course None = tt
 joined_by-never gathering line sink course (Some command) =
     elim (cases_Bool (nat_le (run_limit - 1) (length gathering.commands))) [
       | inl e ↦ rw e tt
-      | inr e ↦ rw e tt
+      | inr e ↦ rw e refl
     ]
 
 answer-never : (raw : List ℕ) (asking : Asking) (here : Here) (course : Course) → Never (answer_deed raw asking here course)
@@ -206,77 +212,34 @@ expanded-hands (Ok Nothing) here course = tt
 expanded-hands (Ok (Ready line)) here course = found-hands (found_in course line.command) line here course
 expanded-hands (Ok (Tick tick)) here course = tt
 
--- a turn that leaves its shell asking for a start hands on this course
+-- the same of the phase that a turn leaves
+abbrev pub HandsIn : Course → Course → Phase → Type 0
+HandsIn course now phase.Ready = Unit {0}
+HandsIn course now (phase.GoingOn parted) = Unit {0}
+HandsIn course now (phase.Waiting wait) = HandsWhile course now wait
+
 abbrev pub TurnHands : Course → Turned → Type 0
-TurnHands course t = (starting : Starting) → t.phase ≡ phase.Waiting (ForStart starting) → t.course ≡ course
+TurnHands course t = HandsIn course t.course t.phase
 
--- the code rule leaves no shell asking for one
-abbrev NoStart : Settled → Type 0
-NoStart t = (starting : Starting) → t.phase ≡ phase.Waiting (ForStart starting) → ⊥
+idle-hands : (from now : Course) (left : Phase) → IsIdle left → HandsIn from now left
+idle-hands from now phase.Ready idle = tt
+idle-hands from now (phase.GoingOn parted) idle = tt
+idle-hands from now (phase.Waiting wait) idle = absurd idle
 
-end-never : (of : Kind) (further : Settled) (frames : List FrameState) (said : Said) → NoStart further → NoStart (after_end of further frames said)
-end-never (kind.Script name command) further frames said never = never
-end-never kind.Lines further frames said never = λ starting e. cc
-end-never (kind.Tick before after) further frames said never = λ starting e. cc
-
-finish-never : (word : List ℕ) (answer : Codes) (quits : Bool) (frames : List FrameState) (said : Said) → NoStart (finish word answer quits frames said)
-finish-never word answer quits [] said = λ starting e. cc
-finish-never word answer quits (frame ∷ frames) said =
-    let done = told word answer said in
-    let below = with_limit (limit_behind frames frame.limit) done in
-    elim (cases_Bool (is_ended quits answer said.parts.limit frame)) [
-      | inl e ↦ rw e (end-never frame.kind (finish (maker frame.kind) answer false frames below) frames done (finish-never (maker frame.kind) answer false frames below))
-      | inr e ↦ rw e (λ starting f. cc)
-    ]
-
-passed-never : (frames : List FrameState) (said : Said) → NoStart (passed frames said)
-passed-never [] said = λ starting e. cc
-passed-never (frame ∷ frames) said =
-    let answer = last_codes frame.last in
-    let below = with_limit (limit_behind frames frame.limit) said in
-    elim (cases_Bool (is_over frame)) [
-      | inl e ↦ rw e (end-never frame.kind (finish (maker frame.kind) answer false frames below) frames said (finish-never (maker frame.kind) answer false frames below))
-      | inr e ↦ rw e (λ starting f. cc)
-    ]
-
-finished-never : (word : List ℕ) (answer : Codes) (quits : Bool) (frames : List FrameState) (said : Said) → NoStart (finished word answer quits frames said)
-finished-never word answer quits frames said = finish-never word answer quits frames (faulted word answer.result2 said)
-
-called-never : (word : List ℕ) (output : Option Target) (script : Called) (frames : List FrameState) (said : Said) → NoStart (called word output script frames said)
-called-never word output script frames said =
-    elim (cases_Bool (nat_le frame_limit (length frames))) [
-      | inl e ↦ rw e (finished-never word _ false frames said)
-      | inr e ↦ rw e (λ starting f. absurd (passed-never (began (kind.Script script.name word) script.script said.parts.limit output ∷ frames) said starting f))
-    ]
-
-ticked-never : (before command after : List ℕ) (frames : List FrameState) (said : Said) → NoStart (ticked before command after frames said)
-ticked-never before command after frames said =
-    elim (cases_Bool (nat_le frame_limit (length frames))) [
-      | inl e ↦ rw e (finished-never _ _ false frames said)
-      | inr e ↦ rw e (λ starting f. cc)
-    ]
-
-rule-hands : (from course : Course) (settled : Settled) → NoStart settled → TurnHands from (by_rule course settled)
-rule-hands from course settled never = λ starting e. absurd (never starting e)
-
-waits-hands : (from : Course) (wait : Wait) (course : Course) (frames : List FrameState) → Hands from (Waits wait course) → TurnHands from (settle (Waits wait course) frames)
-waits-hands from (ForStart starting) course frames hands = λ other e. hands
-waits-hands from (ForAnswer asking) course frames hands = λ other e. cc
-waits-hands from (ForLines gathering) course frames hands = λ other e. cc
-waits-hands from (ForPiece child) course frames hands = λ other e. cc
-waits-hands from (ForEnd child) course frames hands = λ other e. cc
+rule-hands : (from course : Course) (said : Said) (settled : Settled) → Rests said settled → TurnHands from (by_rule course settled)
+rule-hands from course said settled rests = idle-hands from (by_rule course settled).course settled.phase rests.idle
 
 pub settle-hands : (from : Course) (deed : Deed) (frames : List FrameState) → Hands from deed → TurnHands from (settle deed frames)
-settle-hands from (Passes course) frames hands = rule-hands from course (passed frames (said_of course)) (passed-never frames (said_of course))
+settle-hands from (Passes course) frames hands = rule-hands from course _ _ (passed-rests frames (said_of course))
 settle-hands from (Answers word answer quits course) frames hands =
-    rule-hands from course (finished word answer quits frames (said_of course)) (finished-never word answer quits frames (said_of course))
+    rule-hands from course _ _ (finished-rests word answer quits frames (said_of course))
 settle-hands from (Jumps word answer line course) frames hands =
-    rule-hands from course (finished word answer false (jumped_in line frames) (said_of course)) (finished-never word answer false (jumped_in line frames) (said_of course))
+    rule-hands from course _ _ (finished-rests word answer false (jumped_in line frames) (said_of course))
 settle-hands from (Calls word output script course) frames hands =
-    rule-hands from course (called word output script frames (said_of course)) (called-never word output script frames (said_of course))
+    rule-hands from course _ _ (called-rests word output script frames (said_of course))
 settle-hands from (Ticks before command after course) frames hands =
-    rule-hands from course (ticked before command after frames (said_of course)) (ticked-never before command after frames (said_of course))
-settle-hands from (Waits wait course) frames hands = waits-hands from wait course frames hands
+    rule-hands from course _ _ (ticked-rests before command after frames (said_of course))
+settle-hands from (Waits wait course) frames hands = hands
 
 -- a turn by the shell's phase
 abbrev pub TurningHands : Course → Turning → Type 0

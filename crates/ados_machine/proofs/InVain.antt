@@ -24,11 +24,11 @@ use Rattle.ados_machine.specs.Numbers.{free_number}
 use Rattle.ados_machine.specs.Sinks.{Sink, sink_in}
 use Rattle.ados_machine.specs.Turning.{Turning, Refuses, Ends, Takes, turning, replied}
 use Rattle.ados_machine.specs.World.{WorldState, shell_at, ended_at, is_over, input_of}
-use Rattle.ados_machine.specs.Carrying.{carried_shells, carried_by}
-use Rattle.ados_machine.specs.Step.{Response, Refused, Accepted, with_begun, is_done, shell_of_turn, left, moved_in, shells_behind, shell_ended, start, applied, answered, step_of}
+use Rattle.ados_machine.specs.Carrying.{carried_by}
+use Rattle.ados_machine.specs.Step.{Response, Refused, Accepted, is_done, shell_of_turn, left, moved_in, shells_behind, shell_ended, start, applied, answered, step_of}
 use Rattle.ados_machine.specs.Runs.{IsAnswer, world_after, Runs}
 use Rattle.ados_machine.specs.Starts.{IsFailure, IsBehindFailure, use_count, own_use, StartFails, AllRefused, KeepsSettingsIf, FailedStartsLeaveNothing}
-use Rattle.ados_machine.proofs.Shells.{found, found-set_same, found-set_other, runs_pos, free-number, carried-free, found-carried, carried-runs, found-placed_other}
+use Rattle.ados_machine.proofs.Shells.{found, found-set_same, found-set_other, runs_pos, found-left}
 use Rattle.ados_machine.proofs.Starts.{plain-shells, plain-shell, not-moved, uses-found, ended-other, Fails, step-fails}
 use Rattle.ados_machine.proofs.Asked.{TurningHands, turning-hands}
 
@@ -64,27 +64,17 @@ left-phase k moved t now e =
     kept : Some (carried_by moved (shell_of_turn t)) ≡ Some now → now ≡ carried_by moved (shell_of_turn t)
     kept f = cc
 
-left-found : (w : WorldState) (k : ℕ) (shell : ShellState) (t : Turned) → shell_at w k ≡ Some shell →
-    found (shells_behind w.shells k (moved_in w t) t) k ≡ left k (moved_in w t) t
-left-found w k shell t is =
-    let moved = moved_in w t in
-    let carried = carried_shells moved w.shells in
-    let number = free_number w.shells in
-    let there = found-carried moved w.shells k ∙ carried-runs moved (found w.shells k) shell is in
-    found-set_same (with_begun t.course.begun number carried) k (carried_by moved shell) (left k moved t)
-    (found-placed_other carried t.course.begun number k (carried_by moved shell) (carried-free moved w.shells number (free-number w.shells)) there)
-
 took-asked : (w : WorldState) (k : ℕ) (shell : ShellState) (queue : List (List ℕ)) (t : Turned) → shell_at w k ≡ Some shell →
     ((name : Text) → own_use shell name ≡ 0) → TurningHands (start w shell) (Takes queue t) →
     Asked k shell w (applied w k shell.parts.codes (Takes queue t))
 took-asked w k shell queue t is none hands = λ now starting there asks.
     let moved = moved_in w t in
-    let leaves = left-phase k moved t now (sym (left-found w k shell t is) ∙ there) in
-    let course : t.course ≡ start w shell = hands starting (sym leaves.0 ∙ asks) in
+    let leaves = left-phase k moved t now (sym (found-left w.shells k shell moved t is) ∙ there) in
+    let course : t.course ≡ start w shell = (rw (sym leaves.0 ∙ asks) at hands) in
     let still : moved ≡ None = not-moved w.shared t.course.shared t.course.renamed (ap (λ c. c.renamed) course) in
     let plain = plain-shells w.shells moved t.course.begun (free_number w.shells) still (ap (λ c. c.begun) course) in
     let shells : shells_behind w.shells k moved t ≡ slice_set w.shells (k - 1) (left k moved t) = rw plain refl in
-    let left_now : left k moved t ≡ Some now = sym (left-found w k shell t is) ∙ there in
+    let left_now : left k moved t ≡ Some now = sym (found-left w.shells k shell moved t is) ∙ there in
     record {
       shared = ap (λ c. c.shared) course;
       others = λ j differ. ap (λ s. found s j) shells ∙ found-set_other w.shells k (left k moved t) j differ (runs_pos w.shells k shell is);

@@ -1,5 +1,6 @@
--- A turn's trace moves the stack as the turn moves the frames, and no script that it leaves has a last record at its limit.
-use Rattle.std.proofs.Common.{if◌then◌else◌, ◌&&◌, ◌≡◌, ℕ, suc, List, [], ◌∷◌, Bool, false, ◌||◌, Option, Some, length, nat_le, refl, sym, ap, inl, inr}
+-- A turn's trace moves the stack as the turn moves the frames, no script that it leaves has a last record at its limit, and
+-- its shell keeps its number.
+use Rattle.std.proofs.Common.{if◌then◌else◌, ◌&&◌, ◌≡◌, ℕ, suc, List, [], ◌∷◌, Bool, false, ◌||◌, Option, Some, length, nat_le, refl, sym, ap, ◌∙◌, inl, inr}
 use Rattle.std.specs.List.{AllByRecursion}
 use Rattle.std.proofs.lemmas.Bool.{or_parts, cases_Bool}
 use Rattle.ados_text.specs.declared.codes.Code.{Code}
@@ -24,6 +25,7 @@ use Rattle.ados_machine.specs.Stacks.{Entry, stack_of, opened, scripts_on, limit
 use Rattle.ados_machine.specs.Step.{shell_of_turn}
 use Rattle.ados_machine.proofs.Follows.{back, RunsEntry, Returns, Follows}
 use Rattle.ados_machine.proofs.Keeps.{KeepsParts}
+use Rattle.ados_machine.proofs.Rests.{Rests, passed-rests, finished-rests, called-rests, ticked-rests}
 
 pub length-stack : (frames : List FrameState) → length frames ≡ length (stack_of frames)
 length-stack [] = refl
@@ -153,26 +155,32 @@ jumped-goes limit codes word answer line [] said runs = finished-goes limit code
 jumped-goes limit codes word answer line (frame ∷ frames) said runs =
     finished-goes limit codes word answer false (jumped line frame ∷ frames) said runs
 
--- the same for what an event leaves of a shell that had these parts
+-- the same for what an event leaves of a shell that had these parts; its number stays
 pub record Goes (parts : Parts) (frames : List FrameState) (turned : Turned) : Type 0 where
   pub follows : Follows parts.limit parts.codes (stack_of frames) turned.log (Some (standing_of (shell_of_turn turned)))
   pub runs : AllRunOn turned.frames
+  pub number : turned.course.parts.number ≡ parts.number
 
 by_rule-goes : (parts : Parts) (frames : List FrameState) (course : Course) (settled : Settled) →
-    GoesBy parts.limit parts.codes (stack_of frames) settled → Goes parts frames (by_rule course settled)
-by_rule-goes parts frames course settled goes = record { follows = goes.follows; runs = goes.runs }
+    GoesBy parts.limit parts.codes (stack_of frames) settled → Rests (said_of course) settled → course.parts.number ≡ parts.number →
+    Goes parts frames (by_rule course settled)
+by_rule-goes parts frames course settled goes rests number = record { follows = goes.follows; runs = goes.runs; number = rests.number ∙ number }
 
 -- what any deed is to the frames
 pub settle-goes : (parts : Parts) (deed : Deed) (frames : List FrameState) → KeepsParts parts deed → AllRunOn frames →
     Goes parts frames (settle deed frames)
 settle-goes parts (Passes course) frames keeps runs =
-    rw (sym keeps) (by_rule-goes course.parts frames course _ (passed-goes frames (said_of course) runs))
+    rw (sym keeps) (by_rule-goes course.parts frames course _ (passed-goes frames (said_of course) runs) (passed-rests frames (said_of course)) refl)
 settle-goes parts (Answers word answer quits course) frames keeps runs =
     by_rule-goes parts frames course _ (finished-goes parts.limit parts.codes word answer quits frames (said_of course) runs)
+    (finished-rests word answer quits frames (said_of course)) keeps
 settle-goes parts (Jumps word answer line course) frames keeps runs =
     by_rule-goes parts frames course _ (jumped-goes parts.limit parts.codes word answer line frames (said_of course) runs)
+    (finished-rests word answer false (jumped_in line frames) (said_of course)) keeps
 settle-goes parts (Calls word output script course) frames keeps runs =
-    rw (sym keeps) (by_rule-goes course.parts frames course _ (called-goes word output script frames (said_of course) runs))
+    rw (sym keeps) (by_rule-goes course.parts frames course _ (called-goes word output script frames (said_of course) runs)
+    (called-rests word output script frames (said_of course)) refl)
 settle-goes parts (Ticks before command after course) frames keeps runs =
-    rw (sym keeps) (by_rule-goes course.parts frames course _ (ticked-goes before command after frames (said_of course) runs))
-settle-goes parts (Waits wait course) frames keeps runs = rw (sym keeps) (record { follows = refl; runs = runs })
+    rw (sym keeps) (by_rule-goes course.parts frames course _ (ticked-goes before command after frames (said_of course) runs)
+    (ticked-rests before command after frames (said_of course)) refl)
+settle-goes parts (Waits wait course) frames keeps runs = rw (sym keeps) (record { follows = refl; runs = runs; number = refl })

@@ -1,5 +1,5 @@
 -- The step: what an event makes of a world.
-use Rattle.std.specs.Prelude.{ℕ, List, [], ◌∷◌, ◌++◌, length, Bool, true, not, ◌&&◌, nat_le, nat_lt, ◌==◌, ◌-◌, Option, Some, None, slice_set, if◌then◌else◌}
+use Rattle.std.specs.Prelude.{ℕ, List, [], ◌∷◌, ◌++◌, length, Bool, true, false, not, ◌&&◌, nat_le, nat_lt, ◌==◌, ◌-◌, Option, Some, None, slice_set, if◌then◌else◌}
 use Rattle.ados_line.specs.Cut.{line_limit}
 use Rattle.ados_find.specs.declared.codes.Codes.{Codes}
 use Rattle.ados_find.specs.declared.outcomes.Renamed.{Renamed}
@@ -28,6 +28,11 @@ use Rattle.ados_machine.specs.World.{WorldState, shell_at, is_over, has_frame, s
 pub data Response : Type 0 where
   Refused : Refusal → Response
   Accepted : (world : WorldState) (out : Out) (items : List (ℕ × Item)) → Response
+
+-- the answer accepts the event
+abbrev pub is_accepted : Response → Bool
+is_accepted (Accepted world out items) = true
+is_accepted (Refused why) = false
 
 -- what an event gives that printed these bytes, asks this of the launcher, and at which these scripts ended
 abbrev pub giving : List ℕ → Option Request → List EndReport → Out

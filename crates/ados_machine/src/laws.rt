@@ -5,6 +5,12 @@ ghost use Rattle.ados_machine.specs.Laws.{
   EventsKeepWorldsSane,
   ReportsAreTheEnds,
   EachFrameEndsOnce,
+  FreshWorldsHaveNoChild,
+  TurnsKeepChildren,
+  AnswersMoveChildren,
+  FittingAnswersAreAccepted,
+  AcceptedAnswersFit,
+  RequestsNameTheirShells,
 };
 ghost use Rattle.ados_machine.specs.Limits.{IsSane};
 ghost use Rattle.ados_machine.specs.Quiet.{QuietShellsAreInvisible};
@@ -13,16 +19,17 @@ ghost use Rattle.ados_machine.specs.World.{fresh_world};
 ghost use Rattle.ados_resident.specs.declared.hosts.HostEntry.{HostEntry};
 ghost use Rattle.std.specs.Prelude.{List};
 
-/// In every run of a world in which no script runs on behind a failure, as a fresh one is and events keep it: in
-/// every shell each script ends early exactly at its first command whose code reaches the limit behind it, and
-/// reports the line and the code of its last command; the command that called it answers with that one's codes, at the
-/// limit that the end brings back.
+/// In every run of a world that is sane (no script runs on behind a failure), as a fresh one is and events keep it: in
+/// every shell each script ends early exactly at its first command whose code reaches the limit behind it, and reports
+/// the line and the code of its last command; the command that called it answers with that one's codes, at the limit
+/// that the end brings back.
 pub fn scripts_end_where_the_rule_says()
     ensures { ScriptsEndWhereTheRuleSays }
 {}
 
 /// No script runs on behind a command whose code reached its limit: a fresh world has none that
-/// does, and no event leaves one.
+/// does, and no event leaves one. So too each background shell runs a frame, and each shell has
+/// the number of its place.
 pub fn no_script_runs_on_behind_a_failure()
     ensures fresh { (hosts : List HostEntry) → IsSane (fresh_world hosts) }
     ensures kept { EventsKeepWorldsSane }
@@ -33,10 +40,9 @@ pub fn each_end_is_reported_once()
     ensures { ReportsAreTheEnds }
 {}
 
-/// In every run of a world in which no script runs on behind a failure, the frames of each shell go through its trace:
-/// a script begins at the limit that stands; it ends once, by the name under which it began, and only where it is the
-/// newest that is there. What stands behind the trace is the shell's own limit, and its codes are those of its last
-/// command.
+/// In every run of a world that is sane, the frames of each shell go through its trace: a script begins at the limit that
+/// stands; it ends once, by the name under which it began, and only where it is the newest that is there. What stands
+/// behind the trace is the shell's own limit, and its codes are those of its last command.
 pub fn each_frame_ends_once()
     ensures { EachFrameEndsOnce }
 {}
@@ -58,4 +64,18 @@ pub fn failed_starts_change_the_codes()
 /// shell, and what all share.
 pub fn quiet_shells_are_invisible()
     ensures { QuietShellsAreInvisible }
+{}
+
+/// How far the program is that a shell started, its child, goes by what launchers answer. In a fresh world no shell has a
+/// child, and an accepted event that is no answer of a launcher keeps each child as far as it was. An answer is accepted
+/// exactly where it is of the kind that its shell asked for; from a world that is sane it moves that shell's child as
+/// what was asked for says, and keeps what the other shells ask for. In such a world what a shell asks for names it by
+/// its number.
+pub fn children_go_by_their_answers()
+    ensures fresh { FreshWorldsHaveNoChild }
+    ensures turns { TurnsKeepChildren }
+    ensures answers { AnswersMoveChildren }
+    ensures fitting { FittingAnswersAreAccepted }
+    ensures accepted { AcceptedAnswersFit }
+    ensures named { RequestsNameTheirShells }
 {}

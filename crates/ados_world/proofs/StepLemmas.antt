@@ -307,7 +307,7 @@ turn-ends w k shell scene input draft codes s e c t =
 
 -- the same world with other lines that wait
 pub sane-taken : (w : WorldState) (queue : List (List ℕ)) → IsSane (record w { queue = queue }) → IsSane w
-sane-taken w queue sane = record { each = sane.each; background = sane.background }
+sane-taken w queue sane = record { each = sane.each; background = sane.background; numbered = sane.numbered }
 
 -- the machine's answering of a shell, by what the scene shows
 answering-is : (w : WorldState) (k : ℕ) (shell : ShellState) (scene : Scene) (answer : Reply) → Shows w k shell scene

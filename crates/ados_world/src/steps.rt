@@ -76,8 +76,8 @@ impl World {
         ensures answer { IsAnswer (Event.Turn number) (answering (out_of draft.new) result) (turned self.old number (shell_at self.old number)) }
         ensures world { self.new ≡ world_after self.old (answering (out_of draft.new) result) (turned self.old number (shell_at self.old number)) }
     {
-        // By this a turn knows what holds of every world: no script runs on behind a failure, and each background shell
-        // runs a frame.
+        // By this a turn knows what holds of every world: no script runs on behind a failure, each background shell runs a
+        // frame, and each shell has the number of its place.
         let _ = &self.alloc;
         let Some(shell) = self.shell(number) else {
             return Err(Refusal::NoSuchShell);

@@ -43,7 +43,8 @@ impl Model for World {
 
     ghost view = { λ w. record { shells = w.shells; ended = w.ended; queue = w.queue.items; input_ended = w.input_ended; shared = w.shared } };
 
-    // A frame whose last command reached the limit has ended, and each background shell runs a frame.
+    // A frame whose last command reached the limit has ended, each background shell runs a frame, and each shell has the
+    // number of its place.
     ghost invariant = { λ w. IsSane (record { shells = w.shells; ended = w.ended; queue = w.queue.items; input_ended = w.input_ended; shared = w.shared }) };
 }
 
