@@ -28,4 +28,6 @@ pub mod Limits
 pub mod Stacks
 pub mod Starts
 pub mod Quiet
+pub mod Whole
+pub mod Alone
 pub mod Laws

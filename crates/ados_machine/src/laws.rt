@@ -1,5 +1,6 @@
 //! The laws: what holds of every run, by the definitions alone.
 
+ghost use Rattle.ados_machine.specs.Alone.{AloneIsARun, AloneMeansWhole};
 ghost use Rattle.ados_machine.specs.Laws.{
   ScriptsEndWhereTheRuleSays,
   EventsKeepWorldsSane,
@@ -78,4 +79,14 @@ pub fn children_go_by_their_answers()
     ensures fitting { FittingAnswersAreAccepted }
     ensures accepted { AcceptedAnswersFit }
     ensures named { RequestsNameTheirShells }
+{}
+
+/// A shell that is opened at the lowest free number, and then alone is given turns and answers, does what its lines mean
+/// by a direct recursion that knows neither frames nor phases: it ends where the meaning does, with the same world, bytes
+/// and codes, and the same events and answers left; it runs on behind the last event where the meaning wants one more;
+/// and an answer is missing, or of another kind than asked for, where the meaning says so. To run alone is a run of
+/// accepted events of that shell, which takes the answers in their order.
+pub fn alone_means_the_direct_meaning()
+    ensures meaning { AloneMeansWhole }
+    ensures run { AloneIsARun }
 {}

@@ -1,0 +1,252 @@
+-- The world's events of a shell that runs alone are the shell's own over what its lines hand through.
+use Rattle.std.proofs.Common.{◌≡◌, ◌∙◌, ℕ, ◌≤◌, zero, suc, ◌-◌, List, [], ◌∷◌, true, false, ◌==◌, Option, Some, None, refl, arith, option_map}
+use Rattle.std.specs.List.{slice_get}
+use Rattle.std.proofs.lemmas.Bool.{ne_eqb}
+use Rattle.ados_text.specs.Text.{Bytes, Text}
+use Rattle.ados_find.specs.declared.outcomes.Renamed.{Renamed}
+use Rattle.ados_flow.specs.Frames.{FrameState, moved}
+use Rattle.ados_machine.specs.declared.answers.Answer.{Answer as Reply}
+use Rattle.ados_machine.specs.declared.events.Event.TheVariants.{Turn, Answer}
+use Rattle.ados_machine.specs.declared.phases.Phase.{Phase}
+use Rattle.ados_machine.specs.declared.phases.Phase.TheVariants.{Ready, GoingOn, Waiting}
+use Rattle.ados_machine.specs.declared.phases.Wait.TheVariants.{ForAnswer, ForEnd, ForLines, ForPiece, ForStart}
+use Rattle.ados_machine.specs.Items.{Item}
+use Rattle.ados_machine.specs.Numbers.{free_number}
+use Rattle.ados_machine.specs.Shells.{Begun, ShellState, seen_of}
+use Rattle.ados_machine.specs.Sinks.{sink_in}
+use Rattle.ados_machine.specs.Course.{Course}
+use Rattle.ados_machine.specs.Deeds.{Deed, Passes, course_of}
+use Rattle.ados_machine.specs.Lines.{line_deed}
+use Rattle.ados_machine.specs.NewShells.{gathered_deed}
+use Rattle.ados_machine.specs.Answers.{answered_in}
+use Rattle.ados_machine.specs.Settled.{Said, Settled}
+use Rattle.ados_machine.specs.Settle.{here_of, said_of, by_rule, ruled, settle}
+use Rattle.ados_machine.specs.Turning.{Input, frame_turned, turning, replied}
+use Rattle.ados_machine.specs.World.{WorldState, shell_at, input_of, is_over}
+use Rattle.ados_machine.specs.Carrying.{carried_shells, carried_by, moved_by}
+use Rattle.ados_machine.specs.Step.{with_begun, ended_with, queue_behind, is_done, moved_in, shells_behind, took, start, applied, step_of}
+use Rattle.ados_machine.specs.Whole.{Common, absorbed, carried_parts}
+use Rattle.ados_machine.specs.Alone.{Exec, go_on, reply_next, event_next, alone, world_behind}
+use Rattle.ados_machine.proofs.Shells.{found, found-set_same, found-carried, carried-runs, found-placed_other, carried-free, free-number}
+use Rattle.ados_machine.proofs.Places.{map-set, any-found, shells-same}
+use Rattle.ados_machine.proofs.Fronts.{front, ruled-front}
+use Rattle.ados_machine.proofs.Alone.{lift, shell_of, standing, start_in, Go, with_said, does, line_event, deed_event, reply_event, event_in, exec}
+
+-- a background shell's number, at which a shell runs
+pub record Stands (k : ℕ) (common : Common) : Type 0 where
+  pub above : 2 ≤ k
+  pub shell : ShellState
+  pub is : found common.shells k ≡ Some shell
+
+-- the world in which it stands, or has ended
+abbrev pub world_of : ℕ → WorldState → List FrameState → Phase → Common → WorldState
+world_of k w [] phase common = world_behind k w common
+world_of k w (frame ∷ frames) phase common = standing k w (frame ∷ frames) phase common
+
+not-first : (k : ℕ) (common : Common) → Stands k common → (k == 1) ≡ false
+not-first k common stands = ne_eqb k 1 (λ e. omega (arith, e, stands.above))
+
+stands-at : (k : ℕ) (w : WorldState) (frames : List FrameState) (phase : Phase) (common : Common) → Stands k common →
+    shell_at (standing k w frames phase common) k ≡ Some (shell_of frames phase common)
+stands-at k w frames phase common stands = found-set_same common.shells k stands.shell (Some (shell_of frames phase common)) stands.is
+
+ended-at : (k : ℕ) (w : WorldState) (common : Common) → Stands k common → shell_at (world_behind k w common) k ≡ None
+ended-at k w common stands = found-set_same common.shells k stands.shell None stands.is
+
+not-over : (k : ℕ) (w : WorldState) (frames : List FrameState) (phase : Phase) (common : Common) → Stands k common →
+    is_over (standing k w frames phase common) ≡ false
+not-over k w frames phase common stands =
+    rw (any-found (standing k w frames phase common).shells k (shell_of frames phase common)
+    (stands-at k w frames phase common stands)) refl
+
+-- its input is at its end
+abbrev pub no_input : Input
+no_input = record { queue = []; is_ended = true }
+
+pub background : (k : ℕ) (w : WorldState) → (k == 1) ≡ false → input_of w k ≡ no_input
+background k w e = rw e refl
+
+starts-in : (k : ℕ) (w : WorldState) (frames : List FrameState) (phase : Phase) (common : Common) →
+    start (standing k w frames phase common) (shell_of frames phase common) ≡ start_in k frames phase common
+starts-in k w frames phase common =
+    rw (map-set (option_map seen_of) common.shells (k - 1) (Some (shell_of frames phase common))) refl
+
+-- where a shell stands it stands behind an event
+carried-stands : (k : ℕ) (moved : Option Renamed) (begun : Option Begun) (shells : List (Option ShellState))
+    (shell : ShellState) → found shells k ≡ Some shell →
+    found (with_begun begun (free_number shells) (carried_shells moved shells)) k ≡ Some (carried_by moved shell)
+carried-stands k moved begun shells shell is =
+    found-placed_other (carried_shells moved shells) begun (free_number shells) k (carried_by moved shell)
+    (carried-free moved shells (free_number shells) (free-number shells))
+    (found-carried moved shells k ∙ carried-runs moved (found shells k) shell is)
+
+stands-behind : (k : ℕ) (common : Common) (course : Course) → Stands k common → Stands k (absorbed common course)
+stands-behind k common course stands = record {
+  above = stands.above;
+  shell = carried_by (moved_by common.shared course.shared course.renamed) stands.shell;
+  is = carried-stands k (moved_by common.shared course.shared course.renamed) course.begun common.shells stands.shell stands.is;
+}
+
+stands-again : (k : ℕ) (common : Common) (course : Course) (said : Said) → Stands k common →
+    Stands k (with_said said (absorbed common course))
+stands-again k common course said stands =
+    let behind = stands-behind k common course stands in
+    record { above = behind.above; shell = behind.shell; is = behind.is }
+
+-- the shell behind an event
+left-same : (moved : Option Renamed) (shell : ShellState) →
+    carried_by moved shell ≡ record shell { parts = carried_parts moved shell.parts }
+left-same None shell = refl
+left-same (Some renamed) shell = refl
+
+-- the world behind an event
+abbrev took_world : WorldState → ℕ → Course → Settled → WorldState
+took_world w k course settled = (let t = by_rule course settled in record {
+  shells = shells_behind w.shells k (moved_in w t) t;
+  ended = ended_with (is_done k t.frames) k t.course.parts.codes w.ended;
+  queue = queue_behind k w.queue [];
+  input_ended = w.input_ended;
+  shared = t.course.shared;
+})
+
+-- what is handed through behind an event
+abbrev common_by : Common → Course → Said → Common
+common_by common course said =
+    with_said (front common.said.printed (moved_by common.shared course.shared course.renamed) said) (absorbed common course)
+
+world-same : (k : ℕ) (w : WorldState) (old : List FrameState) (phase : Phase) (common : Common) (course : Course)
+    (frames : List FrameState) (next : Phase) (said : Said) (log : List Item) →
+    Stands k common →
+    took_world (standing k w old phase common) k course (record { frames = frames; phase = next; said = said; log = log })
+    ≡ world_of k w frames next (common_by common course said)
+world-same k w old phase common course [] next said log stands =
+    let moved = moved_by common.shared course.shared course.renamed in
+    rw (
+      not-first k common stands,
+      shells-same moved course.begun common.shells k stands.shell (shell_of old phase common) None stands.is,
+    ) refl
+world-same k w old phase common course (frame ∷ frames) next said log stands =
+    let moved = moved_by common.shared course.shared course.renamed in
+    let now : ShellState = record { frames = frame ∷ frames; phase = next; parts = said.parts; kept = said.kept } in
+    rw (
+      not-first k common stands,
+      left-same moved now,
+      shells-same moved course.begun common.shells k stands.shell (shell_of old phase common)
+          (Some (record now { parts = carried_parts moved said.parts })) stands.is,
+    ) refl
+
+-- how the world goes on
+abbrev pub Goes : Type 0
+Goes = WorldState → Bytes → Exec
+
+-- an event that comes to a deed
+took-does : (k : ℕ) (w : WorldState) (go : Goes) (on : Go) (old : List FrameState) (phase : Phase) (common : Common) (deed : Deed)
+    (frames : List FrameState) → Stands k common →
+    ((frames : List FrameState) (phase : Phase) (common : Common) → Stands k common →
+    go (world_of k w frames phase common) common.said.printed ≡ lift k w (on frames phase common)) →
+    go_on go common.said.printed (took (standing k w old phase common) k [] (settle deed frames)) ≡ lift k w (does on frames common deed)
+took-does k w go on old phase common deed frames stands same =
+    let course = course_of deed in
+    let moved = moved_by common.shared course.shared course.renamed in
+    let settled = ruled deed frames (said_of course) in
+    rw (
+      ruled-front common.said.printed moved deed frames (said_of course),
+      world-same k w old phase common course settled.frames settled.phase settled.said settled.log stands,
+    )
+    (same settled.frames settled.phase (common_by common course settled.said)
+    (stands-again k common course (front common.said.printed moved settled.said) stands))
+
+-- the world's turn of the shell
+turn-is : (k : ℕ) (w : WorldState) (frames : List FrameState) (phase : Phase) (common : Common) → Stands k common →
+    step_of (standing k w frames phase common) (Turn k)
+    ≡ applied (standing k w frames phase common) k common.said.parts.codes (turning no_input frames (start_in k frames phase common) phase)
+turn-is k w frames phase common stands =
+    rw (
+      not-over k w frames phase common stands,
+      stands-at k w frames phase common stands,
+      background k (standing k w frames phase common) (not-first k common stands),
+      starts-in k w frames phase common,
+    ) refl
+
+-- an answer for it
+answer-is : (k : ℕ) (w : WorldState) (frames : List FrameState) (phase : Phase) (common : Common) (reply : Reply) → Stands k common →
+    step_of (standing k w frames phase common) (Answer k reply)
+    ≡ applied (standing k w frames phase common) k common.said.parts.codes
+    (replied no_input frames (answered_in (sink_in frames) (start_in k frames phase common) phase reply))
+answer-is k w frames phase common reply stands =
+    rw (
+      not-over k w frames phase common stands,
+      stands-at k w frames phase common stands,
+      background k (standing k w frames phase common) (not-first k common stands),
+      starts-in k w frames phase common,
+    ) refl
+
+-- the world goes on as the shell does
+abbrev pub Same : ℕ → WorldState → Goes → Go → Type 0
+Same k w go on = (frames : List FrameState) (phase : Phase) (common : Common) → Stands k common →
+    go (world_of k w frames phase common) common.said.printed ≡ lift k w (on frames phase common)
+
+line-same : (k : ℕ) (w : WorldState) (go : Goes) (on : Go) (frame : FrameState) (frames : List FrameState) (common : Common)
+    (line : Option Text) → Stands k common → Same k w go on →
+    go_on go common.said.printed
+    (took (standing k w (frame ∷ frames) Ready common) k [] (frame_turned frame frames (start_in k (frame ∷ frames) Ready common) line))
+    ≡ lift k w (line_event k on frame frames common line)
+line-same k w go on frame frames common None stands same =
+    took-does k w go on (frame ∷ frames) Ready common (Passes (start_in k (frame ∷ frames) Ready common)) (frame ∷ frames) stands same
+line-same k w go on frame frames common (Some line) stands same =
+    took-does k w go on (frame ∷ frames) Ready common
+    (line_deed line (here_of (moved frame ∷ frames)) (start_in k (frame ∷ frames) Ready common)) (moved frame ∷ frames) stands same
+
+deed-same : (k : ℕ) (w : WorldState) (go : Goes) (on : Go) (frames : List FrameState) (phase : Phase) (common : Common)
+    (deed : Option Deed) → Stands k common → Same k w go on →
+    go_on go common.said.printed
+    (applied (standing k w frames phase common) k common.said.parts.codes (replied no_input frames deed))
+    ≡ lift k w (deed_event on frames common deed)
+deed-same k w go on frames phase common None stands same = refl
+deed-same k w go on frames phase common (Some deed) stands same = took-does k w go on frames phase common deed frames stands same
+
+reply-same : (k : ℕ) (w : WorldState) (go : List Reply → Goes) (on : List Reply → Go) (frames : List FrameState) (phase : Phase)
+    (common : Common) (answers : List Reply) → Stands k common →
+    ((answers : List Reply) → Same k w (go answers) (on answers)) →
+    reply_next go k (standing k w frames phase common) common.said.printed answers ≡ lift k w (reply_event k on frames phase common answers)
+reply-same k w go on frames phase common [] stands same = refl
+reply-same k w go on frames phase common (reply ∷ answers) stands same =
+    rw (answer-is k w frames phase common reply stands)
+    (deed-same k w (go answers) (on answers) frames phase common
+    (answered_in (sink_in frames) (start_in k frames phase common) phase reply) stands (same answers))
+
+-- an event of the shell
+event-same : (k : ℕ) (w : WorldState) (go : List Reply → Goes) (on : List Reply → Go) (n : ℕ) (answers : List Reply)
+    (frame : FrameState) (frames : List FrameState) (common : Common) (phase : Phase) →
+    Stands k common → ((answers : List Reply) → Same k w (go answers) (on answers)) →
+    event_next go k answers (standing k w (frame ∷ frames) phase common) common.said.printed n
+    (Some (shell_of (frame ∷ frames) phase common))
+    ≡ lift k w (event_in k on answers frame frames common phase)
+event-same k w go on n answers frame frames common Ready stands same =
+    rw (turn-is k w (frame ∷ frames) Ready common stands)
+    (line-same k w (go answers) (on answers) frame frames common (slice_get frame.lines frame.position) stands (same answers))
+event-same k w go on n answers frame frames common (GoingOn parted) stands same =
+    rw (turn-is k w (frame ∷ frames) (GoingOn parted) common stands)
+    (took-does k w (go answers) (on answers) (frame ∷ frames) (GoingOn parted) common _ (frame ∷ frames) stands (same answers))
+event-same k w go on n answers frame frames common (Waiting (ForAnswer asking)) stands same =
+    rw (turn-is k w (frame ∷ frames) (Waiting (ForAnswer asking)) common stands)
+    (took-does k w (go answers) (on answers) (frame ∷ frames) (Waiting (ForAnswer asking)) common _ (frame ∷ frames) stands (same answers))
+event-same k w go on n answers frame frames common (Waiting (ForLines gathering)) stands same =
+    rw (turn-is k w (frame ∷ frames) (Waiting (ForLines gathering)) common stands)
+    (took-does k w (go answers) (on answers) (frame ∷ frames) (Waiting (ForLines gathering)) common
+    (gathered_deed gathering (sink_in (frame ∷ frames)) (start_in k (frame ∷ frames) (Waiting (ForLines gathering)) common))
+    (frame ∷ frames) stands (same answers))
+event-same k w go on n answers frame frames common (Waiting (ForStart starting)) stands same =
+    reply-same k w go on (frame ∷ frames) (Waiting (ForStart starting)) common answers stands same
+event-same k w go on n answers frame frames common (Waiting (ForPiece child)) stands same =
+    reply-same k w go on (frame ∷ frames) (Waiting (ForPiece child)) common answers stands same
+event-same k w go on n answers frame frames common (Waiting (ForEnd child)) stands same =
+    reply-same k w go on (frame ∷ frames) (Waiting (ForEnd child)) common answers stands same
+
+pub alone-exec : (k : ℕ) (w : WorldState) (n : ℕ) (answers : List Reply) → Same k w (alone k n answers) (exec k n answers)
+alone-exec k w zero answers [] phase common stands = rw (ended-at k w common stands) refl
+alone-exec k w zero answers (frame ∷ frames) phase common stands = rw (stands-at k w (frame ∷ frames) phase common stands) refl
+alone-exec k w (suc n) answers [] phase common stands = rw (ended-at k w common stands) refl
+alone-exec k w (suc n) answers (frame ∷ frames) phase common stands =
+    rw (stands-at k w (frame ∷ frames) phase common stands)
+    (event-same k w (alone k n) (exec k n) n answers frame frames common phase stands (λ rest. alone-exec k w n rest))

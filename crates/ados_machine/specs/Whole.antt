@@ -1,0 +1,296 @@
+-- The meaning of lines that run alone in a shell, by direct recursion: no frames, no phases.
+use Rattle.std.specs.Prelude.{ℕ, zero, suc, ◌+◌, ◌-◌, List, [], ◌∷◌, ◌++◌, Bool, true, false, ◌&&◌, ◌||◌, nat_le, Option, Some, None, slice_get, slice_set, codes, if◌then◌else◌}
+use Rattle.ados_text.specs.Text.{Text}
+use Rattle.ados_text.specs.declared.codes.Code.{Code}
+use Rattle.ados_text.specs.declared.codes.TheConstants.Result2.{TOO_MANY_LEVELS}
+use Rattle.ados_ram.specs.Place.{Place, carried}
+use Rattle.ados_find.specs.declared.codes.Codes.{Codes}
+use Rattle.ados_find.specs.declared.outcomes.Renamed.{Renamed}
+use Rattle.ados_find.specs.declared.targets.Target.{Target}
+use Rattle.ados_find.specs.Codes.{went_well, failed}
+use Rattle.ados_find.specs.Parts.{Parts}
+use Rattle.ados_find.specs.Settings.{first_settings}
+use Rattle.ados_find.specs.Shared.{SharedState}
+use Rattle.ados_find.specs.Targets.{open_at}
+use Rattle.ados_flow.specs.declared.called.Called.{Called}
+use Rattle.ados_flow.specs.CodeRule.{is_reached}
+use Rattle.ados_flow.specs.Frames.{ScriptLine, frame_limit, limit_for}
+use Rattle.ados_machine.specs.declared.answers.Answer.{Answer as Reply}
+use Rattle.ados_machine.specs.declared.phases.Parted.{Parted}
+use Rattle.ados_machine.specs.declared.phases.Wait.{Wait}
+use Rattle.ados_machine.specs.declared.phases.Wait.TheVariants.{ForAnswer, ForLines}
+use Rattle.ados_machine.specs.Numbers.{free_number}
+use Rattle.ados_machine.specs.Sinks.{Sink, Console, Kept, sink_or, held_while}
+use Rattle.ados_machine.specs.Names.{waiting_word}
+use Rattle.ados_machine.specs.Shells.{ShellState, Seen, begun_shell, entry_while, parts_in}
+use Rattle.ados_machine.specs.Course.{Course}
+use Rattle.ados_machine.specs.Deeds.{Here, Deed, Passes, Answers, Jumps, Calls, Ticks, Waits, course_of}
+use Rattle.ados_machine.specs.Lines.{line_deed, parted_deed, answer_deed}
+use Rattle.ados_machine.specs.NewShells.{gathered_deed}
+use Rattle.ados_machine.specs.Answers.{answered_deed}
+use Rattle.ados_machine.specs.Settled.{Said, faulted, told, with_limit, newest_kept, with_tick, without_tick}
+use Rattle.ados_machine.specs.World.{WorldState, seen_in}
+use Rattle.ados_machine.specs.Carrying.{moved_by, carried_shells}
+use Rattle.ados_machine.specs.Step.{with_begun}
+
+-- what lines hand through: the shells (at the shell's own number it is only looked at that there is one), what all share, and
+-- what the shell itself has: its parts, what its ticks put out, and what is printed
+pub record Common : Type 0 where
+  pub shells : List (Option ShellState)
+  pub shared : SharedState
+  pub said : Said
+
+-- where lines stand. What their caller hands to them: where output goes, whether they are a script's, how many scripts run at or
+-- below them, their depth, the lines, the files kept open by them and their callers, and the shell's name in Status. And how far
+-- they came: the place of the next line, the line at which the last command began, and what that answered
+pub record At : Type 0 where
+  pub sink : Sink
+  pub in_script : Bool
+  pub scripts : ℕ
+  pub depth : ℕ
+  pub lines : List Text
+  pub outputs : List Place
+  pub name : Text
+  pub position : ℕ
+  pub line : ℕ
+  pub last : Codes
+
+-- what lines mean: they come to their end, with so many events and these answers left, with what their last command answered,
+-- and hand this on; or an event more is due; or an answer is missing
+pub data Whole : Type 0 where
+  Done : (left : ℕ) (answers : List Reply) (codes : Codes) (common : Common) → Whole
+  Late : (answers : List Reply) → Whole
+  Short : Whole
+
+-- it is told by the events left, the answers, what is handed through, where the lines stand, and a line that goes on behind
+-- its tick
+abbrev pub Meaning : Type 0
+Meaning = ℕ → List Reply → Common → At → Option Parted → Whole
+
+-- what a line knows of where it stands
+abbrev pub script_line_at : At → Option ScriptLine
+script_line_at at = if at.in_script then Some (record { lines = at.lines; line = at.line }) else None
+
+abbrev pub here_at : At → Here
+here_at at = record {
+  sink = at.sink;
+  script_line = script_line_at at;
+  frame_lines = Some (record { lines = at.lines; position = at.position });
+}
+
+-- what a shell that waits for something, or for nothing, keeps open by that, runs from, and is called
+abbrev pub held_at : Option Wait → List Place
+held_at None = []
+held_at (Some wait) = held_while wait
+
+abbrev pub entry_at : Option Wait → Option Text
+entry_at None = None
+entry_at (Some wait) = entry_while wait
+
+abbrev pub name_at : Text → Option Wait → Text
+name_at name None = name
+name_at name (Some wait) = waiting_word wait
+
+-- what is seen of it
+abbrev pub seen_at : At → Option Wait → Place → Seen
+seen_at at wait directory = record {
+  directory = directory;
+  outputs = at.outputs ++ held_at wait;
+  entry = entry_at wait;
+  name = name_at at.name wait;
+}
+
+-- an event of the shell of a number begins, which waits for something or for nothing
+abbrev pub start_at : ℕ → At → Option Wait → Common → Course
+start_at k at wait common = record {
+  parts = common.said.parts;
+  kept = common.said.kept;
+  shared = common.shared;
+  seen = slice_set (seen_in common.shells) (k - 1) (Some (seen_at at wait common.said.parts.directory));
+  printed = [];
+  renamed = None;
+  begun = None;
+}
+
+-- a current directory goes along with what was moved, if anything was
+abbrev pub carried_in : Option Renamed → Place → Place
+carried_in None directory = directory
+carried_in (Some moved) directory = carried moved.from moved.to directory
+
+abbrev pub carried_parts : Option Renamed → Parts → Parts
+carried_parts moved parts = record parts { directory = carried_in moved parts.directory }
+
+-- an event ends: the current directories are carried, a shell may have begun, and what was printed joins what was before
+abbrev pub absorbed : Common → Course → Common
+absorbed common course =
+    (let moved = moved_by common.shared course.shared course.renamed in
+    record {
+      shells = with_begun course.begun (free_number common.shells) (carried_shells moved common.shells);
+      shared = course.shared;
+      said = record { parts = carried_parts moved course.parts; kept = course.kept; printed = common.said.printed ++ course.printed };
+    })
+
+-- a command answered: the shell has its codes, and that it failed is printed where its code reaches the limit
+abbrev pub says : Text → Codes → Common → Common
+says word answer common = record common { said = told word answer common.said }
+
+-- a command of these lines answered: a script ends here at its limit, or where it quits; other lines go on
+abbrev pub after_answer : Meaning → ℕ → List Reply → Common → At → Text → Codes → Bool → Whole
+after_answer go n answers common at word answer quits =
+    if at.in_script && (quits || is_reached common.said.parts.limit answer.code) then Done n answers answer (says word answer common)
+    else go n answers (says word answer common) (record at { last = answer }) None
+
+-- the same where the command did its work itself: the text of its fault is printed first, which that of a script was already
+abbrev pub answered_at : Meaning → ℕ → List Reply → Common → At → Text → Codes → Bool → Whole
+answered_at go n answers common at word answer quits =
+    after_answer go n answers (record common { said = faulted word answer.result2 common.said }) at word answer quits
+
+-- where a script's lines begin, and a tick's
+abbrev pub script_at : At → Option Target → Called → At
+script_at at output called = record {
+  sink = sink_or output at.sink;
+  in_script = true;
+  scripts = suc at.scripts;
+  depth = suc at.depth;
+  lines = called.script;
+  outputs = open_at output ++ at.outputs;
+  name = called.name;
+  position = 0;
+  line = 0;
+  last = went_well;
+}
+
+abbrev pub tick_at : At → Text → At
+tick_at at command = record at {
+  sink = Kept;
+  in_script = false;
+  depth = suc at.depth;
+  lines = command ∷ [];
+  position = 0;
+  line = 0;
+  last = went_well;
+}
+
+-- behind a script: the limit of its beginning comes back, and it is 10 where no script is left; what it came to is the answer of
+-- the command that called it
+abbrev pub after_call : Meaning → At → Code → Text → Whole → Whole
+after_call go at limit word (Done n answers answer common) =
+    after_answer go n answers (record common { said = with_limit (limit_for at.scripts limit) common.said }) at word answer false
+after_call go at limit word (Late answers) = Late answers
+after_call go at limit word Short = Short
+
+-- a tick begins to keep what is put out, and gives it to the line that goes on behind it
+abbrev pub ticking : Common → Common
+ticking common = record common { said = with_tick common.said }
+
+abbrev pub ticked_out : Common → Common
+ticked_out common = record common { said = without_tick common.said }
+
+abbrev pub after_tick : Meaning → At → Text → Text → Whole → Whole
+after_tick go at before after (Done n answers answer common) =
+    go n answers (ticked_out common) at (Some (record { before = before; output = newest_kept common.said.kept; after = after }))
+after_tick go at before after (Late answers) = Late answers
+after_tick go at before after Short = Short
+
+-- no lines may stand deeper
+abbrev pub is_deepest : At → Bool
+is_deepest at = nat_le frame_limit at.depth
+
+-- what a deed means behind its event; `further` is what it means to wait
+abbrev pub behind_deed : (Common → Wait → Whole) → Meaning → ℕ → List Reply → Common → At → Deed → Whole
+behind_deed further go n answers common at (Passes course) = go n answers common at None
+behind_deed further go n answers common at (Answers word answer quits course) = answered_at go n answers common at word answer quits
+behind_deed further go n answers common at (Jumps word answer line course) =
+    answered_at go n answers common (record at { position = line - 1 }) word answer false
+behind_deed further go n answers common at (Calls word output called course) =
+    if is_deepest at then answered_at go n answers common at word (failed TOO_MANY_LEVELS) false
+    else after_call go at common.said.parts.limit word (go n answers common (script_at at output called) None)
+behind_deed further go n answers common at (Ticks before command after course) =
+    if is_deepest at then answered_at go n answers common at (codes "Shell") (failed TOO_MANY_LEVELS) false
+    else after_tick go at before after (go n answers (ticking common) (tick_at at command) None)
+behind_deed further go n answers common at (Waits wait course) = further common wait
+
+-- what a deed means
+abbrev pub deed_of : (Common → Wait → Whole) → Meaning → ℕ → List Reply → Common → At → Deed → Whole
+deed_of further go n answers common at deed = behind_deed further go n answers (absorbed common (course_of deed)) at deed
+
+-- an answer of another kind is as good as none
+abbrev pub reply_of : (Deed → Whole) → Option Deed → Whole
+reply_of meaning None = Short
+reply_of meaning (Some deed) = meaning deed
+
+-- what it means to wait, one event each: a prompt takes the end of input (and so would a Run that asks for further lines, as none
+-- does in lines); of a program the next answer is taken
+abbrev pub waits : ℕ → Meaning → At → ℕ → List Reply → Common → Wait → Whole
+waits k go at zero answers common wait = Late answers
+waits k go at (suc n) answers common (ForAnswer asking) =
+    deed_of (waits k go at n answers) go n answers common at
+    (answer_deed [] asking (here_at at) (start_at k at (Some (ForAnswer asking)) common))
+waits k go at (suc n) answers common (ForLines gathering) =
+    deed_of (waits k go at n answers) go n answers common at
+    (gathered_deed gathering at.sink (start_at k at (Some (ForLines gathering)) common))
+waits k go at (suc n) [] common wait = Short
+waits k go at (suc n) (reply ∷ answers) common wait =
+    reply_of (deed_of (waits k go at n answers) go n answers common at)
+    (answered_deed at.sink (start_at k at (Some wait) common) wait reply)
+
+-- the place moves on before the command runs
+abbrev pub moved_on : At → At
+moved_on at = record at { position = at.position + 1; line = at.position + 1 }
+
+-- the next line, or the one that goes on behind its tick, takes an event; no line left costs nothing
+abbrev pub next_of : ℕ → Meaning → ℕ → List Reply → Common → At → Option Parted → Option Text → Whole
+next_of k go n answers common at None None = Done n answers at.last common
+next_of k go zero answers common at parted line = Late answers
+next_of k go (suc n) answers common at (Some parted) line =
+    deed_of (waits k go at n answers) go n answers common at (parted_deed parted (here_at at) (start_at k at None common))
+next_of k go (suc n) answers common at None (Some line) =
+    deed_of (waits k go (moved_on at) n answers) go n answers common (moved_on at)
+    (line_deed line (here_at (moved_on at)) (start_at k at None common))
+
+-- what lines mean in the shell of a number, by a bound on how deep the calls go, which the events left never pass
+abbrev pub lines : ℕ → ℕ → Meaning
+lines k zero n answers common at parted = Late answers
+lines k (suc gas) n answers common at parted = next_of k (lines k gas) n answers common at parted (slice_get at.lines at.position)
+
+-- where the lines of a shell begin
+abbrev pub at_bottom : List Text → At
+at_bottom commands = record {
+  sink = Console;
+  in_script = false;
+  scripts = 0;
+  depth = 1;
+  lines = commands;
+  outputs = [];
+  name = codes "No command";
+  position = 0;
+  line = 0;
+  last = went_well;
+}
+
+-- a fresh shell of a number, with these lines: it begins in the root, and nothing but its own variables is set there
+abbrev pub opened_shell : ℕ → List Text → ShellState
+opened_shell k commands =
+    begun_shell k (record { directory = []; settings = first_settings k; commands = commands; output = None })
+
+-- a world in which it was opened
+abbrev pub opened : WorldState → ℕ → List Text → WorldState
+opened w k commands = record w { shells = slice_set w.shells (k - 1) (Some (opened_shell k commands)) }
+
+-- what its lines have at hand as they begin
+abbrev pub first_common : WorldState → ℕ → List Text → Common
+first_common w k commands = record {
+  shells = (opened w k commands).shells;
+  shared = w.shared;
+  said = record { parts = parts_in k [] (first_settings k); kept = []; printed = [] };
+}
+
+-- what its lines come to is told by the codes of the shell, which a tick may have set behind the last command of the lines
+abbrev pub by_shell : Whole → Whole
+by_shell (Done left answers answer common) = Done left answers common.said.parts.codes common
+by_shell (Late answers) = Late answers
+by_shell Short = Short
+
+-- the direct meaning of lines in a shell that is opened in a world and runs alone, with so many events and these answers
+abbrev pub whole : ℕ → ℕ → WorldState → List Text → List Reply → Whole
+whole n k w commands answers = by_shell (lines k (suc n) n answers (first_common w k commands) (at_bottom commands) None)
