@@ -1,20 +1,11 @@
--- A shell that is opened for a line: a fresh one.
-use Rattle.std.specs.Prelude.{◌≡◌, ◌-◌, ℕ, List, [], ◌∷◌, length, nat_lt, Option, Some, None, Result, Ok, Err, slice_set, if◌then◌else◌}
+-- Opening a shell for a line: the refusals, and the world behind it.
+use Rattle.std.specs.Prelude.{◌≡◌, ℕ, [], ◌∷◌, length, nat_lt, Option, Some, None, Result, Ok, Err, if◌then◌else◌}
 use Rattle.ados_text.specs.Text.{Text}
 use Rattle.ados_text.specs.declared.lines.TheConstants.{LINE_BYTES}
-use Rattle.ados_find.specs.Settings.{first_settings}
 use Rattle.ados_machine.specs.declared.refusals.Refusal.{Refusal}
 use Rattle.ados_machine.specs.declared.refusals.Refusal.TheVariants.{Over, LineTooLong, NoMemory}
-use Rattle.ados_machine.specs.Shells.{ShellState, begun_shell}
+use Rattle.ados_machine.specs.Whole.{opened}
 use Rattle.ados_machine.specs.World.{WorldState, is_over}
-
--- a fresh shell of a number, with these lines: it begins in the root, and nothing but its own variables is set there
-abbrev pub opened_shell : ℕ → List Text → ShellState
-opened_shell k commands = begun_shell k (record { directory = []; settings = first_settings k; commands = commands; output = None })
-
--- a world in which it was opened
-abbrev pub opened : WorldState → ℕ → List Text → WorldState
-opened w k commands = record w { shells = slice_set w.shells (k - 1) (Some (opened_shell k commands)) }
 
 -- why no shell is opened for a line: none is left, or the line is too long
 abbrev pub opening_fault : WorldState → Text → Option Refusal

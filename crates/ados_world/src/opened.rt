@@ -3,7 +3,8 @@ ghost use Rattle.std.specs.Prelude.{◌≡◌, ◌∷◌, ◌-◌, [], IfOk, Som
 ghost use Rattle.std.specs.List.{slice_set};
 ghost use Rattle.ados_machine.specs.Limits.{IsSane};
 ghost use Rattle.ados_machine.specs.Numbers.{free_number};
-ghost use Rattle.ados_world.specs.Opened.{Refuses, behind_opening, opened_shell, opening_fault};
+ghost use Rattle.ados_machine.specs.Whole.{opened_shell};
+ghost use Rattle.ados_world.specs.Opened.{Refuses, behind_opening, opening_fault};
 ghost use Rattle.ados_world.specs.Shells.{IsShellNumber};
 
 use crate::new_shells::next_number;
