@@ -6,6 +6,7 @@ mod carrying;
 mod endings;
 mod hosts;
 mod new_shells;
+mod opened;
 mod queue;
 mod runs;
 mod shells;
