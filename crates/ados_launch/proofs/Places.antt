@@ -94,7 +94,7 @@ idle round w e k h = not_due w k (none_range (is_due w none_answered) 61 0 k (no
 comes-line : (w : WorldState) → comes w 0 ≡ wants_line w
 comes-line w = refl
 
-comes-turn : (w : WorldState) (place : ℕ) → 1 ≤ place → place ≤ 20 → comes w place ≡ is_ready w place
+pub comes-turn : (w : WorldState) (place : ℕ) → 1 ≤ place → place ≤ 20 → comes w place ≡ is_ready w place
 comes-turn w place low high = grind (arith, common_steps)
 
 pub comes-start : (w : WorldState) (place : ℕ) → 21 ≤ place → place ≤ 40 → comes w place ≡ asks_start (pending_of w (place - 20))

@@ -1,5 +1,6 @@
 // Asks a launcher for what a shell waits for, and gives the world its answer.
 ghost use Rattle.std.specs.Prelude.{◌≡◌, ◌≢◌, ◌<◌, Some, None, Err, OnErr};
+ghost use Rattle.ados_machine.specs.Limits.{IsSane};
 ghost use Rattle.ados_machine.specs.World.{pending_of};
 ghost use Rattle.ados_machine.specs.Children.{behind_answer, child_asked, shell_named};
 ghost use Rattle.ados_shell.specs.Drafts.{out_of};
@@ -17,24 +18,25 @@ use ados_world::{Draft, Event, World};
 pub fn answer<L: Launcher>(
     world: &mut World,
     launcher: &mut L,
-    open: &mut [bool; 21],
+    children: &mut [bool; 21],
     number: u8,
     draft: &mut Draft,
 ) -> Result<(), DriveFault>
     requires number { number < 21 }
     requires asked { pending_of world.old number ≢ None }
     requires agrees { Agrees world.old (L.calls launcher.old) }
-    requires open { IsOpenTable open.old (L.calls launcher.old) }
+    requires children { IsOpenTable children.old (L.calls launcher.old) }
     ensures answers { Answers world.old number (L.is_full launcher.old) (L.is_full launcher.new) (L.calls launcher.old) (L.calls launcher.new)
         (TakesAnswer world.old number result world.new (out_of draft.new)) }
-    ensures open { IsOpenTable open.new (L.calls launcher.new) }
+    ensures children { IsOpenTable children.new (L.calls launcher.new) }
+    ensures sane { IsSane world.old }
     ensures memory { OnErr result (result ≡ Err DriveFault.Memory) }
 {
     let Some(request) = world.pending(number) else {
         unreachable!();
     };
     let answer = ask(launcher, request);
-    open[usize::from(number)] = runs_behind(request, &answer);
+    children[usize::from(number)] = runs_behind(request, &answer);
     give(world, &Event::Answer(number, answer), draft)
 }
 

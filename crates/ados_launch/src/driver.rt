@@ -148,15 +148,15 @@ pub fn drive<L: Launcher, S: Source, K: Sink>(
     ensures write_cause { IsErrOf result DriveFault.Write →
         (K.faults writer.new ≡ K.faults writer.old + 1) ⊎ (K.stalls writer.new ≡ one_more (K.stalls writer.old)) }
 {
-    let mut open = open_children(world);
-    match drive_rounds(alloc, world, launcher, &mut open, reader, writer, turns) {
+    let mut children = open_children(world);
+    match drive_rounds(alloc, world, launcher, &mut children, reader, writer, turns) {
         Ok(end) => {
             // By this it is known that no shell has a number past 20.
             let _running = world.shells();
             Ok(end)
         }
         Err(fault) => {
-            wait_for_open(launcher, &open);
+            wait_for_open(launcher, &children);
             Err(fault)
         }
     }
@@ -167,7 +167,7 @@ fn drive_rounds<L: Launcher, S: Source, K: Sink>(
     alloc: Global,
     world: &mut World,
     launcher: &mut L,
-    open: &mut [bool; 21],
+    children: &mut [bool; 21],
     reader: &mut S,
     writer: &mut K,
     turns: u64,
@@ -175,10 +175,10 @@ fn drive_rounds<L: Launcher, S: Source, K: Sink>(
     requires reader { S.faults reader.old < 2 ^ 64 - 1 }
     requires writer { K.faults writer.old < 2 ^ 64 - 1 }
     requires agrees { Agrees world.old (L.calls launcher.old) }
-    requires open { IsOpenTable open.old (L.calls launcher.old) }
+    requires children { IsOpenTable children.old (L.calls launcher.old) }
 
     // The table is that of the calls, none of which is out of place.
-    ensures open { IsOpenTable open.new (L.calls launcher.new) }
+    ensures children { IsOpenTable children.new (L.calls launcher.new) }
     ensures whole { AreWhole (L.calls launcher.new) }
     ensures agrees { OnOk result (Agrees world.new (L.calls launcher.new)) }
 
@@ -235,7 +235,7 @@ fn drive_rounds<L: Launcher, S: Source, K: Sink>(
             return Ok(End::of(world, events));
         };
         take_event(
-            alloc, world, launcher, open, place, &mut held, reader, &mut line, &mut draft,
+            alloc, world, launcher, children, place, &mut held, reader, &mut line, &mut draft,
         )?;
         write_whole(writer, draft.printed.as_slice())?;
         round.pass(place);

@@ -28,7 +28,7 @@ pub fn take_event<L: Launcher, S: Source>(
     alloc: Global,
     world: &mut World,
     launcher: &mut L,
-    open: &mut [bool; 21],
+    children: &mut [bool; 21],
     place: u8,
     held: &mut ReadAhead,
     reader: &mut S,
@@ -39,11 +39,11 @@ pub fn take_event<L: Launcher, S: Source>(
     requires place { place < 61 }
     requires due { comes world.old place ≡ true }
     requires agrees { Agrees world.old (L.calls launcher.old) }
-    requires open { IsOpenTable open.old (L.calls launcher.old) }
+    requires children { IsOpenTable children.old (L.calls launcher.old) }
     ensures took { OnOk result (TakesAt world.old (ahead held.old (S.left reader.old)) (L.is_full launcher.new) (L.calls launcher.old) place
         world.new (ahead held.new (S.left reader.new)) (L.calls launcher.new) draft.new.printed.items) }
     ensures agrees { OnOk result (Agrees world.new (L.calls launcher.new)) }
-    ensures open { IsOpenTable open.new (L.calls launcher.new) }
+    ensures children { IsOpenTable children.new (L.calls launcher.new) }
     ensures whole { AreWhole (L.calls launcher.new) }
     ensures stays { L.is_full launcher.old ≡ true → L.is_full launcher.new ≡ true }
     ensures few { OnOk result (length held.old < 4096 → length held.new < 4096) }
@@ -62,7 +62,7 @@ pub fn take_event<L: Launcher, S: Source>(
     } else if place < 21 {
         give(world, &Event::Turn(place), draft)
     } else {
-        answer(world, launcher, open, shell_answered(place), draft)
+        answer(world, launcher, children, shell_answered(place), draft)
     }
 }
 

@@ -7,5 +7,5 @@ use Rattle.ados_launch.proofs.children.open_children.Goals as goal
 pub loop-number-preserved : goal.loop-number-preserved
 loop-number-preserved c = record {
   size = search rules;
-  filled = rw c.from.ensures (filled-more c.loop-number.open c.loop-number.number _ (λ j. asks_further (pending_of c.args.world.now j)) (let few = c.loop-number.invariant.size in omega (arith, few)) c.asks_further.ensures c.loop-number.invariant.filled);
+  filled = rw c.from.ensures (filled-more c.loop-number.children c.loop-number.number _ (λ j. asks_further (pending_of c.args.world.now j)) (let few = c.loop-number.invariant.size in omega (arith, few)) c.asks_further.ensures c.loop-number.invariant.filled);
 }

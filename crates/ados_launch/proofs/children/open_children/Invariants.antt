@@ -6,6 +6,6 @@ use Rattle.ados_launch.proofs.children.open_children.Given as goal
 
 abbrev pub invariant-loop-number : goal.invariant-loop-number
 invariant-loop-number l = record {
-  size : length l.open ≡ 21;
-  filled : (j : ℕ) → get_or l.open j false ≡ (if nat_lt j l.number then asks_further (pending_of l.world j) else false);
+  size : length l.children ≡ 21;
+  filled : (j : ℕ) → get_or l.children j false ≡ (if nat_lt j l.number then asks_further (pending_of l.world j) else false);
 }

@@ -31,7 +31,7 @@ loop-events-preserved g c =
       fresh_reader = λ none. absurd (omega (arith, none));
       fresh_writer = λ none. absurd (omega (arith, none));
       agrees = c.in_ok-take_event.ensures.agrees;
-      open = c.take_event.ensures.open;
+      children = c.take_event.ensures.children;
       driven = driven-more _ _ (g.L.Launcher.is_full c.loop-events.launcher) (g.L.Launcher.is_full c.take_event.new.launcher) c.loop-events.events c.in-Some.place c.loop-events.round _ c.loop-events.world _ _ _ _ _ _
           (g.L.Launcher.calls c.args.launcher.now) (g.L.Launcher.calls c.loop-events.launcher) (g.L.Launcher.calls c.take_event.new.launcher) c.take_event.new.draft.printed.items
           i.driven due_is c.take_event.ensures.stays c.in_ok-take_event.ensures.took (rw c.as_slice.ensures.value at c.in_ok-write_whole.ensures.whole)
@@ -80,11 +80,63 @@ loop-events-init g c = record {
   reader = refl;
   writer = refl;
   stalls = refl;
-  in_round = rw c.first.ensures (omega arith);
+  in_round = rw c.first-round.ensures (omega arith);
   few = rw c.new-held.ensures (omega arith);
   fresh_reader = λ none. refl;
   fresh_writer = λ none. refl;
   agrees = c.requires.agrees;
-  open = c.requires.open;
-  driven = driven-none c.args.world.now (g.S.Source.left c.args.reader.now) (g.L.Launcher.is_full c.args.launcher.now) c.first.result _ (g.K.Sink.contents c.args.writer.now) (g.L.Launcher.calls c.args.launcher.now) (rw c.new-held.ensures (search rules)) c.first.ensures;
+  children = c.requires.children;
+  driven = driven-none c.args.world.now (g.S.Source.left c.args.reader.now) (g.L.Launcher.is_full c.args.launcher.now) c.first-round.result _ (g.K.Sink.contents c.args.writer.now) (g.L.Launcher.calls c.args.launcher.now) (rw c.new-held.ensures (search rules)) c.first-round.ensures;
 }
+
+pub returns-in_default-clause-whole : goal.returns-in_default-clause-whole
+returns-in_default-clause-whole g c = agrees-whole c.loop-events.world (g.L.Launcher.calls c.loop-events.launcher) c.loop-events.invariant.agrees
+
+pub returns-in_default-clause-idle : goal.returns-in_default-clause-idle
+returns-in_default-clause-idle g c = idle c.loop-events.round c.loop-events.world c.in_default.ensures.due
+
+pub returns-in_default-clause-reader_ended : goal.returns-in_default-clause-reader_ended
+returns-in_default-clause-reader_ended g c bytes e =
+    let d = c.loop-events.invariant.driven in
+    reader-ended c.args.world.now bytes d.taken c.loop-events.world c.loop-events.held _ d.session.run (d.session.lines bytes e) (d.left_is bytes e)
+    (idle c.loop-events.round c.loop-events.world c.in_default.ensures.due)
+
+pub returns-clause-whole : goal.returns-clause-whole
+returns-clause-whole g c = agrees-whole c.loop-events.world (g.L.Launcher.calls c.loop-events.launcher) c.loop-events.invariant.agrees
+
+pub returns-clause-idle : goal.returns-clause-idle
+returns-clause-idle g c = idle c.loop-events.round c.loop-events.world c.in-None.ensures.due
+
+pub returns-clause-reader_ended : goal.returns-clause-reader_ended
+returns-clause-reader_ended g c bytes e =
+    let d = c.loop-events.invariant.driven in
+    reader-ended c.args.world.now bytes d.taken c.loop-events.world c.loop-events.held _ d.session.run (d.session.lines bytes e) (d.left_is bytes e)
+    (idle c.loop-events.round c.loop-events.world c.in-None.ensures.due)
+
+pub returns-in-Some-next-clause-whole : goal.returns-in-Some-next-clause-whole
+returns-in-Some-next-clause-whole g c = agrees-whole c.loop-events.world (g.L.Launcher.calls c.loop-events.launcher) c.loop-events.invariant.agrees
+
+pub returns-in-Some-next-clause-turns : goal.returns-in-Some-next-clause-turns
+returns-in-Some-next-clause-turns g c _ =
+    let i = c.loop-events.invariant in
+    let done : c.loop-events.events ≡ c.args.turns = omega arith in
+    subst
+    (λ n. Stands c.args.world.now (g.S.Source.left c.args.reader.now) (g.L.Launcher.is_full c.loop-events.launcher) n c.loop-events.world (g.K.Sink.contents c.args.writer.now) (g.K.Sink.contents c.loop-events.writer)
+        (g.L.Launcher.calls c.args.launcher.now) (g.L.Launcher.calls c.loop-events.launcher) [] × IsRunning c.loop-events.world)
+    done (
+      stands _ _ _ c.loop-events.events c.loop-events.round c.loop-events.world _ _ _ (g.L.Launcher.calls c.args.launcher.now) (g.L.Launcher.calls c.loop-events.launcher) i.driven,
+      running c.loop-events.round c.in-Some-next.field-0 c.loop-events.world i.in_round c.in-Some-next.ensures.due,
+    )
+
+pub returns-in-Some-next-clause-turns_unread : goal.returns-in-Some-next-clause-turns_unread
+returns-in-Some-next-clause-turns_unread g c _ bytes e =
+    let i = c.loop-events.invariant in
+    let done : c.loop-events.events ≡ c.args.turns = omega arith in
+    subst
+    (λ n. (s : Stands c.args.world.now (g.S.Source.left c.args.reader.now) (g.L.Launcher.is_full c.loop-events.launcher) n c.loop-events.world (g.K.Sink.contents c.args.writer.now) (g.K.Sink.contents c.loop-events.writer)
+        (g.L.Launcher.calls c.args.launcher.now) (g.L.Launcher.calls c.loop-events.launcher) [])
+    × IsReadAhead (left_after bytes s.taken) (g.S.Source.left c.loop-events.reader))
+    done (
+      stands _ _ _ c.loop-events.events c.loop-events.round c.loop-events.world _ _ _ (g.L.Launcher.calls c.args.launcher.now) (g.L.Launcher.calls c.loop-events.launcher) i.driven,
+      (c.loop-events.held, i.few, i.driven.left_is bytes e),
+    )

@@ -14,7 +14,7 @@ invariant-loop-events g l = record {
   fresh_reader : l.events ≡ 0 → l.reader ≡ l.fn.reader;
   fresh_writer : l.events ≡ 0 → l.writer ≡ l.fn.writer;
   agrees : Agrees l.world (g.L.Launcher.calls l.launcher);
-  open : IsOpenTable l.open (g.L.Launcher.calls l.launcher);
+  children : IsOpenTable l.children (g.L.Launcher.calls l.launcher);
   driven : Driven l.fn.world (g.S.Source.left l.fn.reader) (g.L.Launcher.is_full l.launcher) l.events l.round l.world (ahead l.held (g.S.Source.left l.reader))
       (g.K.Sink.contents l.fn.writer) (g.K.Sink.contents l.writer) (g.L.Launcher.calls l.fn.launcher) (g.L.Launcher.calls l.launcher);
 }
