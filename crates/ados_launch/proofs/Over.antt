@@ -1,13 +1,14 @@
 -- Where nothing is due no shell is left: a background shell that asks for nothing is ready, since its input is at its end, and
 -- shell 1 is ready or wants a line.
-use Rattle.std.proofs.Common.{◌≡◌, ◌≢◌, ℕ, zero, suc, ◌∷◌, List, [], Option, Some, None, true, false, not, ◌&&◌, refl, ap, sym, subst, ◌∙◌, ◌≤◌, is_some, length, slice_get, nat_lt, arith, inl, inr}
+use Rattle.std.proofs.Common.{◌≡◌, ◌≢◌, ℕ, zero, suc, ◌∷◌, List, [], Option, Some, None, true, false, not, ◌&&◌, refl, ap, sym, subst, ◌∙◌, ◌≤◌, is_some, length, slice_get, nat_lt, arith, inl, inr, Bool}
 use Rattle.std.proofs.lemmas.Bool.{cases_Bool, true≢false}
 use Rattle.std.specs.List.{list_any}
+use Rattle.std.proofs.lemmas.List.{length-map}
 use Rattle.std.proofs.lemmas.Grind.{common_steps}
 use Rattle.ados_flow.specs.Frames.{FrameState}
 use Rattle.ados_machine.specs.Requests.{request_of}
 use Rattle.ados_machine.specs.Children.{child_asked}
-use Rattle.ados_machine.specs.World.{WorldState, shell_at, can_take, can_turn, flatten, has_input, input_of, is_over, pending_by, takes_input, wants_input}
+use Rattle.ados_machine.specs.World.{WorldState, shell_at, can_take, can_turn, flatten, has_input, input_of, is_over, pending_by, running, takes_input, wants_input}
 use Rattle.ados_machine.specs.Shells.{ShellState}
 use Rattle.ados_machine.specs.Turning.{Input}
 use Rattle.ados_machine.specs.declared.phases.Phase.{Phase}
@@ -93,3 +94,7 @@ idle-between w calls agrees size idle k = agrees k ∙ ap (λ o. life_in (child_
 
 pub between-over : (calls : List Call) → ((k : ℕ) → life_of k calls ≡ Between) → AreOver calls
 between-over calls between k = subst IsOver (sym (between k)) tt
+
+-- a view of which numbers have a shell has a place for each
+pub size-of : (w : WorldState) (table : List Bool) → table ≡ running w → length table ≡ 20 → length w.shells ≡ 20
+size-of w table is size = sym (length-map w.shells is_some) ∙ (ap length (sym is) ∙ size)

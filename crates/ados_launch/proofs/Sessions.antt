@@ -7,6 +7,8 @@ use Rattle.std.specs.Io.KnownBytes.{Appends}
 use Rattle.ados_machine.specs.World.{WorldState}
 use Rattle.ados_launcher.specs.declared.calls.Call.{Call}
 use Rattle.ados_launcher.specs.declared.calls.Call.TheVariants.{Start as Starts, Read as Reads, Wait as Waits}
+use Rattle.ados_launch.specs.declared.faults.DriveFault.{DriveFault}
+use Rattle.ados_launch.specs.declared.faults.DriveFault.TheVariants.{Read, Write, Turns, Memory}
 use Rattle.ados_launch.specs.declared.lines.LineKind.TheVariants.{Overlong}
 use Rattle.ados_launch.specs.declared.schedule.Round.{Round}
 use Rattle.ados_launch.specs.Agreement.{AreWaits, OneMore}
@@ -198,3 +200,27 @@ why-read w left was_full is_full n round world rest before now calls calls_now d
 pub reading : (w : WorldState) (left : Option (List ℕ)) (is_full : Bool) (n : ℕ) (round : Round) (world : WorldState) (rest before now : Option (List ℕ)) (calls calls_now : List Call) (d : Driven w left is_full n round world rest before now calls calls_now)
     → Some 0 ≡ due round world → IsReading w d.taken world
 reading w left is_full n round world rest before now calls calls_now d here = rw (← d.round_is) (sym here)
+
+-- a run that stopped, and the waits for open children behind it
+pub fault-written : (w : WorldState) (left : Option (List ℕ)) (is_full : Bool) (turns : ℕ) (last : WorldState) (before now : Option (List ℕ)) (calls mid_calls calls_now waits : List Call) (fault : DriveFault)
+    → calls_now ≡ mid_calls ++ waits → AreWaits waits
+    → (fault ≡ Turns → Stands w left is_full turns last before now calls mid_calls [])
+    → (fault ≡ Memory → (n : ℕ) × (n < turns) × (others : List Call) × (length others ≤ 1) × Stands w left is_full n last before now calls mid_calls others)
+    → (fault ≡ Read → (n : ℕ) × (n < turns) × Stands w left is_full n last before now calls mid_calls [])
+    → (fault ≡ Write → (n : ℕ) × (n ≤ turns) × StandsCut w left is_full n last before now calls mid_calls [])
+    → Written w left is_full turns last before now calls calls_now
+fault-written w left is_full turns last before now calls mid_calls calls_now waits Turns is are at_turns at_memory at_read at_write =
+    written-whole w left is_full turns turns last before now calls calls_now waits (omega arith) (waits-one_more waits are)
+    (stands-more w left is_full turns last before now calls mid_calls calls_now [] waits is (at_turns refl))
+fault-written w left is_full turns last before now calls mid_calls calls_now waits Memory is are at_turns at_memory at_read at_write =
+    let m = at_memory refl in
+    written-whole w left is_full m.0 turns last before now calls calls_now (m.2 ++ waits) (omega (arith, m.1)) (few-one_more m.2 waits m.3 are)
+    (stands-more w left is_full m.0 last before now calls mid_calls calls_now m.2 waits is m.4)
+fault-written w left is_full turns last before now calls mid_calls calls_now waits Read is are at_turns at_memory at_read at_write =
+    let r = at_read refl in
+    written-whole w left is_full r.0 turns last before now calls calls_now waits (omega (arith, r.1)) (waits-one_more waits are)
+    (stands-more w left is_full r.0 last before now calls mid_calls calls_now [] waits is r.2)
+fault-written w left is_full turns last before now calls mid_calls calls_now waits Write is are at_turns at_memory at_read at_write =
+    let c = at_write refl in
+    written-cut w left is_full c.0 turns last before now calls calls_now waits c.1 (waits-one_more waits are)
+    (cut-more w left is_full c.0 last before now calls mid_calls calls_now waits is c.2)

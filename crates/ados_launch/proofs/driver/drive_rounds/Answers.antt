@@ -122,7 +122,7 @@ returns-in-Some-next-clause-turns g c _ =
     let done : c.loop-events.events ≡ c.args.turns = omega arith in
     subst
     (λ n. Stands c.args.world.now (g.S.Source.left c.args.reader.now) (g.L.Launcher.is_full c.loop-events.launcher) n c.loop-events.world (g.K.Sink.contents c.args.writer.now) (g.K.Sink.contents c.loop-events.writer)
-        (g.L.Launcher.calls c.args.launcher.now) (g.L.Launcher.calls c.loop-events.launcher) [] × IsRunning c.loop-events.world)
+    (g.L.Launcher.calls c.args.launcher.now) (g.L.Launcher.calls c.loop-events.launcher) [] × IsRunning c.loop-events.world)
     done (
       stands _ _ _ c.loop-events.events c.loop-events.round c.loop-events.world _ _ _ (g.L.Launcher.calls c.args.launcher.now) (g.L.Launcher.calls c.loop-events.launcher) i.driven,
       running c.loop-events.round c.in-Some-next.field-0 c.loop-events.world i.in_round c.in-Some-next.ensures.due,
@@ -134,7 +134,7 @@ returns-in-Some-next-clause-turns_unread g c _ bytes e =
     let done : c.loop-events.events ≡ c.args.turns = omega arith in
     subst
     (λ n. (s : Stands c.args.world.now (g.S.Source.left c.args.reader.now) (g.L.Launcher.is_full c.loop-events.launcher) n c.loop-events.world (g.K.Sink.contents c.args.writer.now) (g.K.Sink.contents c.loop-events.writer)
-        (g.L.Launcher.calls c.args.launcher.now) (g.L.Launcher.calls c.loop-events.launcher) [])
+    (g.L.Launcher.calls c.args.launcher.now) (g.L.Launcher.calls c.loop-events.launcher) [])
     × IsReadAhead (left_after bytes s.taken) (g.S.Source.left c.loop-events.reader))
     done (
       stands _ _ _ c.loop-events.events c.loop-events.round c.loop-events.world _ _ _ (g.L.Launcher.calls c.args.launcher.now) (g.L.Launcher.calls c.loop-events.launcher) i.driven,
