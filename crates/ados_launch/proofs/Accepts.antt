@@ -15,7 +15,6 @@ use Rattle.ados_machine.specs.declared.phases.Phase.{Phase}
 use Rattle.ados_machine.specs.declared.phases.Phase.TheVariants.{Ready, GoingOn, Waiting}
 use Rattle.ados_machine.specs.declared.phases.Wait.TheVariants.{ForAnswer, ForLines, ForStart, ForPiece, ForEnd}
 use Rattle.ados_machine.specs.declared.events.Event.TheVariants.{Typed, EndOfInput, Turn}
-use Rattle.ados_launch.specs.Schedule.{is_due}
 
 any_some : (shells : List (Option ShellState)) (i : ℕ) → is_some (flatten (slice_get shells i)) ≡ true → list_any is_some shells ≡ true
 any_some [] zero e = e
@@ -105,8 +104,3 @@ pub turn-accepted : (w : WorldState) (k : ℕ) → is_ready w k ≡ true → is_
 turn-accepted w k e =
     let left : is_over w ≡ false = runs-on w k (runs-where_ready (input_of w k) (shell_at w k) e) in
     rw left (turned-accepted w k (shell_at w k) e)
-
--- the turn of a shell whose place is due is accepted
-pub due-accepted : (w : WorldState) (place : ℕ) → is_due w place ≡ true → (place ≡ 0 → ⊥) → is_accepted (step_of w (Turn place)) ≡ true
-due-accepted w zero e h = absurd (h refl)
-due-accepted w (suc k) e h = turn-accepted w (suc k) e

@@ -9,3 +9,6 @@ pub mod Inputs
 pub mod Accepts
 pub mod ReaderEnd
 pub mod Over
+pub mod Rows
+pub mod Agreeing
+pub mod Waits

@@ -1,17 +1,24 @@
--- Where nothing is due, each shell that is left waits for a launcher: a background shell that does not is ready, since its
--- input is at its end, and shell 1 is ready or wants a line.
-use Rattle.std.proofs.Common.{◌≡◌, ◌≢◌, ℕ, zero, suc, ◌∷◌, List, [], Option, Some, None, true, false, not, ◌&&◌, refl, ap, sym, ◌∙◌, arith}
-use Rattle.std.proofs.lemmas.Bool.{true≢false}
+-- Where nothing is due no shell is left: a background shell that asks for nothing is ready, since its input is at its end, and
+-- shell 1 is ready or wants a line.
+use Rattle.std.proofs.Common.{◌≡◌, ◌≢◌, ℕ, zero, suc, ◌∷◌, List, [], Option, Some, None, true, false, not, ◌&&◌, refl, ap, sym, subst, ◌∙◌, ◌≤◌, is_some, length, slice_get, nat_lt, arith, inl, inr, Bool}
+use Rattle.std.proofs.lemmas.Bool.{cases_Bool, true≢false}
+use Rattle.std.specs.List.{list_any}
+use Rattle.std.proofs.lemmas.List.{length-map}
 use Rattle.std.proofs.lemmas.Grind.{common_steps}
 use Rattle.ados_flow.specs.Frames.{FrameState}
 use Rattle.ados_machine.specs.Requests.{request_of}
-use Rattle.ados_machine.specs.World.{WorldState, shell_at, can_take, can_turn, has_input, input_of, pending_by, takes_input, wants_input}
+use Rattle.ados_machine.specs.Children.{child_asked}
+use Rattle.ados_machine.specs.World.{WorldState, shell_at, can_take, can_turn, flatten, has_input, input_of, is_over, pending_by, running, takes_input, wants_input}
 use Rattle.ados_machine.specs.Shells.{ShellState}
 use Rattle.ados_machine.specs.Turning.{Input}
 use Rattle.ados_machine.specs.declared.phases.Phase.{Phase}
 use Rattle.ados_machine.specs.declared.phases.Phase.TheVariants.{Ready, GoingOn, Waiting}
 use Rattle.ados_machine.specs.declared.phases.Wait.TheVariants.{ForAnswer, ForLines, ForStart, ForPiece, ForEnd}
-use Rattle.ados_launch.specs.Schedule.{IsIdle, OnlyWaits}
+use Rattle.ados_launcher.specs.declared.calls.Call.{Call}
+use Rattle.ados_launcher.specs.Lives.{Between, life_of, life_in}
+use Rattle.ados_launch.specs.Agreement.{Agrees, AreOver, IsOver}
+use Rattle.ados_launch.specs.Schedule.{IsIdle}
+use Rattle.ados_launch.proofs.Places.{idle-line, idle-turn, idle-pending}
 
 -- a background shell that waits for no launcher is ready: it runs a frame, a line of it goes on, or its input is at its end
 phase-ready : (k : ℕ) (frames : List FrameState) (phase : Phase) → request_of k phase ≡ None → can_take (record { queue = []; is_ended = true }) frames phase ≡ true
@@ -50,7 +57,44 @@ first-found : (input : Input) (found : Option ShellState) → (wants_input found
 first-found input None wants ready none = refl
 first-found input (Some shell) wants ready none = absurd (first-phase input shell.parts.number shell.frames shell.phase none wants ready)
 
-pub none-left : (w : WorldState) → IsIdle w → OnlyWaits w
-none-left w idle zero h none = refl
-none-left w idle (suc zero) h none = first-found (input_of w 1) (shell_at w 1) (idle 0 (omega arith)) (idle 1 (omega arith)) none
-none-left w idle (suc (suc k)) h none = idle-found w (suc (suc k)) (shell_at w (suc (suc k))) (λ e. omega (arith, e)) (idle (suc (suc k)) h) none
+-- where nothing may come no shell is left at a number from 1 to 20
+none-left : (w : WorldState) (k : ℕ) → IsIdle w → k ≤ 20 → shell_at w k ≡ None
+none-left w zero idle h = refl
+none-left w (suc zero) idle h =
+    first-found (input_of w 1) (shell_at w 1) (idle-line w idle) (idle-turn w 1 idle (omega arith) (omega arith)) (idle-pending w 1 idle (omega arith) (omega arith))
+none-left w (suc (suc k)) idle h =
+    idle-found w (suc (suc k)) (shell_at w (suc (suc k))) (λ e. omega (arith, e)) (idle-turn w (suc (suc k)) idle (omega arith) h) (idle-pending w (suc (suc k)) idle (omega arith) h)
+
+past-end : (shells : List (Option ShellState)) (i : ℕ) → length shells ≤ i → slice_get shells i ≡ None
+past-end [] i h = refl
+past-end (found ∷ shells) zero h = absurd (omega (arith, h))
+past-end (found ∷ shells) (suc i) h = past-end shells i (omega (arith, h))
+
+-- nor at any other
+pub none-there : (w : WorldState) (k : ℕ) → length w.shells ≡ 20 → IsIdle w → shell_at w k ≡ None
+none-there w zero size idle = refl
+none-there w (suc i) size idle =
+    elim (cases_Bool (nat_lt i 20)) [
+      | inl low ↦ none-left w (suc i) idle (grind (arith, common_steps))
+      | inr high ↦ ap flatten (past-end w.shells i (rw size (grind (arith, common_steps))))
+    ]
+
+none-any : (shells : List (Option ShellState)) → ((i : ℕ) → flatten (slice_get shells i) ≡ None) → list_any is_some shells ≡ false
+none-any [] none = refl
+none-any (None ∷ shells) none = none-any shells (λ i. none (suc i))
+none-any (Some shell ∷ shells) none = let found = none 0 in cc
+
+-- where nothing may come no shell is left
+pub over : (w : WorldState) → length w.shells ≡ 20 → IsIdle w → is_over w ≡ true
+over w size idle = ap not (none-any w.shells (λ i. none-there w (suc i) size idle))
+
+-- and then each row of lives is whole, and has come to its end
+pub idle-between : (w : WorldState) (calls : List Call) → Agrees w calls → length w.shells ≡ 20 → IsIdle w → (k : ℕ) → life_of k calls ≡ Between
+idle-between w calls agrees size idle k = agrees k ∙ ap (λ o. life_in (child_asked (pending_by o))) (none-there w k size idle)
+
+pub between-over : (calls : List Call) → ((k : ℕ) → life_of k calls ≡ Between) → AreOver calls
+between-over calls between k = subst IsOver (sym (between k)) tt
+
+-- a view of which numbers have a shell has a place for each
+pub size-of : (w : WorldState) (table : List Bool) → table ≡ running w → length table ≡ 20 → length w.shells ≡ 20
+size-of w table is size = sym (length-map w.shells is_some) ∙ (ap length (sym is) ∙ size)

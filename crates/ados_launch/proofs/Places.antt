@@ -1,83 +1,127 @@
 -- The places of a round.
-use Rattle.std.proofs.Common.{◌≡◌, ℕ, zero, suc, ◌∷◌, ◌+◌, ◌-◌, ◌<◌, ◌≤◌, List, [], ◌++◌, Some, None, Bool, true, false, arith, refl, sym, cond, inl, inr}
+use Rattle.std.proofs.Common.{◌≡◌, ◌≢◌, ℕ, zero, suc, ◌∷◌, ◌+◌, ◌-◌, ◌<◌, ◌≤◌, List, [], Option, Some, None, Bool, true, false, ◌&&◌, nat_lt, get_or, arith, refl, sym, subst, ◌∙◌, ap, cond, inl, inr}
+use Rattle.std.proofs.Math.ListN.{replicate}
 use Rattle.std.specs.List.{find, range_with_len}
 use Rattle.std.specs.Option.{option_or}
-use Rattle.std.proofs.lemmas.Bool.{cases_eq}
-use Rattle.std.proofs.lemmas.List.Folds.{find-append}
-use Rattle.ados_machine.specs.World.{WorldState}
-use Rattle.ados_launch.specs.Schedule.{is_due, due, places_from, place_behind, IsRunning, IsIdle}
-
--- the place of the next event is in this round, or else in the next
-pub this_round_or_next : (place : ℕ) (w : WorldState)
-    → option_or (find (is_due w) (range_with_len place (21 - place))) (find (is_due w) (range_with_len 0 21)) ≡ due place w
-this_round_or_next place w = sym (find-append (is_due w) (range_with_len place (21 - place)) (range_with_len 0 21))
-
--- each is below m
-abbrev pub AllBelow : ℕ → List ℕ → Type 0
-AllBelow m [] = Unit {0}
-AllBelow m (x ∷ xs) = (x < m) × AllBelow m xs
+use Rattle.std.proofs.lemmas.Bool.{cases_Bool, cases_eq}
+use Rattle.std.proofs.lemmas.Grind.{common_steps}
+use Rattle.ados_machine.specs.declared.requests.Request.{Request}
+use Rattle.ados_machine.specs.Children.{child_asked, child_in}
+use Rattle.ados_machine.specs.declared.children.ChildState.TheVariants.{Closed}
+use Rattle.ados_machine.specs.World.{WorldState, is_ready, pending_of, shell_at, wants_line}
+use Rattle.ados_launcher.specs.declared.calls.Call.{Call}
+use Rattle.ados_launcher.specs.Lives.{Between, life_of, life_in}
+use Rattle.ados_launch.specs.Agreement.{Agrees, AreOver, IsOver}
+use Rattle.ados_launch.specs.declared.schedule.Round.{Round}
+use Rattle.ados_launch.specs.Schedule.{asks_further, asks_start, comes, is_due, due, in_this_round, in_next_round, none_answered, place_behind, IsRunning, IsIdle}
 
 passes_cons : (test : ℕ → Bool) (x : ℕ) (xs : List ℕ) (k : ℕ) (b : Bool) → test x ≡ b → cond b (Some x) (find test xs) ≡ Some k → (find test xs ≡ Some k → test k ≡ true) → test k ≡ true
 passes_cons test x xs k true t f later = let same : x ≡ k = cc in rw (← same) t
 passes_cons test x xs k false t f later = later f
 
-pub find_passes : (test : ℕ → Bool) (xs : List ℕ) (k : ℕ) → find test xs ≡ Some k → test k ≡ true
+find_passes : (test : ℕ → Bool) (xs : List ℕ) (k : ℕ) → find test xs ≡ Some k → test k ≡ true
 find_passes test [] k e = cc
 find_passes test (x ∷ xs) k e = passes_cons test x xs k (test x) refl e (find_passes test xs k)
 
-below_cons : (test : ℕ → Bool) (m x : ℕ) (xs : List ℕ) (k : ℕ) (b : Bool) → x < m → cond b (Some x) (find test xs) ≡ Some k → (find test xs ≡ Some k → k < m) → k < m
-below_cons test m x xs k true t f later = let same : x ≡ k = cc in rw (← same) t
-below_cons test m x xs k false t f later = later f
+range_below : (test : ℕ → Bool) (n a m k : ℕ) → a + n ≤ m → find test (range_with_len a n) ≡ Some k → k < m
+range_below test zero a m k h e = cc
+range_below test (suc n) a m k h e =
+    elim (cases_Bool (test a)) [
+      | inl on ↦ let same : a ≡ k = (let x = rw on at e in cc) in omega (arith, h, same)
+      | inr off ↦ range_below test n (a + 1) m k (omega (arith, h)) (rw off at e)
+    ]
 
-pub find_below : (test : ℕ → Bool) (m : ℕ) (xs : List ℕ) (k : ℕ) → AllBelow m xs → find test xs ≡ Some k → k < m
-find_below test m [] k a e = cc
-find_below test m (x ∷ xs) k a e = below_cons test m x xs k (test x) a.0 e (find_below test m xs k a.1)
+none_range : (test : ℕ → Bool) (n a k : ℕ) → find test (range_with_len a n) ≡ None → a ≤ k → k < a + n → test k ≡ false
+none_range test zero a k e low high = absurd (omega (arith, low, high))
+none_range test (suc n) a k e low high =
+    elim (cases_Bool (test a)) [
+      | inl on ↦ (let x = rw on at e in cc)
+      | inr off ↦ elim (cases_eq a k) [
+        | inl same ↦ rw (← same) off
+        | inr other ↦ none_range test n (a + 1) k (rw off at e) (omega (arith, low, other)) (omega (arith, high))
+      ]
+    ]
 
-pub below-range : (n a m : ℕ) → a + n ≤ m → AllBelow m (range_with_len a n)
-below-range zero a m h = tt
-below-range (suc n) a m h = (omega arith, below-range n (a + 1) m (omega arith))
+first_true : (a b : Bool) → (a && b) ≡ true → a ≡ true
+first_true true b e = refl
+first_true false b e = cc
 
-pub below-append : (m : ℕ) (xs ys : List ℕ) → AllBelow m xs → AllBelow m ys → AllBelow m (xs ++ ys)
-below-append m [] ys a b = b
-below-append m (x ∷ xs) ys a b = (a.0, below-append m xs ys a.1 b)
+by_option : (this next : Option ℕ) (k : ℕ) (P : Type 0) → Some k ≡ option_or this next → (this ≡ Some k → P) → (next ≡ Some k → P) → P
+by_option (Some j) next k P e a b = a (sym e)
+by_option None next k P e a b = b (sym e)
 
-pub due_below : (place k : ℕ) (world : WorldState) → place ≤ 21 → Some k ≡ due place world → k < 21
-due_below place k world h e = find_below (is_due world) 21 (places_from place) k
-    (below-append 21 (range_with_len place (21 - place)) (range_with_len 0 21) (below-range (21 - place) place 21 (omega arith)) (below-range 21 0 21 (omega arith))) (sym e)
+-- something may come at the place that is due
+pub due_comes : (round : Round) (k : ℕ) (w : WorldState) → Some k ≡ due round w → comes w k ≡ true
+due_comes round k w e = by_option (in_this_round round w) (in_next_round w) k (comes w k ≡ true) e
+    (λ here. first_true (comes w k) _ (find_passes (is_due w round.answered) (range_with_len round.place (61 - round.place)) k here))
+    (λ there. first_true (comes w k) _ (find_passes (is_due w none_answered) (range_with_len 0 61) k there))
 
-pub due_is : (place k : ℕ) (world : WorldState) → Some k ≡ due place world → is_due world k ≡ true
-due_is place k world e = find_passes (is_due world) (places_from place) k (sym e)
+pub due_below : (round : Round) (k : ℕ) (w : WorldState) → round.place ≤ 61 → Some k ≡ due round w → k < 61
+due_below round k w h e = by_option (in_this_round round w) (in_next_round w) k (k < 61) e
+    (λ here. range_below (is_due w round.answered) (61 - round.place) round.place 61 k (omega (arith, h)) here)
+    (λ there. range_below (is_due w none_answered) 61 0 61 k (omega arith) there)
 
-pub behind_in_round : (k : ℕ) → k < 21 → place_behind k ≤ 21
+pub behind_in_round : (k : ℕ) → k < 61 → place_behind k ≤ 61
 behind_in_round zero h = omega arith
 behind_in_round (suc k) h = omega arith
 
--- where something is due from a place on, something is due
-pub running : (place k : ℕ) (w : WorldState) → place ≤ 21 → Some k ≡ due place w → IsRunning w
-running place k w h e =
-    let low : k < 21 = due_below place k w h e in
-    (k, omega arith, due_is place k w e)
+-- where something is due, something may come
+pub running : (round : Round) (k : ℕ) (w : WorldState) → round.place ≤ 61 → Some k ≡ due round w → IsRunning w
+running round k w h e =
+    let low : k < 61 = due_below round k w h e in
+    (k, omega (arith, low), due_comes round k w e)
 
-none_first : (test : ℕ → Bool) (x : ℕ) (xs : List ℕ) (b : Bool) → test x ≡ b → cond b (Some x) (find test xs) ≡ None → test x ≡ false
-none_first test x xs true t e = cc
-none_first test x xs false t e = t
+none_of : (this next : Option ℕ) → None ≡ option_or this next → next ≡ None
+none_of (Some j) next e = cc
+none_of None next e = sym e
 
-none_rest : (test : ℕ → Bool) (x : ℕ) (xs : List ℕ) (b : Bool) → cond b (Some x) (find test xs) ≡ None → find test xs ≡ None
-none_rest test x xs true e = cc
-none_rest test x xs false e = e
+none_there : (n i : ℕ) → get_or (replicate n false) i false ≡ false
+none_there zero i = refl
+none_there (suc n) zero = refl
+none_there (suc n) (suc i) = none_there n i
 
-none_behind : (test : ℕ → Bool) (xs ys : List ℕ) → find test (xs ++ ys) ≡ None → find test ys ≡ None
-none_behind test [] ys e = e
-none_behind test (x ∷ xs) ys e = none_behind test xs ys (none_rest test x (xs ++ ys) (test x) e)
-
-none_range : (test : ℕ → Bool) (n a k : ℕ) → find test (range_with_len a n) ≡ None → a ≤ k → k < a + n → test k ≡ false
-none_range test zero a k e low high = absurd (omega arith)
-none_range test (suc n) a k e low high =
-    elim (cases_eq a k) [
-      | inl same ↦ rw (← same) (none_first test a (range_with_len (a + 1) n) (test a) refl e)
-      | inr other ↦ none_range test n (a + 1) k (none_rest test a (range_with_len (a + 1) n) (test a) e) (omega (arith, other)) (omega arith)
+not_due : (w : WorldState) (place : ℕ) → is_due w none_answered place ≡ false → comes w place ≡ false
+not_due w place e =
+    elim (cases_Bool (comes w place)) [
+      | inl on ↦ (let none = none_there 21 (place - 40) in grind (arith, common_steps))
+      | inr off ↦ off
     ]
 
--- where the next round finds nothing due, nothing is due at any place
-pub idle : (place : ℕ) (w : WorldState) → None ≡ due place w → IsIdle w
-idle place w e k h = none_range (is_due w) 21 0 k (none_behind (is_due w) (range_with_len place (21 - place)) (range_with_len 0 21) (sym e)) (omega arith) (omega arith)
+-- where nothing is due, nothing may come
+pub idle : (round : Round) (w : WorldState) → None ≡ due round w → IsIdle w
+idle round w e k h = not_due w k (none_range (is_due w none_answered) 61 0 k (none_of (in_this_round round w) (in_next_round w) e) (omega arith) (omega (arith, h)))
+
+comes-line : (w : WorldState) → comes w 0 ≡ wants_line w
+comes-line w = refl
+
+pub comes-turn : (w : WorldState) (place : ℕ) → 1 ≤ place → place ≤ 20 → comes w place ≡ is_ready w place
+comes-turn w place low high = grind (arith, common_steps)
+
+pub comes-start : (w : WorldState) (place : ℕ) → 21 ≤ place → place ≤ 40 → comes w place ≡ asks_start (pending_of w (place - 20))
+comes-start w place low high = grind (arith, common_steps)
+
+pub comes-late : (w : WorldState) (place : ℕ) → 40 < place → comes w place ≡ asks_further (pending_of w (place - 40))
+comes-late w place h = grind (arith, common_steps)
+
+-- then no line is wanted, no shell is ready, and none asks for anything
+pub idle-line : (w : WorldState) → IsIdle w → wants_line w ≡ false
+idle-line w i = i 0 (omega arith)
+
+pub idle-turn : (w : WorldState) (k : ℕ) → IsIdle w → 1 ≤ k → k ≤ 20 → is_ready w k ≡ false
+idle-turn w k i low high = sym (comes-turn w k low high) ∙ i k (omega (arith, high))
+
+starts-none : (w : WorldState) (k : ℕ) → IsIdle w → 1 ≤ k → k ≤ 20 → asks_start (pending_of w k) ≡ false
+starts-none w k i low high =
+    let same : k + 20 - 20 ≡ k = omega arith in
+    subst (λ n. asks_start (pending_of w n) ≡ false) same (sym (comes-start w (k + 20) (omega (arith, low)) (omega (arith, high))) ∙ i (k + 20) (omega (arith, high)))
+
+further-none : (w : WorldState) (k : ℕ) → IsIdle w → 1 ≤ k → k ≤ 20 → asks_further (pending_of w k) ≡ false
+further-none w k i low high =
+    let same : k + 40 - 40 ≡ k = omega arith in
+    subst (λ n. asks_further (pending_of w n) ≡ false) same (sym (comes-late w (k + 40) (omega (arith, low))) ∙ i (k + 40) (omega (arith, high)))
+
+no-request : (request : Option Request) → asks_start request ≡ false → asks_further request ≡ false → request ≡ None
+no-request request a b = grind (arith, common_steps)
+
+pub idle-pending : (w : WorldState) (k : ℕ) → IsIdle w → 1 ≤ k → k ≤ 20 → pending_of w k ≡ None
+idle-pending w k i low high = no-request (pending_of w k) (starts-none w k i low high) (further-none w k i low high)

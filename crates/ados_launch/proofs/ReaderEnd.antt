@@ -2,13 +2,14 @@
 use Rattle.std.proofs.Common.{◌≡◌, ℕ, ◌∷◌, List, [], length, Option, Some, None, true, refl, ap, sym, ◌∙◌, ◌⊎◌, inl, inr, arith}
 use Rattle.std.proofs.lemmas.Bool.{true≢false}
 use Rattle.std.proofs.lemmas.Grind.{common_steps}
-use Rattle.ados_machine.specs.World.{WorldState, pending_of}
+use Rattle.ados_machine.specs.World.{WorldState}
 use Rattle.ados_machine.specs.Runs.{Runs}
 use Rattle.ados_machine.specs.declared.events.Event.TheVariants.{Typed, EndOfInput, Turn, Answer}
 use Rattle.ados_launch.specs.declared.lines.LineKind.TheVariants.{End}
 use Rattle.ados_launch.specs.Lines.{line_of, rest_of, kind_of, kind_of_length, ahead}
 use Rattle.ados_launch.specs.Taken.{Taken, Given, LongLine, events_in, outs_in, world_behind, IsNext, left_behind, AreRead, left_after}
 use Rattle.ados_launch.specs.Schedule.{takes_input, IsIdle}
+use Rattle.ados_launch.proofs.Places.{idle-line, idle-turn, idle-pending}
 use Rattle.ados_launch.proofs.Inputs.{typed-takes, turn-takes, answer-takes, takes-due}
 
 -- shell 1 takes input, or nothing is left to read
@@ -42,12 +43,12 @@ run-reads w left (Given event out ∷ taken) last run lines r =
 run-reads w left (LongLine ∷ taken) last run lines r =
     run-reads w (left_behind left LongLine) taken last run lines.1 (item-reads w left LongLine lines.0 r)
 
--- where nothing is due, and shell 1 waits for no launcher, it takes no input
-idle-takes : (w : WorldState) → IsIdle w → pending_of w 1 ≡ None → takes_input w ≡ true → ⊥
-idle-takes w idle none e =
-    elim (takes-due w none e) [
-      | inl wants ↦ true≢false (sym wants ∙ idle 0 (omega arith))
-      | inr ready ↦ true≢false (sym ready ∙ idle 1 (omega arith))
+-- where nothing may come shell 1 takes no input
+idle-takes : (w : WorldState) → IsIdle w → takes_input w ≡ true → ⊥
+idle-takes w idle e =
+    elim (takes-due w (idle-pending w 1 idle (omega arith) (omega arith)) e) [
+      | inl wants ↦ true≢false (sym wants ∙ idle-line w idle)
+      | inr ready ↦ true≢false (sym ready ∙ idle-turn w 1 idle (omega arith) (omega arith))
     ]
 
 none_ahead : (held : List ℕ) (left : Option (List ℕ)) (xs : List ℕ) → ahead held left ≡ Some xs → xs ≡ [] → left ≡ Some []
@@ -57,9 +58,9 @@ none_ahead (b ∷ held) (Some ys) xs e h = cc
 
 -- where nothing is due any more, the reader came to its end
 pub reader-ended : (w : WorldState) (bytes : List ℕ) (taken : List Taken) (last : WorldState) (held : List ℕ) (left : Option (List ℕ))
-    → Runs w (events_in taken) (outs_in taken) last → AreRead bytes taken → ahead held left ≡ Some (left_after bytes taken) → IsIdle last → pending_of last 1 ≡ None → takes_input w ≡ true → left ≡ Some []
-reader-ended w bytes taken last held left run lines left_is idle waits e =
+    → Runs w (events_in taken) (outs_in taken) last → AreRead bytes taken → ahead held left ≡ Some (left_after bytes taken) → IsIdle last → takes_input w ≡ true → left ≡ Some []
+reader-ended w bytes taken last held left run lines left_is idle e =
     elim (run-reads w bytes taken last run lines (inl e)) [
-      | inl takes ↦ absurd (idle-takes last idle waits takes)
+      | inl takes ↦ absurd (idle-takes last idle takes)
       | inr none ↦ none_ahead held left (left_after bytes taken) left_is none
     ]

@@ -1,9 +1,15 @@
 -- What was taken, with one more behind it.
-use Rattle.std.proofs.Common.{◌≡◌, ℕ, ◌+◌, List, [], ◌∷◌, ◌++◌, length, Some, refl, ap, sym, ◌∙◌, append_assoc, append-nil, length-append}
-use Rattle.ados_machine.specs.World.{WorldState}
+use Rattle.std.proofs.Common.{◌≡◌, ℕ, ◌+◌, List, [], ◌∷◌, ◌++◌, Bool, true, length, Option, Some, None, refl, ap, sym, ◌∙◌, append_assoc, append-nil, length-append, inl, inr}
+use Rattle.ados_machine.specs.declared.answers.Answer.{Answer as Reply}
+use Rattle.ados_machine.specs.declared.events.Event.TheVariants.{Typed, EndOfInput, Turn, Answer}
+use Rattle.ados_machine.specs.declared.requests.Request.{Request}
+use Rattle.ados_machine.specs.World.{WorldState, pending_of}
 use Rattle.ados_machine.specs.Runs.{Runs}
+use Rattle.ados_launcher.specs.declared.calls.Call.{Call}
+use Rattle.ados_launch.specs.declared.schedule.Round.{Round}
+use Rattle.ados_launch.specs.Asked.{AreAsked, IsAsked, ListsOf}
 use Rattle.ados_launch.specs.Taken.{Taken, Given, LongLine, events_in, outs_in, bytes_of, written_for, world_behind, IsAccepted, IsNext, left_behind, AreRead, left_after}
-use Rattle.ados_launch.specs.Schedule.{due, place_of, place_of_event, place_behind, InOrder, place_after}
+use Rattle.ados_launch.specs.Schedule.{due, place_of, place_of_event, round_behind, InOrder, round_after}
 
 pub run-more : (w : WorldState) (taken : List Taken) (mid : WorldState) (item : Taken) → Runs w (events_in taken) (outs_in taken) mid → IsAccepted mid item
     → Runs w (events_in (taken ++ item ∷ [])) (outs_in (taken ++ item ∷ [])) (world_behind mid item)
@@ -12,16 +18,62 @@ run-more w [] mid LongLine run ok = run
 run-more w (Given event out ∷ taken) mid item run ok = (run.0, run-more (world_behind w (Given event out)) taken mid item run.1 ok)
 run-more w (LongLine ∷ taken) mid item run ok = run-more w taken mid item run ok
 
-pub order-more : (place : ℕ) (w : WorldState) (taken : List Taken) (last : WorldState) (item : Taken) → InOrder place w taken → Runs w (events_in taken) (outs_in taken) last
-    → due (place_after place taken) last ≡ Some (place_of item) → InOrder place w (taken ++ item ∷ [])
-order-more place w [] last item ordered run next = (rw run at next, tt)
-order-more place w (Given event out ∷ taken) last item ordered run next =
-    (ordered.0, order-more (place_behind (place_of_event event)) (world_behind w (Given event out)) taken last item ordered.1 run.1 next)
-order-more place w (LongLine ∷ taken) last item ordered run next = (ordered.0, order-more 0 w taken last item ordered.1 run next)
+pub order-more : (round : Round) (w : WorldState) (taken : List Taken) (last : WorldState) (item : Taken) → InOrder round w taken → Runs w (events_in taken) (outs_in taken) last
+    → due (round_after round w taken) last ≡ Some (place_of item) → InOrder round w (taken ++ item ∷ [])
+order-more round w [] last item ordered run next = (rw run at next, tt)
+order-more round w (Given event out ∷ taken) last item ordered run next =
+    (ordered.0, order-more (round_behind round w (place_of_event event)) (world_behind w (Given event out)) taken last item ordered.1 run.1 next)
+order-more round w (LongLine ∷ taken) last item ordered run next = (ordered.0, order-more (round_behind round w 0) w taken last item ordered.1 run next)
 
-pub place-more : (place : ℕ) (taken : List Taken) (item : Taken) → place_after place (taken ++ item ∷ []) ≡ place_behind (place_of item)
-place-more place [] item = refl
-place-more place (first ∷ taken) item = place-more (place_behind (place_of first)) taken item
+pub round-more : (round : Round) (w : WorldState) (taken : List Taken) (last : WorldState) (item : Taken) → Runs w (events_in taken) (outs_in taken) last
+    → round_after round w (taken ++ item ∷ []) ≡ round_behind (round_after round w taken) last (place_of item)
+round-more round w [] last item run = rw run refl
+round-more round w (Given event out ∷ taken) last item run =
+    round-more (round_behind round w (place_of_event event)) (world_behind w (Given event out)) taken last item run.1
+round-more round w (LongLine ∷ taken) last item run = round-more (round_behind round w 0) w taken last item run
+
+pub asked-more : (is_full : Bool) (w : WorldState) (taken : List Taken) (listed : List Call) (last : WorldState) (item : Taken) (more : List Call) → AreAsked is_full w taken listed
+    → Runs w (events_in taken) (outs_in taken) last → IsAsked is_full last item more → AreAsked is_full w (taken ++ item ∷ []) (listed ++ more)
+asked-more is_full w [] listed last item more asked run next = (more, [], ap (λ xs. xs ++ more) asked ∙ sym (append-nil more), rw run at next, refl)
+asked-more is_full w (Given event out ∷ taken) listed last item more asked run next = (
+  asked.0,
+  asked.1 ++ more,
+  ap (λ xs. xs ++ more) asked.2 ∙ append_assoc asked.0 asked.1 more,
+  asked.3,
+  asked-more is_full (world_behind w (Given event out)) taken asked.1 last item more asked.4 run.1 next,
+)
+asked-more is_full w (LongLine ∷ taken) listed last item more asked run next = (
+  asked.0,
+  asked.1 ++ more,
+  ap (λ xs. xs ++ more) asked.2 ∙ append_assoc asked.0 asked.1 more,
+  asked.3,
+  asked-more is_full w taken asked.1 last item more asked.4 run next,
+)
+
+-- a launcher that is full stays so
+lists-full : (was_full is_full : Bool) (request : Option Request) (reply : Reply) (listed : List Call) → (was_full ≡ true → is_full ≡ true) → ListsOf was_full request reply listed
+    → ListsOf is_full request reply listed
+lists-full was_full is_full None reply listed stays lists = lists
+lists-full was_full is_full (Some request) reply listed stays (fit, inl here) = (fit, inl here)
+lists-full was_full is_full (Some request) reply listed stays (fit, inr none) = (fit, inr (none.0, none.1, none.2, stays none.3))
+
+item-full : (was_full is_full : Bool) (w : WorldState) (item : Taken) (listed : List Call) → (was_full ≡ true → is_full ≡ true) → IsAsked was_full w item listed → IsAsked is_full w item listed
+item-full was_full is_full w (Given (Typed line) out) listed stays asked = asked
+item-full was_full is_full w (Given EndOfInput out) listed stays asked = asked
+item-full was_full is_full w (Given (Turn k) out) listed stays asked = asked
+item-full was_full is_full w (Given (Answer k reply) out) listed stays asked = lists-full was_full is_full (pending_of w k) reply listed stays asked
+item-full was_full is_full w LongLine listed stays asked = asked
+
+pub asked-full : (was_full is_full : Bool) (w : WorldState) (taken : List Taken) (listed : List Call) → (was_full ≡ true → is_full ≡ true) → AreAsked was_full w taken listed
+    → AreAsked is_full w taken listed
+asked-full was_full is_full w [] listed stays asked = asked
+asked-full was_full is_full w (item ∷ taken) listed stays asked = (
+  asked.0,
+  asked.1,
+  asked.2,
+  item-full was_full is_full w item asked.0 stays asked.3,
+  asked-full was_full is_full (world_behind w item) taken asked.1 stays asked.4,
+)
 
 pub lines-more : (bytes : List ℕ) (taken : List Taken) (item : Taken) → AreRead bytes taken → IsNext (left_after bytes taken) item → AreRead bytes (taken ++ item ∷ [])
 lines-more bytes [] item lines next = (next, tt)

@@ -1,25 +1,126 @@
 -- What an event that was taken is in a session.
-use Rattle.std.proofs.Common.{◌≡◌, ℕ, List, Option, Some, Result, Ok, Err, OnOk, refl, ap, sym, ◌∙◌}
+use Rattle.std.proofs.Common.{◌≡◌, ℕ, ◌+◌, ◌-◌, ◌<◌, ◌≤◌, List, [], Bool, true, false, not, Option, Some, Result, Ok, Err, OnOk, nat_lt, refl, ap, sym, ◌∙◌, append-nil, arith, inl, inr}
+use Rattle.std.specs.Prelude.{if◌then◌else◌}
+use Rattle.std.proofs.lemmas.Bool.{cases_Bool}
+use Rattle.std.proofs.lemmas.Grind.{common_steps}
+use Rattle.ados_machine.specs.declared.answers.Answer.{Answer as Reply}
 use Rattle.ados_machine.specs.declared.events.Event.{Event}
+use Rattle.ados_machine.specs.declared.events.Event.TheVariants.{Typed, EndOfInput, Turn, Answer}
 use Rattle.ados_machine.specs.declared.outs.Out.{Out}
-use Rattle.ados_machine.specs.World.{WorldState}
+use Rattle.ados_machine.specs.declared.requests.Request.{Request}
+use Rattle.ados_machine.specs.declared.requests.Request.TheVariants.{Start, Read, Wait}
+use Rattle.ados_machine.specs.Children.{answers_start, fits}
+use Rattle.ados_machine.specs.World.{WorldState, pending_of}
 use Rattle.ados_machine.specs.Step.{step_of}
 use Rattle.ados_machine.specs.Runs.{IsAnswer, world_after}
+use Rattle.ados_launcher.specs.declared.calls.Call.{Call}
 use Rattle.ados_launch.specs.declared.lines.LineKind.{LineKind}
 use Rattle.ados_launch.specs.declared.lines.LineKind.TheVariants.{End, Short}
+use Rattle.ados_launch.specs.Asked.{Answers, IsAsked, TakesAnswer}
 use Rattle.ados_launch.specs.Lines.{Known, TakesLine, line_of, rest_of, kind_of}
-use Rattle.ados_launch.specs.Taken.{Given, IsNext, left_behind, text_of}
-use Rattle.ados_launch.specs.Schedule.{place_of_event}
-use Rattle.ados_launch.specs.Session.{TakesAt}
+use Rattle.ados_launch.specs.Taken.{Taken, Given, LongLine, IsNext, IsOfReader, left_behind, text_of}
+use Rattle.ados_launch.specs.Schedule.{asks_further, asks_start, comes, place_of}
+use Rattle.ados_launch.specs.Session.{Takes, TakesAt, TakesLineAt}
+use Rattle.ados_launch.proofs.Places.{comes-start, comes-late}
 
--- an event that was accepted
-pub took-event : {X E : Type 0} (w now : WorldState) (left rest : Option (List ℕ)) (place : ℕ) (event : Event) (out : Out) (result : Result X E)
-    → OnOk result (IsAnswer event (Ok out) (step_of w event)) → OnOk result (now ≡ world_after w (Ok out) (step_of w event)) → place_of_event event ≡ place
+-- a line of the reader, or its end
+pub took-line : {X E : Type 0} (w now : WorldState) (left rest : Option (List ℕ)) (event : Event) (out : Out) (result : Result X E)
+    → OnOk result (IsAnswer event (Ok out) (step_of w event)) → OnOk result (now ≡ world_after w (Ok out) (step_of w event)) → IsOfReader (Given event out)
     → Known left (λ bytes. IsNext bytes (Given event out) × (rest ≡ Some (left_behind bytes (Given event out))))
-    → OnOk result (TakesAt w left place now rest out.bytes)
-took-event w now left rest place event out (Ok done) answer world at lines =
-    record { item = Given event out; place_is = at; accepted = answer; world_is = world; lines = lines; bytes_are = refl }
-took-event w now left rest place event out (Err fault) answer world at lines = tt
+    → OnOk result (TakesLineAt w left now rest out.bytes)
+took-line w now left rest event out (Ok done) answer world of_reader lines =
+    (Given event out, of_reader, record { accepted = answer; world_is = world; lines = lines; bytes_are = refl })
+took-line w now left rest event out (Err fault) answer world of_reader lines = tt
+
+read-place : (item : Taken) → IsOfReader item → place_of item ≡ 0
+read-place (Given (Typed line) out) h = refl
+read-place (Given EndOfInput out) h = refl
+read-place (Given (Turn k) out) h = absurd h
+read-place (Given (Answer k reply) out) h = absurd h
+read-place LongLine h = refl
+
+read-asks : (is_full : Bool) (w : WorldState) (item : Taken) → IsOfReader item → IsAsked is_full w item []
+read-asks is_full w (Given (Typed line) out) h = refl
+read-asks is_full w (Given EndOfInput out) h = refl
+read-asks is_full w (Given (Turn k) out) h = absurd h
+read-asks is_full w (Given (Answer k reply) out) h = absurd h
+read-asks is_full w LongLine h = refl
+
+-- at place 0 a line is taken, and nothing is asked of the launcher
+pub took-at-lines : {X E : Type 0} (w now : WorldState) (left rest : Option (List ℕ)) (is_full : Bool) (calls : List Call) (place : ℕ) (bytes : List ℕ) (result : Result X E) → place ≡ 0
+    → OnOk result (TakesLineAt w left now rest bytes) → OnOk result (TakesAt w left is_full calls place now rest calls bytes)
+took-at-lines w now left rest is_full calls place bytes (Ok done) at t = record {
+  item = t.0;
+  listed = [];
+  place_is = read-place t.0 t.1 ∙ sym at;
+  takes = t.2;
+  calls_are = sym (append-nil calls);
+  asked = read-asks is_full w t.0 t.1;
+}
+took-at-lines w now left rest is_full calls place bytes (Err fault) at t = tt
+
+-- the turn of a shell
+pub took-at-turn : {X E : Type 0} (w now : WorldState) (left : Option (List ℕ)) (is_full : Bool) (calls : List Call) (place : ℕ) (out : Out) (result : Result X E)
+    → OnOk result (IsAnswer (Turn place) (Ok out) (step_of w (Turn place))) → OnOk result (now ≡ world_after w (Ok out) (step_of w (Turn place)))
+    → OnOk result (TakesAt w left is_full calls place now left calls out.bytes)
+took-at-turn w now left is_full calls place out (Ok done) answer world = record {
+  item = Given (Turn place) out;
+  listed = [];
+  place_is = refl;
+  takes = record { accepted = answer; world_is = world; lines = λ bytes e. (tt, e); bytes_are = refl };
+  calls_are = sym (append-nil calls);
+  asked = refl;
+}
+took-at-turn w now left is_full calls place out (Err fault) answer world = tt
+
+start-fits : (request : Request) (reply : Reply) → fits request reply ≡ true → asks_start (Some request) ≡ answers_start reply
+start-fits (Start job) reply fit = sym fit
+start-fits (Read n) reply fit = grind (arith, common_steps)
+start-fits (Wait n) reply fit = grind (arith, common_steps)
+
+further-fits : (request : Request) → asks_further (Some request) ≡ not (asks_start (Some request))
+further-fits (Start job) = refl
+further-fits (Read n) = refl
+further-fits (Wait n) = refl
+
+start-due : (w : WorldState) (place : ℕ) (request : Request) → 21 ≤ place → nat_lt place 41 ≡ true → comes w place ≡ true → pending_of w (place - 20) ≡ Some request → asks_start (Some request) ≡ true
+start-due w place request late on due asked = rw asked at (sym (comes-start w place late (grind (arith, common_steps))) ∙ due)
+
+opposite : (b : Bool) → not b ≡ true → b ≡ false
+opposite true h = cc
+opposite false h = refl
+
+further-due : (w : WorldState) (place : ℕ) (request : Request) → nat_lt place 41 ≡ false → comes w place ≡ true → pending_of w (place - 40) ≡ Some request → asks_start (Some request) ≡ false
+further-due w place request off due asked =
+    opposite (asks_start (Some request)) (sym (further-fits request) ∙ (rw asked at (sym (comes-late w place (grind (arith, common_steps))) ∙ due)))
+
+-- the shell that is answered at a place, and the place of its answer
+abbrev pub shell_at_place : ℕ → ℕ
+shell_at_place place = if nat_lt place 41 then place - 20 else place - 40
+
+place-by : (place : ℕ) (b : Bool) → 21 ≤ place → (nat_lt place 41 ≡ true → b ≡ true) → (nat_lt place 41 ≡ false → b ≡ false) →
+    (if b then shell_at_place place + 20 else shell_at_place place + 40) ≡ place
+place-by place b late early further =
+    elim (cases_Bool (nat_lt place 41)) [
+      | inl on ↦ rw (on, early on) (omega (arith, late))
+      | inr off ↦ rw (off, further off) (grind (arith, common_steps))
+    ]
+
+-- a launcher's answer
+pub took-at-answer : {X E : Type 0} (w now : WorldState) (left : Option (List ℕ)) (was_full is_full : Bool) (calls calls_now : List Call) (place : ℕ) (out : Out) (result : Result X E)
+    → 21 ≤ place → comes w place ≡ true → Answers w (shell_at_place place) was_full is_full calls calls_now (TakesAnswer w (shell_at_place place) result now out)
+    → OnOk result (TakesAt w left is_full calls place now left calls_now out.bytes)
+took-at-answer w now left was_full is_full calls calls_now place out (Ok done) late due a = record {
+  item = Given (Answer (shell_at_place place) a.reply) out;
+  listed = a.asks.listed;
+  place_is = place-by place (answers_start a.reply) late
+      (λ on. sym (start-fits a.request a.reply a.asks.lists.0) ∙ start-due w place a.request late on due (rw on at a.pending_is))
+      (λ off. sym (start-fits a.request a.reply a.asks.lists.0) ∙ further-due w place a.request off due (rw off at a.pending_is));
+  takes = record { accepted = a.led_to.0; world_is = a.led_to.1; lines = λ bytes e. (tt, e); bytes_are = refl };
+  calls_are = a.asks.calls_are;
+  asked = rw a.pending_is a.asks.lists;
+}
+took-at-answer w now left was_full is_full calls calls_now place out (Err fault) late due a = tt
 
 pub next-end : (bytes : List ℕ) (kind : LineKind) (kept : List ℕ) (now : Option (List ℕ)) → TakesLine bytes kind kept now → kind ≡ End → (kind_of bytes ≡ End) × (now ≡ Some (rest_of bytes))
 next-end bytes kind kept now t e = (sym t.kind_is ∙ e, t.now_is (λ k. cc))

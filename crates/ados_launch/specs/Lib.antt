@@ -1,3 +1,5 @@
+pub mod Agreement
+pub mod Asked
 pub mod Faults
 pub mod Laws
 pub mod Lines

@@ -1,68 +1,119 @@
--- The order in which events come, in rounds of places: at place 0 a line is read as long as one is wanted, and
--- at place k, from 1 to 20, shell k takes a turn if it is ready when its place comes.
-use Rattle.std.specs.Prelude.{◌≡◌, ℕ, zero, suc, ◌+◌, ◌-◌, ◌≤◌, List, [], ◌∷◌, ◌++◌, Option, Some, None, is_some, Bool, true, false, not, ◌&&◌}
+-- The order in which events come, in rounds of places. At place 0 a line is read as long as one is wanted. At places 1 to 20
+-- the shells take their turns, at places 21 to 40 their starts are answered, and at places 41 to 60 their reads and waits, each
+-- shell when its place comes. A shell that had an answer in a round is answered no second read or wait in it.
+use Rattle.std.specs.Prelude.{◌≡◌, ℕ, zero, suc, ◌+◌, ◌-◌, ◌≤◌, List, [], ◌∷◌, Option, Some, None, is_some, Bool, true, false, not, ◌&&◌, nat_lt, get_or, slice_set, if◌then◌else◌}
+use Rattle.std.proofs.Math.ListN.{replicate}
 use Rattle.std.specs.List.{find, range_with_len}
+use Rattle.std.specs.Option.{option_or}
 use Rattle.ados_machine.specs.declared.events.Event.{Event}
 use Rattle.ados_machine.specs.declared.events.Event.TheVariants.{Typed, EndOfInput, Turn, Answer}
+use Rattle.ados_machine.specs.declared.requests.Request.{Request}
+use Rattle.ados_machine.specs.declared.requests.Request.TheVariants.{Start, Read, Wait}
+use Rattle.ados_machine.specs.Children.{answers_start}
 use Rattle.ados_machine.specs.World.{WorldState, shell_at, is_ready, pending_of, wants_line}
+use Rattle.ados_launch.specs.declared.schedule.Round.{Round}
 use Rattle.ados_launch.specs.Taken.{Taken, Given, LongLine, world_behind}
 
--- at place 0 a line is wanted, at place k shell k is ready
-abbrev pub is_due : WorldState → ℕ → Bool
-is_due w zero = wants_line w
-is_due w (suc k) = is_ready w (suc k)
+-- a start is asked for
+abbrev pub asks_start : Option Request → Bool
+asks_start None = false
+asks_start (Some (Start job)) = true
+asks_start (Some (Read k)) = false
+asks_start (Some (Wait k)) = false
 
--- the places from this one to the round's end, and then those of the next round
-abbrev pub places_from : ℕ → List ℕ
-places_from place = range_with_len place (21 - place) ++ range_with_len 0 21
+-- a read or a wait is asked for
+abbrev pub asks_further : Option Request → Bool
+asks_further None = false
+asks_further (Some (Start job)) = false
+asks_further (Some (Read k)) = true
+asks_further (Some (Wait k)) = true
+
+-- something may come at this place
+abbrev pub comes : WorldState → ℕ → Bool
+comes w place =
+    if nat_lt place 1 then wants_line w else
+    (if nat_lt place 21 then is_ready w place else
+    (if nat_lt place 41 then asks_start (pending_of w (place - 20)) else asks_further (pending_of w (place - 40))))
+
+-- it is due, but for a read or a wait of a shell that had an answer in this round
+abbrev pub is_due : WorldState → List Bool → ℕ → Bool
+is_due w answered place = comes w place && not (nat_lt 40 place && get_or answered (place - 40) false)
+
+-- a round begins
+abbrev pub none_answered : List Bool
+none_answered = replicate 21 false
+
+abbrev pub first_round : Round
+first_round = record { place = 0; answered = none_answered }
+
+-- the place of the next event in this round, and in the next one
+abbrev pub in_this_round : Round → WorldState → Option ℕ
+in_this_round round w = find (is_due w round.answered) (range_with_len round.place (61 - round.place))
+
+abbrev pub in_next_round : WorldState → Option ℕ
+in_next_round w = find (is_due w none_answered) (range_with_len 0 61)
 
 -- the place of the next event: between two events the world stays as it is
-abbrev pub due : ℕ → WorldState → Option ℕ
-due place w = find (is_due w) (places_from place)
+abbrev pub due : Round → WorldState → Option ℕ
+due round w = option_or (in_this_round round w) (in_next_round w)
 
--- the place of an event in a round; the rounds have none for answers yet, and nothing is due at 21
+-- which shells had an answer in the round of the next event
+abbrev pub answered_if : Option ℕ → List Bool → List Bool
+answered_if None answered = none_answered
+answered_if (Some place) answered = answered
+
+abbrev pub answered_by : Round → WorldState → List Bool
+answered_by round w = answered_if (in_this_round round w) round.answered
+
+-- the place from which a round goes on: lines are read as long as they are wanted
+abbrev pub place_behind : ℕ → ℕ
+place_behind zero = 0
+place_behind (suc k) = suc k + 1
+
+-- the shell has had an answer whose place this is
+abbrev pub marked : ℕ → List Bool → List Bool
+marked place answered =
+    if nat_lt place 21 then answered else
+    (if nat_lt place 41 then slice_set answered (place - 20) true else slice_set answered (place - 40) true)
+
+-- where the round stands behind what came at a place
+abbrev pub round_behind : Round → WorldState → ℕ → Round
+round_behind round w place = record { place = place_behind place; answered = marked place (answered_by round w) }
+
+-- the place of an event in a round
 abbrev pub place_of_event : Event → ℕ
 place_of_event (Typed line) = 0
 place_of_event EndOfInput = 0
 place_of_event (Turn k) = k
-place_of_event (Answer k reply) = 21
+place_of_event (Answer k reply) = if answers_start reply then k + 20 else k + 40
 
 -- the place of what was taken: long lines are read where lines are
 abbrev pub place_of : Taken → ℕ
 place_of (Given event out) = place_of_event event
 place_of LongLine = 0
 
--- the place from which the round goes on: lines are read as long as they are wanted
-abbrev pub place_behind : ℕ → ℕ
-place_behind zero = 0
-place_behind (suc k) = suc k + 1
+-- from here on, in this world, each came where its place was the next at which something was due
+abbrev pub InOrder : Round → WorldState → List Taken → Type 0
+InOrder round w [] = Unit {0}
+InOrder round w (item ∷ taken) = (due round w ≡ Some (place_of item)) × InOrder (round_behind round w (place_of item)) (world_behind w item) taken
 
--- from this place on, in this world, each came where its place was the next at which something was due
-abbrev pub InOrder : ℕ → WorldState → List Taken → Type 0
-InOrder place w [] = Unit {0}
-InOrder place w (item ∷ taken) = (due place w ≡ Some (place_of item)) × InOrder (place_behind (place_of item)) (world_behind w item) taken
+-- where the round stands behind all of it
+abbrev pub round_after : Round → WorldState → List Taken → Round
+round_after round w [] = round
+round_after round w (item ∷ taken) = round_after (round_behind round w (place_of item)) (world_behind w item) taken
 
--- the place from which the round goes on behind all of it
-abbrev pub place_after : ℕ → List Taken → ℕ
-place_after place [] = place
-place_after place (item ∷ taken) = place_after (place_behind (place_of item)) taken
+-- behind what was taken from a world a line is the next that is due
+abbrev pub IsReading : WorldState → List Taken → WorldState → Type 0
+IsReading w taken now = due (round_after first_round w taken) now ≡ Some 0
 
--- behind what was taken a line is the next that is due
-abbrev pub IsReading : List Taken → WorldState → Type 0
-IsReading taken w = due (place_after 0 taken) w ≡ Some 0
-
--- at some place something is due
+-- at some place something may come
 abbrev pub IsRunning : WorldState → Type 0
-IsRunning w = (place : ℕ) × (place ≤ 20) × (is_due w place ≡ true)
+IsRunning w = (place : ℕ) × (place ≤ 60) × (comes w place ≡ true)
 
--- nothing is due at any place: no line is wanted, and no shell is ready
+-- nothing may come at any place: no line is wanted, no shell is ready, and none asks for anything
 abbrev pub IsIdle : WorldState → Type 0
-IsIdle w = (place : ℕ) → place ≤ 20 → is_due w place ≡ false
+IsIdle w = (place : ℕ) → place ≤ 60 → comes w place ≡ false
 
 -- shell 1 runs, and its input has not ended
 abbrev pub takes_input : WorldState → Bool
 takes_input w = is_some (shell_at w 1) && not w.input_ended
-
--- each shell that runs waits for a launcher
-abbrev pub OnlyWaits : WorldState → Type 0
-OnlyWaits w = (k : ℕ) → k ≤ 20 → pending_of w k ≡ None → shell_at w k ≡ None

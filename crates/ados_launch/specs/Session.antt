@@ -1,47 +1,68 @@
--- Sessions: what a driven world took from a reader, and what was written for it.
-use Rattle.std.specs.Prelude.{◌≡◌, ℕ, ◌+◌, ◌<◌, List, [], ◌∷◌, ◌++◌, length, take, Option, Some}
+-- Sessions: what a driven world took from a reader and a launcher, and what was written for it.
+use Rattle.std.specs.Prelude.{◌≡◌, ℕ, ◌+◌, ◌<◌, List, [], ◌∷◌, ◌++◌, length, take, Bool, Option, Some}
 use Rattle.std.specs.Io.KnownBytes.{Appends}
 use Rattle.ados_machine.specs.World.{WorldState}
 use Rattle.ados_machine.specs.Runs.{Runs}
+use Rattle.ados_launcher.specs.declared.calls.Call.{Call}
 use Rattle.ados_launch.specs.Lines.{Known, ahead}
-use Rattle.ados_launch.specs.Taken.{Taken, events_in, outs_in, bytes_of, written_for, world_behind, IsAccepted, IsNext, left_behind, AreRead}
-use Rattle.ados_launch.specs.Schedule.{InOrder, place_of}
+use Rattle.ados_launch.specs.Taken.{Taken, events_in, outs_in, bytes_of, written_for, world_behind, IsAccepted, IsNext, IsOfReader, left_behind, AreRead}
+use Rattle.ados_launch.specs.Asked.{IsAsked, AreAsked}
+use Rattle.ados_launch.specs.Schedule.{InOrder, place_of, first_round}
 
--- From a world, with a reader that had this left, this was taken, and the last world stands behind it.
-pub record Session (w : WorldState) (left : Option (List ℕ)) (taken : List Taken) (last : WorldState) : Type 0 where
+-- From a world, with a reader that had this left, and a launcher that is full in the end or not and listed these calls, this
+-- was taken, and the last world stands behind it.
+pub record Session (w : WorldState) (left : Option (List ℕ)) (is_full : Bool) (listed : List Call) (taken : List Taken) (last : WorldState) : Type 0 where
   -- the events are a run of the machine, which accepted each
   pub run : Runs w (events_in taken) (outs_in taken) last
   -- they came in the order of the rounds
-  pub ordered : InOrder 0 w taken
+  pub ordered : InOrder first_round w taken
   -- the lines are those of the reader's bytes
   pub lines : Known left (λ bytes. AreRead bytes taken)
+  -- the answers are the launcher's: each request was called once, and in their order
+  pub asked : AreAsked is_full w taken listed
 
--- So many events and long lines were taken, and all of their bytes were written.
-pub record Stands (w : WorldState) (left : Option (List ℕ)) (n : ℕ) (last : WorldState) (before now : Option (List ℕ)) : Type 0 where
+-- So many events and long lines were taken, and all of their bytes were written. The launcher listed what was asked for them,
+-- and then these other calls.
+pub record Stands (w : WorldState) (left : Option (List ℕ)) (is_full : Bool) (n : ℕ) (last : WorldState) (before now : Option (List ℕ)) (calls calls_now others : List Call) : Type 0 where
   pub taken : List Taken
+  pub listed : List Call
   pub count_is : length taken ≡ n
-  pub session : Session w left taken last
+  pub session : Session w left is_full listed taken last
   pub written : Appends before now (written_for taken)
+  pub calls_are : calls_now ≡ calls ++ (listed ++ others)
 
 -- So many were taken, and of the last one's bytes some were not written.
-pub record StandsCut (w : WorldState) (left : Option (List ℕ)) (n : ℕ) (last : WorldState) (before now : Option (List ℕ)) : Type 0 where
+pub record StandsCut (w : WorldState) (left : Option (List ℕ)) (is_full : Bool) (n : ℕ) (last : WorldState) (before now : Option (List ℕ)) (calls calls_now others : List Call) : Type 0 where
   pub taken : List Taken
   pub item : Taken
+  pub listed : List Call
   pub count_is : length taken + 1 ≡ n
-  pub session : Session w left (taken ++ item ∷ []) last
+  pub session : Session w left is_full listed (taken ++ item ∷ []) last
   pub length_written : ℕ
   pub cut : length_written < length (bytes_of item)
   pub written : Appends before now (written_for taken ++ take length_written (bytes_of item))
+  pub calls_are : calls_now ≡ calls ++ (listed ++ others)
 
 -- of what is left to read, less than 4,096 bytes were taken from the reader
 abbrev pub IsReadAhead : List ℕ → Option (List ℕ) → Type 0
 IsReadAhead left now = (held : List ℕ) × (length held < 4096) × (ahead held now ≡ Some left)
 
--- at this place one thing was taken: the world behind it, what is left to read, and the bytes that are to be written
-pub record TakesAt (w : WorldState) (left : Option (List ℕ)) (place : ℕ) (now : WorldState) (rest : Option (List ℕ)) (bytes : List ℕ) : Type 0 where
-  pub item : Taken
-  pub place_is : place_of item ≡ place
+-- One thing was taken: the world behind it, what is left to read, and the bytes that are to be written.
+pub record Takes (w : WorldState) (left : Option (List ℕ)) (item : Taken) (now : WorldState) (rest : Option (List ℕ)) (bytes : List ℕ) : Type 0 where
   pub accepted : IsAccepted w item
   pub world_is : now ≡ world_behind w item
   pub lines : Known left (λ known. IsNext known item × (rest ≡ Some (left_behind known item)))
   pub bytes_are : bytes ≡ bytes_of item
+
+-- A line was taken, or the end of the input.
+abbrev pub TakesLineAt : WorldState → Option (List ℕ) → WorldState → Option (List ℕ) → List ℕ → Type 0
+TakesLineAt w left now rest bytes = (item : Taken) × IsOfReader item × Takes w left item now rest bytes
+
+-- At this place one thing was taken, and this was asked of the launcher for it.
+pub record TakesAt (w : WorldState) (left : Option (List ℕ)) (is_full : Bool) (calls : List Call) (place : ℕ) (now : WorldState) (rest : Option (List ℕ)) (calls_now : List Call) (bytes : List ℕ) : Type 0 where
+  pub item : Taken
+  pub listed : List Call
+  pub place_is : place_of item ≡ place
+  pub takes : Takes w left item now rest bytes
+  pub calls_are : calls_now ≡ calls ++ listed
+  pub asked : IsAsked is_full w item listed

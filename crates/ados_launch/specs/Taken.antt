@@ -65,6 +65,14 @@ IsNext bytes (Given (Turn k) out) = Unit {0}
 IsNext bytes (Given (Answer k reply) out) = Unit {0}
 IsNext bytes LongLine = kind_of bytes ≡ Long
 
+-- it is a line of the reader, or its end
+abbrev pub IsOfReader : Taken → Type 0
+IsOfReader (Given (Typed line) out) = Unit {0}
+IsOfReader (Given EndOfInput out) = Unit {0}
+IsOfReader (Given (Turn k) out) = ⊥
+IsOfReader (Given (Answer k reply) out) = ⊥
+IsOfReader LongLine = Unit {0}
+
 -- what is left of the bytes behind it
 abbrev pub left_behind : List ℕ → Taken → List ℕ
 left_behind bytes (Given (Typed line) out) = rest_of bytes

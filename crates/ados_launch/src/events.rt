@@ -1,27 +1,34 @@
 // Taking the event that is due.
-ghost use Rattle.std.specs.Prelude.{◌≡◌, ◌⊎◌, ◌<◌, ◌^◌, ◌-◌, ◌+◌, [], true, length, OnOk, OnErr, IsErrOf, Ok, Err};
+ghost use Rattle.std.specs.Prelude.{◌≡◌, ◌⊎◌, ◌<◌, ◌≤◌, ◌^◌, ◌-◌, ◌+◌, ◌++◌, List, [], true, length, nat_lt, if◌then◌else◌, OnOk, OnErr, IsErrOf, Ok, Err};
+ghost use Rattle.ados_machine.specs.World.{wants_line};
 ghost use Rattle.ados_machine.specs.Step.{giving, is_accepted, step_of};
 ghost use Rattle.ados_machine.specs.Runs.{IsAnswer, world_after};
 ghost use Rattle.ados_shell.specs.Drafts.{out_of};
+ghost use Rattle.ados_launcher.specs.declared.calls.Call.{Call};
+ghost use Rattle.ados_launch.specs.Agreement.{Agrees, AreWhole, IsOpenTable};
 ghost use Rattle.ados_launch.specs.Lines.{ahead, Known, kind_of};
-ghost use Rattle.ados_launch.specs.Schedule.{is_due};
-ghost use Rattle.ados_launch.specs.Session.{TakesAt};
+ghost use Rattle.ados_launch.specs.Schedule.{comes};
+ghost use Rattle.ados_launch.specs.Session.{TakesAt, TakesLineAt};
 
 use crate::Source;
+use crate::asks::answer;
 use crate::faults::DriveFault;
 use crate::lines::{LineKind, next_line};
 use crate::read_ahead::ReadAhead;
+use ados_launcher::Launcher;
 use ados_text::Text;
 use ados_world::{Draft, Event, Refusal, World};
 use std::alloc::Global;
 
 const LONG_LINE_TEXT: &[u8] = b"Line too long\n";
 
-// Takes the event that is due at this place: the next line, or the turn of a shell. The draft holds then what is to
-// be written.
-pub fn take_event<S: Source>(
+// Takes the event that is due at this place: the next line, the turn of a shell, or a launcher's answer. The draft holds
+// then what is to be written.
+pub fn take_event<L: Launcher, S: Source>(
     alloc: Global,
     world: &mut World,
+    launcher: &mut L,
+    children: &mut [bool; 21],
     place: u8,
     held: &mut ReadAhead,
     reader: &mut S,
@@ -29,23 +36,43 @@ pub fn take_event<S: Source>(
     draft: &mut Draft,
 ) -> Result<(), DriveFault>
     requires reader { S.faults reader.old < 2 ^ 64 - 1 }
-    requires due { is_due world.old place ≡ true }
-    ensures took { OnOk result
-        (TakesAt world.old (ahead held.old (S.left reader.old)) place world.new (ahead held.new (S.left reader.new)) draft.new.printed.items) }
+    requires place { place < 61 }
+    requires due { comes world.old place ≡ true }
+    requires agrees { Agrees world.old (L.calls launcher.old) }
+    requires children { IsOpenTable children.old (L.calls launcher.old) }
+    ensures took { OnOk result (TakesAt world.old (ahead held.old (S.left reader.old)) (L.is_full launcher.new) (L.calls launcher.old) place
+        world.new (ahead held.new (S.left reader.new)) (L.calls launcher.new) draft.new.printed.items) }
+    ensures agrees { OnOk result (Agrees world.new (L.calls launcher.new)) }
+    ensures children { IsOpenTable children.new (L.calls launcher.new) }
+    ensures whole { AreWhole (L.calls launcher.new) }
+    ensures stays { L.is_full launcher.old ≡ true → L.is_full launcher.new ≡ true }
     ensures few { OnOk result (length held.old < 4096 → length held.new < 4096) }
     ensures honest { OnOk result (S.faults reader.new ≡ S.faults reader.old) }
     ensures err { OnErr result (world.new ≡ world.old) }
+    ensures dropped { OnErr result ((others : List Call) × (length others ≤ 1) × (L.calls launcher.new ≡ L.calls launcher.old ++ others)) }
+    ensures unasked { IsErrOf result DriveFault.Read → L.calls launcher.new ≡ L.calls launcher.old }
     ensures read { IsErrOf result DriveFault.Read → (S.faults reader.new ≡ S.faults reader.old + 1)
         ⊎ Known (ahead held.old (S.left reader.old)) (λ bytes. kind_of bytes ≡ LineKind.Overlong) }
     ensures reading { IsErrOf result DriveFault.Read → place ≡ 0 }
     ensures no_write { IsErrOf result DriveFault.Write → ⊥ }
     ensures no_turns { IsErrOf result DriveFault.Turns → ⊥ }
 {
-    if place == 0 {
+    if place < 1 {
         take_line(alloc, world, held, reader, line, draft)
-    } else {
+    } else if place < 21 {
         give(world, &Event::Turn(place), draft)
+    } else {
+        answer(world, launcher, children, shell_answered(place), draft)
     }
+}
+
+// The shell whose start, read or wait is answered at this place.
+fn shell_answered(place: u8) -> u8
+    requires late { 21 ≤ place }
+    requires place { place < 61 }
+    ensures { result ≡ (if nat_lt place 41 then place - 20 else place - 40) }
+{
+    if place < 41 { place - 20 } else { place - 40 }
 }
 
 // Reads a line and gives it to the world, or the end of the input. A long one is not given, and a
@@ -59,9 +86,9 @@ fn take_line<S: Source>(
     draft: &mut Draft,
 ) -> Result<(), DriveFault>
     requires reader { S.faults reader.old < 2 ^ 64 - 1 }
-    requires due { is_due world.old 0 ≡ true }
+    requires due { wants_line world.old ≡ true }
     ensures took { OnOk result
-        (TakesAt world.old (ahead held.old (S.left reader.old)) 0 world.new (ahead held.new (S.left reader.new)) draft.new.printed.items) }
+        (TakesLineAt world.old (ahead held.old (S.left reader.old)) world.new (ahead held.new (S.left reader.new)) draft.new.printed.items) }
     ensures few { OnOk result (length held.old < 4096 → length held.new < 4096) }
     ensures honest { OnOk result (S.faults reader.new ≡ S.faults reader.old) }
     ensures err { OnErr result (world.new ≡ world.old) }
@@ -87,7 +114,7 @@ fn take_line<S: Source>(
 }
 
 // Gives the world an event that it accepts, unless memory is wanting.
-fn give(world: &mut World, event: &Event, draft: &mut Draft) -> Result<(), DriveFault>
+pub fn give(world: &mut World, event: &Event, draft: &mut Draft) -> Result<(), DriveFault>
     requires { is_accepted (step_of world.old event.now) ≡ true }
     ensures answer { OnOk result (IsAnswer event.now (Ok (out_of draft.new)) (step_of world.old event.now)) }
     ensures world { OnOk result (world.new ≡ world_after world.old (Ok (out_of draft.new)) (step_of world.old event.now)) }

@@ -1,10 +1,13 @@
 #![tactic(auto)]
-//! Drives the machine: bytes in, bytes out.
+//! Drives the machine: bytes in, bytes out, with programs of the host started by a launcher.
 //!
-//! A reader and a writer are any of std's, within [`Counted`], which counts how often they failed.
+//! A reader and a writer are any of std's, within [`Counted`], which counts how often they failed. A launcher is one of
+//! [`Host`], which starts real programs, and [`Listed`], which answers from a list.
 
+mod asks;
+mod children;
 mod counted;
-mod drive;
+mod driver;
 mod events;
 mod faults;
 mod laws;
@@ -13,7 +16,8 @@ mod read_ahead;
 mod schedule;
 mod written;
 
+pub use ados_launcher::{Call, Host, Launcher, Listed};
 pub use counted::{Counted, Sink, Source};
-pub use drive::{End, drive_lines};
+pub use driver::{End, drive};
 pub use faults::DriveFault;
 pub use laws::sessions_obey_the_laws;

@@ -1,47 +1,146 @@
 // The order in which events come.
-ghost use Rattle.std.specs.Prelude.{◌≡◌, ◌<◌, ◌≤◌, ◌-◌};
-ghost use Rattle.std.specs.List.{find, range_with_len};
-ghost use Rattle.ados_launch.specs.Schedule.{due, is_due, place_behind};
+ghost use Rattle.std.specs.Prelude.{◌≡◌, ◌<◌, ◌≤◌, get_or, false};
+ghost use Rattle.ados_machine.specs.World.{pending_of};
+ghost use Rattle.ados_launch.specs.Schedule.{
+  asks_start,
+  asks_further,
+  comes,
+  is_due,
+  due,
+  in_this_round,
+  answered_by,
+  first_round,
+  marked,
+  place_behind,
+};
 
+use ados_machine::Request;
 use ados_world::World;
 
-// The places of a round: 0 for the lines, and one for each shell.
-const PLACES: u8 = 21;
+// The places of a round: 0 for the lines, and three for each shell: its turns, its starts, its reads and waits.
+const PLACES: u8 = 61;
 
-// The place of the next event, from this one on: the first at which one is due, or `None`.
-#[tactic(auto, using(crate::proofs::Places::this_round_or_next))]
-pub fn due(world: &World, place: u8) -> Option<u8>
-    requires { place ≤ 21 }
-    ensures { result ≡ due place world.now }
-{
-    match first_due(world, place, PLACES) {
-        Some(next) => Some(next),
-        None => first_due(world, 0, PLACES),
+/// Where a round stands.
+#[derive(Clone, Copy)]
+pub struct Round {
+    /// The place from which it goes on.
+    pub place: u8,
+    /// Which shells had an answer in it, by their numbers.
+    pub answered: [bool; 21],
+}
+
+impl Round {
+    // A round begins.
+    pub fn first() -> Round
+        ensures { result ≡ first_round }
+    {
+        Round {
+            place: 0,
+            answered: [false; 21],
+        }
+    }
+
+    // The place of the next event: the first of this round at which one is due, or else of the next round, in which no
+    // shell had an answer yet.
+    pub fn next(&mut self, world: &World) -> Option<u8>
+        requires { self.old.place ≤ 61 }
+        ensures due { result ≡ due self.old world.now }
+        ensures round { self.new ≡ record self.old { answered = answered_by self.old world.now } }
+    {
+        match self.next_here(world) {
+            Some(place) => Some(place),
+            None => {
+                let next = Round::first();
+                self.answered = next.answered;
+                next.next_here(world)
+            }
+        }
+    }
+
+    // The round goes on behind the event of this place.
+    pub fn pass(&mut self, place: u8)
+        requires { place < 61 }
+        ensures { self.new ≡ record { place = place_behind place; answered = marked place self.old.answered } }
+    {
+        self.place = behind(place);
+        self.mark(place);
+    }
+
+    // The first place of this round at which an event is due.
+    fn next_here(&self, world: &World) -> Option<u8>
+        requires { self.now.place ≤ 61 }
+        ensures { result ≡ in_this_round self.now world.now }
+    {
+        (self.place..PLACES).find(|place| self.is_due(world, *place))
+    }
+
+    // Something may come at this place, and it is no read or wait of a shell that had an answer in this round.
+    fn is_due(&self, world: &World, place: u8) -> bool
+        ensures { result ≡ is_due world.now self.now.answered place }
+    {
+        comes(world, place) && !(place > 40 && self.had_answer(place - 40))
+    }
+
+    fn had_answer(&self, number: u8) -> bool
+        ensures { result ≡ get_or self.now.answered number false }
+    {
+        self.answered
+            .get(usize::from(number))
+            .copied()
+            .unwrap_or(false)
+    }
+
+    // The shell whose start, read or wait has this place had an answer in this round.
+    fn mark(&mut self, place: u8)
+        requires { place < 61 }
+        ensures { self.new ≡ record self.old { answered = marked place self.old.answered } }
+    {
+        if place < 21 {
+            return;
+        }
+        if place < 41 {
+            self.answered[usize::from(place - 20)] = true;
+        } else {
+            self.answered[usize::from(place - 40)] = true;
+        }
     }
 }
 
-// The first of the places from one up to another at which an event is due.
-fn first_due(world: &World, from: u8, to: u8) -> Option<u8>
-    requires { to ≤ 21 }
-    ensures { result ≡ find (is_due world.now) (range_with_len from (to - from)) }
+// Something may come at this place.
+fn comes(world: &World, place: u8) -> bool
+    ensures { result ≡ comes world.now place }
 {
-    (from..to).find(|place| is_due(world, *place))
-}
-
-// At place 0 a line is wanted, at place k shell k is ready.
-fn is_due(world: &World, place: u8) -> bool
-    ensures { result ≡ is_due world.now place }
-{
-    if place == 0 {
+    if place < 1 {
         world.wants_line()
-    } else {
+    } else if place < 21 {
         world.ready(place)
+    } else if place < 41 {
+        asks_start(world, place - 20)
+    } else {
+        asks_further(world, place - 40)
     }
+}
+
+// The shell of this number asks for a program's start.
+fn asks_start(world: &World, number: u8) -> bool
+    ensures { result ≡ asks_start (pending_of world.now number) }
+{
+    matches!(world.pending(number), Some(Request::Start(_)))
+}
+
+// The shell of this number asks for a piece of its program's output, or for its end.
+pub fn asks_further(world: &World, number: u8) -> bool
+    ensures { result ≡ asks_further (pending_of world.now number) }
+{
+    matches!(
+        world.pending(number),
+        Some(Request::Read(_) | Request::Wait(_))
+    )
 }
 
 // The place behind an event: lines are read as long as they are wanted.
-pub fn behind(place: u8) -> u8
-    requires { place < 21 }
+fn behind(place: u8) -> u8
+    requires { place < 61 }
     ensures { result ≡ place_behind place }
 {
     if place == 0 { 0 } else { place + 1 }

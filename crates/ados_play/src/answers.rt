@@ -8,8 +8,27 @@ use ados_world::{EndReport, Job, NewFault, Out, Refusal, Request};
 pub fn push_answer(text: &mut Vec<u8>, answer: &Result<Out, Refusal>) -> Result<(), NoMemory> {
     match answer {
         Ok(out) => push_out(text, out),
-        Err(refusal) => push_all(text, &[b"refused: ", name_of(*refusal).as_bytes(), b"\n"]),
+        Err(refusal) => push_refusal(text, *refusal),
     }
+}
+
+/// Adds the number of the shell that the world opened, or why it opened none.
+pub fn push_opening(
+    text: &mut Vec<u8>,
+    opening: Result<Option<u8>, Refusal>,
+) -> Result<(), NoMemory> {
+    match opening {
+        Ok(None) => push_all(text, &[b"opened: none\n"]),
+        Ok(Some(number)) => {
+            push_numbered(text, b"opened: ", number)?;
+            push_all(text, &[b"\n"])
+        }
+        Err(refusal) => push_refusal(text, refusal),
+    }
+}
+
+fn push_refusal(text: &mut Vec<u8>, refusal: Refusal) -> Result<(), NoMemory> {
+    push_all(text, &[b"refused: ", name_of(refusal).as_bytes(), b"\n"])
 }
 
 fn name_of(refusal: Refusal) -> &'static str {

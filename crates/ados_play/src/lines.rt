@@ -13,6 +13,8 @@ pub enum Line {
     Host,
     /// A fresh world.
     Fresh,
+    /// A shell that is opened for a line of its own.
+    Open,
     /// What the world shows.
     Show(View),
     /// An event, where it is well formed.
@@ -45,6 +47,9 @@ pub fn line_of(text: &str) -> Line {
     if text.starts_with("host ") {
         return Line::Host;
     }
+    if text.starts_with("open ") {
+        return Line::Open;
+    }
     match view_of(text) {
         Some(view) => Line::Show(view),
         None => Line::Event,
@@ -59,6 +64,12 @@ pub fn host_of(alloc: Global, text: &str) -> Result<HostEntry, NoMemory> {
         name: Text::from_bytes(alloc, name.as_bytes())?,
         program: Text::from_bytes(alloc, program.as_bytes())?,
     })
+}
+
+/// The line for which a line opens a shell: all that stands behind the blank.
+pub fn opened_line_of(alloc: Global, text: &str) -> Result<Text, NoMemory> {
+    let (_, line) = parted(text);
+    Text::from_bytes(alloc, line.as_bytes())
 }
 
 // The view that a line asks for.

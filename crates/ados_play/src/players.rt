@@ -1,7 +1,7 @@
 //! A world to which a list is played.
 
-use crate::answers::{push_answer, push_new_fault};
-use crate::lines::{Line, event_of, host_of, line_of};
+use crate::answers::{push_answer, push_new_fault, push_opening};
+use crate::lines::{Line, event_of, host_of, line_of, opened_line_of};
 use crate::texts::push_all;
 use crate::views::push_view;
 use ados_text::NoMemory;
@@ -90,6 +90,12 @@ impl<'a> Player<'a> {
                 self.play(text)?;
                 push_line(text, line)?;
                 self.begin(text)?;
+            }
+            Line::Open => {
+                self.play(text)?;
+                push_line(text, line)?;
+                let line = opened_line_of(self.alloc, line)?;
+                push_opening(text, self.world.open_shell(&line))?;
             }
             Line::Show(view) => {
                 self.play(text)?;

@@ -1,6 +1,6 @@
 -- The shells behind a turn: its own, the one that begins, and the end of a background shell.
 use Rattle.std.proofs.Common.{◌≡◌, ◌≢◌, ◌≤◌, ◌+◌, ◌-◌, ℕ, zero, suc, List, [], ◌∷◌, Bool, true, false, Option, Some, None, length, arith, ap, refl, sym}
-use Rattle.std.specs.Prelude.{if◌then◌else◌, slice_get, slice_set}
+use Rattle.std.specs.Prelude.{IfSome, if◌then◌else◌, slice_get, slice_set}
 use Rattle.ados_find.specs.declared.codes.Codes.{Codes}
 use Rattle.ados_find.specs.declared.outcomes.Renamed.{Renamed}
 use Rattle.ados_machine.specs.Carrying.{carried_by}
@@ -33,10 +33,15 @@ free-within n [] m e = cc
 free-within n (None ∷ places) m e = (let same : n ≡ m = cc in (omega (arith, same), omega (arith, same)))
 free-within n (Some shell ∷ places) m e = (let later = free-within (suc n) places m e in (omega (arith, later.0), omega (arith, later.1)))
 
-pub number_within : (shells : List (Option ShellState)) (m : ℕ) → length shells ≡ 20 → free_number shells ≡ Some m → IsShellNumber m
+number_within : (shells : List (Option ShellState)) (m : ℕ) → length shells ≡ 20 → free_number shells ≡ Some m → IsShellNumber m
 number_within [] m twenty e = cc
 number_within (first ∷ shells) m twenty e =
     (let within = free-within 2 shells m e in record { first = omega (arith, within.0); last = omega (arith, twenty, within.1) })
+
+pub numbers_within : (shells : List (Option ShellState)) (number : Option ℕ) → length shells ≡ 20 → free_number shells ≡ number →
+    IfSome number (λ m. IsShellNumber m)
+numbers_within shells None twenty e = tt
+numbers_within shells (Some m) twenty e = number_within shells m twenty e
 
 -- the shell that begins stands among the others as the machine says
 pub joined-is : (begun : Option Begun) (number : Option ℕ) (shells : List (Option ShellState)) → joined (new_shell begun number) shells ≡ with_begun begun number shells

@@ -1,4 +1,4 @@
-// The shell that a turn makes.
+// The shell that a turn makes, and its number.
 ghost use Rattle.std.specs.Prelude.{◌≡◌, IfOk, IfSome, option_map};
 ghost use Rattle.ados_machine.specs.Numbers.{free_number};
 ghost use Rattle.ados_world.specs.NewShells.{joined, new_shell};
@@ -7,6 +7,14 @@ ghost use Rattle.ados_world.specs.Shells.{IsShellNumber};
 use ados_shell::{Begun, Shell, free_number};
 use ados_text::NoMemory;
 use std::alloc::Global;
+
+/// The lowest free number of 2 to 20; `None` where all are taken.
+pub fn next_number(shells: &[Option<Shell>; 20]) -> Option<u8>
+    ensures number { result ≡ free_number shells.now }
+    ensures within { IfSome result (λ number. IsShellNumber number) }
+{
+    free_number(shells)
+}
 
 /// The shell that a turn makes, with the lowest free number; `None` where it makes none, or no number is free.
 ///
@@ -22,7 +30,7 @@ pub fn new_shell(
     let Some(begun) = begun else {
         return Ok(None);
     };
-    match free_number(shells) {
+    match next_number(shells) {
         None => Ok(None),
         Some(number) => {
             let shell = Shell::begun(alloc, number, Box::into_inner(begun))?;

@@ -3,6 +3,7 @@ ghost use Rattle.std.specs.Prelude.{◌≡◌, IfOk, IfErr};
 ghost use Rattle.ados_machine.specs.Runs.{Runs};
 ghost use Rattle.ados_machine.specs.Limits.{LimitsHold, ReportsHold};
 ghost use Rattle.ados_machine.specs.Stacks.{FramesHold};
+ghost use Rattle.ados_world.specs.Laws.{FailedStartsLeaveNothingIn, QuietShellsAreInvisibleIn};
 
 use crate::worlds::World;
 use ados_machine::{Event, Out, Refusal};
@@ -64,12 +65,16 @@ impl World {
     ///
     /// Whatever the events, each script ends early exactly at its first command whose code reaches
     /// its limit, and the reports of the outs are the ends of scripts, in their order. Each end is that of the newest
-    /// frame of its shell, told once by the frame's own name and last record.
+    /// frame of its shell, told once by the frame's own name and last record. Where a program could not be started, and
+    /// that is the next event accepted behind the turn that asked, nothing is left of the attempt. A shell whose events
+    /// leave what is seen of it as it was can be taken out: the others are answered the same without it.
     pub fn run(mut self, events: &[Event]) -> Result<Run, World>
         ensures run { IfOk result (λ run. Runs self events.now run.outs run.world) }
         ensures limits { IfOk result (λ run. LimitsHold self events.now run.outs) }
         ensures reports { IfOk result (λ run. ReportsHold self events.now run.outs) }
         ensures frames { IfOk result (λ run. FramesHold self events.now run.outs run.world) }
+        ensures starts { IfOk result (λ run. FailedStartsLeaveNothingIn self events.now run.outs) }
+        ensures quiet { IfOk result (λ run. QuietShellsAreInvisibleIn self events.now run.outs run.world) }
         ensures err { IfErr result (λ world. world ≡ self) }
     {
         let Ok(mut outs) = Vec::with_capacity(self.alloc, events.len()) else {

@@ -6,6 +6,7 @@ ghost use Rattle.ados_machine.specs.Step.{step_of, turned, answered, giving, que
 ghost use Rattle.ados_machine.specs.Runs.{IsAnswer, world_after};
 ghost use Rattle.ados_machine.specs.declared.refusals.Refusal.TheVariants.{NoMemory as WantOfMemory};
 ghost use Rattle.ados_shell.specs.Drafts.{out_of};
+ghost use Rattle.ados_world.specs.Laws.{FailedStart};
 ghost use Rattle.ados_world.specs.Shells.{IsShellNumber};
 ghost use Rattle.ados_world.specs.Steps.{answering, asked_by, ended_world, taken};
 
@@ -23,10 +24,12 @@ impl World {
     /// Takes one event, or refuses it and stays as it was.
     ///
     /// Refusals come in the order of their enum; the first six, an accepted end of input and the end of a shell take
-    /// no memory.
+    /// no memory. An answer that a start has failed changes the codes of the shell that asked, and what these change:
+    /// what all shells share, the other shells and the input stay.
     pub fn step(&mut self, event: &Event) -> Result<Out, Refusal>
         ensures answer { IsAnswer event.now result (step_of self.old event.now) }
         ensures world { self.new ≡ world_after self.old result (step_of self.old event.now) }
+        ensures failed_start { OnOk result (FailedStart self.old event.now self.new) }
     {
         let mut draft = Draft::new(self.alloc);
         self.step_into(event, &mut draft)?;

@@ -1,5 +1,5 @@
 -- What the words behind the program's name ask for.
-use Rattle.std.specs.Prelude.{ℕ, pos, ◌≡◌, ◌≢◌, ◌≤◌, ◌⊎◌, List, [], Option, Some, None, codes}
+use Rattle.std.specs.Prelude.{ℕ, pos, ◌≡◌, ◌≢◌, ◌≤◌, ◌⊎◌, List, [], Option, Some, None, option_map, codes}
 use Rattle.clap.specs.Walk.{Row, Text, first_of}
 use Rattle.clap.specs.Simple.{subcommand_of}
 use Rattle.clap.specs.Kinds.{IsAmong, Kinds}
@@ -9,7 +9,7 @@ use Rattle.clap.specs.declared.error.kind.ErrorKind.TheVariants as kind
 use Rattle.ados_text.specs.Number.{IsNumber, value_of}
 use Rattle.amishell.specs.Command.{amishell}
 use Rattle.amishell.specs.declared.request.Asked.{Asked}
-use Rattle.amishell.specs.declared.request.Asked.TheVariants.{Run}
+use Rattle.amishell.specs.declared.request.Asked.TheVariants.{Run, Replay}
 use Rattle.amishell.specs.declared.request.Refused.{Refused}
 use Rattle.amishell.specs.declared.request.Refused.TheVariants.{BadLine, Help, NoMemory}
 
@@ -22,31 +22,45 @@ abbrev pub AreTurns : Option Text → ℕ → Type 0
 AreTurns None turns = turns ≡ 1_000_000
 AreTurns (Some text) turns = IsNumber text × (value_of text ≡ pos turns)
 
--- the turns of a run, by its matches; without a command it is `run`
-abbrev pub AreTurnsOf : Option (Text × List Row) → ℕ → Type 0
-AreTurnsOf None turns = turns ≡ 1_000_000
-AreTurnsOf (Some p) turns = (p.0 ≡ codes "run") × AreTurns (first_of (codes "turns") p.1) turns
+-- The matches of the words ask for this: the command is theirs, with its file and its turns. Without a command it is
+-- `run`, without hosts and with a million turns.
+abbrev pub AsksFor : Option (Text × List Row) → Asked → Type 0
+AsksFor None (Run hosts turns) = (hosts ≡ None) × (turns ≡ 1_000_000)
+AsksFor None (Replay file) = ⊥
+AsksFor (Some p) (Run hosts turns) = (p.0 ≡ codes "run")
+    × (option_map (λ s. s.now) hosts ≡ first_of (codes "hosts") p.1)
+    × AreTurns (first_of (codes "turns") p.1) turns
+    × IsInRange turns
+AsksFor (Some p) (Replay file) = (p.0 ≡ codes "replay") × (Some file.now ≡ first_of (codes "file") p.1)
 
--- no turns within their range
-abbrev pub HasNone : (ℕ → Type 0) → Type 0
-HasNone Are = (turns : ℕ) → Are turns → IsInRange turns → ⊥
+-- the matches ask for nothing
+abbrev pub AsksNothing : Option (Text × List Row) → Type 0
+AsksNothing entered = (a : Asked) → AsksFor entered a → ⊥
 
 -- what is asked, by the matches of words in which `clap` finds no fault
 abbrev pub IsAsked : List Text → Asked → Type 0
-IsAsked words (Run turns) = (fault_of amishell words ≡ []) × AreTurnsOf (subcommand_of amishell words) turns × IsInRange turns
+IsAsked words a = (fault_of amishell words ≡ []) × AsksFor (subcommand_of amishell words) a
 
--- one of the kinds is no help
+-- an error of this kind is no fault: it is answered with a text
+abbrev pub IsRequest : ErrorKind → Type 0
+IsRequest k = (k ≡ kind.DisplayHelp) ⊎ (k ≡ kind.DisplayVersion)
+
+-- one of the kinds is a fault
 abbrev pub HasMistake : Kinds → Type 0
-HasMistake kinds = (k : ErrorKind) × IsAmong k kinds × (k ≢ kind.DisplayHelp)
+HasMistake kinds = (k : ErrorKind) × IsAmong k kinds × (IsRequest k → ⊥)
+
+-- one of the kinds asks for a text
+abbrev pub HasRequest : Kinds → Type 0
+HasRequest kinds = (k : ErrorKind) × IsAmong k kinds × IsRequest k
 
 -- what an error of this kind comes to
 abbrev pub IsRefusalOf : ErrorKind → Refused → Type 0
-IsRefusalOf k BadLine = (k ≢ kind.DisplayHelp) × (k ≢ kind.OutOfMemory)
-IsRefusalOf k (Help text) = k ≡ kind.DisplayHelp
+IsRefusalOf k BadLine = (IsRequest k → ⊥) × (k ≢ kind.OutOfMemory)
+IsRefusalOf k (Help text) = IsRequest k
 IsRefusalOf k NoMemory = Unit {0}
 
 -- why the words are refused, by the faults that `clap` finds in them
 abbrev pub IsRefusal : List Text → Refused → Type 0
-IsRefusal words BadLine = HasMistake (fault_of amishell words) ⊎ ((fault_of amishell words ≡ []) × HasNone (AreTurnsOf (subcommand_of amishell words)))
-IsRefusal words (Help text) = IsAmong kind.DisplayHelp (fault_of amishell words)
+IsRefusal words BadLine = HasMistake (fault_of amishell words) ⊎ ((fault_of amishell words ≡ []) × AsksNothing (subcommand_of amishell words))
+IsRefusal words (Help text) = HasRequest (fault_of amishell words)
 IsRefusal words NoMemory = Unit {0}

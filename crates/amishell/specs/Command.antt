@@ -4,18 +4,34 @@ use Rattle.clap.specs.Walk.{Rule}
 use Rattle.clap.specs.Simple.{App, new_app, new_rule, on_top, with_rule, with_subcommand}
 use Rattle.clap.specs.declared.builder.ArgAction.TheVariants.{Set}
 
+-- `--hosts FILE`
+abbrev pub hosts_rule : Rule
+hosts_rule = record (new_rule (codes "hosts")) { long = Some (codes "hosts"); value_names = 1; action = Some Set }
+
 -- `--turns N`
 abbrev pub turns_rule : Rule
 turns_rule = record (new_rule (codes "turns")) { long = Some (codes "turns"); value_names = 1; action = Some Set }
 
--- `run [--turns N]`
-abbrev pub run_app : App
-run_app = with_rule (new_app (codes "run")) turns_rule
+-- `FILE`
+abbrev pub file_rule : Rule
+file_rule = record (new_rule (codes "file")) { value_names = 1; action = Some Set; required = true }
 
--- `amishell` alone
+-- `run [--hosts FILE]`
+abbrev pub hosts_app : App
+hosts_app = with_rule (new_app (codes "run")) hosts_rule
+
+-- `run [--hosts FILE] [--turns N]`
+abbrev pub run_app : App
+run_app = with_rule hosts_app turns_rule
+
+-- `replay FILE`
+abbrev pub replay_app : App
+replay_app = with_rule (new_app (codes "replay")) file_rule
+
+-- `amishell` alone, with a version to tell
 abbrev pub bare_app : App
-bare_app = on_top (λ s. record s { no_binary_name = true }) (new_app (codes "amishell"))
+bare_app = on_top (λ s. record s { no_binary_name = true; has_version = true }) (new_app (codes "amishell"))
 
 -- what stands behind the program's name
 abbrev pub amishell : App
-amishell = with_subcommand bare_app run_app.top
+amishell = with_subcommand (with_subcommand bare_app run_app.top) replay_app.top

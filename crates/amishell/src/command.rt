@@ -4,11 +4,32 @@ ghost use Rattle.clap.specs.Simple.{app_of, subcommand_of, subcommand_rows_of};
 ghost use Rattle.clap.specs.Kinds.{FailsBy};
 ghost use Rattle.clap.specs.Faults.{fault_of};
 ghost use Rattle.clap.specs.declared.builder.command.Command.TheViews.{out-Command as fields_of};
-ghost use Rattle.amishell.specs.Command.{run_app, bare_app, amishell};
+ghost use Rattle.amishell.specs.Command.{hosts_app, run_app, replay_app, bare_app, amishell};
 
 use clap::{Arg, ArgAction, ArgMatches, Command, Error};
 use std::alloc::{AllocError, Global};
 use std::convert::AsStr;
+
+const VERSION: &str = "1.0";
+
+const ABOUT: &str = "The Shell of AmigaDOS Release 2, in an ASCII profile";
+
+const MORE: &str =
+    "Without a command it is run, without options. The exit status is the last code of the first shell,
+or 20 where that is no status and after a fault, which is a line on standard error.
+amishell COMMAND --help tells the options of a command.";
+
+const HOSTS: &str =
+    "A file of the programs of the host that are commands, a line for each: the command's name, blanks,
+and the program's path; blank lines and lines that begin with # say nothing [default: no programs]";
+
+const TURNS: &str =
+    "How many events and long lines are taken at most, 1 to 1000000000; events are typed lines, the end
+of the input, turns of shells and answers of programs [default: 1000000]";
+
+const FILE: &str =
+    "The recording: its first line is 'amishell 1', and each other one is 'host NAME', 'line TEXT' or
+'answer ANSWER'; it is run for 1000000 events and long lines at most";
 
 /// The matches of the words behind the program's name, or `clap`'s error.
 pub fn matches_of_words<'a, S: AsStr>(
@@ -22,13 +43,14 @@ pub fn matches_of_words<'a, S: AsStr>(
     command.try_get_matches_from(words)
 }
 
-// `amishell`, with its one subcommand.
+// `amishell`, with its subcommands.
 fn amishell_command<'a>(alloc: Global) -> Result<Command<'a>, AllocError>
     ensures app { IfOk result (λ c. app_of c ≡ amishell) }
     ensures local { IfOk result (λ c. (fields_of c).has_globals ≡ false) }
 {
     let run = run_command(alloc)?;
-    bare_command(alloc)?.subcommand(run)
+    let replay = replay_command(alloc)?;
+    bare_command(alloc)?.subcommand(run)?.subcommand(replay)
 }
 
 // `amishell` alone.
@@ -37,12 +59,14 @@ fn bare_command<'a>(alloc: Global) -> Result<Command<'a>, AllocError>
     ensures local { IfOk result (λ c. (fields_of c).has_globals ≡ false) }
 {
     Command::new(alloc, "amishell")
-        .about("The Shell of AmigaDOS Release 2, in an ASCII profile")
+        .about(ABOUT)
+        .version(VERSION)
+        .after_help(MORE)
         .no_binary_name(true)
         .bin_name("amishell")
 }
 
-// `run [--turns N]`.
+// `run [--hosts FILE] [--turns N]`.
 fn run_command<'a>(alloc: Global) -> Result<Command<'a>, AllocError>
     ensures app { IfOk result (λ c. app_of c ≡ run_app) }
     ensures local { IfOk result (λ c. (fields_of c).has_globals ≡ false) }
@@ -50,9 +74,37 @@ fn run_command<'a>(alloc: Global) -> Result<Command<'a>, AllocError>
     let turns = Arg::new(alloc, "turns")
         .long("turns")
         .value_name("N")
-        .help("The turns at most, 1 to 1000000000; 1000000 if absent")
+        .help(TURNS)
+        .action(ArgAction::Set);
+    hosts_command(alloc)?.arg(turns)
+}
+
+// `run [--hosts FILE]`.
+fn hosts_command<'a>(alloc: Global) -> Result<Command<'a>, AllocError>
+    ensures app { IfOk result (λ c. app_of c ≡ hosts_app) }
+    ensures local { IfOk result (λ c. (fields_of c).has_globals ≡ false) }
+{
+    let hosts = Arg::new(alloc, "hosts")
+        .long("hosts")
+        .value_name("FILE")
+        .help(HOSTS)
         .action(ArgAction::Set);
     Command::new(alloc, "run")
         .about("Runs the lines of standard input, as amishell alone does")
-        .arg(turns)
+        .arg(hosts)
+}
+
+// `replay FILE`.
+fn replay_command<'a>(alloc: Global) -> Result<Command<'a>, AllocError>
+    ensures app { IfOk result (λ c. app_of c ≡ replay_app) }
+    ensures local { IfOk result (λ c. (fields_of c).has_globals ≡ false) }
+{
+    let file = Arg::new(alloc, "file")
+        .value_name("FILE")
+        .help(FILE)
+        .action(ArgAction::Set)
+        .required(true);
+    Command::new(alloc, "replay")
+        .about("Runs a recorded session, in which no program of the host is started")
+        .arg(file)
 }

@@ -4,12 +4,21 @@ use ados_launch::DriveFault;
 use thiserror::Error;
 
 /// What that line says.
-#[derive(Clone, Copy, Debug, Error)]
+#[derive(Debug, Drop, Error)]
 pub enum Fault {
     /// The words are no command line of the program.
     #[error("bad command line")]
     BadLine,
-    /// There was no memory to read the words.
+    /// The file of this name cannot be read, or is longer than one of its kind may be.
+    #[error("cannot read {0}")]
+    CannotRead(String),
+    /// The line of this number, from 1, is the first at fault in the file of hosts.
+    #[error("bad host at line {0}")]
+    BadHost(usize),
+    /// The line of this number, from 1, is the first at fault in the recording.
+    #[error("bad recording at line {0}")]
+    BadRecording(usize),
+    /// There was no memory to begin.
     #[error("out of memory")]
     Memory,
     /// The help could not be written.

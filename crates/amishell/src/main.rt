@@ -1,23 +1,24 @@
-//! The program: the lines of standard input, run by the Shell of AmigaDOS Release 2.
+//! The program: the lines of standard input, or those of a recording, run by the Shell of AmigaDOS Release 2.
 #![tactic(auto)]
 
-ghost use Rattle.std.specs.Prelude.{◌≡◌, pos};
+ghost use Rattle.std.specs.Prelude.{◌≡◌, ◌<◌, ◌-◌, ◌^◌, [], pos};
 ghost use Rattle.amishell.specs.Status.{status_of};
 
 mod command;
 mod faults;
+mod files;
 mod reading;
 mod request;
 
-use ados_launch::{Counted, drive_lines};
+use ados_launch::{Counted, Host, Launcher, Listed, Source, drive};
 use ados_text::{Code, Text};
-use ados_world::World;
+use ados_world::{HostEntry, World};
 use faults::Fault;
 use request::{Asked, Refused};
 use std::io;
 use std::io::Write;
-use std::process::ExitCode;
-use std::rt::Env;
+use std::process::{ExitCode, Processes};
+use std::rt::{Env, Files};
 
 // The status after a fault, and after a code that is no status.
 const FAILED: u8 = 20;
@@ -34,19 +35,20 @@ fn main(rt: HostRuntime) -> ExitCode {
 }
 
 // Does what the words ask for, and gives the exit status.
-fn run<R: Env + AllocGlobal + Input + Print>(rt: &R) -> Result<u8, Fault> {
+fn run<R: Env + AllocGlobal + Files + Input + Print + Processes>(rt: &R) -> Result<u8, Fault> {
     let words = words(rt)?;
     match reading::asked(rt.alloc(), &words) {
-        Ok(Asked::Run { turns }) => drive(rt, turns),
+        Ok(Asked::Run { hosts, turns }) => run_typed(rt, hosts, turns),
+        Ok(Asked::Replay { file }) => replay(rt, file),
         Err(Refused::Help(text)) => show(rt, &text),
         Err(Refused::BadLine) => Err(Fault::BadLine),
         Err(Refused::NoMemory) => Err(Fault::Memory),
     }
 }
 
-// Writes the help.
-fn show<R: Print>(rt: &R, help: &Text) -> Result<u8, Fault> {
-    match io::writer(rt).write_all(help.as_bytes()) {
+// Writes the help or the version.
+fn show<R: Print>(rt: &R, text: &Text) -> Result<u8, Fault> {
+    match io::writer(rt).write_all(text.as_bytes()) {
         Ok(()) => Ok(0),
         Err(_) => Err(Fault::Write),
     }
@@ -65,24 +67,63 @@ fn words<R: Env + AllocGlobal>(rt: &R) -> Result<Vec<String>, Fault> {
     }
 }
 
-// Runs the lines of standard input, and gives the exit status that they leave.
-fn drive<R: AllocGlobal + Input + Print>(rt: &R, turns: u64) -> Result<u8, Fault> {
-    // without hosts a world fails only for want of memory
-    match World::new(rt.alloc(), &[]) {
-        Ok(mut world) => drive_world(rt, &mut world, turns),
-        Err(_) => Err(Fault::Memory),
-    }
-}
-
-// Runs the lines of standard input in this world.
-fn drive_world<R: AllocGlobal + Input + Print>(
+// Runs the lines of standard input, with the programs of the host that a file names, and gives the exit status.
+fn run_typed<R: AllocGlobal + Files + Input + Print + Processes>(
     rt: &R,
-    world: &mut World,
+    hosts: Option<&str>,
     turns: u64,
 ) -> Result<u8, Fault> {
+    let hosts = match hosts {
+        Some(file) => files::hosts_in(rt, file)?,
+        None => Vec::new(rt.alloc()),
+    };
+    let Ok(mut launcher) = Host::new(rt.alloc(), rt) else {
+        return Err(Fault::Memory);
+    };
     let mut reader = Counted::new(rt.reader());
+    play(rt, hosts.as_slice(), &mut launcher, &mut reader, turns)
+}
+
+// Runs the recording in a file, and gives the exit status.
+fn replay<R: AllocGlobal + Files + Print>(rt: &R, file: &str) -> Result<u8, Fault> {
+    let recording = files::recording_in(rt, file)?;
+    let mut launcher = Listed::new(rt.alloc(), recording.answers);
+    let mut reader = Counted::new(recording.typed.as_slice());
+    play(
+        rt,
+        recording.hosts.as_slice(),
+        &mut launcher,
+        &mut reader,
+        reading::TURNS,
+    )
+}
+
+// Runs a reader's lines in a world with these programs of the host, which a new launcher starts, and gives the exit status
+// that they leave.
+#[tactic(auto, using(crate::proofs::NewPair::new_pair))]
+fn play<R: AllocGlobal + Print, L: Launcher, S: Source>(
+    rt: &R,
+    hosts: &[HostEntry],
+    launcher: &mut L,
+    reader: &mut S,
+    turns: u64,
+) -> Result<u8, Fault>
+    requires reader { S.faults reader.old < 2 ^ 64 - 1 }
+    requires launcher { L.calls launcher.old ≡ [] }
+{
+    // a file of hosts and a recording are refused where a world can't be made with their hosts: memory alone is left
+    let Ok(mut world) = World::new(rt.alloc(), hosts) else {
+        return Err(Fault::Memory);
+    };
     let mut writer = Counted::new(io::writer(rt));
-    let end = drive_lines(rt.alloc(), world, &mut reader, &mut writer, turns)?;
+    let end = drive(
+        rt.alloc(),
+        &mut world,
+        launcher,
+        reader,
+        &mut writer,
+        turns,
+    )?;
     Ok(status(end.code))
 }
 

@@ -1,10 +1,11 @@
 //! What the words behind the program's name ask for.
-ghost use Rattle.std.specs.Prelude.{◌≡◌, [], map, IfOk, IfErr, IfSome, IfNone, MatchResult, option_map, Some};
+ghost use Rattle.std.specs.Prelude.{◌≡◌, ◌≢◌, [], map, IfOk, IfErr, IfSome, IfNone, MatchResult, option_map, Some, None, ℕ, codes};
 ghost use Rattle.clap.specs.Walk.{first_of, rows_of};
 ghost use Rattle.clap.specs.Matches.{found_of};
 ghost use Rattle.clap.specs.Simple.{subcommand_rows_of};
 ghost use Rattle.clap.specs.Values.{kind_of};
-ghost use Rattle.amishell.specs.Asked.{AreTurns, AreTurnsOf, HasNone, IsAsked, IsInRange, IsRefusal, IsRefusalOf};
+ghost use Rattle.clap.specs.declared.error.kind.ErrorKind.{ErrorKind};
+ghost use Rattle.amishell.specs.Asked.{AreTurns, AsksFor, AsksNothing, IsAsked, IsInRange, IsRefusal, IsRefusalOf, IsRequest};
 
 use crate::command::matches_of_words;
 use crate::request::{Asked, Refused};
@@ -14,50 +15,77 @@ use clap::{ArgMatches, Error};
 use std::alloc::Global;
 use std::convert::AsStr;
 
-// The turns of a run that names none.
-const TURNS: u64 = 1_000_000;
+/// The turns of a run that names none, and of a recording.
+pub const TURNS: u64 = 1_000_000;
 
 /// What the words behind the program's name ask for.
 ///
-/// `Help` where `clap` answers them with its help; `BadLine` where it finds another fault in them,
-/// or their turns are no number from 1 to 1,000,000,000.
-pub fn asked<S: AsStr>(alloc: Global, words: &[S]) -> Result<Asked, Refused>
-    ensures asked { IfOk result (IsAsked (map S.text words.now)) }
-    ensures refused { IfErr result (IsRefusal (map S.text words.now)) }
-    ensures no_words { words.now ≡ [] → MatchResult result (λ a. a ≡ Asked.Run 1_000_000) (λ e. e ≡ Refused.NoMemory) }
+/// `Help` where `clap` answers them with its help or the version; `BadLine` where it finds another fault in them, or
+/// their turns are no number from 1 to 1,000,000,000.
+pub fn asked<'a, S: AsStr>(alloc: Global, words: &'a [S]) -> Result<Asked<'a>, Refused>
+    ensures asked { IfOk result (IsAsked (map S.text words.entry.now)) }
+    ensures refused { IfErr result (IsRefusal (map S.text words.entry.now)) }
+    ensures no_words { words.entry.now ≡ [] →
+        MatchResult result (λ a. a ≡ Asked.Run None 1_000_000) (λ e. e ≡ Refused.NoMemory) }
 {
     let matches = match matches_of_words(alloc, words) {
         Ok(matches) => matches,
         Err(error) => return Err(refusal(alloc, &error)),
     };
-    match turns_of(&matches) {
-        Some(turns) => Ok(Asked::Run { turns }),
+    match asked_of(&matches) {
+        Some(asked) => Ok(asked),
         None => Err(Refused::BadLine),
     }
 }
 
-// The turns of a run, where they are in their range.
-fn turns_of(matches: &ArgMatches<'_>) -> Option<u64>
-    ensures turns { IfSome result (AreTurnsOf (subcommand_rows_of matches.now)) }
-    ensures range { IfSome result IsInRange }
-    ensures none { IfNone result (HasNone (AreTurnsOf (subcommand_rows_of matches.now))) }
+// What the matches ask for.
+fn asked_of<'a>(matches: &ArgMatches<'a>) -> Option<Asked<'a>>
+    ensures asked { IfSome result (AsksFor (subcommand_rows_of matches.now)) }
+    ensures nothing { IfNone result (AsksNothing (subcommand_rows_of matches.now)) }
 {
     match entered(matches) {
-        None => Some(TURNS),
-        Some((name, inner)) => turns_of_command(name, inner),
+        None => Some(Asked::Run {
+            hosts: None,
+            turns: TURNS,
+        }),
+        Some((name, inner)) => command_of(name, inner),
     }
 }
 
-// The turns of the command of this name, which has to be `run`.
-fn turns_of_command(name: &str, inner: &ArgMatches<'_>) -> Option<u64>
-    ensures turns { IfSome result (AreTurnsOf (Some (name.now, rows_of (found_of inner.now)))) }
-    ensures range { IfSome result IsInRange }
-    ensures none { IfNone result (HasNone (AreTurnsOf (Some (name.now, rows_of (found_of inner.now))))) }
+// What the command of this name asks for.
+fn command_of<'a>(name: &str, inner: &ArgMatches<'a>) -> Option<Asked<'a>>
+    ensures asked { IfSome result (AsksFor (Some (name.now, rows_of (found_of inner.now)))) }
+    ensures nothing { IfNone result (AsksNothing (Some (name.now, rows_of (found_of inner.now)))) }
 {
     if name == "run" {
-        turns_written(written(inner, "turns"))
+        run_of(inner)
+    } else if name == "replay" {
+        replay_of(inner)
     } else {
         None
+    }
+}
+
+// The run that the command `run` asks for.
+fn run_of<'a>(inner: &ArgMatches<'a>) -> Option<Asked<'a>>
+    ensures asked { IfSome result (AsksFor (Some (codes "run", rows_of (found_of inner.now)))) }
+    ensures nothing { IfNone result (AsksNothing (Some (codes "run", rows_of (found_of inner.now)))) }
+{
+    let hosts = written(inner, "hosts");
+    match turns_written(written(inner, "turns")) {
+        Some(turns) => Some(Asked::Run { hosts, turns }),
+        None => None,
+    }
+}
+
+// The recording that the command `replay` asks for.
+fn replay_of<'a>(inner: &ArgMatches<'a>) -> Option<Asked<'a>>
+    ensures asked { IfSome result (AsksFor (Some (codes "replay", rows_of (found_of inner.now)))) }
+    ensures nothing { IfNone result (AsksNothing (Some (codes "replay", rows_of (found_of inner.now)))) }
+{
+    match written(inner, "file") {
+        Some(file) => Some(Asked::Replay { file }),
+        None => None,
     }
 }
 
@@ -68,18 +96,18 @@ fn entered<'a, 'b>(matches: &'b ArgMatches<'a>) -> Option<(&'a str, &'b ArgMatch
     matches.subcommand()
 }
 
-// What is written behind an option of a command.
-fn written<'a>(inner: &ArgMatches<'a>, option: &str) -> Option<&'a str>
-    ensures { option_map (λ s. s.now) result ≡ first_of option.now (rows_of (found_of inner.now)) }
+// What is written for an option or a word of a command.
+fn written<'a>(inner: &ArgMatches<'a>, name: &str) -> Option<&'a str>
+    ensures { option_map (λ s. s.now) result ≡ first_of name.now (rows_of (found_of inner.now)) }
 {
-    inner.get_str(option)
+    inner.get_str(name)
 }
 
 // The turns that a word writes, where they are in their range.
 fn turns_written(word: Option<&str>) -> Option<u64>
     ensures turns { IfSome result (AreTurns (option_map (λ s. s.now) word.entry)) }
     ensures range { IfSome result IsInRange }
-    ensures none { IfNone result (HasNone (AreTurns (option_map (λ s. s.now) word.entry))) }
+    ensures none { IfNone result ((turns : ℕ) → AreTurns (option_map (λ s. s.now) word.entry) turns → IsInRange turns → ⊥) }
 {
     let Some(text) = word else {
         return Some(TURNS);
@@ -96,16 +124,23 @@ fn refusal(alloc: Global, error: &Error) -> Refused
 {
     match error.kind() {
         ErrorKind::OutOfMemory => Refused::NoMemory,
-        ErrorKind::DisplayHelp => match help(alloc, error) {
-            Ok(text) => Refused::Help(text),
-            Err(NoMemory) => Refused::NoMemory,
-        },
+        ErrorKind::DisplayHelp => text_of(alloc, error),
+        ErrorKind::DisplayVersion => text_of(alloc, error),
         _ => Refused::BadLine,
     }
 }
 
 // The text that `clap` shows.
-fn help(alloc: Global, error: &Error) -> Result<Text, NoMemory> {
+fn text_of(alloc: Global, error: &Error) -> Refused
+    ensures { (k : ErrorKind) → IsRequest k → IsRefusalOf k result }
+{
+    match shown(alloc, error) {
+        Ok(text) => Refused::Help(text),
+        Err(NoMemory) => Refused::NoMemory,
+    }
+}
+
+fn shown(alloc: Global, error: &Error) -> Result<Text, NoMemory> {
     let text = error.to_string(alloc)?;
     Text::from_bytes(alloc, text.as_bytes())
 }

@@ -4,9 +4,19 @@ use ados_text::Text;
 
 /// What the program is to do.
 #[derive(Drop)]
-pub enum Asked {
-    /// To run typed lines from the standard input, for so many turns at most: 1 to 1,000,000,000.
-    Run { turns: u64 },
+pub enum Asked<'a> {
+    /// To run typed lines from the standard input.
+    Run {
+        /// The file of the programs of the host that are commands; without one there are none.
+        hosts: Option<&'a str>,
+        /// So many events and long lines are taken at most: 1 to 1,000,000,000.
+        turns: u64,
+    },
+    /// To run a recording.
+    Replay {
+        /// The file that holds it.
+        file: &'a str,
+    },
 }
 
 /// Why the words ask for nothing.
@@ -14,7 +24,7 @@ pub enum Asked {
 pub enum Refused {
     /// They are no command line of the program.
     BadLine,
-    /// They ask for help, which is this text.
+    /// They ask for help or for the version, which is this text.
     Help(Text),
     /// There was no memory to read them.
     NoMemory,

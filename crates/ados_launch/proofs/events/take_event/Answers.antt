@@ -1,13 +1,33 @@
-use Rattle.std.proofs.Common.{refl}
+use Rattle.std.proofs.Common.{rules, arith, refl, sym, ◌∙◌}
 use Rattle.ados_machine.specs.declared.events.Event.TheVariants.{Turn}
 use Rattle.ados_shell.specs.Drafts.{out_of}
-use Rattle.ados_launch.proofs.Accepts.{due-accepted}
-use Rattle.ados_launch.proofs.Taking.{took-event}
+use Rattle.ados_launch.proofs.Accepts.{turn-accepted}
+use Rattle.ados_launch.proofs.Agreeing.{given-agrees, answers-agree, answers-whole}
+use Rattle.ados_launch.proofs.Places.{comes-turn}
+use Rattle.ados_launch.proofs.Taking.{took-at-turn, took-at-answer}
 use Rattle.ados_launch.proofs.events.take_event.Goals as goal
 
 pub give-requires : goal.give-requires
-give-requires g c = due-accepted c.args.world.now c.args.place c.requires.due c.if-place-eq0.false
+give-requires g c = turn-accepted c.args.world.now c.args.place (sym (comes-turn c.args.world.now c.args.place (omega arith) (omega arith)) ∙ c.requires.due)
 
-pub returns-else-place-eq0-clause-took : goal.returns-else-place-eq0-clause-took
-returns-else-place-eq0-clause-took g c =
-    took-event _ _ _ _ _ (Turn c.args.place) (out_of c.give.new.draft) c.give.result c.give.ensures.answer c.give.ensures.world refl (λ bytes e. (tt, e))
+pub returns-then-place-lt21-clause-took : goal.returns-then-place-lt21-clause-took
+returns-then-place-lt21-clause-took g c =
+    took-at-turn c.args.world.now _ _ (g.L.Launcher.is_full c.args.launcher.now) (g.L.Launcher.calls c.args.launcher.now) c.args.place (out_of c.give.new.draft) c.give.result c.give.ensures.answer c.give.ensures.world
+
+pub returns-then-place-lt21-clause-agrees : goal.returns-then-place-lt21-clause-agrees
+returns-then-place-lt21-clause-agrees g c =
+    given-agrees c.args.world.now _ (Turn c.args.place) (out_of c.give.new.draft) (g.L.Launcher.calls c.args.launcher.now) c.give.result c.requires.agrees refl c.give.ensures.answer c.give.ensures.world
+
+pub returns-else-place-lt21-clause-took : goal.returns-else-place-lt21-clause-took
+returns-else-place-lt21-clause-took g c =
+    took-at-answer c.args.world.now _ _ (g.L.Launcher.is_full c.args.launcher.now) (g.L.Launcher.is_full c.answer.new.launcher) (g.L.Launcher.calls c.args.launcher.now) (g.L.Launcher.calls c.answer.new.launcher) c.args.place (out_of c.answer.new.draft) c.answer.result
+    (omega arith) c.requires.due (rw c.shell_answered.ensures at c.answer.ensures.answers)
+
+pub returns-else-place-lt21-clause-agrees : goal.returns-else-place-lt21-clause-agrees
+returns-else-place-lt21-clause-agrees g c =
+    answers-agree c.args.world.now _ _ (g.L.Launcher.is_full c.args.launcher.now) (g.L.Launcher.is_full c.answer.new.launcher) (g.L.Launcher.calls c.args.launcher.now) (g.L.Launcher.calls c.answer.new.launcher) c.answer.result (out_of c.answer.new.draft)
+    c.answer.ensures.sane c.requires.agrees c.answer.ensures.answers
+
+pub returns-else-place-lt21-clause-whole : goal.returns-else-place-lt21-clause-whole
+returns-else-place-lt21-clause-whole g c =
+    answers-whole c.args.world.now _ (g.L.Launcher.is_full c.args.launcher.now) (g.L.Launcher.is_full c.answer.new.launcher) (g.L.Launcher.calls c.args.launcher.now) (g.L.Launcher.calls c.answer.new.launcher) _ c.answer.ensures.sane c.requires.agrees c.answer.ensures.answers

@@ -6,9 +6,9 @@ use Rattle.ados_machine.specs.Step.{giving}
 use Rattle.std.specs.Prelude.{None}
 use Rattle.ados_shell.specs.Drafts.{out_of}
 use Rattle.ados_launch.specs.Lines.{ahead}
-use Rattle.ados_launch.specs.Session.{TakesAt}
+use Rattle.ados_launch.specs.Session.{TakesLineAt}
 use Rattle.ados_launch.proofs.Accepts.{end-accepted, line-accepted}
-use Rattle.ados_launch.proofs.Taking.{took-event, next-end, next-short}
+use Rattle.ados_launch.proofs.Taking.{took-line, next-end, next-short}
 use Rattle.ados_launch.proofs.events.take_line.Goals as goal
 
 pub give-requires : goal.give-requires
@@ -19,12 +19,12 @@ give_line-requires g c = line-accepted c.args.world.now c.in_ok-text-in-Short.te
     (omega (arith, ap length c.in_ok-text-in-Short.ensures, length-map c.as_slice.result.now to_ascii, c.as_slice.ensures.len, c.next_line.ensures.short))
 
 pub returns-in-End-clause-took : goal.returns-in-End-clause-took
-returns-in-End-clause-took g c = took-event _ _ _ _ _ EndOfInput (out_of c.give.new.draft) c.give.result c.give.ensures.answer c.give.ensures.world refl
+returns-in-End-clause-took g c = took-line _ _ _ _ EndOfInput (out_of c.give.new.draft) c.give.result c.give.ensures.answer c.give.ensures.world tt
     (λ bytes e. next-end bytes _ _ _ (c.in_ok-next_line.ensures.taken bytes e) c.in-End.is)
 
 pub returns-in_ok-text-in-Short-clause-took : goal.returns-in_ok-text-in-Short-clause-took
 returns-in_ok-text-in-Short-clause-took g c =
-    let P : List ℕ → Type 0 = λ b. OnOk c.give_line.result (TakesAt c.args.world.now (ahead c.args.held.now (g.S.Source.left c.args.reader.now)) 0 c.give_line.new.world (ahead c.next_line.new.held (g.S.Source.left c.next_line.new.source)) b) in
+    let P : List ℕ → Type 0 = λ b. OnOk c.give_line.result (TakesLineAt c.args.world.now (ahead c.args.held.now (g.S.Source.left c.args.reader.now)) c.give_line.new.world (ahead c.next_line.new.held (g.S.Source.left c.next_line.new.source)) b) in
     subst P (sym (ap (λ o. o.bytes) c.give_nothing.ensures))
-    (took-event _ _ _ _ _ (Typed c.in_ok-text-in-Short.text) (giving [] None []) c.give_line.result c.give_line.ensures.answer c.give_line.ensures.world refl
+    (took-line _ _ _ _ (Typed c.in_ok-text-in-Short.text) (giving [] None []) c.give_line.result c.give_line.ensures.answer c.give_line.ensures.world tt
     (λ bytes e. next-short bytes _ _ _ _ _ (c.in_ok-next_line.ensures.taken bytes e) c.in-Short.is c.in_ok-text-in-Short.ensures c.as_slice.ensures.value))

@@ -1,6 +1,6 @@
-use Rattle.std.proofs.Common.{subst, ap, inr, map}
+use Rattle.std.proofs.Common.{◌≡◌, subst, ap, inr, map}
 use Rattle.clap.specs.Values.{kind_of}
-use Rattle.amishell.specs.Asked.{AreTurnsOf, HasNone}
+use Rattle.amishell.specs.Asked.{AsksNothing}
 use Rattle.amishell.proofs.RefusalLemmas.{refused, no_words_refused}
 use Rattle.amishell.proofs.reading.asked.Goals as goal
 
@@ -15,4 +15,4 @@ returns-in-Err-clause-no_words g c e =
 pub returns-clause-no_words : goal.returns-clause-no_words
 returns-clause-no_words g c e =
     let words = map g.S.AsStr.text c.args.words.now in
-    no_words_refused words _ (ap (map g.S.AsStr.text) e) (inr (c.in-Ok.ensures.faults, subst (λ p. HasNone (AreTurnsOf p)) c.in-Ok.ensures.matches c.in-None.ensures.none))
+    no_words_refused words _ (ap (map g.S.AsStr.text) e) (inr (c.in-Ok.ensures.faults, subst AsksNothing c.in-Ok.ensures.matches c.in-None.ensures.nothing))

@@ -4,4 +4,4 @@ use Rattle.clap.proofs.WalkLemmas.{first_value-rows}
 use Rattle.amishell.proofs.reading.written.Goals as goal
 
 pub returns : goal.returns
-returns c = c.get_str.ensures ∙ first_value-rows (found_of c.args.inner.now) c.args.option.now
+returns c = c.get_str.ensures ∙ first_value-rows (found_of c.args.inner.now) c.args.name.now

@@ -5,6 +5,8 @@ use Rattle.ados_machine.specs.Runs.{Runs}
 use Rattle.ados_machine.proofs.RunLemmas.{Runs-more}
 use Rattle.ados_machine.proofs.Traces.{frames-hold, limits-hold}
 use Rattle.ados_machine.proofs.Ends.{reports-hold}
+use Rattle.ados_machine.proofs.Erased.{quiet-shells}
+use Rattle.ados_world.proofs.LawLemmas.{starts-leave-nothing}
 use Rattle.ados_world.proofs.worlds.World.run.Goals as goal
 
 pub loop-event-preserved : goal.loop-event-preserved
@@ -38,3 +40,15 @@ returns-clause-frames c =
     let all : take c.loop-event.event-index c.args.events.now ≡ c.args.events.now = grind (arith, common_steps) in
     let run : Runs c.args.self c.args.events.now c.loop-event.outs.items c.loop-event.self = rw all at c.loop-event.invariant.run in
     rw c.from_vec.ensures (frames-hold c.args.self c.args.events.now c.loop-event.outs.items c.loop-event.self run (rw c.self.view_is at c.self.invariant))
+
+pub returns-clause-starts : goal.returns-clause-starts
+returns-clause-starts c =
+    let all : take c.loop-event.event-index c.args.events.now ≡ c.args.events.now = grind (arith, common_steps) in
+    let run : Runs c.args.self c.args.events.now c.loop-event.outs.items c.loop-event.self = rw all at c.loop-event.invariant.run in
+    rw c.from_vec.ensures (starts-leave-nothing c.args.self c.args.events.now c.loop-event.outs.items c.loop-event.self run)
+
+pub returns-clause-quiet : goal.returns-clause-quiet
+returns-clause-quiet c =
+    let all : take c.loop-event.event-index c.args.events.now ≡ c.args.events.now = grind (arith, common_steps) in
+    let run : Runs c.args.self c.args.events.now c.loop-event.outs.items c.loop-event.self = rw all at c.loop-event.invariant.run in
+    rw c.from_vec.ensures (λ j quiet. quiet-shells j c.args.self c.args.events.now c.loop-event.outs.items c.loop-event.self run quiet)

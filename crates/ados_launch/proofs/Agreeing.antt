@@ -1,0 +1,150 @@
+-- The world and the launcher's list agree behind each event.
+use Rattle.std.proofs.Common.{◌≡◌, ◌≢◌, ℕ, ◌<◌, List, [], ◌∷◌, ◌++◌, Bool, true, false, Option, Some, None, Result, Ok, Err, OnOk, refl, sym, ap, ◌∙◌, inl, inr, subst, get_or, length, slice_set, append-nil}
+use Rattle.std.specs.Prelude.{MatchResult}
+use Rattle.std.proofs.lemmas.Bool.{cases_eq}
+use Rattle.std.proofs.lemmas.List.{get_or-set_same, get_or-set_other}
+use Rattle.ados_machine.specs.declared.answers.Answer.{Answer as Reply}
+use Rattle.ados_machine.specs.declared.answers.Answer.TheVariants.{Memory}
+use Rattle.ados_machine.specs.declared.children.ChildState.{ChildState}
+use Rattle.ados_machine.specs.declared.children.ChildState.TheVariants.{Closed, Reading, Waiting}
+use Rattle.ados_machine.specs.declared.events.Event.{Event}
+use Rattle.ados_machine.specs.declared.events.Event.TheVariants.{Answer}
+use Rattle.ados_machine.specs.declared.outs.Out.{Out}
+use Rattle.ados_machine.specs.declared.requests.Request.{Request}
+use Rattle.ados_machine.specs.declared.requests.Request.TheVariants.{Start, Read, Wait}
+use Rattle.ados_machine.specs.Children.{behind_answer, child_asked, child_in, fits, is_launchers, shell_named}
+use Rattle.ados_machine.specs.Items.{Item}
+use Rattle.ados_machine.specs.Limits.{IsSane}
+use Rattle.ados_machine.specs.Runs.{IsAnswer, world_after}
+use Rattle.ados_machine.specs.Step.{Response, Accepted, Refused, step_of}
+use Rattle.ados_machine.specs.World.{WorldState, pending_of}
+use Rattle.ados_machine.proofs.ChildLemmas.{turns-keep, answers-move, request-names}
+use Rattle.ados_launcher.specs.declared.calls.Call.{Call}
+use Rattle.ados_launcher.specs.Lives.{life_of, life_in, life_behind, is_open, state_of}
+use Rattle.ados_launch.specs.Agreement.{Agrees, AreWhole, IsWhole, IsOpenTable}
+use Rattle.ados_launch.specs.Asked.{Answers, Asks, Lists, TakesAnswer, call_of, is_start}
+use Rattle.ados_launch.specs.Schedule.{asks_further}
+use Rattle.ados_launch.proofs.Rows.{life-more, life-here, life-there, state-is}
+
+-- the response to an event that was accepted
+pub record IsAccepted (now : WorldState) (out : Out) (response : Response) : Type 0 where
+  pub items : List (ℕ × Item)
+  pub is : response ≡ Accepted now out items
+
+pub accepted-is : (w now : WorldState) (event : Event) (out : Out) (response : Response) → IsAnswer event (Ok out) response → now ≡ world_after w (Ok out) response →
+    IsAccepted now out response
+accepted-is w now event out (Accepted world given items) answer world_is = record { items = items; is = rw (world_is, answer) refl }
+accepted-is w now event out (Refused why) answer world_is = absurd answer
+
+-- an event that is no launcher's answer keeps all rows
+event-agrees : (w now : WorldState) (event : Event) (out : Out) (calls : List Call) → Agrees w calls → is_launchers event ≡ false →
+    IsAccepted now out (step_of w event) → Agrees now calls
+event-agrees w now event out calls agrees other accepted k =
+    agrees k ∙ ap life_in (sym (turns-keep w event now out accepted.items other accepted.is k))
+
+pub given-agrees : {X E : Type 0} (w now : WorldState) (event : Event) (out : Out) (calls : List Call) (result : Result X E) → Agrees w calls → is_launchers event ≡ false →
+    OnOk result (IsAnswer event (Ok out) (step_of w event)) → OnOk result (now ≡ world_after w (Ok out) (step_of w event)) → OnOk result (Agrees now calls)
+given-agrees w now event out calls (Ok done) agrees other answer world =
+    event-agrees w now event out calls agrees other (accepted-is w now event out (step_of w event) answer world)
+given-agrees w now event out calls (Err why) agrees other answer world = tt
+
+-- where the world stays
+pub same-agrees : (w now : WorldState) (calls : List Call) → Agrees w calls → now ≡ w → Agrees now calls
+same-agrees w now calls agrees same = rw same agrees
+
+-- the row of the child for which a request is made
+row-asked : (w : WorldState) (k : ℕ) (request : Request) (calls : List Call) → Agrees w calls → pending_of w k ≡ Some request → life_of k calls ≡ life_in (child_asked (Some request))
+row-asked w k request calls agrees asked = agrees k ∙ ap (λ p. life_in (child_asked p)) asked
+
+row-here : (w : WorldState) (k : ℕ) (is_full : Bool) (request : Request) (reply : Reply) (calls listed : List Call) → Agrees w calls → pending_of w k ≡ Some request →
+    shell_named request ≡ k → Lists is_full request reply listed → life_of k (calls ++ listed) ≡ life_in (behind_answer request reply)
+row-here w k is_full request reply calls listed agrees asked named (fit, inl listed_is) =
+    rw listed_is (life-more k calls (call_of request reply)
+    ∙ (ap (λ life. life_behind k life (call_of request reply)) (row-asked w k request calls agrees asked) ∙ life-here k request reply named fit))
+row-here w k is_full (Start job) reply calls listed agrees asked named (fit, inr none) =
+    rw (none.0, none.2, append-nil) (row-asked w k (Start job) calls agrees asked)
+row-here w k is_full (Read n) reply calls listed agrees asked named (fit, inr none) = let no = none.1 in cc
+row-here w k is_full (Wait n) reply calls listed agrees asked named (fit, inr none) = let no = none.1 in cc
+
+-- the rows of the others
+row-there : (k j : ℕ) (is_full : Bool) (request : Request) (reply : Reply) (calls listed : List Call) → shell_named request ≡ k → Lists is_full request reply listed → j ≢ k →
+    life_of j (calls ++ listed) ≡ life_of j calls
+row-there k j is_full request reply calls listed named (fit, inl listed_is) apart =
+    rw listed_is (life-more j calls (call_of request reply) ∙ life-there j k request reply (life_of j calls) named apart)
+row-there k j is_full request reply calls listed named (fit, inr none) apart = rw (none.0, append-nil) refl
+
+-- an answer that the world takes
+answer-agrees : (w now : WorldState) (k : ℕ) (is_full : Bool) (request : Request) (reply : Reply) (out : Out) (calls listed : List Call) → IsSane w → Agrees w calls →
+    pending_of w k ≡ Some request → Lists is_full request reply listed → IsAccepted now out (step_of w (Answer k reply)) → Agrees now (calls ++ listed)
+answer-agrees w now k is_full request reply out calls listed sane agrees asked lists accepted j =
+    let moves = answers-move w k request reply now out accepted.items sane asked accepted.is in
+    let named = request-names w k request sane asked in
+    elim (cases_eq j k) [
+      | inl same ↦ subst (λ n. life_of n (calls ++ listed) ≡ life_in (child_in now n)) (sym same)
+          (row-here w k is_full request reply calls listed agrees asked named lists ∙ ap life_in (sym moves.own))
+      | inr apart ↦ row-there k j is_full request reply calls listed named lists apart ∙ (agrees j ∙ ap (λ p. life_in (child_asked p)) (sym (moves.others j apart)))
+    ]
+
+-- where its answer was taken, the world and the list agree
+pub answers-agree : {X E : Type 0} (w now : WorldState) (k : ℕ) (was_full is_full : Bool) (calls calls_now : List Call) (result : Result X E) (out : Out) → IsSane w → Agrees w calls →
+    Answers w k was_full is_full calls calls_now (TakesAnswer w k result now out) → OnOk result (Agrees now calls_now)
+answers-agree w now k was_full is_full calls calls_now (Ok done) out sane agrees a =
+    rw a.asks.calls_are (answer-agrees w now k is_full a.request a.reply out calls a.asks.listed sane agrees a.pending_is a.asks.lists
+    (accepted-is w now (Answer k a.reply) out (step_of w (Answer k a.reply)) a.led_to.0 a.led_to.1))
+answers-agree w now k was_full is_full calls calls_now (Err why) out sane agrees a = tt
+
+whole-in : (state : ChildState) → IsWhole (life_in state)
+whole-in Closed = tt
+whole-in Reading = tt
+whole-in Waiting = tt
+
+pub agrees-whole : (w : WorldState) (calls : List Call) → Agrees w calls → AreWhole calls
+agrees-whole w calls agrees k = subst IsWhole (sym (agrees k)) (whole-in (child_in w k))
+
+-- behind a call each row is whole, whatever came of its answer
+pub answers-whole : (w : WorldState) (k : ℕ) (was_full is_full : Bool) (calls calls_now : List Call) (outcome : Reply → Type 0) → IsSane w → Agrees w calls →
+    Answers w k was_full is_full calls calls_now outcome → AreWhole calls_now
+answers-whole w k was_full is_full calls calls_now outcome sane agrees a j =
+    let named = request-names w k a.request sane a.pending_is in
+    rw a.asks.calls_are
+    (elim (cases_eq j k) [
+      | inl same ↦ subst (λ n. IsWhole (life_of n (calls ++ a.asks.listed))) (sym same)
+          (subst IsWhole (sym (row-here w k is_full a.request a.reply calls a.asks.listed agrees a.pending_is named a.asks.lists)) (whole-in (behind_answer a.request a.reply)))
+      | inr apart ↦ subst IsWhole (sym (row-there k j is_full a.request a.reply calls a.asks.listed named a.asks.lists apart)) (agrees-whole w calls agrees j)
+    ])
+
+-- what a launcher's conditions ask for
+pub state-asked : (w : WorldState) (k : ℕ) (request : Request) (calls : List Call) → IsSane w → Agrees w calls → pending_of w k ≡ Some request →
+    state_of (shell_named request) calls ≡ child_asked (Some request)
+state-asked w k request calls sane agrees asked =
+    rw (request-names w k request sane asked) (state-is k calls (child_asked (Some request)) (row-asked w k request calls agrees asked))
+
+pub number-asked : (w : WorldState) (k : ℕ) (request : Request) → IsSane w → pending_of w k ≡ Some request → k < 21 → shell_named request < 21
+number-asked w k request sane asked few = rw (request-names w k request sane asked) few
+
+-- the table behind a call
+pub table-asked : (w : WorldState) (k : ℕ) (was_full is_full b : Bool) (request : Request) (reply : Reply) (calls calls_now : List Call) (table : List Bool) → IsSane w → Agrees w calls →
+    IsOpenTable table calls → k < length table → pending_of w k ≡ Some request → Asks request reply was_full is_full calls calls_now →
+    b ≡ is_open (life_in (behind_answer request reply)) → IsOpenTable (slice_set table k b) calls_now
+table-asked w k was_full is_full b request reply calls calls_now table sane agrees opened few asked asks is j =
+    let named = request-names w k request sane asked in
+    rw asks.calls_are
+    (elim (cases_eq j k) [
+      | inl same ↦ subst (λ n. get_or (slice_set table k b) n false ≡ is_open (life_of n (calls ++ asks.listed))) (sym same)
+          (get_or-set_same table k b false few ∙ (is ∙ ap is_open (sym (row-here w k is_full request reply calls asks.listed agrees asked named asks.lists))))
+      | inr apart ↦ get_or-set_other table k j b false apart ∙ (opened j ∙ ap is_open (sym (row-there k j is_full request reply calls asks.listed named asks.lists apart)))
+    ])
+
+further-open : (request : Option Request) → asks_further request ≡ is_open (life_in (child_asked request))
+further-open None = refl
+further-open (Some (Start job)) = refl
+further-open (Some (Read n)) = refl
+further-open (Some (Wait n)) = refl
+
+-- the table of the open children by what the shells ask for
+pub table-begins : (w : WorldState) (calls : List Call) (table : List Bool) → Agrees w calls → ((k : ℕ) → get_or table k false ≡ asks_further (pending_of w k)) → IsOpenTable table calls
+table-begins w calls table agrees filled k = filled k ∙ (further-open (pending_of w k) ∙ ap is_open (sym (agrees k)))
+
+-- a world that asks for nothing, as a fresh one does, and a launcher without a call
+pub new-pair : (w : WorldState) (calls : List Call) → ((k : ℕ) → child_in w k ≡ Closed) → calls ≡ [] → Agrees w calls
+new-pair w calls none new k = rw (new, none k) refl

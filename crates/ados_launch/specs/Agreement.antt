@@ -1,0 +1,75 @@
+-- Agreement: what the requests of a world and the list of a launcher's calls have to do with one another.
+use Rattle.std.specs.Prelude.{◌≡◌, ℕ, List, [], ◌∷◌, ◌++◌, map, Bool, true, false, Option, Some, None, get_or, filter}
+use Rattle.std.specs.List.{range_with_len}
+use Rattle.ados_machine.specs.declared.answers.Answer.{Answer}
+use Rattle.ados_machine.specs.Children.{answers_wait, child_in}
+use Rattle.ados_machine.specs.World.{WorldState}
+use Rattle.ados_launcher.specs.declared.calls.Call.{Call}
+use Rattle.ados_launcher.specs.declared.calls.Call.TheVariants.{Start, Read, Wait}
+use Rattle.ados_launcher.specs.Lives.{Life, Between, InReads, BehindReads, Cut, Broken, life_of, life_in, is_open}
+
+-- Each row of lives is whole so far, and its open child is the one that the world reads or waits for: no end of its reads is
+-- listed where the world reads it, and that end is listed where the world waits for it.
+abbrev pub Agrees : WorldState → List Call → Type 0
+Agrees w calls = (k : ℕ) → life_of k calls ≡ life_in (child_in w k)
+
+-- no child was cut short, and no call is out of place
+abbrev pub IsWhole : Life → Type 0
+IsWhole Between = Unit {0}
+IsWhole InReads = Unit {0}
+IsWhole BehindReads = Unit {0}
+IsWhole Cut = ⊥
+IsWhole Broken = ⊥
+
+abbrev pub AreWhole : List Call → Type 0
+AreWhole calls = (k : ℕ) → IsWhole (life_of k calls)
+
+-- no child is open, and no call is out of place; of the last life the end of the reads may lack
+abbrev pub IsOver : Life → Type 0
+IsOver Between = Unit {0}
+IsOver Cut = Unit {0}
+IsOver InReads = ⊥
+IsOver BehindReads = ⊥
+IsOver Broken = ⊥
+
+abbrev pub AreOver : List Call → Type 0
+AreOver calls = (k : ℕ) → IsOver (life_of k calls)
+
+-- the numbers of the open children, rising
+abbrev pub open_children : List Call → List ℕ
+open_children calls = filter (λ k. is_open (life_of k calls)) (range_with_len 0 21)
+
+-- the child that was waited for
+abbrev pub waited_child : Call → Option ℕ
+waited_child (Start job answer) = None
+waited_child (Read n answer) = None
+waited_child (Wait n answer) = Some n
+
+-- waits, with answers of their kind
+abbrev pub AreWaits : List Call → Type 0
+AreWaits [] = Unit {0}
+AreWaits (Start job answer ∷ calls) = ⊥
+AreWaits (Read n answer ∷ calls) = ⊥
+AreWaits (Wait n answer ∷ calls) = (answers_wait answer ≡ true) × AreWaits calls
+
+-- behind these calls one wait was asked for each child that was open, by rising number, and nothing else
+pub record WaitsForOpen (before after : List Call) : Type 0 where
+  pub waits : List Call
+  pub calls_are : after ≡ before ++ waits
+  pub children_are : map waited_child waits ≡ map Some (open_children before)
+  pub fit : AreWaits waits
+
+-- the open children of a launcher by its calls, in a table by their numbers
+abbrev pub IsOpenTable : List Bool → List Call → Type 0
+IsOpenTable table calls = (k : ℕ) → get_or table k false ≡ is_open (life_of k calls)
+
+-- a wait for child k was asked, and nothing else
+pub record AddsWait (k : ℕ) (before after : List Call) : Type 0 where
+  pub answer : Answer
+  pub calls_are : after ≡ before ++ Wait k answer ∷ []
+  pub fit : answers_wait answer ≡ true
+
+-- of these calls one at most is no wait for an open child: it is the first, whose answer was not taken
+abbrev pub OneMore : List Call → Type 0
+OneMore [] = Unit {0}
+OneMore (call ∷ calls) = AreWaits calls

@@ -1,0 +1,74 @@
+-- Asked: what a launcher is asked for, of the events that a run takes.
+use Rattle.std.specs.Prelude.{◌≡◌, ◌⊎◌, ℕ, List, [], ◌∷◌, ◌++◌, Bool, true, false, Option, Some, None, Result, Ok, MatchResult}
+use Rattle.ados_machine.specs.declared.answers.Answer.{Answer as Reply}
+use Rattle.ados_machine.specs.declared.answers.Answer.TheVariants.{Memory}
+use Rattle.ados_machine.specs.declared.events.Event.TheVariants.{Typed, EndOfInput, Turn, Answer}
+use Rattle.ados_machine.specs.declared.outs.Out.{Out}
+use Rattle.ados_machine.specs.declared.requests.Request.{Request}
+use Rattle.ados_machine.specs.declared.requests.Request.TheVariants.{Start, Read, Wait}
+use Rattle.ados_machine.specs.Children.{fits}
+use Rattle.ados_machine.specs.Runs.{IsAnswer, world_after}
+use Rattle.ados_machine.specs.Step.{step_of}
+use Rattle.ados_machine.specs.World.{WorldState, pending_of}
+use Rattle.ados_launcher.specs.declared.calls.Call.{Call}
+use Rattle.ados_launcher.specs.declared.calls.Call.TheVariants.{Start as Starts, Read as Reads, Wait as Waits}
+use Rattle.ados_launch.specs.Taken.{Taken, Given, LongLine, world_behind}
+
+-- the request is a program's start
+abbrev pub is_start : Request → Bool
+is_start (Start job) = true
+is_start (Read n) = false
+is_start (Wait n) = false
+
+-- the call to which a request leads, with its answer
+abbrev pub call_of : Request → Reply → Call
+call_of (Start job) reply = Starts job reply
+call_of (Read n) reply = Reads n reply
+call_of (Wait n) reply = Waits n reply
+
+-- What a launcher lists of it: the call, with an answer of its kind. A start that finds no room is answered Memory, and is
+-- not listed; the launcher is full then, and stays so.
+abbrev pub Lists : Bool → Request → Reply → List Call → Type 0
+Lists is_full request reply listed =
+    (fits request reply ≡ true)
+    × ((listed ≡ call_of request reply ∷ []) ⊎ ((listed ≡ []) × (is_start request ≡ true) × (reply ≡ Memory) × (is_full ≡ true)))
+
+-- where there is a request
+abbrev pub ListsOf : Bool → Option Request → Reply → List Call → Type 0
+ListsOf is_full None reply listed = ⊥
+ListsOf is_full (Some request) reply listed = Lists is_full request reply listed
+
+-- what is asked for what a run takes: for an answer, what its shell waits for
+abbrev pub IsAsked : Bool → WorldState → Taken → List Call → Type 0
+IsAsked is_full w (Given (Answer k reply) out) listed = ListsOf is_full (pending_of w k) reply listed
+IsAsked is_full w (Given (Typed line) out) listed = listed ≡ []
+IsAsked is_full w (Given EndOfInput out) listed = listed ≡ []
+IsAsked is_full w (Given (Turn k) out) listed = listed ≡ []
+IsAsked is_full w LongLine listed = listed ≡ []
+
+-- for all of it, one after another, each once
+abbrev pub AreAsked : Bool → WorldState → List Taken → List Call → Type 0
+AreAsked is_full w [] listed = listed ≡ []
+AreAsked is_full w (item ∷ taken) listed =
+    (now later : List Call) × (listed ≡ now ++ later) × IsAsked is_full w item now × AreAsked is_full (world_behind w item) taken later
+
+-- A request was made to a launcher, which answered so: what it listed.
+pub record Asks (request : Request) (reply : Reply) (was_full is_full : Bool) (calls calls_now : List Call) : Type 0 where
+  pub listed : List Call
+  pub calls_are : calls_now ≡ calls ++ listed
+  pub lists : Lists is_full request reply listed
+  pub stays : was_full ≡ true → is_full ≡ true
+
+-- What shell k waits for was asked of a launcher, and this is what its answer led to.
+pub record Answers (w : WorldState) (k : ℕ) (was_full is_full : Bool) (calls calls_now : List Call) (outcome : Reply → Type 0) : Type 0 where
+  pub request : Request
+  pub pending_is : pending_of w k ≡ Some request
+  pub reply : Reply
+  pub asks : Asks request reply was_full is_full calls calls_now
+  pub led_to : outcome reply
+
+-- the world took the answer for shell k, which gave this; or it stays as it was
+abbrev pub TakesAnswer : {X E : Type 0} → WorldState → ℕ → Result X E → WorldState → Out → Reply → Type 0
+TakesAnswer w k result now out reply = MatchResult result
+    (λ _. IsAnswer (Answer k reply) (Ok out) (step_of w (Answer k reply)) × (now ≡ world_after w (Ok out) (step_of w (Answer k reply))))
+    (λ _. now ≡ w)

@@ -1,0 +1,65 @@
+// Asks a launcher for what a shell waits for, and gives the world its answer.
+ghost use Rattle.std.specs.Prelude.{◌≡◌, ◌≢◌, ◌<◌, Some, None, Err, OnErr};
+ghost use Rattle.ados_machine.specs.Limits.{IsSane};
+ghost use Rattle.ados_machine.specs.World.{pending_of};
+ghost use Rattle.ados_machine.specs.Children.{behind_answer, child_asked, shell_named};
+ghost use Rattle.ados_shell.specs.Drafts.{out_of};
+ghost use Rattle.ados_launcher.specs.Lives.{is_open, life_in, state_of};
+ghost use Rattle.ados_launch.specs.Agreement.{Agrees, IsOpenTable};
+ghost use Rattle.ados_launch.specs.Asked.{Answers, Asks, TakesAnswer};
+
+use crate::events::give;
+use crate::faults::DriveFault;
+use ados_launcher::Launcher;
+use ados_machine::{Answer, Request};
+use ados_world::{Draft, Event, World};
+
+// Has the launcher answer what the shell of a number asks for. The table of open children follows.
+pub fn answer<L: Launcher>(
+    world: &mut World,
+    launcher: &mut L,
+    children: &mut [bool; 21],
+    number: u8,
+    draft: &mut Draft,
+) -> Result<(), DriveFault>
+    requires number { number < 21 }
+    requires asked { pending_of world.old number ≢ None }
+    requires agrees { Agrees world.old (L.calls launcher.old) }
+    requires children { IsOpenTable children.old (L.calls launcher.old) }
+    ensures answers { Answers world.old number (L.is_full launcher.old) (L.is_full launcher.new) (L.calls launcher.old) (L.calls launcher.new)
+        (TakesAnswer world.old number result world.new (out_of draft.new)) }
+    ensures children { IsOpenTable children.new (L.calls launcher.new) }
+    ensures sane { IsSane world.old }
+    ensures memory { OnErr result (result ≡ Err DriveFault.Memory) }
+{
+    let Some(request) = world.pending(number) else {
+        unreachable!();
+    };
+    let answer = ask(launcher, request);
+    children[usize::from(number)] = runs_behind(request, &answer);
+    give(world, &Event::Answer(number, answer), draft)
+}
+
+// The launcher's answer to a request.
+fn ask<L: Launcher>(launcher: &mut L, request: &Request) -> Answer
+    requires number { shell_named request.now < 21 }
+    requires state { state_of (shell_named request.now) (L.calls launcher.old) ≡ child_asked (Some request.now) }
+    ensures { Asks request.now result (L.is_full launcher.old) (L.is_full launcher.new) (L.calls launcher.old) (L.calls launcher.new) }
+{
+    match request {
+        Request::Start(job) => launcher.start(job),
+        Request::Read(child) => launcher.read(*child),
+        Request::Wait(child) => launcher.wait(*child),
+    }
+}
+
+// The child is open behind this answer to what was asked for it.
+fn runs_behind(request: &Request, answer: &Answer) -> bool
+    ensures { result ≡ is_open (life_in (behind_answer request.now answer.now)) }
+{
+    match request {
+        Request::Start(_) => matches!(answer, Answer::Started),
+        Request::Read(_) => true,
+        Request::Wait(_) => false,
+    }
+}

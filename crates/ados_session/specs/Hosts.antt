@@ -1,0 +1,43 @@
+-- Files of the programs of the host that are commands.
+use Rattle.std.specs.Prelude.{Bool, true, false, ◌&&◌, ◌||◌, ◌==◌, List, length, slice_index, Option, Some, None, is_none, if◌then◌else◌}
+use Rattle.std.specs.List.{filter_map, list_all}
+use Rattle.ados_text.specs.Text.{Text}
+use Rattle.ados_subst.specs.Words.{first_word, rest_of, trimmed}
+use Rattle.ados_resident.specs.declared.hosts.HostEntry.{HostEntry}
+use Rattle.ados_world.specs.Hosts.{hosts_fault}
+use Rattle.ados_session.specs.declared.hosts.HostLine.{HostLine}
+use Rattle.ados_session.specs.declared.hosts.HostLine.TheVariants.{Nothing, Host, Bad}
+
+-- the line begins with `#`
+abbrev pub is_comment : Text → Bool
+is_comment line = slice_index line 0 == 35
+
+-- what the words of a line say: a command's name and the path of its program, which must not be missing
+abbrev pub words_say : Text → HostLine
+words_say words = if length (rest_of words) == 0 then Bad else Host (record { name = first_word words; program = rest_of words })
+
+-- what a line says; blanks round it are dropped
+abbrev pub host_line : Text → HostLine
+host_line line = if length (trimmed line) == 0 || is_comment line then Nothing else words_say (trimmed line)
+
+-- the line says nothing, or a command
+abbrev pub is_host_line : HostLine → Bool
+is_host_line Bad = false
+is_host_line _ = true
+
+-- the command that a line says
+abbrev pub host_in : HostLine → Option HostEntry
+host_in (Host host) = Some host
+host_in _ = None
+
+-- the commands that these lines say
+abbrev pub hosts_in : List Text → List HostEntry
+hosts_in lines = filter_map (λ line. host_in (host_line line)) lines
+
+-- a world can be made with these commands
+abbrev pub are_free : List HostEntry → Bool
+are_free hosts = is_none (hosts_fault hosts)
+
+-- each line says nothing or a command, and a world can be made with all of them
+abbrev pub are_hosts : List Text → Bool
+are_hosts lines = list_all (λ line. is_host_line (host_line line)) lines && are_free (hosts_in lines)

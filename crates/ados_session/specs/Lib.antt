@@ -1,0 +1,5 @@
+pub mod Parts
+pub mod Faults
+pub mod Hosts
+pub mod Answers
+pub mod Recordings

@@ -1,0 +1,34 @@
+// Why a file is not read.
+ghost use Rattle.std.specs.Prelude.{◌≡◌};
+ghost use Rattle.ados_session.specs.declared.faults.FileFault.TheVariants.{NoMemory as OutOfMemory};
+
+use ados_text::NoMemory;
+use std::alloc::AllocError;
+use thiserror::Error;
+
+/// Why a file of hosts or a recording is not read.
+#[derive(Clone, Copy, Debug, PartialEq, Eq, Error)]
+pub enum FileFault {
+    /// The line of this number, from 1, is the first that is at fault.
+    #[error("bad line {0}")]
+    BadLine(usize),
+    /// There was no memory for what it holds.
+    #[error("no free store")]
+    NoMemory,
+}
+
+impl From<NoMemory> for FileFault {
+    ghost from_gives = { λ _ fault. fault ≡ OutOfMemory };
+
+    fn from(_e: NoMemory) -> FileFault {
+        FileFault::NoMemory
+    }
+}
+
+impl From<AllocError> for FileFault {
+    ghost from_gives = { λ _ fault. fault ≡ OutOfMemory };
+
+    fn from(_e: AllocError) -> FileFault {
+        FileFault::NoMemory
+    }
+}

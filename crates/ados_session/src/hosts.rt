@@ -1,0 +1,101 @@
+//! Files of the programs of the host that are commands.
+ghost use Rattle.std.specs.Prelude.{◌≡◌, ◌++◌, ◌∷◌, ◌&&◌, [], true, IfOk, IfErr};
+ghost use Rattle.ados_text.specs.Lines.{lines_of};
+ghost use Rattle.ados_session.specs.Faults.{IsFault};
+ghost use Rattle.ados_session.specs.Hosts.{are_hosts, are_free, host_line, hosts_in, is_comment, is_host_line};
+ghost use Rattle.ados_session.specs.declared.hosts.HostLine.TheVariants.{Host};
+
+use crate::faults::FileFault;
+use crate::parts::{first_word, rest_of, text_of, trimmed};
+use ados_text::{NoMemory, Text, lines_of};
+use ados_world::{HostEntry, hosts_fault};
+use std::alloc::Global;
+
+/// What a line of such a file says.
+#[derive(Drop)]
+pub enum HostLine {
+    /// Nothing: it is blank or a comment.
+    Nothing,
+    /// A command, with its program.
+    Host(HostEntry),
+    /// No command: the path of a program is missing.
+    Bad,
+}
+
+/// The commands that a file names, in order.
+///
+/// Each line is a command's name, blanks, and the path of a program; blanks round the whole are dropped. Blank lines,
+/// and lines that begin with `#`, say nothing. A byte past ASCII is read as `?`.
+///
+/// `BadLine` names the first line at fault: it has no path, or its name is none, that of a command, or that of an
+/// earlier line, or it is a 65th command.
+pub fn read_hosts(alloc: Global, bytes: &[u8]) -> Result<Vec<HostEntry>, FileFault>
+    ensures good { IfOk result (λ hosts. are_hosts (lines_of bytes.now) ≡ true) }
+    ensures hosts { IfOk result (λ hosts. hosts.items ≡ hosts_in (lines_of bytes.now)) }
+    ensures fault { IfErr result (IsFault are_hosts 0 (lines_of bytes.now)) }
+{
+    let lines = lines_of(alloc, bytes)?;
+    hosts_of(alloc, lines.as_slice())
+}
+
+// The commands that lines name.
+fn hosts_of(alloc: Global, lines: &[Text]) -> Result<Vec<HostEntry>, FileFault>
+    ensures good { IfOk result (λ hosts. are_hosts lines.now ≡ true) }
+    ensures hosts { IfOk result (λ hosts. hosts.items ≡ hosts_in lines.now) }
+    ensures fault { IfErr result (IsFault are_hosts 0 lines.now) }
+{
+    let mut hosts = Vec::new(alloc);
+    for (place, line) in lines.iter().enumerate() {
+        if !take_line(alloc, line, &mut hosts)? {
+            return Err(FileFault::BadLine(place + 1));
+        }
+    }
+    Ok(hosts)
+}
+
+// Adds the command of a line, if it names one; `false` where the line is at fault.
+fn take_line(alloc: Global, line: &Text, hosts: &mut Vec<HostEntry>) -> Result<bool, NoMemory>
+    requires { are_free hosts.old.items ≡ true }
+    ensures good { IfOk result (λ is_good. is_good ≡ (is_host_line (host_line line.now) && are_free hosts.new.items)) }
+    ensures hosts { IfOk result (λ _. hosts.new.items ≡ hosts.old.items ++ hosts_in (line.now ∷ [])) }
+{
+    match host_line(alloc, line)? {
+        HostLine::Nothing => Ok(true),
+        HostLine::Host(host) => add_host(hosts, host),
+        HostLine::Bad => Ok(false),
+    }
+}
+
+/// Adds a command; `false` where a world can't be made with them.
+pub fn add_host(hosts: &mut Vec<HostEntry>, host: HostEntry) -> Result<bool, NoMemory>
+    ensures free { IfOk result (λ is_free. is_free ≡ are_free (hosts.old.items ++ host ∷ [])) }
+    ensures hosts { IfOk result (λ _. hosts.new.items ≡ hosts.old.items ++ host ∷ []) }
+{
+    hosts.push(host)?;
+    Ok(hosts_fault(hosts.as_slice()).is_none())
+}
+
+// What a line says.
+fn host_line(alloc: Global, line: &Text) -> Result<HostLine, NoMemory>
+    ensures { IfOk result (λ read. read ≡ host_line line.now) }
+{
+    let words = trimmed(line.as_bytes());
+    if words.is_empty() || is_comment(line.as_bytes()) {
+        return Ok(HostLine::Nothing);
+    }
+    let program = rest_of(words);
+    if program.is_empty() {
+        return Ok(HostLine::Bad);
+    }
+    Ok(HostLine::Host(HostEntry {
+        name: text_of(alloc, first_word(words))?,
+        program: text_of(alloc, program)?,
+    }))
+}
+
+// The line begins with `#`.
+fn is_comment(line: &[u8]) -> bool
+    ensures { result ≡ is_comment line.now }
+{
+    matches!(line, [b'#', ..])
+}

@@ -1,0 +1,13 @@
+#![tactic(auto)]
+//! What a session is made from: the programs of the host that are commands, named in a file, and recordings, whose typed
+//! lines and answers are run in the place of a terminal and of programs.
+
+mod answers;
+mod faults;
+mod hosts;
+mod parts;
+mod recordings;
+
+pub use faults::FileFault;
+pub use hosts::read_hosts;
+pub use recordings::{Recording, read_recording};

@@ -1,0 +1,11 @@
+use Rattle.std.proofs.Common.{◌≡◌, ◌∙◌, ◌∷◌, [], Some, ap, sym}
+use Rattle.ados_machine.specs.Numbers.{free_number}
+use Rattle.ados_world.proofs.OpenedLemmas.{opened-sane}
+use Rattle.ados_world.proofs.worlds.World.open_shell.Goals as goal
+
+pub place-requires-clause-sane : goal.place-requires-clause-sane
+place-requires-clause-sane c =
+    let free : free_number c.args.self.now.shells ≡ Some c.in-Some.number =
+    sym (ap (λ w. free_number w.shells) c.self.view_is) ∙ sym c.in-Some.ensures.number in
+    rw c.in-Ok.ensures
+    (opened-sane c.args.self.now c.in-Some.number (c.args.line.now ∷ []) (rw c.self.view_is at c.self.invariant) free)

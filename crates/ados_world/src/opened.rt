@@ -1,0 +1,74 @@
+// Shells that are opened for a line of their own.
+ghost use Rattle.std.specs.Prelude.{◌≡◌, ◌∷◌, ◌-◌, [], IfOk, Some};
+ghost use Rattle.std.specs.List.{slice_set};
+ghost use Rattle.ados_machine.specs.Limits.{IsSane};
+ghost use Rattle.ados_machine.specs.Numbers.{free_number};
+ghost use Rattle.ados_machine.specs.Whole.{opened_shell};
+ghost use Rattle.ados_world.specs.Opened.{Refuses, behind_opening, opening_fault};
+ghost use Rattle.ados_world.specs.Shells.{IsShellNumber};
+
+use crate::new_shells::next_number;
+use crate::worlds::World;
+use ados_find::Settings;
+use ados_machine::Refusal;
+use ados_ram::Place;
+use ados_script::Script;
+use ados_shell::{Begun, Shell};
+use ados_text::{LINE_BYTES, NoMemory, Text};
+use std::alloc::Global;
+
+impl World {
+    /// Opens a shell for one line and gives its number, the lowest of 2 to 20 that is free; `None` where all are taken.
+    ///
+    /// The shell is a fresh one: its current directory is RAM:, and it has no path and no aliases. The line is its one
+    /// frame, and the shell ends behind it.
+    ///
+    /// `Over` where no shell is left, then `LineTooLong` for a line of more than 512 bytes, then `NoMemory`, which comes
+    /// only where a number is free. At a refusal, and at `None`, the world is as it was.
+    pub fn open_shell(&mut self, line: &Text) -> Result<Option<u8>, Refusal>
+        ensures number { IfOk result (λ number. number ≡ free_number self.old.shells) }
+        ensures refusal { Refuses result (opening_fault self.old line.now) (free_number self.old.shells) }
+        ensures world { self.new ≡ behind_opening self.old line.now result }
+    {
+        if self.is_over() {
+            return Err(Refusal::Over);
+        }
+        if line.as_bytes().len() > LINE_BYTES {
+            return Err(Refusal::LineTooLong);
+        }
+        let Some(number) = next_number(&self.shells) else {
+            return Ok(None);
+        };
+        match opened_shell(self.alloc, number, line) {
+            Err(NoMemory) => Err(Refusal::NoMemory),
+            Ok(shell) => {
+                self.place(number, shell);
+                Ok(Some(number))
+            }
+        }
+    }
+
+    /// A shell stands at its number from now on.
+    fn place(&mut self, number: u8, shell: Shell)
+        requires number { IsShellNumber number }
+        requires sane { IsSane (record self.old { shells = slice_set self.old.shells (number - 1) (Some shell) }) }
+        ensures { self.new ≡ record self.old { shells = slice_set self.old.shells (number - 1) (Some shell) } }
+    {
+        self.shells[number as usize - 1] = Some(shell);
+    }
+}
+
+/// A fresh shell of a number, with one line.
+fn opened_shell(alloc: Global, number: u8, line: &Text) -> Result<Shell, NoMemory>
+    ensures { IfOk result (λ shell. shell ≡ opened_shell number (line.now ∷ [])) }
+{
+    let mut lines = Vec::new(alloc);
+    lines.push(line.copy()?)?;
+    let begun = Begun {
+        directory: Place::root(alloc),
+        settings: Settings::first(alloc, number)?,
+        commands: Script::of(alloc, lines)?,
+        output: None,
+    };
+    Shell::begun(alloc, number, begun)
+}
