@@ -11,6 +11,8 @@ mod items;
 #[cfg(test)]
 mod launch;
 #[cfg(test)]
+mod launchers;
+#[cfg(test)]
 mod memory;
 #[cfg(test)]
 mod names;
