@@ -74,7 +74,11 @@ fn finish<L: Launcher>(launcher: &mut L, child: u8) -> Answer
 }
 
 // What a program writes, and how it ends.
-fn outcome<L: Launcher>(alloc: Global, launcher: &mut L, job: &Job) -> Result<(Vec<u8>, Answer), Wrong>
+fn outcome<L: Launcher>(
+    alloc: Global,
+    launcher: &mut L,
+    job: &Job,
+) -> Result<(Vec<u8>, Answer), Wrong>
     requires number { job.now.shell < 21 }
     requires closed { state_of job.now.shell (L.calls launcher.old) ≡ Closed }
     ensures here { IfOk result (λ _. state_of job.now.shell (L.calls launcher.new) ≡ Closed) }
@@ -85,7 +89,11 @@ fn outcome<L: Launcher>(alloc: Global, launcher: &mut L, job: &Job) -> Result<(V
 }
 
 // What the start of a program alone answers.
-fn answer_to<R: Processes>(alloc: Global, processes: &R, program: &str) -> Result<Answer, NoMemory> {
+fn answer_to<R: Processes>(
+    alloc: Global,
+    processes: &R,
+    program: &str,
+) -> Result<Answer, NoMemory> {
     let mut host = Host::new(alloc, processes)?;
     Ok(host.start(&job(alloc, 1, program, &[])?))
 }
@@ -204,7 +212,9 @@ fn two_answers(alloc: Global, first: Answer, second: Answer) -> Result<Vec<Answe
 }
 
 #[test]
-fn pieces_of_none_and_of_more_than_4096_bytes_are_of_another_kind(rt: HostRuntime) -> Result<(), Wrong> {
+fn pieces_of_none_and_of_more_than_4096_bytes_are_of_another_kind(
+    rt: HostRuntime,
+) -> Result<(), Wrong> {
     let alloc = rt.alloc();
     expect(matches!(piece_of(alloc, 0)?, Answer::PipeFault), "none")?;
     expect(matches!(piece_of(alloc, 1)?, Answer::Bytes(_)), "one")?;
@@ -212,7 +222,7 @@ fn pieces_of_none_and_of_more_than_4096_bytes_are_of_another_kind(rt: HostRuntim
     expect(matches!(piece_of(alloc, 4097)?, Answer::PipeFault), "4097")
 }
 
-// The first answer is no start's; the second is one, and the end of a read in its place is none.
+// The end of an output is no answer to a start; the next start takes the next answer, and behind that there is none.
 #[test]
 fn an_answer_of_another_kind_is_used_up(rt: HostRuntime) -> Result<(), Wrong> {
     let answers = two_answers(rt.alloc(), Answer::End, Answer::Started)?;
@@ -221,5 +231,8 @@ fn an_answer_of_another_kind_is_used_up(rt: HostRuntime) -> Result<(), Wrong> {
     let two = job(rt.alloc(), 2, "x", &[])?;
     expect(matches!(listed.start(&one), Answer::Other), "the end")?;
     begin(&mut listed, &two)?;
-    expect(matches!(finish(&mut listed, 2), Answer::WaitFault), "no answer")
+    expect(
+        matches!(finish(&mut listed, 2), Answer::WaitFault),
+        "no answer",
+    )
 }
