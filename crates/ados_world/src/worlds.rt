@@ -3,6 +3,7 @@ ghost use Rattle.std.specs.Prelude.{◌≡◌, IfOk, OnSome};
 ghost use Rattle.std.specs.Option.{option_copied};
 ghost use Rattle.ados_world.specs.Hosts.{Answers, hosts_fault};
 ghost use Rattle.ados_world.specs.Shells.{IsShellNumber};
+ghost use Rattle.ados_machine.specs.Limits.{IsSane};
 ghost use Rattle.ados_machine.specs.World.{fresh_world, shell_at, is_over, is_ready, wants_line, codes_at, ended_at, running, pending_of};
 
 use crate::hosts::{NewFault, hosts_fault};
@@ -126,10 +127,14 @@ impl World {
         }
     }
 
-    /// What the shell of this number asked a launcher for, and waits for.
+    /// What the shell of this number asked a launcher for, and waits for. By what holds of every world a request names its
+    /// shell.
     pub fn pending(&self, number: u8) -> Option<&Request>
-        ensures { option_copied result ≡ pending_of self.now number }
+        ensures request { option_copied result ≡ pending_of self.now number }
+        ensures sane { IsSane self.now }
     {
+        // By this it is known what holds of every world.
+        let _ = &self.alloc;
         match self.shell(number) {
             None => None,
             Some(shell) => shell.request(),
