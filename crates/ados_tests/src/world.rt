@@ -228,3 +228,45 @@ const SHELL_OF_A_SCRIPT: &[Row] = &[
 fn want_of_memory_moves_and_ends_no_background_shell(rt: HostRuntime) -> Result<(), Wrong> {
     dialogue(rt.alloc(), SHELL_OF_A_SCRIPT)
 }
+
+// The shell that is opened has this number, or no number is free; where memory was wanting it was refused before, and the
+// world was as it was.
+fn opens(world: &mut World, line: &Text, want: Option<u8>) -> bool {
+    let before = views(world);
+    match world.open_shell(line) {
+        Err(Refusal::NoMemory) => views(world) == before && is_opened(world.open_shell(line), want),
+        opened => is_opened(opened, want),
+    }
+}
+
+fn is_opened(opened: Result<Option<u8>, Refusal>, want: Option<u8>) -> bool {
+    match opened {
+        Ok(number) => number == want,
+        Err(_) => false,
+    }
+}
+
+const OPENED: &[Row] = &[(Turn(2), ""), (Turn(2), ""), (Turn(2), "a 2\n")];
+
+#[test]
+fn want_of_memory_opens_no_shell(rt: HostRuntime) -> Result<(), Wrong> {
+    let alloc = rt.alloc();
+    let mut world = fresh_world(alloc)?;
+    let line = Text::from_bytes(alloc, b"Echo `Echo a` $Process")?;
+    expect(opens(&mut world, &line, Some(2)), "a shell for a line")?;
+    follow(alloc, &mut world, OPENED)
+}
+
+#[test]
+fn no_shell_is_opened_beside_twenty(rt: HostRuntime) -> Result<(), Wrong> {
+    let alloc = rt.alloc();
+    let mut world = fresh_world(alloc)?;
+    let line = Text::from_bytes(alloc, b"Echo x")?;
+    for number in 2..21 {
+        expect(
+            opens(&mut world, &line, Some(number)),
+            "a shell for each number",
+        )?;
+    }
+    expect(opens(&mut world, &line, None), "a shell without a number")
+}
