@@ -1,7 +1,7 @@
 use crate::memory::{FlakyReader, FlakyWriter, NEVER};
 use crate::world::fresh_world;
 use crate::wrong::{Wrong, expect, expect_row};
-use ados_launch::{Counted, DriveFault, End, drive_lines};
+use ados_launch::{Counted, DriveFault, End, Listed};
 use ados_text::{Code, NoMemory, Result2};
 use ados_world::World;
 use std::alloc::Global;
@@ -31,10 +31,20 @@ fn drive(
     text: &mut Vec<u8>,
     fails: Failing,
     turns: u64,
-) -> Result<End, DriveFault> {
+) -> Result<End, DriveFault>
+    requires { Agrees world.old [] }
+{
     let mut reader = Counted::new(FlakyReader::new(input, 3, fails.read));
     let mut writer = Counted::new(FlakyWriter::new(text, 1, fails.write, fails.stalled_write));
-    drive_lines(alloc, world, &mut reader, &mut writer, turns)
+    let mut launcher = Listed::new(alloc, Vec::new(alloc));
+    ados_launch::drive(
+        alloc,
+        world,
+        &mut launcher,
+        &mut reader,
+        &mut writer,
+        turns,
+    )
 }
 
 // How a fresh world driven so ended, none where it ended well, and how many bytes it wrote. Want of memory is
