@@ -1,5 +1,4 @@
 use crate::memory::{FlakyReader, FlakyWriter, NEVER};
-use crate::world::fresh_world;
 use crate::wrong::{Wrong, expect, expect_row};
 use ados_launch::{Counted, DriveFault, End, Listed};
 use ados_text::{Code, NoMemory, Result2};
@@ -23,28 +22,30 @@ const NONE_FAILS: Failing = Failing {
     stalled_write: NEVER,
 };
 
-// A world driven by these bytes, read three at a time and written one at a time.
+// A fresh world driven by these bytes, read three at a time and written one at a time. Want of memory for the world is
+// handed on.
+#[tactic(auto, using(crate::proofs::NewPair::new_pair))]
 fn drive(
     alloc: Global,
-    world: &mut World,
     input: &[u8],
     text: &mut Vec<u8>,
     fails: Failing,
     turns: u64,
-) -> Result<End, DriveFault>
-    requires { Agrees world.old [] }
-{
+) -> Result<Result<End, DriveFault>, NoMemory> {
+    let Ok(mut world) = World::new(alloc, &[]) else {
+        return Err(NoMemory);
+    };
+    let mut launcher = Listed::new(alloc, Vec::new(alloc));
     let mut reader = Counted::new(FlakyReader::new(input, 3, fails.read));
     let mut writer = Counted::new(FlakyWriter::new(text, 1, fails.write, fails.stalled_write));
-    let mut launcher = Listed::new(alloc, Vec::new(alloc));
-    ados_launch::drive(
+    Ok(ados_launch::drive(
         alloc,
-        world,
+        &mut world,
         &mut launcher,
         &mut reader,
         &mut writer,
         turns,
-    )
+    ))
 }
 
 // How a fresh world driven so ended, none where it ended well, and how many bytes it wrote. Want of memory is
@@ -55,9 +56,8 @@ fn driven(
     fails: Failing,
     turns: u64,
 ) -> Result<(Option<DriveFault>, usize), NoMemory> {
-    let mut world = fresh_world(alloc)?;
     let mut text = Vec::with_capacity(alloc, 200)?;
-    match drive(alloc, &mut world, input, &mut text, fails, turns).err() {
+    match drive(alloc, input, &mut text, fails, turns)?.err() {
         Some(DriveFault::Memory) => Err(NoMemory),
         fault => Ok((fault, text.len())),
     }
@@ -65,9 +65,8 @@ fn driven(
 
 // What a fresh world driven by these bytes ends with, where nothing fails. Want of memory is handed on.
 fn ended(alloc: Global, input: &[u8]) -> Result<Result<End, DriveFault>, NoMemory> {
-    let mut world = fresh_world(alloc)?;
     let mut text = Vec::with_capacity(alloc, 200)?;
-    match drive(alloc, &mut world, input, &mut text, NONE_FAILS, ENOUGH) {
+    match drive(alloc, input, &mut text, NONE_FAILS, ENOUGH)? {
         Err(DriveFault::Memory) => Err(NoMemory),
         end => Ok(end),
     }

@@ -116,14 +116,7 @@ fn play<R: AllocGlobal + Print, L: Launcher, S: Source>(
         return Err(Fault::Memory);
     };
     let mut writer = Counted::new(io::writer(rt));
-    let end = drive(
-        rt.alloc(),
-        &mut world,
-        launcher,
-        reader,
-        &mut writer,
-        turns,
-    )?;
+    let end = drive(rt.alloc(), &mut world, launcher, reader, &mut writer, turns)?;
     Ok(status(end.code))
 }
 
