@@ -11,7 +11,6 @@ mod items;
 #[cfg(test)]
 mod launch;
 #[cfg(test)]
-mod launchers;
 #[cfg(test)]
 mod memory;
 #[cfg(test)]
