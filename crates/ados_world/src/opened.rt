@@ -1,5 +1,5 @@
 // Shells that are opened for a line of their own.
-ghost use Rattle.std.specs.Prelude.{◌≡◌, ◌∷◌, ◌-◌, [], IfOk, Some};
+ghost use Rattle.std.specs.Prelude.{◌≡◌, ◌≤◌, ◌∷◌, ◌-◌, [], length, IfOk, IfSome, Some};
 ghost use Rattle.std.specs.List.{slice_set};
 ghost use Rattle.ados_machine.specs.Limits.{IsSane};
 ghost use Rattle.ados_machine.specs.Numbers.{free_number};
@@ -27,6 +27,8 @@ impl World {
     /// only where a number is free. At a refusal, and at `None`, the world is as it was.
     pub fn open_shell(&mut self, line: &Text) -> Result<Option<u8>, Refusal>
         ensures number { IfOk result (λ number. number ≡ free_number self.old.shells) }
+        // Its number has a place for the codes that it leaves.
+        ensures place { IfOk result (λ number. IfSome number (λ k. k ≤ length self.old.ended)) }
         ensures refusal { Refuses result (opening_fault self.old line.now) (free_number self.old.shells) }
         ensures world { self.new ≡ behind_opening self.old line.now result }
     {
