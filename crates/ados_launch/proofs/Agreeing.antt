@@ -93,6 +93,14 @@ answers-agree w now k was_full is_full calls calls_now (Ok done) out sane agrees
     (accepted-is w now (Answer k a.reply) out (step_of w (Answer k a.reply)) a.led_to.0 a.led_to.1))
 answers-agree w now k was_full is_full calls calls_now (Err why) out sane agrees a = tt
 
+-- an answer that the world did not take, once it is given
+pub untaken-agrees : (w : WorldState) (k : ℕ) (was_full is_full : Bool) (calls calls_now : List Call) (request : Request) (reply : Reply) (out : Out) → IsSane w → Agrees w calls →
+    pending_of w k ≡ Some request → Asks request reply was_full is_full calls calls_now → IsAnswer (Answer k reply) (Ok out) (step_of w (Answer k reply)) →
+    Agrees (world_after w (Ok out) (step_of w (Answer k reply))) calls_now
+untaken-agrees w k was_full is_full calls calls_now request reply out sane agrees asked asks is =
+    rw asks.calls_are (answer-agrees w (world_after w (Ok out) (step_of w (Answer k reply))) k is_full request reply out calls asks.listed sane agrees asked asks.lists
+    (accepted-is w (world_after w (Ok out) (step_of w (Answer k reply))) (Answer k reply) out (step_of w (Answer k reply)) is refl))
+
 whole-in : (state : ChildState) → IsWhole (life_in state)
 whole-in Closed = tt
 whole-in Reading = tt

@@ -12,3 +12,4 @@ pub mod Over
 pub mod Rows
 pub mod Agreeing
 pub mod Waits
+pub mod AloneLemmas

@@ -1,4 +1,5 @@
 pub mod Agreement
+pub mod Alone
 pub mod Asked
 pub mod Faults
 pub mod Laws

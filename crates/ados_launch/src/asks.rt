@@ -41,7 +41,7 @@ pub fn answer<L: Launcher>(
 }
 
 // The launcher's answer to a request.
-fn ask<L: Launcher>(launcher: &mut L, request: &Request) -> Answer
+pub fn ask<L: Launcher>(launcher: &mut L, request: &Request) -> Answer
     requires number { shell_named request.now < 21 }
     requires state { state_of (shell_named request.now) (L.calls launcher.old) ≡ child_asked (Some request.now) }
     ensures { Asks request.now result (L.is_full launcher.old) (L.is_full launcher.new) (L.calls launcher.old) (L.calls launcher.new) }

@@ -4,6 +4,7 @@
 //! A reader and a writer are any of std's, within [`Counted`], which counts how often they failed. A launcher is one of
 //! [`Host`], which starts real programs, and [`Listed`], which answers from a list.
 
+mod alone;
 mod asks;
 mod children;
 mod counted;
@@ -17,6 +18,7 @@ mod schedule;
 mod written;
 
 pub use ados_launcher::{Call, Host, Launcher, Listed};
+pub use alone::{SystemEnd, SystemFault, next_event, system};
 pub use counted::{Counted, Sink, Source};
 pub use driver::{End, drive};
 pub use faults::DriveFault;

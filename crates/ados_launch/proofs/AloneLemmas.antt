@@ -1,0 +1,206 @@
+-- How far a line that runs alone has come.
+use Rattle.std.proofs.Common.{◌≡◌, ◌≢◌, ℕ, zero, suc, ◌+◌, ◌-◌, ◌≤◌, ◌<◌, List, [], ◌∷◌, ◌++◌, Bool, true, false, Option, Some, None, Result, Ok, Err, OnOk, is_some, length, arith, refl, ap, sym, ◌∙◌, inl, inr, subst, append_assoc, append-nil}
+use Rattle.ados_text.specs.Text.{Bytes, Text}
+use Rattle.ados_find.specs.declared.codes.Codes.{Codes}
+use Rattle.ados_machine.specs.declared.answers.Answer.{Answer as Reply}
+use Rattle.ados_machine.specs.declared.events.Event.{Event}
+use Rattle.ados_machine.specs.declared.events.Event.TheVariants.{Typed, EndOfInput, Turn, Answer}
+use Rattle.ados_machine.specs.declared.outs.Out.{Out}
+use Rattle.ados_machine.specs.declared.requests.Request.{Request}
+use Rattle.ados_machine.specs.Alone.{AreOf, alone, bytes_in, is_hosted}
+use Rattle.ados_machine.specs.Numbers.{free_number}
+use Rattle.ados_machine.specs.Requests.{request_of}
+use Rattle.ados_machine.specs.Runs.{IsAnswer, Runs, world_after}
+use Rattle.ados_machine.specs.Shells.{ShellState}
+use Rattle.ados_machine.specs.Step.{step_of}
+use Rattle.ados_machine.specs.Whole.{opened}
+use Rattle.ados_machine.specs.World.{WorldState, shell_at, pending_by, pending_of, codes_at}
+use Rattle.ados_machine.proofs.Loops.{alone-turn, alone-reply, pending-hosted}
+use Rattle.ados_machine.proofs.Systems.{system-ended, system-late}
+use Rattle.ados_launcher.specs.declared.calls.Call.{Call}
+use Rattle.ados_launch.specs.Alone.{AreOfLast, EndedAs, IsNextOf, IsUntaken, RunsLine, RunsOn, TakesNext}
+use Rattle.ados_launch.specs.Asked.{AreAsked}
+use Rattle.ados_launch.specs.Taken.{Taken, Given, LongLine, bytes_of, events_in, outs_in}
+use Rattle.ados_launch.proofs.Sessions.{calls-more}
+use Rattle.ados_launch.proofs.Taken.{run-more, asked-more, asked-full}
+
+-- the answers among an event
+abbrev pub replies_in : Event → List Reply
+replies_in (Answer k reply) = reply ∷ []
+replies_in (Turn k) = []
+replies_in (Typed line) = []
+replies_in EndOfInput = []
+
+-- so many events were taken, and the steps of the shell that runs alone go on from here, whatever answers come
+pub record Going (k : ℕ) (w : WorldState) (line : Text) (turns n : ℕ) (is_full : Bool) (world : WorldState) (before now : Bytes) (calls calls_now : List Call) : Type 0 where
+  pub taken : List Taken
+  pub answers : List Reply
+  pub listed : List Call
+  pub run : Runs (opened w k (line ∷ [])) (events_in taken) (outs_in taken) world
+  pub events_are : AreOf k (events_in taken) answers []
+  pub asked : AreAsked is_full (opened w k (line ∷ [])) taken listed
+  pub calls_are : calls_now ≡ calls ++ listed
+  pub count : length (events_in taken) ≡ n
+  pub printed : now ≡ before ++ bytes_in (outs_in taken)
+  pub steps : (left : ℕ) → left + n ≡ turns → (rest : List Reply) →
+      alone k turns (answers ++ rest) (opened w k (line ∷ [])) before ≡ alone k left rest world now
+
+pub going-none : (k : ℕ) (w : WorldState) (line : Text) (turns : ℕ) (is_full : Bool) (world : WorldState) (before : Bytes) (calls : List Call) →
+    world ≡ opened w k (line ∷ []) → Going k w line turns 0 is_full world before before calls calls
+going-none k w line turns is_full world before calls is = record {
+  taken = [];
+  answers = [];
+  listed = [];
+  run = is;
+  events_are = refl;
+  asked = refl;
+  calls_are = sym (append-nil calls);
+  count = refl;
+  printed = sym (append-nil before);
+  steps = λ left all rest.
+      let same : left ≡ turns = omega (arith, all) in
+      rw (is, same) refl;
+}
+
+typed-next : (pending : Option Request) (k : ℕ) (line : Text) → IsNextOf k pending (Typed line) → ⊥
+typed-next None k line is = is
+typed-next (Some request) k line is = is
+
+end-next : (pending : Option Request) (k : ℕ) → IsNextOf k pending EndOfInput → ⊥
+end-next None k is = is
+end-next (Some request) k is = is
+
+turn-next : (pending : Option Request) (k j : ℕ) → IsNextOf k pending (Turn j) → (pending ≡ None) × (j ≡ k)
+turn-next None k j is = (refl, is)
+turn-next (Some request) k j is = absurd is
+
+answer-next : (pending : Option Request) (k j : ℕ) (reply : Reply) → IsNextOf k pending (Answer j reply) → (is_some pending ≡ true) × (j ≡ k)
+answer-next None k j reply is = absurd is
+answer-next (Some request) k j reply is = (refl, is)
+
+-- one more event of the shell that runs alone
+steps-by : (k n : ℕ) (w : WorldState) (event : Event) (out : Out) (printed : Bytes) (shell : ShellState) → shell_at w k ≡ Some shell →
+    IsNextOf k (request_of shell.parts.number shell.phase) event → IsAnswer event (Ok out) (step_of w event) → (rest : List Reply) →
+    alone k (suc n) (replies_in event ++ rest) w printed ≡ alone k n rest (world_after w (Ok out) (step_of w event)) (printed ++ out.bytes)
+steps-by k n w (Turn j) out printed shell runs is accepted rest =
+    let next = turn-next (request_of shell.parts.number shell.phase) k j is in
+    rw next.1 (alone-turn k n rest w printed shell out runs
+    (sym (pending-hosted shell.parts.number shell.phase) ∙ ap is_some next.0) (rw next.1 at accepted))
+steps-by k n w (Answer j reply) out printed shell runs is accepted rest =
+    let next = answer-next (request_of shell.parts.number shell.phase) k j reply is in
+    rw next.1 (alone-reply k n reply rest w printed shell out runs
+    (sym (pending-hosted shell.parts.number shell.phase) ∙ next.0) (rw next.1 at accepted))
+steps-by k n w (Typed line) out printed shell runs is accepted rest = absurd (typed-next (request_of shell.parts.number shell.phase) k line is)
+steps-by k n w EndOfInput out printed shell runs is accepted rest = absurd (end-next (request_of shell.parts.number shell.phase) k is)
+
+steps-on : (k n : ℕ) (w : WorldState) (event : Event) (out : Out) (printed : Bytes) (o : Option ShellState) → shell_at w k ≡ o → is_some o ≡ true →
+    IsNextOf k (pending_by o) event → IsAnswer event (Ok out) (step_of w event) → (rest : List Reply) →
+    alone k (suc n) (replies_in event ++ rest) w printed ≡ alone k n rest (world_after w (Ok out) (step_of w event)) (printed ++ out.bytes)
+steps-on k n w event out printed None runs some is accepted rest = cc
+steps-on k n w event out printed (Some shell) runs some is accepted rest = steps-by k n w event out printed shell runs is accepted rest
+
+last-are : (k : ℕ) (event : Event) (pending : Option Request) → IsNextOf k pending event → AreOf k (event ∷ []) (replies_in event) []
+last-are k (Turn j) pending is = ((turn-next pending k j is).1, refl)
+last-are k (Answer j reply) pending is = ((answer-next pending k j reply is).1, refl, refl)
+last-are k (Typed line) pending is = absurd (typed-next pending k line is)
+last-are k EndOfInput pending is = absurd (end-next pending k is)
+
+are-more : (k : ℕ) (taken : List Taken) (answers : List Reply) (event : Event) (out : Out) (pending : Option Request) → AreOf k (events_in taken) answers [] →
+    IsNextOf k pending event → AreOf k (events_in (taken ++ Given event out ∷ [])) (answers ++ replies_in event) []
+are-more k [] answers event out pending are is = rw (sym are) (last-are k event pending is)
+are-more k (Given (Turn j) given ∷ taken) answers event out pending are is = (are.0, are-more k taken answers event out pending are.1 is)
+are-more k (Given (Answer j reply) given ∷ taken) [] event out pending are is = absurd are
+are-more k (Given (Answer j reply) given ∷ taken) (first ∷ answers) event out pending are is =
+    (are.0, are.1, are-more k taken answers event out pending are.2 is)
+are-more k (Given (Typed line) given ∷ taken) answers event out pending are is = absurd are
+are-more k (Given EndOfInput given ∷ taken) answers event out pending are is = absurd are
+are-more k (LongLine ∷ taken) answers event out pending are is = are-more k taken answers event out pending are is
+
+events-more : (taken : List Taken) (event : Event) (out : Out) → length (events_in (taken ++ Given event out ∷ [])) ≡ length (events_in taken) + 1
+events-more [] event out = refl
+events-more (Given first given ∷ taken) event out = let more = events-more taken event out in omega (arith, more)
+events-more (LongLine ∷ taken) event out = events-more taken event out
+
+bytes-more : (taken : List Taken) (event : Event) (out : Out) → bytes_in (outs_in (taken ++ Given event out ∷ [])) ≡ bytes_in (outs_in taken) ++ out.bytes
+bytes-more [] event out = append-nil out.bytes
+bytes-more (Given first given ∷ taken) event out =
+    ap (λ bytes. given.bytes ++ bytes) (bytes-more taken event out) ∙ sym (append_assoc given.bytes (bytes_in (outs_in taken)) out.bytes)
+bytes-more (LongLine ∷ taken) event out = bytes-more taken event out
+
+printed-more : (before mid last bytes more now : Bytes) → mid ≡ before ++ bytes → last ≡ mid ++ more → now ≡ bytes ++ more → last ≡ before ++ now
+printed-more before mid last bytes more now e f h = f ∙ (ap (λ xs. xs ++ more) e ∙ (append_assoc before bytes more ∙ ap (λ xs. before ++ xs) (sym h)))
+
+abbrev pub going-more : (k : ℕ) (w : WorldState) (line : Text) (turns n : ℕ) (was_full is_full : Bool) (world next : WorldState) (before mid last : Bytes)
+    (calls mid_calls calls_now : List Call) (out : Out) →
+    Going k w line turns n was_full world before mid calls mid_calls → (was_full ≡ true → is_full ≡ true) → is_some (shell_at world k) ≡ true →
+    TakesNext k world is_full mid_calls next calls_now out → last ≡ mid ++ out.bytes → Going k w line turns (n + 1) is_full next before last calls calls_now
+going-more k w line turns n was_full is_full world next before mid last calls mid_calls calls_now out g stays runs t grown = record {
+  taken = g.taken ++ Given t.event out ∷ [];
+  answers = g.answers ++ replies_in t.event;
+  listed = g.listed ++ t.listed;
+  run = rw t.world_is (run-more (opened w k (line ∷ [])) g.taken world (Given t.event out) g.run t.accepted);
+  events_are = are-more k g.taken g.answers t.event out (pending_of world k) g.events_are t.is_next;
+  asked = asked-more is_full (opened w k (line ∷ [])) g.taken g.listed world (Given t.event out) t.listed
+      (asked-full was_full is_full (opened w k (line ∷ [])) g.taken g.listed stays g.asked) g.run t.asked;
+  calls_are = calls-more calls mid_calls calls_now g.listed t.listed g.calls_are t.calls_are;
+  count = events-more g.taken t.event out ∙ ap (λ m. m + 1) g.count;
+  printed = printed-more before mid last (bytes_in (outs_in g.taken)) out.bytes _ g.printed grown (bytes-more g.taken t.event out);
+  steps = λ left all rest.
+      ap (λ answers. alone k turns answers (opened w k (line ∷ [])) before) (append_assoc g.answers (replies_in t.event) rest)
+      ∙ (g.steps (suc left) (omega (arith, all)) (replies_in t.event ++ rest)
+      ∙ rw (t.world_is, grown) (steps-on k left world t.event out mid (shell_at world k) refl runs t.is_next t.accepted rest));
+}
+
+none-behind : (calls now listed : List Call) → now ≡ calls ++ listed → now ≡ calls ++ (listed ++ [])
+none-behind calls now listed e = e ∙ ap (λ xs. calls ++ xs) (sym (append-nil listed))
+
+abbrev pub runs-line : (k : ℕ) (w : WorldState) (line : Text) (turns n : ℕ) (was_full is_full : Bool) (world : WorldState) (before now : Bytes) (calls mid_calls calls_now others : List Call) →
+    free_number w.shells ≡ Some k → (was_full ≡ true → is_full ≡ true) → calls_now ≡ mid_calls ++ others →
+    (g : Going k w line turns n was_full world before now calls mid_calls) → RunsLine k w line is_full g.taken g.answers world calls calls_now others
+runs-line k w line turns n was_full is_full world before now calls mid_calls calls_now others free stays e g = record {
+  free = free;
+  run = g.run;
+  events_are = g.events_are;
+  listed = g.listed;
+  asked = asked-full was_full is_full (opened w k (line ∷ [])) g.taken g.listed stays g.asked;
+  calls_are = calls-more calls mid_calls calls_now g.listed others g.calls_are e;
+}
+
+pub going-ended : (k : ℕ) (w : WorldState) (line : Text) (turns n left : ℕ) (is_full : Bool) (world : WorldState) (before now : Bytes) (calls calls_now : List Call) (codes : Codes) →
+    Going k w line turns n is_full world before now calls calls_now → free_number w.shells ≡ Some k → k ≤ length w.ended → left + n ≡ turns →
+    shell_at world k ≡ None → codes ≡ codes_at world k → EndedAs w line turns is_full world before now calls calls_now codes
+going-ended k w line turns n left is_full world before now calls calls_now codes g free room all gone told =
+    let e = system-ended turns k w line g.answers before now left world free room (g.steps left all) gone in
+    record {
+      k = k;
+      taken = g.taken;
+      answers = g.answers;
+      left = left;
+      bytes = e.0;
+      runs = runs-line k w line turns n is_full is_full world before now calls calls_now calls_now [] free (λ is. is) (sym (append-nil calls_now)) g;
+      count = omega (arith, all, g.count);
+      meaning = rw told e.2;
+      written = e.1;
+    }
+
+pub going-late : (k : ℕ) (w : WorldState) (line : Text) (turns : ℕ) (is_full : Bool) (world : WorldState) (before now : Bytes) (calls calls_now : List Call) (shell : ShellState) →
+    Going k w line turns turns is_full world before now calls calls_now → free_number w.shells ≡ Some k → shell_at world k ≡ Some shell →
+    RunsOn w line turns is_full world before now calls calls_now k
+going-late k w line turns is_full world before now calls calls_now shell g free runs =
+    let e = system-late turns k w line g.answers before now 0 world shell free (g.steps 0 refl) refl runs in
+    record {
+      taken = g.taken;
+      answers = g.answers;
+      runs = runs-line k w line turns turns is_full is_full world before now calls calls_now calls_now [] free (λ is. is) (sym (append-nil calls_now)) g;
+      count = g.count;
+      meaning = e.2;
+      written = g.printed;
+    }
+
+-- the last event's bytes, for which there was no room
+pub last-bytes : (k : ℕ) (w : WorldState) (line : Text) (turns n : ℕ) (was_full is_full : Bool) (world next : WorldState) (before mid last : Bytes)
+    (calls mid_calls calls_now : List Call) (out : Out) (g : Going k w line turns n was_full world before mid calls mid_calls) (stays : was_full ≡ true → is_full ≡ true)
+    (runs : is_some (shell_at world k) ≡ true) (t : TakesNext k world is_full mid_calls next calls_now out) (grown : last ≡ mid ++ out.bytes) →
+    AreOfLast out.bytes (going-more k w line turns n was_full is_full world next before mid last calls mid_calls calls_now out g stays runs t grown).taken
+last-bytes k w line turns n was_full is_full world next before mid last calls mid_calls calls_now out g stays runs t grown =
+    inr (g.taken, Given t.event out, refl, refl)

@@ -1,0 +1,136 @@
+-- Lines that run alone: what a shell that was opened for a line took, and what a launcher was asked for it.
+use Rattle.std.specs.Prelude.{◌≡◌, ◌⊎◌, ℕ, ◌+◌, ◌≤◌, List, [], ◌∷◌, ◌++◌, length, Bool, Option, Some, None, Result, Ok, Err}
+use Rattle.ados_text.specs.Text.{Bytes, Text}
+use Rattle.ados_find.specs.declared.codes.Codes.{Codes}
+use Rattle.ados_machine.specs.declared.answers.Answer.{Answer as Reply}
+use Rattle.ados_machine.specs.declared.events.Event.{Event}
+use Rattle.ados_machine.specs.declared.events.Event.TheVariants.{Turn, Answer}
+use Rattle.ados_machine.specs.declared.outs.Out.{Out}
+use Rattle.ados_machine.specs.declared.refusals.Refusal.{Refusal}
+use Rattle.ados_machine.specs.declared.refusals.Refusal.TheVariants.{NoMemory}
+use Rattle.ados_machine.specs.declared.requests.Request.{Request}
+use Rattle.ados_machine.specs.Alone.{AreOf, IsEnd, IsLate, bytes_in}
+use Rattle.ados_machine.specs.Numbers.{free_number}
+use Rattle.ados_machine.specs.Runs.{IsAnswer, Runs, world_after}
+use Rattle.ados_machine.specs.Step.{step_of}
+use Rattle.ados_machine.specs.Whole.{opened, whole}
+use Rattle.ados_machine.specs.World.{WorldState, pending_of}
+use Rattle.ados_world.specs.Opened.{Refuses}
+use Rattle.ados_launcher.specs.declared.calls.Call.{Call}
+use Rattle.ados_launch.specs.declared.alone.SystemEnd.{SystemEnd}
+use Rattle.ados_launch.specs.declared.alone.SystemEnd.TheVariants.{Ended, NoShell, StillRunning}
+use Rattle.ados_launch.specs.declared.alone.SystemFault.{SystemFault}
+use Rattle.ados_launch.specs.Agreement.{Agrees}
+use Rattle.ados_launch.specs.Asked.{AreAsked, IsAsked, ListsOf}
+use Rattle.ados_launch.specs.Taken.{Taken, Given, bytes_of, events_in, outs_in}
+
+-- the next event of a shell: an answer where it waits for one, and else a turn
+abbrev pub IsNextOf : ℕ → Option Request → Event → Type 0
+IsNextOf k None (Turn j) = j ≡ k
+IsNextOf k (Some request) (Answer j reply) = j ≡ k
+IsNextOf k pending event = ⊥
+
+-- A shell took its next event, which gave this; the launcher was asked for the answer, where it is one, and for nothing else.
+pub record TakesNext (k : ℕ) (w : WorldState) (is_full : Bool) (calls : List Call) (now : WorldState) (calls_now : List Call) (out : Out) : Type 0 where
+  pub event : Event
+  pub listed : List Call
+  pub is_next : IsNextOf k (pending_of w k) event
+  pub accepted : IsAnswer event (Ok out) (step_of w event)
+  pub world_is : now ≡ world_after w (Ok out) (step_of w event)
+  pub asked : IsAsked is_full w (Given event out) listed
+  pub calls_are : calls_now ≡ calls ++ listed
+
+-- An answer was asked for what a shell waits for and not taken, and this was listed for it; or none was asked.
+abbrev pub IsUntaken : Bool → WorldState → ℕ → Option Reply → List Call → Type 0
+IsUntaken is_full w k None others = others ≡ []
+IsUntaken is_full w k (Some reply) others = ListsOf is_full (pending_of w k) reply others
+
+-- the world and the launcher's list agree, once an answer that was not taken is given
+abbrev pub AgreesOnceTaken : WorldState → ℕ → Option Reply → List Call → Type 0
+AgreesOnceTaken w k None calls = Agrees w calls
+AgreesOnceTaken w k (Some reply) calls = (out : Out) → IsAnswer (Answer k reply) (Ok out) (step_of w (Answer k reply)) →
+    Agrees (world_after w (Ok out) (step_of w (Answer k reply))) calls
+
+-- whether a shell was opened or not
+abbrev pub AgreesBehind : WorldState → Option ℕ → Option Reply → List Call → Type 0
+AgreesBehind w None answer calls = Agrees w calls
+AgreesBehind w (Some k) answer calls = AgreesOnceTaken w k answer calls
+
+-- In a world a shell was opened for a line, with the lowest number that was free. It took these events, with these answers among
+-- them; no other event was taken, and the last world stands behind them. The launcher was asked for each of the answers once, in their
+-- order, and then for these others.
+pub record RunsLine (k : ℕ) (w : WorldState) (line : Text) (is_full : Bool) (taken : List Taken) (answers : List Reply) (last : WorldState) (calls calls_now others : List Call) : Type 0 where
+  pub free : free_number w.shells ≡ Some k
+  pub run : Runs (opened w k (line ∷ [])) (events_in taken) (outs_in taken) last
+  pub events_are : AreOf k (events_in taken) answers []
+  pub listed : List Call
+  pub asked : AreAsked is_full (opened w k (line ∷ [])) taken listed
+  pub calls_are : calls_now ≡ calls ++ (listed ++ others)
+
+-- The shell has ended: the codes, the world, the bytes and the events that are left are what the line means.
+pub record EndedAs (w : WorldState) (line : Text) (turns : ℕ) (is_full : Bool) (last : WorldState) (before now : Bytes) (calls calls_now : List Call) (codes : Codes) : Type 0 where
+  pub k : ℕ
+  pub taken : List Taken
+  pub answers : List Reply
+  pub left : ℕ
+  pub bytes : Bytes
+  pub runs : RunsLine k w line is_full taken answers last calls calls_now []
+  pub count : length (events_in taken) + left ≡ turns
+  pub meaning : IsEnd k w (whole turns k w (line ∷ []) answers) left codes last bytes
+  pub written : now ≡ before ++ bytes
+
+-- The shell runs on behind so many events: by what the line means one more is due.
+pub record RunsOn (w : WorldState) (line : Text) (turns : ℕ) (is_full : Bool) (last : WorldState) (before now : Bytes) (calls calls_now : List Call) (k : ℕ) : Type 0 where
+  pub taken : List Taken
+  pub answers : List Reply
+  pub runs : RunsLine k w line is_full taken answers last calls calls_now []
+  pub count : length (events_in taken) ≡ turns
+  pub meaning : IsLate (whole turns k w (line ∷ []) answers)
+  pub written : now ≡ before ++ bytes_in (outs_in taken)
+
+-- nothing, or the bytes of the last that was taken
+abbrev pub AreOfLast : Bytes → List Taken → Type 0
+AreOfLast bytes taken = (bytes ≡ []) ⊎ ((front : List Taken) × (item : Taken) × (taken ≡ front ++ item ∷ []) × (bytes ≡ bytes_of item))
+
+-- The shell stands behind the events that the fault counts; what it holds is the answer that was not taken, and what the last event
+-- printed where there was no room for it.
+pub record StandsAt (w : WorldState) (line : Text) (turns : ℕ) (is_full : Bool) (fault : SystemFault) (last : WorldState) (before now : Bytes) (calls calls_now : List Call) (k : ℕ) : Type 0 where
+  pub taken : List Taken
+  pub answers : List Reply
+  pub others : List Call
+  pub runs : RunsLine k w line is_full taken answers last calls calls_now others
+  pub count : length (events_in taken) ≡ fault.events
+  pub within : fault.events ≤ turns
+  pub refusal_is : fault.refusal ≡ NoMemory
+  pub untaken : IsUntaken is_full last k fault.answer others
+  pub of_last : AreOfLast fault.unwritten taken
+  pub written : now ++ fault.unwritten ≡ before ++ bytes_in (outs_in taken)
+
+-- what holds of an end with codes, and of a shell that runs on
+abbrev pub IfEnded : {E : Type 0} → Result SystemEnd E → (Codes → Type 0) → Type 0
+IfEnded (Ok (Ended codes)) P = P codes
+IfEnded result P = Unit {0}
+
+abbrev pub IfRunning : {E : Type 0} → Result SystemEnd E → (ℕ → Type 0) → Type 0
+IfRunning (Ok (StillRunning k)) P = P k
+IfRunning result P = Unit {0}
+
+-- what holds where no shell was opened
+abbrev pub IfNone : Option ℕ → Type 0 → Type 0
+IfNone None P = P
+IfNone (Some k) P = Unit {0}
+
+abbrev pub IfUnopened : Result SystemEnd SystemFault → Type 0 → Type 0
+IfUnopened (Ok NoShell) P = P
+IfUnopened (Ok (Ended codes)) P = Unit {0}
+IfUnopened (Ok (StillRunning k)) P = Unit {0}
+IfUnopened (Err fault) P = IfNone fault.shell P
+
+-- the fault then says nothing of events, answers and bytes
+abbrev pub IsUnopened : SystemFault → Type 0
+IsUnopened fault = (fault.events ≡ 0) × (fault.answer ≡ None) × (fault.unwritten ≡ [])
+
+-- why none was opened, by the first fault of an opening and the lowest free number
+abbrev pub UnopenedFor : Result SystemEnd SystemFault → Option Refusal → Option ℕ → Type 0
+UnopenedFor (Ok done) fault free = (fault ≡ None) × (free ≡ None)
+UnopenedFor (Err why) fault free = Refuses (Err why.refusal) fault free × IsUnopened why

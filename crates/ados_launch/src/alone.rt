@@ -1,0 +1,169 @@
+// A line that runs alone, in a shell that is opened for it.
+ghost use Rattle.std.specs.Prelude.{◌≡◌, ◌<◌, ◌≤◌, ◌++◌, List, Ok, None, true, is_some, IfErr, IfSome, OnOk, OnErr};
+ghost use Rattle.ados_machine.specs.Numbers.{free_number};
+ghost use Rattle.ados_machine.specs.World.{shell_at};
+ghost use Rattle.ados_world.specs.Opened.{opening_fault};
+ghost use Rattle.ados_shell.specs.Drafts.{out_of};
+ghost use Rattle.ados_launcher.specs.declared.calls.Call.{Call};
+ghost use Rattle.ados_launch.specs.Agreement.{Agrees};
+ghost use Rattle.ados_launch.specs.Alone.{AgreesBehind, AgreesOnceTaken, EndedAs, IfEnded, IfRunning, IfUnopened, IsUnopened, IsUntaken, RunsOn, StandsAt, TakesNext, UnopenedFor};
+
+use crate::asks::ask;
+use crate::events::give;
+use ados_launcher::Launcher;
+use ados_text::{Octets, Text};
+use ados_world::{Answer, Codes, Draft, Event, Refusal, World};
+use std::alloc::Global;
+
+/// What a line came to that ran alone.
+#[derive(Clone, Copy, PartialEq, Eq, Debug)]
+pub enum SystemEnd {
+    /// Its shell ended, with these last codes.
+    Ended(Codes),
+    /// No number was free for a shell.
+    NoShell,
+    /// The shell of this number runs on behind the last event that was allowed.
+    StillRunning(u8),
+}
+
+/// Why a line that ran alone did not go on, and where it stands.
+#[derive(Debug, Drop)]
+pub struct SystemFault {
+    /// Why: one of those for which no shell is opened, or want of memory.
+    pub refusal: Refusal,
+    /// The shell that was opened, if one was: it stands behind the events that were taken.
+    pub shell: Option<u8>,
+    /// How many events were taken.
+    pub events: u64,
+    /// An answer that the launcher gave and the shell did not take. A step with it goes on.
+    pub answer: Option<Answer>,
+    /// What the last event printed, where there was no room for it.
+    pub unwritten: Octets,
+}
+
+impl SystemFault {
+    // No shell was opened.
+    fn unopened(alloc: Global, refusal: Refusal) -> SystemFault
+        ensures shell { result.shell ≡ None }
+        ensures refusal { result.refusal ≡ refusal }
+        ensures rest { IsUnopened result }
+    {
+        SystemFault {
+            refusal,
+            shell: None,
+            events: 0,
+            answer: None,
+            unwritten: Octets::from_vec(Vec::new(alloc)),
+        }
+    }
+}
+
+/// Runs a line alone, in a shell that is opened for it: the shell takes turns and the launcher's answers until it ends, and what it
+/// prints is appended to `out`. The other shells take no turn meanwhile.
+///
+/// `Ended` gives the last codes of the shell, and `NoShell` comes where all numbers from 2 to 20 are taken. At most `turns` events
+/// are given, and where the shell runs on behind the last of them the call answers `StillRunning`; the launcher is asked for no answer
+/// that these events do not take.
+///
+/// A line for which no shell is opened is refused with `Over` where no shell is left, then `LineTooLong` for more than 512
+/// bytes, then `NoMemory`; the world, the launcher and `out` are then as they were. Where memory is wanting later the fault
+/// says where the shell stands, and holds what would else be lost: an answer that was not taken, and bytes for which `out` had no room.
+/// Given that answer, and then turns and further answers, the shell goes on by steps of the world. A child that is open stays open at
+/// each return.
+///
+/// Before the call the launcher's open children are those that the world reads or waits for, as with a new world and a new
+/// launcher; it is so too behind a call, once an answer that was not taken is given.
+pub fn system<L: Launcher>(
+    alloc: Global,
+    world: &mut World,
+    line: &Text,
+    launcher: &mut L,
+    turns: u64,
+    out: &mut Vec<u8>,
+) -> Result<SystemEnd, SystemFault>
+    requires agrees { Agrees world.old (L.calls launcher.old) }
+
+    // The codes, the world and the bytes are those of the line's direct meaning with the launcher's answers, and the events that are left are the meaning's too.
+    ensures ended { IfEnded result (EndedAs world.old line.now turns (L.is_full launcher.new) world.new out.old.items out.new.items
+        (L.calls launcher.old) (L.calls launcher.new)) }
+    // All events were taken, and in the direct meaning one more is due.
+    ensures running { IfRunning result (RunsOn world.old line.now turns (L.is_full launcher.new) world.new out.old.items out.new.items
+        (L.calls launcher.old) (L.calls launcher.new)) }
+    // No shell was opened: for want of a number, or by a fault.
+    ensures unopened { IfUnopened result (UnopenedFor result (opening_fault world.old line.now) (free_number world.old.shells)) }
+    ensures untouched { IfUnopened result ((world.new ≡ world.old) × (launcher.new ≡ launcher.old) × (out.new ≡ out.old)) }
+    // At a later fault the shell stands behind the events that it took, and nothing is lost.
+    ensures fault { IfErr result (λ fault. IfSome fault.shell (StandsAt world.old line.now turns (L.is_full launcher.new) fault world.new out.old.items out.new.items
+        (L.calls launcher.old) (L.calls launcher.new))) }
+    // The launcher's open children are those that the world reads or waits for, once an answer that was not taken is given.
+    ensures agrees { OnOk result (Agrees world.new (L.calls launcher.new)) }
+    ensures agrees_behind { IfErr result (λ fault. AgreesBehind world.new fault.shell fault.answer (L.calls launcher.new)) }
+{
+    let number = match world.open_shell(line) {
+        Ok(Some(number)) => number,
+        Ok(None) => return Ok(SystemEnd::NoShell),
+        Err(refusal) => return Err(SystemFault::unopened(alloc, refusal)),
+    };
+    let mut draft = Draft::new(alloc);
+    for events in 0..turns {
+        let Some(_) = world.shell(number) else {
+            return Ok(SystemEnd::Ended(world.codes(number)));
+        };
+        if let Err(answer) = next_event(world, launcher, number, &mut draft) {
+            return Err(SystemFault {
+                refusal: Refusal::NoMemory,
+                shell: Some(number),
+                events,
+                answer,
+                unwritten: Octets::from_vec(Vec::new(alloc)),
+            });
+        }
+        if out.extend_from_slice(draft.printed.as_slice()).is_err() {
+            return Err(SystemFault {
+                refusal: Refusal::NoMemory,
+                shell: Some(number),
+                events: events + 1,
+                answer: None,
+                unwritten: draft.into_out().bytes,
+            });
+        }
+    }
+    match world.shell(number) {
+        None => Ok(SystemEnd::Ended(world.codes(number))),
+        Some(_) => Ok(SystemEnd::StillRunning(number)),
+    }
+}
+
+/// Gives a background shell its next event: the launcher's answer to what it waits for, or else a turn. The draft holds then what the
+/// event gives.
+///
+/// An error is want of memory: the world is as it was, and the answer, if one was asked, comes with the error. Once it is given by a
+/// step, the launcher and the world agree as before.
+pub fn next_event<L: Launcher>(
+    world: &mut World,
+    launcher: &mut L,
+    number: u8,
+    draft: &mut Draft,
+) -> Result<(), Option<Answer>>
+    requires number { 2 ≤ number }
+    requires last { number < 21 }
+    requires runs { is_some (shell_at world.old number) ≡ true }
+    requires agrees { Agrees world.old (L.calls launcher.old) }
+    ensures event { OnOk result (TakesNext number world.old (L.is_full launcher.new) (L.calls launcher.old) world.new (L.calls launcher.new) (out_of draft.new)) }
+    ensures err { OnErr result (world.new ≡ world.old) }
+    ensures untaken { IfErr result (λ answer. (others : List Call) × IsUntaken (L.is_full launcher.new) world.old number answer others
+        × (L.calls launcher.new ≡ L.calls launcher.old ++ others)) }
+    ensures stays { L.is_full launcher.old ≡ true → L.is_full launcher.new ≡ true }
+    ensures agrees { OnOk result (Agrees world.new (L.calls launcher.new)) }
+    ensures agrees_behind { IfErr result (λ answer. AgreesOnceTaken world.new number answer (L.calls launcher.new)) }
+{
+    let Some(request) = world.pending(number) else {
+        return give(world, &Event::Turn(number), draft).map_err(|_| None);
+    };
+    let event = Event::Answer(number, ask(launcher, request));
+    match (give(world, &event, draft), event) {
+        (Ok(()), _) => Ok(()),
+        (Err(_), Event::Answer(_, answer)) => Err(Some(answer)),
+        (Err(_), _) => unreachable!(),
+    }
+}
