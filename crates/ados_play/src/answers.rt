@@ -1,8 +1,8 @@
 //! What an event gave, as text.
 
-use crate::texts::{push_all, push_count, push_lines};
+use crate::texts::{push_all, push_count, push_hex, push_lines};
 use ados_text::{NoMemory, push_number};
-use ados_world::{EndReport, Job, NewFault, Out, Refusal, Request};
+use ados_world::{Answer, EndReport, Job, NewFault, Out, Refusal, Request};
 
 /// Adds what the world answered to an event.
 pub fn push_answer(text: &mut Vec<u8>, answer: &Result<Out, Refusal>) -> Result<(), NoMemory> {
@@ -31,7 +31,8 @@ fn push_refusal(text: &mut Vec<u8>, refusal: Refusal) -> Result<(), NoMemory> {
     push_all(text, &[b"refused: ", name_of(refusal).as_bytes(), b"\n"])
 }
 
-fn name_of(refusal: Refusal) -> &'static str {
+/// The name of a refusal.
+pub fn name_of(refusal: Refusal) -> &'static str {
     match refusal {
         Refusal::Over => "Over",
         Refusal::NoSuchShell => "NoSuchShell",
@@ -93,9 +94,27 @@ fn push_job(text: &mut Vec<u8>, job: &Job) -> Result<(), NoMemory> {
     Ok(())
 }
 
-fn push_numbered(text: &mut Vec<u8>, word: &[u8], shell: u8) -> Result<(), NoMemory> {
+/// Adds a small number behind a word.
+pub fn push_numbered(text: &mut Vec<u8>, word: &[u8], number: u8) -> Result<(), NoMemory> {
     text.extend_from_slice(word)?;
-    push_number(text, i32::from(shell))
+    push_number(text, i32::from(number))
+}
+
+/// Adds an answer of a launcher, in the words of a list.
+pub fn push_words(text: &mut Vec<u8>, answer: &Answer) -> Result<(), NoMemory> {
+    match answer {
+        Answer::Started => push_all(text, &[b"started"]),
+        Answer::NotFound => push_all(text, &[b"notfound"]),
+        Answer::Denied => push_all(text, &[b"denied"]),
+        Answer::Memory => push_all(text, &[b"memory"]),
+        Answer::Other => push_all(text, &[b"other"]),
+        Answer::Bytes(bytes) => push_hex(text, b"bytes ", bytes.as_bytes()),
+        Answer::End => push_all(text, &[b"end"]),
+        Answer::PipeFault => push_all(text, &[b"pipefault"]),
+        Answer::Exit(status) => push_numbered(text, b"exit ", *status),
+        Answer::Signal => push_all(text, &[b"signal"]),
+        Answer::WaitFault => push_all(text, &[b"waitfault"]),
+    }
 }
 
 fn push_report(text: &mut Vec<u8>, report: &EndReport) -> Result<(), NoMemory> {

@@ -15,6 +15,10 @@ pub enum Line {
     Fresh,
     /// A shell that is opened for a line of its own.
     Open,
+    /// An answer of the launcher of the next line that is run by `system`.
+    Listed,
+    /// A line that is run by `system`.
+    System,
     /// What the world shows.
     Show(View),
     /// An event, where it is well formed.
@@ -36,6 +40,13 @@ pub enum View {
     Residents,
 }
 
+/// A line that is to be run by `system`, and how many events it has.
+#[derive(Drop)]
+pub struct Order {
+    pub events: u64,
+    pub line: Text,
+}
+
 /// What a line asks for.
 pub fn line_of(text: &str) -> Line {
     if text.is_empty() || text.starts_with('#') {
@@ -49,6 +60,12 @@ pub fn line_of(text: &str) -> Line {
     }
     if text.starts_with("open ") {
         return Line::Open;
+    }
+    if text.starts_with("listed ") {
+        return Line::Listed;
+    }
+    if text.starts_with("system ") {
+        return Line::System;
     }
     match view_of(text) {
         Some(view) => Line::Show(view),
@@ -70,6 +87,24 @@ pub fn host_of(alloc: Global, text: &str) -> Result<HostEntry, NoMemory> {
 pub fn opened_line_of(alloc: Global, text: &str) -> Result<Text, NoMemory> {
     let (_, line) = parted(text);
     Text::from_bytes(alloc, line.as_bytes())
+}
+
+/// The text of an answer that is listed: all that stands behind the blank.
+pub fn listed_text_of(text: &str) -> &str {
+    let (_, answer) = parted(text);
+    answer
+}
+
+/// The line that is to be run, which is all that stands behind the number of events and the blank; `None` where there is
+/// no such number.
+pub fn order_of(alloc: Global, text: &str) -> Result<Option<Order>, NoMemory> {
+    let (_, rest) = parted(text);
+    let (events, line) = parted(rest);
+    let Ok(events) = events.parse::<u64>() else {
+        return Ok(None);
+    };
+    let line = Text::from_bytes(alloc, line.as_bytes())?;
+    Ok(Some(Order { events, line }))
 }
 
 // The view that a line asks for.
@@ -104,17 +139,21 @@ pub fn event_of(alloc: Global, text: &str) -> Result<Option<Event>, NoMemory> {
 // The event of an answer: the number of a shell, and what it is answered.
 fn answer_event_of(alloc: Global, text: &str) -> Result<Option<Event>, NoMemory> {
     let (shell, answer) = parted(text);
-    let (kind, hex) = parted(answer);
-    let answer = if kind == "bytes" {
-        bytes_of(alloc, hex)?
-    } else {
-        answer_of(kind, hex)
-    };
+    let answer = answer_of(alloc, answer)?;
     Ok(
         number(shell)
             .zip(answer)
             .map(|(shell, answer)| Event::Answer(shell, answer)),
     )
+}
+
+/// The answer that a text writes; `None` where it writes none.
+pub fn answer_of(alloc: Global, text: &str) -> Result<Option<Answer>, NoMemory> {
+    let (kind, rest) = parted(text);
+    if kind == "bytes" {
+        return bytes_of(alloc, rest);
+    }
+    Ok(plain_answer_of(kind, rest))
 }
 
 // The answer of bytes in hexadecimal digits.
@@ -127,7 +166,7 @@ fn bytes_of(alloc: Global, digits: &str) -> Result<Option<Answer>, NoMemory> {
 }
 
 // The answer of a kind, which has a status where it is `exit`.
-fn answer_of(kind: &str, status: &str) -> Option<Answer> {
+fn plain_answer_of(kind: &str, status: &str) -> Option<Answer> {
     match kind {
         "started" => Some(Answer::Started),
         "notfound" => Some(Answer::NotFound),

@@ -8,8 +8,10 @@
 //! printed is the same.
 
 mod answers;
+mod launchers;
 mod lines;
 mod players;
+mod systems;
 mod texts;
 mod views;
 

@@ -1,10 +1,13 @@
 //! A world to which a list is played.
 
 use crate::answers::{push_answer, push_new_fault, push_opening};
-use crate::lines::{Line, event_of, host_of, line_of, opened_line_of};
+use crate::lines::{
+    Line, answer_of, event_of, host_of, line_of, listed_text_of, opened_line_of, order_of,
+};
+use crate::systems::push_system;
 use crate::texts::push_all;
 use crate::views::push_view;
-use ados_text::NoMemory;
+use ados_text::{NoMemory, Text};
 use ados_world::{Event, HostEntry, Out, Refusal, World};
 use std::alloc::Global;
 use std::mem::replace;
@@ -36,7 +39,8 @@ impl From<NoMemory> for Fault {
     }
 }
 
-/// A world, the events that are still to be played to it, each with its line, and the hosts of the next one.
+/// A world, the events that are still to be played to it, each with its line, the hosts of the next world, and the texts of
+/// the answers for the next line that is run by `system`.
 #[derive(Drop)]
 struct Player<'a> {
     alloc: Global,
@@ -45,6 +49,7 @@ struct Player<'a> {
     world: World,
     lines: Vec<&'a str>,
     events: Vec<Event>,
+    listed: Vec<&'a str>,
 }
 
 /// What a list prints.
@@ -58,6 +63,7 @@ pub fn played(alloc: Global, way: Way, list: &str) -> Result<Vec<u8>, Fault> {
         world: fresh(alloc)?,
         lines: Vec::new(alloc),
         events: Vec::new(alloc),
+        listed: Vec::new(alloc),
     };
     let mut text = Vec::new(alloc);
     player.take_all(list, &mut text)?;
@@ -95,7 +101,17 @@ impl<'a> Player<'a> {
                 self.play(text)?;
                 push_line(text, line)?;
                 let line = opened_line_of(self.alloc, line)?;
-                push_opening(text, self.world.open_shell(&line))?;
+                push_opening(text, opened(&mut self.world, &line))?;
+            }
+            Line::Listed => {
+                self.play(text)?;
+                push_line(text, line)?;
+                return self.take_listed(line);
+            }
+            Line::System => {
+                self.play(text)?;
+                push_line(text, line)?;
+                return self.run_alone(line, text);
             }
             Line::Show(view) => {
                 self.play(text)?;
@@ -114,6 +130,26 @@ impl<'a> Player<'a> {
         }
         self.hosts.clear();
         Ok(())
+    }
+
+    // Keeps the text of an answer, for the next line that is run by `system`.
+    fn take_listed(&mut self, line: &'a str) -> Result<bool, NoMemory> {
+        let listed = listed_text_of(line);
+        if answer_of(self.alloc, listed)?.is_none() {
+            return Ok(false);
+        }
+        self.listed.push(listed)?;
+        Ok(true)
+    }
+
+    // Runs a line by `system`.
+    fn run_alone(&mut self, line: &'a str, text: &mut Vec<u8>) -> Result<bool, NoMemory> {
+        let Some(order) = order_of(self.alloc, line)? else {
+            return Ok(false);
+        };
+        push_system(text, self.alloc, &mut self.world, &order, &self.listed)?;
+        self.listed.clear();
+        Ok(true)
     }
 
     // Keeps the event of a line, to be played.
@@ -173,9 +209,25 @@ fn stepped(
 ) -> Result<Vec<Result<Out, Refusal>>, NoMemory> {
     let mut answers = Vec::new(alloc);
     for event in events {
-        answers.push(world.step(event))?;
+        answers.push(step(world, event))?;
     }
     Ok(answers)
+}
+
+// What the world answers to an event; one for which memory was wanting is given once more.
+fn step(world: &mut World, event: &Event) -> Result<Out, Refusal> {
+    match world.step(event) {
+        Err(Refusal::NoMemory) => world.step(event),
+        answer => answer,
+    }
+}
+
+// The number of the shell that the world opens for a line; where memory was wanting it is asked once more.
+fn opened(world: &mut World, line: &Text) -> Result<Option<u8>, Refusal> {
+    match world.open_shell(line) {
+        Err(Refusal::NoMemory) => world.open_shell(line),
+        opening => opening,
+    }
 }
 
 // What the world answers to the events as one run.

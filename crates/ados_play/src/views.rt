@@ -2,7 +2,7 @@
 
 use crate::answers::push_request;
 use crate::lines::View;
-use crate::texts::{push_all, push_count, push_lines};
+use crate::texts::{push_all, push_codes, push_count, push_lines};
 use ados_assign::Assign;
 use ados_ram::{Bits, Entry, Place, Ram};
 use ados_resident::{Program, Resident};
@@ -15,7 +15,7 @@ pub fn push_view(text: &mut Vec<u8>, world: &World, view: View) -> Result<(), No
     match view {
         View::Shells => push_shells(text, world.shells()),
         View::Shell(number) => push_shell(text, world, number),
-        View::Codes(shell) => push_codes(text, world.codes(shell)),
+        View::Codes(shell) => push_last_codes(text, world.codes(shell)),
         View::Ready(shell) => push_answer(text, world.ready(shell)),
         View::Pending(shell) => push_pending(text, world.pending(shell)),
         View::WantsLine => push_answer(text, world.wants_line()),
@@ -81,13 +81,9 @@ fn push_place(text: &mut Vec<u8>, place: &Place) -> Result<(), NoMemory> {
     push_all(text, &[b"= path ", path.as_bytes(), b"\n"])
 }
 
-fn push_codes(text: &mut Vec<u8>, codes: Codes) -> Result<(), NoMemory> {
+fn push_last_codes(text: &mut Vec<u8>, codes: Codes) -> Result<(), NoMemory> {
     text.extend_from_slice(b"= ")?;
-    push_number(text, codes.code.0)?;
-    text.push(b' ')?;
-    push_number(text, i32::from(codes.result2.0))?;
-    text.push(b'\n')?;
-    Ok(())
+    push_codes(text, codes)
 }
 
 fn push_pending(text: &mut Vec<u8>, pending: Option<&Request>) -> Result<(), NoMemory> {
