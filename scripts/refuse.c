@@ -1,5 +1,5 @@
 /* Refuses one request for memory of a program: the one whose number, from 1, REFUSE names. Built by
-   scripts/refuse-each-request and put before the C library by LD_PRELOAD. Where that request came, the
+   scripts/refusals.py and put before the C library by LD_PRELOAD. Where that request came, the
    file that REFUSED names is made. */
 #define _GNU_SOURCE
 #include <dlfcn.h>
