@@ -112,7 +112,7 @@ start-told k job answer own Closed n a s r =
     is-whole k Between own (Start job answer) (Failed job answer) r (n, a, s) (ap (λ xs. xs ++ Start job answer ∷ []) (none_last k r.last_life r.is_last))
 start-told k job answer own Reading n a s r =
     is-last k InReads Between own (Start job answer) (StillRead job []) r (n, tt)
-      (ap (λ xs. xs ++ Start job answer ∷ []) (none_last k r.last_life r.is_last) ∙ ap (λ x. Start job x ∷ []) (is-started answer s))
+    (ap (λ xs. xs ++ Start job answer ∷ []) (none_last k r.last_life r.is_last) ∙ ap (λ x. Start job x ∷ []) (is-started answer s))
 start-told k job answer own Waiting n a s r = absurd (not_waiting answer s)
 
 -- a read that ends the reads
@@ -126,7 +126,7 @@ read-told : (k : ℕ) (answer : Answer) (own : List Call) → answers_read answe
 read-told k (Piece bytes) own a r =
     let b : Begun k (calls_at_last k r.last_life) = read_last k r.last_life r.is_last in
     is-last k InReads InReads own (Read k (Piece bytes)) (StillRead b.job (b.pieces ++ bytes ∷ [])) r (b.is_begun.0, pieces_push b.pieces bytes b.is_begun.1 a)
-      (ap (λ xs. xs ++ Read k (Piece bytes) ∷ []) b.is ∙ ap (λ xs. Start b.job Started ∷ xs) (sym (map_push (λ piece. Read k (Piece piece)) b.pieces bytes)))
+    (ap (λ xs. xs ++ Read k (Piece bytes) ∷ []) b.is ∙ ap (λ xs. Start b.job Started ∷ xs) (sym (map_push (λ piece. Read k (Piece piece)) b.pieces bytes)))
 read-told k End own a r = end-told k End own (refl, refl) r
 read-told k PipeFault own a r = end-told k PipeFault own (refl, refl) r
 read-told k Started own a r = cc
@@ -143,7 +143,7 @@ wait-told : (k : ℕ) (answer : Answer) (own : List Call) → answers_wait answe
 wait-told k answer own a r =
     let d : Ended k (calls_at_last k r.last_life) = ended_last k r.last_life r.is_last in
     is-whole k BehindReads own (Wait k answer) (Ran d.job d.pieces d.end answer) r (d.is_begun, d.ends, a)
-      (ap (λ xs. xs ++ Wait k answer ∷ []) d.is ∙ append_assoc (begun k d.job d.pieces) (Read k d.end ∷ []) (Wait k answer ∷ []))
+    (ap (λ xs. xs ++ Wait k answer ∷ []) d.is ∙ append_assoc (begun k d.job d.pieces) (Read k d.end ∷ []) (Wait k answer ∷ []))
 
 cut-told : (k : ℕ) (answer : Answer) (own : List Call) → answers_wait answer ≡ true → IsRow k InReads own → IsRow k Cut (own ++ Wait k answer ∷ [])
 cut-told k answer own a r =
@@ -195,11 +195,11 @@ all-told k life own [] r = subst (λ xs. Told k life xs) (sym (append-nil own)) 
 all-told k life own (call ∷ calls) r =
     elim (cases_Bool (number_of call == k)) [
       | inl on ↦
-        rw on
+          rw on
           (subst (λ xs. Told k (from k (life_behind k life call) calls) xs) (append_assoc own (call ∷ []) (calls_for k calls))
-            (all-told k (life_behind k life call) (own ++ call ∷ []) calls (call-told k life call own on r)))
+          (all-told k (life_behind k life call) (own ++ call ∷ []) calls (call-told k life call own on r)))
       | inr off ↦
-        rw off
+          rw off
           (subst (λ l. Told k (from k l calls) (own ++ calls_for k calls)) (sym (skipped k life call off)) (all-told k life own calls r))
     ]
 
