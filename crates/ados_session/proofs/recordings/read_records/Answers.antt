@@ -1,4 +1,4 @@
-use Rattle.std.proofs.Common.{◌≡◌, true, false, rules, arith, ◌∙◌}
+use Rattle.std.proofs.Common.{◌≡◌, true, false, rules, arith, take, ◌∙◌}
 use Rattle.ados_session.proofs.LineLemmas.{record_taken, records_free}
 use Rattle.ados_session.proofs.recordings.read_records.Goals as goal
 
@@ -19,4 +19,4 @@ loop-place-preserved c =
     (taken.0 ∙ good, taken.1)
 
 pub returns-clause-free : goal.returns-clause-free
-returns-clause-free c = records_free c.args.lines.now c.loop-place.recording (search rules) (search rules)
+returns-clause-free c = records_free (take c.loop-place.place c.args.lines.now) c.loop-place.recording c.loop-place.invariant.0 c.loop-place.invariant.1
