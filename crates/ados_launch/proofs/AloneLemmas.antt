@@ -1,28 +1,51 @@
 -- How far a line that runs alone has come.
 use Rattle.std.proofs.Common.{◌≡◌, ◌≢◌, ℕ, zero, suc, ◌+◌, ◌-◌, ◌≤◌, ◌<◌, List, [], ◌∷◌, ◌++◌, Bool, true, false, Option, Some, None, Result, Ok, Err, OnOk, is_some, length, arith, refl, ap, sym, ◌∙◌, inl, inr, subst, append_assoc, append-nil}
+use Rattle.std.proofs.lemmas.Bool.{cases_eq}
 use Rattle.ados_text.specs.Text.{Bytes, Text}
 use Rattle.ados_find.specs.declared.codes.Codes.{Codes}
 use Rattle.ados_machine.specs.declared.answers.Answer.{Answer as Reply}
 use Rattle.ados_machine.specs.declared.events.Event.{Event}
 use Rattle.ados_machine.specs.declared.events.Event.TheVariants.{Typed, EndOfInput, Turn, Answer}
 use Rattle.ados_machine.specs.declared.outs.Out.{Out}
+use Rattle.ados_machine.specs.declared.refusals.Refusal.TheVariants.{NoMemory}
 use Rattle.ados_machine.specs.declared.requests.Request.{Request}
 use Rattle.ados_machine.specs.Alone.{AreOf, alone, bytes_in, is_hosted}
+use Rattle.ados_machine.specs.Children.{child_asked}
 use Rattle.ados_machine.specs.Numbers.{free_number}
 use Rattle.ados_machine.specs.Requests.{request_of}
 use Rattle.ados_machine.specs.Runs.{IsAnswer, Runs, world_after}
 use Rattle.ados_machine.specs.Shells.{ShellState}
-use Rattle.ados_machine.specs.Step.{step_of}
-use Rattle.ados_machine.specs.Whole.{opened}
+use Rattle.ados_machine.specs.Step.{Response, Accepted, Refused, is_accepted, step_of}
+use Rattle.ados_machine.specs.Whole.{opened, opened_shell}
 use Rattle.ados_machine.specs.World.{WorldState, shell_at, pending_by, pending_of, codes_at}
-use Rattle.ados_machine.proofs.Loops.{alone-turn, alone-reply, pending-hosted}
-use Rattle.ados_machine.proofs.Systems.{system-ended, system-late}
+use Rattle.ados_machine.proofs.Loops.{IsTaken, alone-turn, alone-reply, pending-hosted, turn-taken}
+use Rattle.ados_machine.proofs.Shells.{IsFree, found, found-set_other, free-number}
+use Rattle.ados_machine.proofs.Systems.{opened-stands, system-ended, system-late}
 use Rattle.ados_launcher.specs.declared.calls.Call.{Call}
-use Rattle.ados_launch.specs.Alone.{AreOfLast, EndedAs, IsNextOf, IsUntaken, RunsLine, RunsOn, TakesNext}
-use Rattle.ados_launch.specs.Asked.{AreAsked}
+use Rattle.ados_launcher.specs.Lives.{life_in}
+use Rattle.ados_launch.specs.Agreement.{Agrees}
+use Rattle.ados_launch.specs.Alone.{EndedAs, IsNextOf, IsUntaken, RunsLine, RunsOn, StandsAt, TakesNext}
+use Rattle.ados_launch.specs.declared.alone.SystemFault.{SystemFault}
+use Rattle.ados_launch.specs.Asked.{AreAsked, Asks}
 use Rattle.ados_launch.specs.Taken.{Taken, Given, LongLine, bytes_of, events_in, outs_in}
 use Rattle.ados_launch.proofs.Sessions.{calls-more}
 use Rattle.ados_launch.proofs.Taken.{run-more, asked-more, asked-full}
+
+none-at : (shells : List (Option ShellState)) (k : ℕ) → IsFree shells (Some k) → found shells k ≡ None
+none-at shells k free = rw (free.1, free.2) refl
+
+-- a shell that was just opened asks for nothing, and before it none stood at its number
+opened-asks : (w : WorldState) (k : ℕ) (commands : List Text) (j : ℕ) → free_number w.shells ≡ Some k → pending_of (opened w k commands) j ≡ pending_of w j
+opened-asks w k commands j free =
+    let is : IsFree w.shells (Some k) = rw free at (free-number w.shells) in
+    elim (cases_eq j k) [
+      | inl same ↦ rw same (ap pending_by (opened-stands w k commands free) ∙ sym (ap pending_by (none-at w.shells k is)))
+      | inr apart ↦ ap pending_by (found-set_other w.shells k (Some (opened_shell k commands)) j apart (omega (arith, is.1)))
+    ]
+
+-- so the launcher's list agrees with the world as before
+pub opened-agrees : (w : WorldState) (k : ℕ) (commands : List Text) (calls : List Call) → free_number w.shells ≡ Some k → Agrees w calls → Agrees (opened w k commands) calls
+opened-agrees w k commands calls free agrees j = agrees j ∙ ap (λ p. life_in (child_asked p)) (sym (opened-asks w k commands j free))
 
 -- the answers among an event
 abbrev pub replies_in : Event → List Reply
@@ -30,6 +53,55 @@ replies_in (Answer k reply) = reply ∷ []
 replies_in (Turn k) = []
 replies_in (Typed line) = []
 replies_in EndOfInput = []
+
+accepted-of : (response : Response) → IsTaken response → is_accepted response ≡ true
+accepted-of (Refused why) taken = absurd taken
+accepted-of (Accepted world out items) taken = refl
+
+turn-by : (w : WorldState) (k : ℕ) (o : Option ShellState) → 2 ≤ k → shell_at w k ≡ o → is_some o ≡ true → pending_by o ≡ None → is_accepted (step_of w (Turn k)) ≡ true
+turn-by w k None above runs some asks = cc
+turn-by w k (Some shell) above runs some asks =
+    accepted-of (step_of w (Turn k)) (turn-taken w k shell above runs (sym (pending-hosted shell.parts.number shell.phase) ∙ ap is_some asks))
+
+-- a background shell that asks for nothing can take a turn
+pub turn-on : (w : WorldState) (k : ℕ) → 2 ≤ k → is_some (shell_at w k) ≡ true → pending_of w k ≡ None → is_accepted (step_of w (Turn k)) ≡ true
+turn-on w k above runs asks = turn-by w k (shell_at w k) above refl runs asks
+
+pub turn-takes : (w now : WorldState) (k : ℕ) (is_full : Bool) (calls : List Call) (out : Out) → pending_of w k ≡ None →
+    IsAnswer (Turn k) (Ok out) (step_of w (Turn k)) → now ≡ world_after w (Ok out) (step_of w (Turn k)) → TakesNext k w is_full calls now calls out
+turn-takes w now k is_full calls out asks answer world = record {
+  event = Turn k;
+  listed = [];
+  is_next = rw asks refl;
+  accepted = answer;
+  world_is = world;
+  asked = refl;
+  calls_are = sym (append-nil calls);
+}
+
+pub answer-takes : (w now : WorldState) (k : ℕ) (was_full is_full : Bool) (calls calls_now : List Call) (request : Request) (reply : Reply) (out : Out) →
+    pending_of w k ≡ Some request → Asks request reply was_full is_full calls calls_now →
+    IsAnswer (Answer k reply) (Ok out) (step_of w (Answer k reply)) → now ≡ world_after w (Ok out) (step_of w (Answer k reply)) →
+    TakesNext k w is_full calls now calls_now out
+answer-takes w now k was_full is_full calls calls_now request reply out asked asks answer world = record {
+  event = Answer k reply;
+  listed = asks.listed;
+  is_next = rw asked refl;
+  accepted = answer;
+  world_is = world;
+  asked = rw asked asks.lists;
+  calls_are = asks.calls_are;
+}
+
+-- an answer that was not taken
+pub answer-untaken : (w : WorldState) (k : ℕ) (was_full is_full : Bool) (calls calls_now : List Call) (request : Request) (reply : Reply) →
+    pending_of w k ≡ Some request → Asks request reply was_full is_full calls calls_now →
+    (others : List Call) × IsUntaken is_full w k (Some reply) others × (calls_now ≡ calls ++ others)
+answer-untaken w k was_full is_full calls calls_now request reply asked asks = (asks.listed, rw asked asks.lists, asks.calls_are)
+
+pub turn-untaken : (w : WorldState) (k : ℕ) (is_full : Bool) (calls : List Call) →
+    (others : List Call) × IsUntaken is_full w k None others × (calls ≡ calls ++ others)
+turn-untaken w k is_full calls = ([], refl, sym (append-nil calls))
 
 -- so many events were taken, and the steps of the shell that runs alone go on from here, whatever answers come
 pub record Going (k : ℕ) (w : WorldState) (line : Text) (turns n : ℕ) (is_full : Bool) (world : WorldState) (before now : Bytes) (calls calls_now : List Call) : Type 0 where
@@ -93,7 +165,7 @@ steps-by k n w (Answer j reply) out printed shell runs is accepted rest =
 steps-by k n w (Typed line) out printed shell runs is accepted rest = absurd (typed-next (request_of shell.parts.number shell.phase) k line is)
 steps-by k n w EndOfInput out printed shell runs is accepted rest = absurd (end-next (request_of shell.parts.number shell.phase) k is)
 
-steps-on : (k n : ℕ) (w : WorldState) (event : Event) (out : Out) (printed : Bytes) (o : Option ShellState) → shell_at w k ≡ o → is_some o ≡ true →
+pub steps-on : (k n : ℕ) (w : WorldState) (event : Event) (out : Out) (printed : Bytes) (o : Option ShellState) → shell_at w k ≡ o → is_some o ≡ true →
     IsNextOf k (pending_by o) event → IsAnswer event (Ok out) (step_of w event) → (rest : List Reply) →
     alone k (suc n) (replies_in event ++ rest) w printed ≡ alone k n rest (world_after w (Ok out) (step_of w event)) (printed ++ out.bytes)
 steps-on k n w event out printed None runs some is accepted rest = cc
@@ -105,7 +177,7 @@ last-are k (Answer j reply) pending is = ((answer-next pending k j reply is).1, 
 last-are k (Typed line) pending is = absurd (typed-next pending k line is)
 last-are k EndOfInput pending is = absurd (end-next pending k is)
 
-are-more : (k : ℕ) (taken : List Taken) (answers : List Reply) (event : Event) (out : Out) (pending : Option Request) → AreOf k (events_in taken) answers [] →
+pub are-more : (k : ℕ) (taken : List Taken) (answers : List Reply) (event : Event) (out : Out) (pending : Option Request) → AreOf k (events_in taken) answers [] →
     IsNextOf k pending event → AreOf k (events_in (taken ++ Given event out ∷ [])) (answers ++ replies_in event) []
 are-more k [] answers event out pending are is = rw (sym are) (last-are k event pending is)
 are-more k (Given (Turn j) given ∷ taken) answers event out pending are is = (are.0, are-more k taken answers event out pending are.1 is)
@@ -116,18 +188,18 @@ are-more k (Given (Typed line) given ∷ taken) answers event out pending are is
 are-more k (Given EndOfInput given ∷ taken) answers event out pending are is = absurd are
 are-more k (LongLine ∷ taken) answers event out pending are is = are-more k taken answers event out pending are is
 
-events-more : (taken : List Taken) (event : Event) (out : Out) → length (events_in (taken ++ Given event out ∷ [])) ≡ length (events_in taken) + 1
+pub events-more : (taken : List Taken) (event : Event) (out : Out) → length (events_in (taken ++ Given event out ∷ [])) ≡ length (events_in taken) + 1
 events-more [] event out = refl
 events-more (Given first given ∷ taken) event out = let more = events-more taken event out in omega (arith, more)
 events-more (LongLine ∷ taken) event out = events-more taken event out
 
-bytes-more : (taken : List Taken) (event : Event) (out : Out) → bytes_in (outs_in (taken ++ Given event out ∷ [])) ≡ bytes_in (outs_in taken) ++ out.bytes
+pub bytes-more : (taken : List Taken) (event : Event) (out : Out) → bytes_in (outs_in (taken ++ Given event out ∷ [])) ≡ bytes_in (outs_in taken) ++ out.bytes
 bytes-more [] event out = append-nil out.bytes
 bytes-more (Given first given ∷ taken) event out =
     ap (λ bytes. given.bytes ++ bytes) (bytes-more taken event out) ∙ sym (append_assoc given.bytes (bytes_in (outs_in taken)) out.bytes)
 bytes-more (LongLine ∷ taken) event out = bytes-more taken event out
 
-printed-more : (before mid last bytes more now : Bytes) → mid ≡ before ++ bytes → last ≡ mid ++ more → now ≡ bytes ++ more → last ≡ before ++ now
+pub printed-more : (before mid last bytes more now : Bytes) → mid ≡ before ++ bytes → last ≡ mid ++ more → now ≡ bytes ++ more → last ≡ before ++ now
 printed-more before mid last bytes more now e f h = f ∙ (ap (λ xs. xs ++ more) e ∙ (append_assoc before bytes more ∙ ap (λ xs. before ++ xs) (sym h)))
 
 abbrev pub going-more : (k : ℕ) (w : WorldState) (line : Text) (turns n : ℕ) (was_full is_full : Bool) (world next : WorldState) (before mid last : Bytes)
@@ -187,7 +259,7 @@ pub going-late : (k : ℕ) (w : WorldState) (line : Text) (turns : ℕ) (is_full
     Going k w line turns turns is_full world before now calls calls_now → free_number w.shells ≡ Some k → shell_at world k ≡ Some shell →
     RunsOn w line turns is_full world before now calls calls_now k
 going-late k w line turns is_full world before now calls calls_now shell g free runs =
-    let e = system-late turns k w line g.answers before now 0 world shell free (g.steps 0 refl) refl runs in
+    let e = system-late turns k w line g.answers before now 0 world shell free (g.steps 0 (omega arith)) refl runs in
     record {
       taken = g.taken;
       answers = g.answers;
@@ -197,10 +269,41 @@ going-late k w line turns is_full world before now calls calls_now shell g free 
       written = g.printed;
     }
 
--- the last event's bytes, for which there was no room
-pub last-bytes : (k : ℕ) (w : WorldState) (line : Text) (turns n : ℕ) (was_full is_full : Bool) (world next : WorldState) (before mid last : Bytes)
-    (calls mid_calls calls_now : List Call) (out : Out) (g : Going k w line turns n was_full world before mid calls mid_calls) (stays : was_full ≡ true → is_full ≡ true)
-    (runs : is_some (shell_at world k) ≡ true) (t : TakesNext k world is_full mid_calls next calls_now out) (grown : last ≡ mid ++ out.bytes) →
-    AreOfLast out.bytes (going-more k w line turns n was_full is_full world next before mid last calls mid_calls calls_now out g stays runs t grown).taken
-last-bytes k w line turns n was_full is_full world next before mid last calls mid_calls calls_now out g stays runs t grown =
-    inr (g.taken, Given t.event out, refl, refl)
+-- where an event was not taken
+pub stands-untaken : (k : ℕ) (w : WorldState) (line : Text) (turns n : ℕ) (was_full is_full : Bool) (world : WorldState) (before now : Bytes) (calls mid_calls calls_now : List Call) (fault : SystemFault) →
+    Going k w line turns n was_full world before now calls mid_calls → free_number w.shells ≡ Some k → (was_full ≡ true → is_full ≡ true) → n ≤ turns →
+    (others : List Call) × IsUntaken is_full world k fault.answer others × (calls_now ≡ mid_calls ++ others) →
+    fault.refusal ≡ NoMemory → fault.events ≡ n → fault.unwritten ≡ [] → StandsAt w line turns is_full fault world before now calls calls_now k
+stands-untaken k w line turns n was_full is_full world before now calls mid_calls calls_now fault g free stays within untaken why count none = record {
+  taken = g.taken;
+  answers = g.answers;
+  others = untaken.0;
+  runs = runs-line k w line turns n was_full is_full world before now calls mid_calls calls_now untaken.0 free stays untaken.2 g;
+  count = g.count ∙ sym count;
+  within = rw count within;
+  refusal_is = why;
+  untaken = untaken.1;
+  of_last = inl none;
+  written = rw none (append-nil now ∙ g.printed);
+}
+
+-- where there was no room for what the last event printed
+pub stands-unwritten : (k : ℕ) (w : WorldState) (line : Text) (turns n : ℕ) (was_full is_full : Bool) (world next : WorldState) (before mid : Bytes)
+    (calls mid_calls calls_now : List Call) (out : Out) (fault : SystemFault) →
+    Going k w line turns n was_full world before mid calls mid_calls → free_number w.shells ≡ Some k → (was_full ≡ true → is_full ≡ true) → is_some (shell_at world k) ≡ true → n < turns →
+    TakesNext k world is_full mid_calls next calls_now out → fault.refusal ≡ NoMemory → fault.events ≡ n + 1 → fault.answer ≡ None → fault.unwritten ≡ out.bytes →
+    StandsAt w line turns is_full fault next before mid calls calls_now k
+stands-unwritten k w line turns n was_full is_full world next before mid calls mid_calls calls_now out fault g free stays runs within t why count none bytes =
+    let more = going-more k w line turns n was_full is_full world next before mid (mid ++ out.bytes) calls mid_calls calls_now out g stays runs t refl in
+    record {
+      taken = more.taken;
+      answers = more.answers;
+      others = [];
+      runs = runs-line k w line turns (n + 1) is_full is_full next before (mid ++ out.bytes) calls calls_now calls_now [] free (λ is. is) (sym (append-nil calls_now)) more;
+      count = more.count ∙ sym count;
+      within = omega (arith, count, within);
+      refusal_is = why;
+      untaken = rw none refl;
+      of_last = rw bytes (inr (g.taken, Given t.event out, refl, refl));
+      written = rw bytes more.printed;
+    }

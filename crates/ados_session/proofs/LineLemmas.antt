@@ -15,6 +15,10 @@ and_left : (a b : Bool) → (a && b) ≡ true → a ≡ true
 and_left true b h = refl
 and_left false b h = h
 
+and_right : (a b : Bool) → (a && b) ≡ true → b ≡ true
+and_right true b h = h
+and_right false b h = cc
+
 and_true : (a b : Bool) → ((a && true) && b) ≡ (a && b)
 and_true true b = refl
 and_true false b = refl
@@ -60,3 +64,10 @@ record_taken lines place line old new good within is_line before is_old is_new i
     all_more (λ line. is_record (record_line line)) done line (are_free (recorded (done ++ line ∷ [])).hosts) (and_left _ _ before)
     ∙ ap (λ (session : Recorded). is_record (record_line line) && are_free session.hosts) (sym all) ∙ sym is_good in
     rw (take_more lines place line within, ← is_line) (checked, all)
+
+-- with the commands of lines that are good a world can be made
+pub hosts_free : (lines : List Text) (hosts : List HostEntry) → are_hosts lines ≡ true → hosts ≡ hosts_in lines → are_free hosts ≡ true
+hosts_free lines hosts good is = rw is (and_right _ _ good)
+
+pub records_free : (lines : List Text) (session : Recorded) → are_records lines ≡ true → session ≡ recorded lines → are_free session.hosts ≡ true
+records_free lines session good is = rw is (and_right _ _ good)

@@ -22,7 +22,7 @@ pub enum HostLine {
     Bad,
 }
 
-/// The commands that a file names, in order.
+/// The commands that a file names, in order. A world can be made with them.
 ///
 /// Each line is a command's name, blanks, and the path of a program; blanks round the whole are dropped. Blank lines,
 /// and lines that begin with `#`, say nothing. A byte past ASCII is read as `?`.
@@ -32,6 +32,7 @@ pub enum HostLine {
 pub fn read_hosts(alloc: Global, bytes: &[u8]) -> Result<Vec<HostEntry>, FileFault>
     ensures good { IfOk result (λ hosts. are_hosts (lines_of bytes.now) ≡ true) }
     ensures hosts { IfOk result (λ hosts. hosts.items ≡ hosts_in (lines_of bytes.now)) }
+    ensures free { IfOk result (λ hosts. are_free hosts.items ≡ true) }
     ensures fault { IfErr result (IsFault are_hosts 0 (lines_of bytes.now)) }
 {
     let lines = lines_of(alloc, bytes)?;
@@ -42,6 +43,7 @@ pub fn read_hosts(alloc: Global, bytes: &[u8]) -> Result<Vec<HostEntry>, FileFau
 fn hosts_of(alloc: Global, lines: &[Text]) -> Result<Vec<HostEntry>, FileFault>
     ensures good { IfOk result (λ hosts. are_hosts lines.now ≡ true) }
     ensures hosts { IfOk result (λ hosts. hosts.items ≡ hosts_in lines.now) }
+    ensures free { IfOk result (λ hosts. are_free hosts.items ≡ true) }
     ensures fault { IfErr result (IsFault are_hosts 0 lines.now) }
 {
     let mut hosts = Vec::new(alloc);

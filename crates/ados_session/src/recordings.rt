@@ -48,7 +48,7 @@ impl Model for Recording {
     ghost view = { λ r. record { hosts = r.hosts.items; typed = r.typed.items; answers = r.answers.items } };
 }
 
-/// The session that a file records.
+/// The session that a file records. A world can be made with its hosts.
 ///
 /// Its first line is `amishell 1`. Each other one is `host NAME`, a command whose program is NAME; `line TEXT`, a typed
 /// line; or `answer ANSWER`, the next answer of a launcher: `started`, `notfound`, `denied`, `memory`, `other`, `bytes HEX`
@@ -60,6 +60,7 @@ impl Model for Recording {
 pub fn read_recording(alloc: Global, bytes: &[u8]) -> Result<Recording, FileFault>
     ensures good { IfOk result (λ recording. is_recording (lines_of bytes.now) ≡ true) }
     ensures recording { IfOk result (λ recording. recording ≡ recorded (drop 1 (lines_of bytes.now))) }
+    ensures free { IfOk result (λ recording. are_free recording.hosts ≡ true) }
     ensures fault { IfErr result (IsRecordingFault (lines_of bytes.now)) }
 {
     let lines = lines_of(alloc, bytes)?;
@@ -80,6 +81,7 @@ fn is_heading(line: &Text) -> bool
 fn read_records(alloc: Global, lines: &[Text]) -> Result<Recording, FileFault>
     ensures good { IfOk result (λ recording. are_records lines.now ≡ true) }
     ensures recording { IfOk result (λ recording. recording ≡ recorded lines.now) }
+    ensures free { IfOk result (λ recording. are_free recording.hosts ≡ true) }
     ensures fault { IfErr result (IsFault are_records 1 lines.now) }
 {
     let mut recording = Recording::new(alloc);

@@ -1,5 +1,6 @@
 //! The files that a command line names.
-ghost use Rattle.std.specs.Prelude.{◌≤◌, IfOk, vec_len};
+ghost use Rattle.std.specs.Prelude.{◌≡◌, ◌≤◌, true, IfOk, vec_len};
+ghost use Rattle.ados_session.specs.Hosts.{are_free};
 
 use crate::faults::Fault;
 use ados_session::{FileFault, Recording, read_hosts, read_recording};
@@ -15,8 +16,10 @@ const HOSTS_BYTES: usize = 65_536;
 // How many bytes a recording may have.
 const RECORDING_BYTES: usize = 1_048_576;
 
-/// The programs of the host that a file names.
-pub fn hosts_in<R: AllocGlobal + Files>(rt: &R, file: &str) -> Result<Vec<HostEntry>, Fault> {
+/// The programs of the host that a file names. A world can be made with them.
+pub fn hosts_in<R: AllocGlobal + Files>(rt: &R, file: &str) -> Result<Vec<HostEntry>, Fault>
+    ensures free { IfOk result (λ hosts. are_free hosts.items ≡ true) }
+{
     let bytes = bytes_of(rt, file, HOSTS_BYTES)?;
     match read_hosts(rt.alloc(), bytes.as_slice()) {
         Ok(hosts) => Ok(hosts),
@@ -25,8 +28,10 @@ pub fn hosts_in<R: AllocGlobal + Files>(rt: &R, file: &str) -> Result<Vec<HostEn
     }
 }
 
-/// The recording in a file.
-pub fn recording_in<R: AllocGlobal + Files>(rt: &R, file: &str) -> Result<Recording, Fault> {
+/// The recording in a file. A world can be made with its hosts.
+pub fn recording_in<R: AllocGlobal + Files>(rt: &R, file: &str) -> Result<Recording, Fault>
+    ensures free { IfOk result (λ recording. are_free recording.hosts ≡ true) }
+{
     let bytes = bytes_of(rt, file, RECORDING_BYTES)?;
     match read_recording(rt.alloc(), bytes.as_slice()) {
         Ok(recording) => Ok(recording),

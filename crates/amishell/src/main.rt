@@ -1,7 +1,8 @@
 //! The program: the lines of standard input, or those of a recording, run by the Shell of AmigaDOS Release 2.
 #![tactic(auto)]
 
-ghost use Rattle.std.specs.Prelude.{◌≡◌, ◌<◌, ◌-◌, ◌^◌, [], pos};
+ghost use Rattle.std.specs.Prelude.{◌≡◌, ◌<◌, ◌-◌, ◌^◌, [], pos, true};
+ghost use Rattle.ados_session.specs.Hosts.{are_free};
 ghost use Rattle.amishell.specs.Status.{status_of};
 
 mod command;
@@ -12,7 +13,7 @@ mod request;
 
 use ados_launch::{Counted, Host, Launcher, Listed, Source, drive};
 use ados_text::{Code, Text};
-use ados_world::{HostEntry, World};
+use ados_world::{HostEntry, NewFault, World};
 use faults::Fault;
 use request::{Asked, Refused};
 use std::io;
@@ -110,10 +111,13 @@ fn play<R: AllocGlobal + Print, L: Launcher, S: Source>(
 ) -> Result<u8, Fault>
     requires reader { S.faults reader.old < 2 ^ 64 - 1 }
     requires launcher { L.calls launcher.old ≡ [] }
+    requires free { are_free hosts.now ≡ true }
 {
-    // a file of hosts and a recording are refused where a world can't be made with their hosts: memory alone is left
-    let Ok(mut world) = World::new(rt.alloc(), hosts) else {
-        return Err(Fault::Memory);
+    let mut world = match World::new(rt.alloc(), hosts) {
+        Ok(world) => world,
+        Err(NewFault::NoMemory) => return Err(Fault::Memory),
+        // a file of hosts and a recording are refused where no world can be made with their hosts
+        Err(_) => unreachable!(),
     };
     let mut writer = Counted::new(io::writer(rt));
     let end = drive(rt.alloc(), &mut world, launcher, reader, &mut writer, turns)?;

@@ -1,5 +1,5 @@
-use Rattle.std.proofs.Common.{◌≡◌, true, false, rules, arith, ◌∙◌}
-use Rattle.ados_session.proofs.LineLemmas.{host_taken}
+use Rattle.std.proofs.Common.{◌≡◌, true, false, rules, arith, take, ◌∙◌}
+use Rattle.ados_session.proofs.LineLemmas.{host_taken, hosts_free}
 use Rattle.ados_session.proofs.hosts.hosts_of.Goals as goal
 
 pub returns-then-not-branch-clause-fault : goal.returns-then-not-branch-clause-fault
@@ -17,3 +17,6 @@ loop-place-preserved c =
     c.in_ok-take_line.ensures.hosts c.in_ok-take_line.ensures.good in
     let good : c.in_ok-take_line.field-0 ≡ true = search rules in
     (taken.0 ∙ good, taken.1)
+
+pub returns-clause-free : goal.returns-clause-free
+returns-clause-free c = hosts_free (take c.loop-place.place c.args.lines.now) c.loop-place.hosts.items c.loop-place.invariant.0 c.loop-place.invariant.1

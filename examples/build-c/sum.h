@@ -1,0 +1,2 @@
+/* The sum of so many numbers. */
+long sum(const long *numbers, int count);
