@@ -1,4 +1,10 @@
-// A launcher beside a world whose programs are named by lines.
+// A launcher for a world in which children may be open.
+ghost use Rattle.std.specs.Prelude.{◌≡◌, ◌≢◌, ◌<◌, ℕ, IfOk, OnOk};
+ghost use Rattle.std.specs.Option.{option_copied};
+ghost use Rattle.ados_machine.specs.Children.{child_asked};
+ghost use Rattle.ados_launcher.specs.Lives.{Between, InReads, BehindReads, life_in, life_of};
+ghost use Rattle.ados_launch.specs.Agreement.{Agrees};
+
 use crate::lines::answer_of;
 use ados_launcher::{Launcher, Listed};
 use ados_text::{NoMemory, Text, Texts};
@@ -7,18 +13,20 @@ use std::alloc::Global;
 
 /// A launcher that has its answers from these texts, and whose open children are those that the world reads or waits for.
 ///
-/// Such a child has a start of its own in the list of calls, and the end of its reads where the world waits for it.
-pub fn launcher_of(alloc: Global, world: &World, texts: &[&str]) -> Result<Listed, NoMemory> {
+/// Each such child has a start in the list of calls, and the end of its reads where the world waits for it.
+pub fn launcher_of(alloc: Global, world: &World, texts: &[&str]) -> Result<Listed, NoMemory>
+    ensures { IfOk result (λ launcher. Agrees world.now launcher.calls) }
+{
     let mut launcher = Listed::new(alloc, answers(alloc, world, texts)?);
     for number in 0..21u8 {
-        reopen(alloc, &mut launcher, world, number)?;
+        reopen(alloc, &mut launcher, world.pending(number), number)?;
     }
     // By this it is known that no shell has a number past 20.
     let _running = world.shells();
     Ok(launcher)
 }
 
-// The answers for the children that are open, and behind them those of the texts.
+// The answers by which the children are opened, and behind them those of the texts.
 fn answers(alloc: Global, world: &World, texts: &[&str]) -> Result<Vec<Answer>, NoMemory> {
     let mut answers = Vec::new(alloc);
     for number in 0..21u8 {
@@ -39,9 +47,19 @@ fn answers(alloc: Global, world: &World, texts: &[&str]) -> Result<Vec<Answer>, 
     Ok(answers)
 }
 
-// Opens the child of a number for the launcher, as far as it is in the world.
-fn reopen(alloc: Global, launcher: &mut Listed, world: &World, number: u8) -> Result<(), NoMemory> {
-    match world.pending(number) {
+// Opens the child of a number, as far as it is by what its shell asks for.
+fn reopen(
+    alloc: Global,
+    launcher: &mut Listed,
+    request: Option<&Request>,
+    number: u8,
+) -> Result<(), NoMemory>
+    requires number { number < 21 }
+    requires none { life_of number launcher.old.calls ≡ Between }
+    ensures own { OnOk result (life_of number launcher.new.calls ≡ life_in (child_asked (option_copied request.entry))) }
+    ensures others { OnOk result ((k : ℕ) → k ≢ number → life_of k launcher.new.calls ≡ life_of k launcher.old.calls) }
+{
+    match request {
         Some(Request::Read(_)) => start(alloc, launcher, number),
         Some(Request::Wait(_)) => {
             start(alloc, launcher, number)?;
@@ -52,7 +70,12 @@ fn reopen(alloc: Global, launcher: &mut Listed, world: &World, number: u8) -> Re
 }
 
 // Starts the child of a number.
-fn start(alloc: Global, launcher: &mut Listed, number: u8) -> Result<(), NoMemory> {
+fn start(alloc: Global, launcher: &mut Listed, number: u8) -> Result<(), NoMemory>
+    requires number { number < 21 }
+    requires none { life_of number launcher.old.calls ≡ Between }
+    ensures own { OnOk result (life_of number launcher.new.calls ≡ InReads) }
+    ensures others { OnOk result ((k : ℕ) → k ≢ number → life_of k launcher.new.calls ≡ life_of k launcher.old.calls) }
+{
     let job = Job {
         shell: number,
         program: Text::new(alloc),
@@ -65,7 +88,12 @@ fn start(alloc: Global, launcher: &mut Listed, number: u8) -> Result<(), NoMemor
 }
 
 // Ends the reads of the child of a number.
-fn end_reads(launcher: &mut Listed, number: u8) -> Result<(), NoMemory> {
+fn end_reads(launcher: &mut Listed, number: u8) -> Result<(), NoMemory>
+    requires number { number < 21 }
+    requires reading { life_of number launcher.old.calls ≡ InReads }
+    ensures own { OnOk result (life_of number launcher.new.calls ≡ BehindReads) }
+    ensures others { OnOk result ((k : ℕ) → k ≢ number → life_of k launcher.new.calls ≡ life_of k launcher.old.calls) }
+{
     match launcher.read(number) {
         Answer::End | Answer::PipeFault => Ok(()),
         _ => Err(NoMemory),
