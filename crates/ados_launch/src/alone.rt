@@ -158,7 +158,10 @@ pub fn next_event<L: Launcher>(
     ensures agrees_behind { IfErr result (λ answer. AgreesOnceTaken world.new number answer (L.calls launcher.new)) }
 {
     let Some(request) = world.pending(number) else {
-        return give(world, &Event::Turn(number), draft).map_err(|_| None);
+        return match give(world, &Event::Turn(number), draft) {
+            Ok(()) => Ok(()),
+            Err(_) => Err(None),
+        };
     };
     let event = Event::Answer(number, ask(launcher, request));
     match (give(world, &event, draft), event) {
