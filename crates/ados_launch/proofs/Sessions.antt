@@ -190,11 +190,12 @@ few-one_more [] waits few h = waits-one_more waits h
 few-one_more (call ∷ []) waits few h = h
 few-one_more (call ∷ other ∷ calls) waits few h = absurd (omega (arith, few))
 
--- a read failed, or the line that is due is too long
-pub why-read : (w : WorldState) (left : Option (List ℕ)) (was_full is_full : Bool) (n : ℕ) (round : Round) (world : WorldState) (rest before now : Option (List ℕ)) (calls calls_now : List Call) (d : Driven w left was_full n round world rest before now calls calls_now) (faults old new : ℕ)
-    → faults ≡ old → (new ≡ faults + 1) ⊎ Known rest (λ bytes. kind_of bytes ≡ Overlong) → (new ≡ old + 1) ⊎ Known left (λ bytes. kind_of (left_after bytes d.taken) ≡ Overlong)
-why-read w left was_full is_full n round world rest before now calls calls_now d faults old new same (inl failed) = inl (failed ∙ ap (λ m. m + 1) same)
-why-read w left was_full is_full n round world rest before now calls calls_now d faults old new same (inr long) = inr (λ bytes e. long (left_after bytes d.taken) (d.left_is bytes e))
+-- a read failed, or none did and the line that is due is too long
+pub why-read : (w : WorldState) (left : Option (List ℕ)) (was_full : Bool) (n : ℕ) (round : Round) (world : WorldState) (rest before now : Option (List ℕ)) (calls calls_now : List Call) (d : Driven w left was_full n round world rest before now calls calls_now) (faults old new : ℕ)
+    → faults ≡ old → (new ≡ faults + 1) ⊎ ((new ≡ faults) × Known rest (λ bytes. kind_of bytes ≡ Overlong))
+    → (new ≡ old + 1) ⊎ ((new ≡ old) × Known left (λ bytes. kind_of (left_after bytes d.taken) ≡ Overlong))
+why-read w left was_full n round world rest before now calls calls_now d faults old new same (inl failed) = inl (failed ∙ ap (λ m. m + 1) same)
+why-read w left was_full n round world rest before now calls calls_now d faults old new same (inr long) = inr (long.0 ∙ same, λ bytes e. long.1 (left_after bytes d.taken) (d.left_is bytes e))
 
 -- behind what was taken a line is the next that is due
 pub reading : (w : WorldState) (left : Option (List ℕ)) (is_full : Bool) (n : ℕ) (round : Round) (world : WorldState) (rest before now : Option (List ℕ)) (calls calls_now : List Call) (d : Driven w left is_full n round world rest before now calls calls_now)

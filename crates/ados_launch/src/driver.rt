@@ -133,20 +133,27 @@ pub fn drive<L: Launcher, S: Source, K: Sink>(
     ensures memory { IsErrOf result DriveFault.Memory → (n : ℕ) × (n < turns) × (others : List Call) × OneMore others
         × Stands world.old (S.left reader.old) (L.is_full launcher.new) n
         world.new (K.contents writer.old) (K.contents writer.new) (L.calls launcher.old) (L.calls launcher.new) others × IsRunning world.new }
-    // Less than were allowed were taken, all of their bytes were written, and a line is due, whose read failed or
-    // which is too long to be read.
+    ensures memory_honest { IsErrOf result DriveFault.Memory → (S.faults reader.new ≡ S.faults reader.old)
+        × (K.faults writer.new ≡ K.faults writer.old) × (K.stalls writer.new ≡ K.stalls writer.old) }
+    // Less than were allowed were taken, all of their bytes were written, and a line is due: its read failed, or it is
+    // too long to be read, and no read failed.
     ensures read { IsErrOf result DriveFault.Read → (n : ℕ) × (n < turns) × (others : List Call) × AreWaits others
         × (stands : Stands world.old (S.left reader.old) (L.is_full launcher.new) n
         world.new (K.contents writer.old) (K.contents writer.new) (L.calls launcher.old) (L.calls launcher.new) others)
         × IsReading world.old stands.taken world.new
         × ((S.faults reader.new ≡ S.faults reader.old + 1)
-        ⊎ Known (S.left reader.old) (λ bytes. kind_of (left_after bytes stands.taken) ≡ LineKind.Overlong)) }
+        ⊎ ((S.faults reader.new ≡ S.faults reader.old) × Known (S.left reader.old) (λ bytes. kind_of (left_after bytes stands.taken) ≡ LineKind.Overlong))) }
+    // No write failed, and none took nothing.
+    ensures read_honest { IsErrOf result DriveFault.Read → (K.faults writer.new ≡ K.faults writer.old) × (K.stalls writer.new ≡ K.stalls writer.old) }
     // All bytes but some of the last one's were written, at whose write the writer failed or took nothing.
     ensures write { IsErrOf result DriveFault.Write → (n : ℕ) × (n ≤ turns) × (others : List Call) × AreWaits others
         × StandsCut world.old (S.left reader.old) (L.is_full launcher.new) n
         world.new (K.contents writer.old) (K.contents writer.new) (L.calls launcher.old) (L.calls launcher.new) others }
+    // It alone failed, or took nothing, and no read failed.
     ensures write_cause { IsErrOf result DriveFault.Write →
-        (K.faults writer.new ≡ K.faults writer.old + 1) ⊎ (K.stalls writer.new ≡ one_more (K.stalls writer.old)) }
+        ((K.faults writer.new ≡ K.faults writer.old + 1) × (K.stalls writer.new ≡ K.stalls writer.old))
+        ⊎ ((K.faults writer.new ≡ K.faults writer.old) × (K.stalls writer.new ≡ one_more (K.stalls writer.old))) }
+    ensures write_honest { IsErrOf result DriveFault.Write → S.faults reader.new ≡ S.faults reader.old }
 {
     let mut children = open_children(world);
     match drive_rounds(alloc, world, launcher, &mut children, reader, writer, turns) {
@@ -213,18 +220,25 @@ fn drive_rounds<L: Launcher, S: Source, K: Sink>(
     ensures memory { IsErrOf result DriveFault.Memory → (n : ℕ) × (n < turns) × (others : List Call) × (length others ≤ 1)
         × Stands world.old (S.left reader.old) (L.is_full launcher.new) n
         world.new (K.contents writer.old) (K.contents writer.new) (L.calls launcher.old) (L.calls launcher.new) others × IsRunning world.new }
-    // Less than were allowed were taken, all of their bytes were written, and a line is due, whose read failed or
-    // which is too long to be read.
+    ensures memory_honest { IsErrOf result DriveFault.Memory → (S.faults reader.new ≡ S.faults reader.old)
+        × (K.faults writer.new ≡ K.faults writer.old) × (K.stalls writer.new ≡ K.stalls writer.old) }
+    // Less than were allowed were taken, all of their bytes were written, and a line is due: its read failed, or it is
+    // too long to be read, and no read failed.
     ensures read { IsErrOf result DriveFault.Read → (n : ℕ) × (n < turns) × (stands : Stands world.old (S.left reader.old) (L.is_full launcher.new) n
         world.new (K.contents writer.old) (K.contents writer.new) (L.calls launcher.old) (L.calls launcher.new) [])
         × IsReading world.old stands.taken world.new
         × ((S.faults reader.new ≡ S.faults reader.old + 1)
-        ⊎ Known (S.left reader.old) (λ bytes. kind_of (left_after bytes stands.taken) ≡ LineKind.Overlong)) }
+        ⊎ ((S.faults reader.new ≡ S.faults reader.old) × Known (S.left reader.old) (λ bytes. kind_of (left_after bytes stands.taken) ≡ LineKind.Overlong))) }
+    // No write failed, and none took nothing.
+    ensures read_honest { IsErrOf result DriveFault.Read → (K.faults writer.new ≡ K.faults writer.old) × (K.stalls writer.new ≡ K.stalls writer.old) }
     // All bytes but some of the last one's were written, at whose write the writer failed or took nothing.
     ensures write { IsErrOf result DriveFault.Write → (n : ℕ) × (n ≤ turns) × StandsCut world.old (S.left reader.old) (L.is_full launcher.new) n
         world.new (K.contents writer.old) (K.contents writer.new) (L.calls launcher.old) (L.calls launcher.new) [] }
+    // It alone failed, or took nothing, and no read failed.
     ensures write_cause { IsErrOf result DriveFault.Write →
-        (K.faults writer.new ≡ K.faults writer.old + 1) ⊎ (K.stalls writer.new ≡ one_more (K.stalls writer.old)) }
+        ((K.faults writer.new ≡ K.faults writer.old + 1) × (K.stalls writer.new ≡ K.stalls writer.old))
+        ⊎ ((K.faults writer.new ≡ K.faults writer.old) × (K.stalls writer.new ≡ one_more (K.stalls writer.old))) }
+    ensures write_honest { IsErrOf result DriveFault.Write → S.faults reader.new ≡ S.faults reader.old }
 {
     let mut held = ReadAhead::new();
     let mut line = Vec::new(alloc);

@@ -52,8 +52,9 @@ pub fn take_event<L: Launcher, S: Source>(
     ensures dropped { OnErr result ((others : List Call) × (length others ≤ 1) × (L.calls launcher.new ≡ L.calls launcher.old ++ others)) }
     ensures unasked { IsErrOf result DriveFault.Read → L.calls launcher.new ≡ L.calls launcher.old }
     ensures read { IsErrOf result DriveFault.Read → (S.faults reader.new ≡ S.faults reader.old + 1)
-        ⊎ Known (ahead held.old (S.left reader.old)) (λ bytes. kind_of bytes ≡ LineKind.Overlong) }
+        ⊎ ((S.faults reader.new ≡ S.faults reader.old) × Known (ahead held.old (S.left reader.old)) (λ bytes. kind_of bytes ≡ LineKind.Overlong)) }
     ensures reading { IsErrOf result DriveFault.Read → place ≡ 0 }
+    ensures memory_honest { IsErrOf result DriveFault.Memory → S.faults reader.new ≡ S.faults reader.old }
     ensures no_write { IsErrOf result DriveFault.Write → ⊥ }
     ensures no_turns { IsErrOf result DriveFault.Turns → ⊥ }
 {
@@ -93,7 +94,8 @@ fn take_line<S: Source>(
     ensures honest { OnOk result (S.faults reader.new ≡ S.faults reader.old) }
     ensures err { OnErr result (world.new ≡ world.old) }
     ensures read { IsErrOf result DriveFault.Read → (S.faults reader.new ≡ S.faults reader.old + 1)
-        ⊎ Known (ahead held.old (S.left reader.old)) (λ bytes. kind_of bytes ≡ LineKind.Overlong) }
+        ⊎ ((S.faults reader.new ≡ S.faults reader.old) × Known (ahead held.old (S.left reader.old)) (λ bytes. kind_of bytes ≡ LineKind.Overlong)) }
+    ensures memory_honest { IsErrOf result DriveFault.Memory → S.faults reader.new ≡ S.faults reader.old }
     ensures never_write { IsErrOf result DriveFault.Write → ⊥ }
     ensures never_turns { IsErrOf result DriveFault.Turns → ⊥ }
 {

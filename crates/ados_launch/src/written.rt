@@ -18,7 +18,8 @@ pub fn write_whole<K: Sink>(writer: &mut K, bytes: &[u8]) -> Result<(), WriteFau
     ensures whole { OnOk result (Appends (K.contents writer.old) (K.contents writer.new) bytes.now) }
     ensures honest { OnOk result ((K.faults writer.new ≡ K.faults writer.old) × (K.stalls writer.new ≡ K.stalls writer.old)) }
     ensures front { OnErr result ((n : ℕ) × (n < length bytes.now) × Appends (K.contents writer.old) (K.contents writer.new) (take n bytes.now)) }
-    ensures cause { OnErr result ((K.faults writer.new ≡ K.faults writer.old + 1) ⊎ (K.stalls writer.new ≡ one_more (K.stalls writer.old))) }
+    ensures cause { OnErr result (((K.faults writer.new ≡ K.faults writer.old + 1) × (K.stalls writer.new ≡ K.stalls writer.old))
+        ⊎ ((K.faults writer.new ≡ K.faults writer.old) × (K.stalls writer.new ≡ one_more (K.stalls writer.old)))) }
 {
     let mut at = 0;
     while at < bytes.len() {

@@ -72,7 +72,7 @@ returns-in_err-take_event-clause-read g c err =
       stands-behind _ _ (g.L.Launcher.is_full c.loop-events.launcher) (g.L.Launcher.is_full c.take_event.new.launcher) c.loop-events.events c.loop-events.round c.loop-events.world _ _ _ (g.L.Launcher.calls c.args.launcher.now) (g.L.Launcher.calls c.loop-events.launcher)
           (g.L.Launcher.calls c.take_event.new.launcher) [] c.take_event.ensures.stays (c.take_event.ensures.unasked failed ∙ sym (append-nil (g.L.Launcher.calls c.loop-events.launcher))) i.driven,
       reading _ _ (g.L.Launcher.is_full c.loop-events.launcher) c.loop-events.events c.loop-events.round c.loop-events.world _ _ _ (g.L.Launcher.calls c.args.launcher.now) (g.L.Launcher.calls c.loop-events.launcher) i.driven (rw (c.take_event.ensures.reading failed) at c.in-Some.ensures.due),
-      why-read _ _ (g.L.Launcher.is_full c.loop-events.launcher) (g.L.Launcher.is_full c.take_event.new.launcher) c.loop-events.events c.loop-events.round c.loop-events.world _ _ _ (g.L.Launcher.calls c.args.launcher.now) (g.L.Launcher.calls c.loop-events.launcher) i.driven _ _ _ i.reader (c.take_event.ensures.read failed),
+      why-read _ _ (g.L.Launcher.is_full c.loop-events.launcher) c.loop-events.events c.loop-events.round c.loop-events.world _ _ _ (g.L.Launcher.calls c.args.launcher.now) (g.L.Launcher.calls c.loop-events.launcher) i.driven _ _ _ i.reader (c.take_event.ensures.read failed),
     )
 
 pub loop-events-init : goal.loop-events-init
