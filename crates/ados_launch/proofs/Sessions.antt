@@ -1,21 +1,20 @@
 -- How far a session has come.
-use Rattle.std.proofs.Common.{◌≡◌, ℕ, ◌+◌, ◌<◌, ◌≤◌, List, [], ◌∷◌, ◌++◌, Bool, true, length, take, Option, Some, arith, refl, ap, sym, ◌∙◌, ◌⊎◌, inl, inr, append_assoc, append-nil}
+use Rattle.std.proofs.Common.{◌≡◌, ℕ, ◌+◌, ◌<◌, ◌≤◌, List, [], ◌∷◌, ◌++◌, Bool, true, length, take, Option, Some, arith, refl, ap, sym, subst, ◌∙◌, ◌⊎◌, inl, inr, append_assoc, append-nil}
 use Rattle.std.proofs.KnownBytes.{Appends-nil, Appends-trans}
 use Rattle.std.proofs.Math.Seq.{take-append-add}
 use Rattle.std.proofs.lemmas.List.{take_all}
 use Rattle.std.specs.Io.KnownBytes.{Appends}
 use Rattle.ados_machine.specs.World.{WorldState}
 use Rattle.ados_launcher.specs.declared.calls.Call.{Call}
-use Rattle.ados_launcher.specs.declared.calls.Call.TheVariants.{Start as Starts, Read as Reads, Wait as Waits}
 use Rattle.ados_launch.specs.declared.faults.DriveFault.{DriveFault}
 use Rattle.ados_launch.specs.declared.faults.DriveFault.TheVariants.{Read, Write, Turns, Memory}
 use Rattle.ados_launch.specs.declared.lines.LineKind.TheVariants.{Overlong}
 use Rattle.ados_launch.specs.declared.schedule.Round.{Round}
-use Rattle.ados_launch.specs.Agreement.{AreWaits, OneMore}
+use Rattle.ados_launch.specs.Agreement.{AreWaitsFor}
 use Rattle.ados_launch.specs.Lines.{Known, kind_of}
 use Rattle.ados_launch.specs.Taken.{Taken, bytes_of, written_for, left_after}
-use Rattle.ados_launch.specs.Schedule.{due, first_round, place_of, round_after, round_behind, IsReading}
-use Rattle.ados_launch.specs.Session.{Session, Stands, StandsCut, TakesAt}
+use Rattle.ados_launch.specs.Schedule.{due, due_behind, first_round, place_of, round_after, round_behind, IsReading}
+use Rattle.ados_launch.specs.Session.{AreDropped, Session, Stands, StandsCut, TakesAt}
 use Rattle.ados_launch.proofs.Taken.{run-more, order-more, round-more, asked-more, asked-full, lines-more, left-more, written-more, count-more}
 
 -- so many were taken, and all of their bytes written; the round goes on, with this left to read
@@ -144,51 +143,52 @@ cut-more w left is_full n last before now calls mid_calls calls_now more e s = r
   calls_are = others-more calls mid_calls calls_now s.listed [] more s.calls_are e;
 }
 
+-- the waits were for the children that were open where the run stopped
+pub waits-behind : (calls mid listed dropped waits : List Call) → mid ≡ calls ++ (listed ++ dropped) → AreWaitsFor mid waits → AreWaitsFor (calls ++ (listed ++ dropped)) waits
+waits-behind calls mid listed dropped waits is are = subst (λ xs. AreWaitsFor xs waits) is are
+
+pub waits-alone : (calls mid listed waits : List Call) → mid ≡ calls ++ (listed ++ []) → AreWaitsFor mid waits → AreWaitsFor (calls ++ listed) waits
+waits-alone calls mid listed waits is are = subst (λ xs. AreWaitsFor xs waits) (is ∙ ap (λ xs. calls ++ xs) (append-nil listed)) are
+
 -- a front of all bytes was written
 abbrev pub Written : WorldState → Option (List ℕ) → Bool → ℕ → WorldState → Option (List ℕ) → Option (List ℕ) → List Call → List Call → Type 0
 Written w left is_full most last before now calls calls_now =
-    (taken : List Taken) × (listed others : List Call) × (length taken ≤ most) × Session w left is_full listed taken last
-    × (calls_now ≡ calls ++ (listed ++ others)) × OneMore others × (n : ℕ) × Appends before now (take n (written_for taken))
+    (taken : List Taken) × (listed dropped waits : List Call) × (length taken ≤ most) × Session w left is_full listed taken last
+    × AreDropped last (due_behind w taken last) dropped × AreWaitsFor (calls ++ (listed ++ dropped)) waits
+    × (calls_now ≡ calls ++ (listed ++ (dropped ++ waits))) × (n : ℕ) × Appends before now (take n (written_for taken))
 
-pub written-whole : (w : WorldState) (left : Option (List ℕ)) (is_full : Bool) (n most : ℕ) (last : WorldState) (before now : Option (List ℕ)) (calls calls_now others : List Call) → n ≤ most → OneMore others
-    → Stands w left is_full n last before now calls calls_now others → Written w left is_full most last before now calls calls_now
-written-whole w left is_full n most last before now calls calls_now others within one s = (
+pub written-whole : (w : WorldState) (left : Option (List ℕ)) (is_full : Bool) (n most : ℕ) (last : WorldState) (before now : Option (List ℕ)) (calls calls_now dropped waits : List Call) → n ≤ most
+    → (s : Stands w left is_full n last before now calls calls_now (dropped ++ waits)) → AreDropped last (due_behind w s.taken last) dropped → AreWaitsFor (calls ++ (s.listed ++ dropped)) waits
+    → Written w left is_full most last before now calls calls_now
+written-whole w left is_full n most last before now calls calls_now dropped waits within s one are = (
   s.taken,
   s.listed,
-  others,
+  dropped,
+  waits,
   omega (arith, s.count_is, within),
   s.session,
-  s.calls_are,
   one,
+  are,
+  s.calls_are,
   length (written_for s.taken),
   rw (take_all (length (written_for s.taken)) (written_for s.taken) (omega arith)) s.written,
 )
 
-pub written-cut : (w : WorldState) (left : Option (List ℕ)) (is_full : Bool) (n most : ℕ) (last : WorldState) (before now : Option (List ℕ)) (calls calls_now others : List Call) → n ≤ most → OneMore others
-    → StandsCut w left is_full n last before now calls calls_now others → Written w left is_full most last before now calls calls_now
-written-cut w left is_full n most last before now calls calls_now others within one s = (
+pub written-cut : (w : WorldState) (left : Option (List ℕ)) (is_full : Bool) (n most : ℕ) (last : WorldState) (before now : Option (List ℕ)) (calls calls_now waits : List Call) → n ≤ most
+    → (s : StandsCut w left is_full n last before now calls calls_now waits) → AreWaitsFor (calls ++ (s.listed ++ [])) waits → Written w left is_full most last before now calls calls_now
+written-cut w left is_full n most last before now calls calls_now waits within s are = (
   s.taken ++ s.item ∷ [],
   s.listed,
-  others,
+  [],
+  waits,
   omega (arith, s.count_is, count-more s.taken s.item, within),
   s.session,
+  tt,
+  are,
   s.calls_are,
-  one,
   length (written_for s.taken) + s.length_written,
   rw (written-more, take-append-add) s.written,
 )
-
--- waits alone are at most one more call
-pub waits-one_more : (others : List Call) → AreWaits others → OneMore others
-waits-one_more [] waits = tt
-waits-one_more (Starts job reply ∷ calls) waits = absurd waits
-waits-one_more (Reads n reply ∷ calls) waits = absurd waits
-waits-one_more (Waits n reply ∷ calls) waits = waits.1
-
-pub few-one_more : (others waits : List Call) → length others ≤ 1 → AreWaits waits → OneMore (others ++ waits)
-few-one_more [] waits few h = waits-one_more waits h
-few-one_more (call ∷ []) waits few h = h
-few-one_more (call ∷ other ∷ calls) waits few h = absurd (omega (arith, few))
 
 -- a read failed, or none did and the line that is due is too long
 pub why-read : (w : WorldState) (left : Option (List ℕ)) (was_full : Bool) (n : ℕ) (round : Round) (world : WorldState) (rest before now : Option (List ℕ)) (calls calls_now : List Call) (d : Driven w left was_full n round world rest before now calls calls_now) (faults old new : ℕ)
@@ -202,26 +202,33 @@ pub reading : (w : WorldState) (left : Option (List ℕ)) (is_full : Bool) (n : 
     → Some 0 ≡ due round world → IsReading w d.taken world
 reading w left is_full n round world rest before now calls calls_now d here = rw (← d.round_is) (sym here)
 
+-- the call whose answer was not taken is for what comes next behind what was taken
+pub next-dropped : (w : WorldState) (left : Option (List ℕ)) (is_full : Bool) (n k : ℕ) (round : Round) (world : WorldState) (rest before now : Option (List ℕ)) (calls calls_now dropped : List Call) (d : Driven w left is_full n round world rest before now calls calls_now)
+    → Some k ≡ due round world → AreDropped world (Some k) dropped → AreDropped world (due_behind w d.taken world) dropped
+next-dropped w left is_full n k round world rest before now calls calls_now dropped d here one =
+    subst (λ next. AreDropped world next dropped) (here ∙ ap (λ r. due r world) d.round_is) one
+
 -- a run that stopped, and the waits for open children behind it
 pub fault-written : (w : WorldState) (left : Option (List ℕ)) (is_full : Bool) (turns : ℕ) (last : WorldState) (before now : Option (List ℕ)) (calls mid_calls calls_now waits : List Call) (fault : DriveFault)
-    → calls_now ≡ mid_calls ++ waits → AreWaits waits
+    → calls_now ≡ mid_calls ++ waits → AreWaitsFor mid_calls waits
     → (fault ≡ Turns → Stands w left is_full turns last before now calls mid_calls [])
-    → (fault ≡ Memory → (n : ℕ) × (n < turns) × (others : List Call) × (length others ≤ 1) × Stands w left is_full n last before now calls mid_calls others)
+    → (fault ≡ Memory → (n : ℕ) × (n < turns) × (dropped : List Call) × (stands : Stands w left is_full n last before now calls mid_calls dropped) × AreDropped last (due_behind w stands.taken last) dropped)
     → (fault ≡ Read → (n : ℕ) × (n < turns) × Stands w left is_full n last before now calls mid_calls [])
     → (fault ≡ Write → (n : ℕ) × (n ≤ turns) × StandsCut w left is_full n last before now calls mid_calls [])
     → Written w left is_full turns last before now calls calls_now
 fault-written w left is_full turns last before now calls mid_calls calls_now waits Turns is are at_turns at_memory at_read at_write =
-    written-whole w left is_full turns turns last before now calls calls_now waits (omega arith) (waits-one_more waits are)
-    (stands-more w left is_full turns last before now calls mid_calls calls_now [] waits is (at_turns refl))
+    let s = at_turns refl in
+    written-whole w left is_full turns turns last before now calls calls_now [] waits (omega arith)
+    (stands-more w left is_full turns last before now calls mid_calls calls_now [] waits is s) tt (waits-behind calls mid_calls s.listed [] waits s.calls_are are)
 fault-written w left is_full turns last before now calls mid_calls calls_now waits Memory is are at_turns at_memory at_read at_write =
     let m = at_memory refl in
-    written-whole w left is_full m.0 turns last before now calls calls_now (m.2 ++ waits) (omega (arith, m.1)) (few-one_more m.2 waits m.3 are)
-    (stands-more w left is_full m.0 last before now calls mid_calls calls_now m.2 waits is m.4)
+    written-whole w left is_full m.0 turns last before now calls calls_now m.2 waits (omega (arith, m.1))
+    (stands-more w left is_full m.0 last before now calls mid_calls calls_now m.2 waits is m.3) m.4 (waits-behind calls mid_calls m.3.listed m.2 waits m.3.calls_are are)
 fault-written w left is_full turns last before now calls mid_calls calls_now waits Read is are at_turns at_memory at_read at_write =
     let r = at_read refl in
-    written-whole w left is_full r.0 turns last before now calls calls_now waits (omega (arith, r.1)) (waits-one_more waits are)
-    (stands-more w left is_full r.0 last before now calls mid_calls calls_now [] waits is r.2)
+    written-whole w left is_full r.0 turns last before now calls calls_now [] waits (omega (arith, r.1))
+    (stands-more w left is_full r.0 last before now calls mid_calls calls_now [] waits is r.2) tt (waits-behind calls mid_calls r.2.listed [] waits r.2.calls_are are)
 fault-written w left is_full turns last before now calls mid_calls calls_now waits Write is are at_turns at_memory at_read at_write =
     let c = at_write refl in
-    written-cut w left is_full c.0 turns last before now calls calls_now waits c.1 (waits-one_more waits are)
-    (cut-more w left is_full c.0 last before now calls mid_calls calls_now waits is c.2)
+    written-cut w left is_full c.0 turns last before now calls calls_now waits c.1
+    (cut-more w left is_full c.0 last before now calls mid_calls calls_now waits is c.2) (waits-behind calls mid_calls c.2.listed [] waits c.2.calls_are are)

@@ -1,5 +1,5 @@
 -- What an event that was taken is in a session.
-use Rattle.std.proofs.Common.{◌≡◌, ℕ, ◌+◌, ◌-◌, ◌<◌, ◌≤◌, List, [], Bool, true, false, not, Option, Some, Result, Ok, Err, OnOk, nat_lt, refl, ap, sym, ◌∙◌, append-nil, arith, inl, inr}
+use Rattle.std.proofs.Common.{◌≡◌, ℕ, ◌+◌, ◌-◌, ◌<◌, ◌≤◌, List, [], ◌++◌, Bool, true, false, not, Option, Some, Result, Ok, Err, OnOk, OnErr, nat_lt, refl, ap, sym, subst, ◌∙◌, append-nil, arith, inl, inr}
 use Rattle.std.specs.Prelude.{if◌then◌else◌}
 use Rattle.std.proofs.lemmas.Bool.{cases_Bool}
 use Rattle.std.proofs.lemmas.Grind.{common_steps}
@@ -16,11 +16,11 @@ use Rattle.ados_machine.specs.Runs.{IsAnswer, world_after}
 use Rattle.ados_launcher.specs.declared.calls.Call.{Call}
 use Rattle.ados_launch.specs.declared.lines.LineKind.{LineKind}
 use Rattle.ados_launch.specs.declared.lines.LineKind.TheVariants.{End, Short}
-use Rattle.ados_launch.specs.Asked.{Answers, IsAsked, TakesAnswer}
+use Rattle.ados_launch.specs.Asked.{Answers, IsAsked, Lists, TakesAnswer}
 use Rattle.ados_launch.specs.Lines.{Known, TakesLine, line_of, rest_of, kind_of}
 use Rattle.ados_launch.specs.Taken.{Taken, Given, LongLine, IsNext, IsOfReader, left_behind, text_of}
-use Rattle.ados_launch.specs.Schedule.{asks_further, asks_start, comes, place_of}
-use Rattle.ados_launch.specs.Session.{Takes, TakesAt, TakesLineAt}
+use Rattle.ados_launch.specs.Schedule.{asks_further, asks_start, comes, place_of, place_of_event}
+use Rattle.ados_launch.specs.Session.{AreDropped, Takes, TakesAt, TakesLineAt}
 use Rattle.ados_launch.proofs.Places.{comes-start, comes-late}
 
 -- a line of the reader, or its end
@@ -106,6 +106,28 @@ place-by place b late early further =
       | inr off ↦ rw (off, further off) (grind (arith, common_steps))
     ]
 
+-- an answer has the place at which it was due
+answer-place : (w : WorldState) (place : ℕ) (request : Request) (reply : Reply) → 21 ≤ place → comes w place ≡ true → pending_of w (shell_at_place place) ≡ Some request → fits request reply ≡ true
+    → place_of_event (Answer (shell_at_place place) reply) ≡ place
+answer-place w place request reply late due asked fit = place-by place (answers_start reply) late
+    (λ on. sym (start-fits request reply fit) ∙ start-due w place request late on due (rw on at asked))
+    (λ off. sym (start-fits request reply fit) ∙ further-due w place request off due (rw off at asked))
+
+listed-dropped : (w : WorldState) (is_full : Bool) (place : ℕ) (request : Request) (reply : Reply) (listed : List Call) → 21 ≤ place → comes w place ≡ true
+    → pending_of w (shell_at_place place) ≡ Some request → Lists is_full request reply listed → AreDropped w (Some place) listed
+listed-dropped w is_full place request reply listed late due asked (fit, inl is) =
+    subst (AreDropped w (Some place)) (sym is)
+    (record { number = shell_at_place place; request = request; reply = reply; next_is = ap Some (sym (answer-place w place request reply late due asked fit)); pending_is = asked; fit = fit; call_is = refl })
+listed-dropped w is_full place request reply listed late due asked (fit, inr none) = subst (AreDropped w (Some place)) (sym none.0) tt
+
+-- a launcher's answer that was not taken
+pub dropped-at-answer : {X E : Type 0} (w now : WorldState) (was_full is_full : Bool) (calls calls_now : List Call) (place : ℕ) (out : Out) (result : Result X E)
+    → 21 ≤ place → comes w place ≡ true → Answers w (shell_at_place place) was_full is_full calls calls_now (TakesAnswer w (shell_at_place place) result now out)
+    → OnErr result ((dropped : List Call) × AreDropped w (Some place) dropped × (calls_now ≡ calls ++ dropped))
+dropped-at-answer w now was_full is_full calls calls_now place out (Ok done) late due a = tt
+dropped-at-answer w now was_full is_full calls calls_now place out (Err fault) late due a =
+    (a.asks.listed, listed-dropped w is_full place a.request a.reply a.asks.listed late due a.pending_is a.asks.lists, a.asks.calls_are)
+
 -- a launcher's answer
 pub took-at-answer : {X E : Type 0} (w now : WorldState) (left : Option (List ℕ)) (was_full is_full : Bool) (calls calls_now : List Call) (place : ℕ) (out : Out) (result : Result X E)
     → 21 ≤ place → comes w place ≡ true → Answers w (shell_at_place place) was_full is_full calls calls_now (TakesAnswer w (shell_at_place place) result now out)
@@ -113,9 +135,7 @@ pub took-at-answer : {X E : Type 0} (w now : WorldState) (left : Option (List �
 took-at-answer w now left was_full is_full calls calls_now place out (Ok done) late due a = record {
   item = Given (Answer (shell_at_place place) a.reply) out;
   listed = a.asks.listed;
-  place_is = place-by place (answers_start a.reply) late
-      (λ on. sym (start-fits a.request a.reply a.asks.lists.0) ∙ start-due w place a.request late on due (rw on at a.pending_is))
-      (λ off. sym (start-fits a.request a.reply a.asks.lists.0) ∙ further-due w place a.request off due (rw off at a.pending_is));
+  place_is = answer-place w place a.request a.reply late due a.pending_is a.asks.lists.0;
   takes = record { accepted = a.led_to.0; world_is = a.led_to.1; lines = λ bytes e. (tt, e); bytes_are = refl };
   calls_are = a.asks.calls_are;
   asked = rw a.pending_is a.asks.lists;

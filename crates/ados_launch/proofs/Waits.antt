@@ -10,7 +10,7 @@ use Rattle.ados_machine.specs.Children.{answers_wait}
 use Rattle.ados_launcher.specs.declared.calls.Call.{Call}
 use Rattle.ados_launcher.specs.declared.calls.Call.TheVariants.{Start as Starts, Read as Reads, Wait as Waits}
 use Rattle.ados_launcher.specs.Lives.{Life, Between, InReads, BehindReads, Cut, Broken, life_of, life_waited, is_open}
-use Rattle.ados_launch.specs.Agreement.{AddsWait, AreWaits, AreWhole, AreOver, IsWhole, IsOver, IsOpenTable, WaitsForOpen, open_children, waited_child}
+use Rattle.ados_launch.specs.Agreement.{AddsWait, AreWaits, AreWaitsFor, AreWhole, AreOver, IsWhole, IsOver, IsOpenTable, WaitsForOpen, open_children, waited_child}
 use Rattle.ados_launch.proofs.Rows.{life-more}
 
 -- a row once its open child was waited for
@@ -168,7 +168,15 @@ waits-more n true before mid after w o m = one-wait n m.answer before mid after 
 waits-more n false before mid after w o m = subst (WaitsBelow (n + 1) before) (sym m) (no-more n before mid w (sym o))
 
 pub all-waits : (before after : List Call) → WaitsBelow 21 before after → WaitsForOpen before after
-all-waits before after w = record { waits = w.waits; calls_are = w.calls_are; children_are = w.children_are; fit = w.fit }
+all-waits before after w = record { waits = w.waits; calls_are = w.calls_are; are_for_open = (w.children_are, w.fit) }
+
+filter-none : (test : ℕ → Bool) (xs : List ℕ) → ((k : ℕ) → test k ≡ false) → filter test xs ≡ []
+filter-none test [] none = refl
+filter-none test (x ∷ xs) none = rw (none x) (filter-none test xs none)
+
+-- where no child is open none is waited for
+pub none-open : (calls : List Call) → ((k : ℕ) → life_of k calls ≡ Between) → AreWaitsFor calls []
+none-open calls between = (ap (map Some) (sym (filter-none (λ k. is_open (life_of k calls)) (range_with_len 0 21) (λ k. ap is_open (between k)))), tt)
 
 -- a table that is filled up to n
 filled-at : (n : ℕ) (b : Bool) (f : ℕ → Bool) → b ≡ f n → b ≡ (if nat_lt n (n + 1) then f n else false)

@@ -52,12 +52,15 @@ AreWaits (Start job answer ∷ calls) = ⊥
 AreWaits (Read n answer ∷ calls) = ⊥
 AreWaits (Wait n answer ∷ calls) = (answers_wait answer ≡ true) × AreWaits calls
 
--- behind these calls one wait was asked for each child that was open, by rising number, and nothing else
+-- one wait for each child that is open behind these calls, by rising number, and nothing else
+abbrev pub AreWaitsFor : List Call → List Call → Type 0
+AreWaitsFor calls waits = (map waited_child waits ≡ map Some (open_children calls)) × AreWaits waits
+
+-- these waits were asked for behind the calls, and nothing else
 pub record WaitsForOpen (before after : List Call) : Type 0 where
   pub waits : List Call
   pub calls_are : after ≡ before ++ waits
-  pub children_are : map waited_child waits ≡ map Some (open_children before)
-  pub fit : AreWaits waits
+  pub are_for_open : AreWaitsFor before waits
 
 -- the open children of a launcher by its calls, in a table by their numbers
 abbrev pub IsOpenTable : List Bool → List Call → Type 0
@@ -68,8 +71,3 @@ pub record AddsWait (k : ℕ) (before after : List Call) : Type 0 where
   pub answer : Answer
   pub calls_are : after ≡ before ++ Wait k answer ∷ []
   pub fit : answers_wait answer ≡ true
-
--- of these calls one at most is no wait for an open child: it is the first, whose answer was not taken
-abbrev pub OneMore : List Call → Type 0
-OneMore [] = Unit {0}
-OneMore (call ∷ calls) = AreWaits calls

@@ -102,9 +102,13 @@ abbrev pub round_after : Round → WorldState → List Taken → Round
 round_after round w [] = round
 round_after round w (item ∷ taken) = round_after (round_behind round w (place_of item)) (world_behind w item) taken
 
--- behind what was taken from a world a line is the next that is due
+-- the place of what comes next behind what was taken from a world
+abbrev pub due_behind : WorldState → List Taken → WorldState → Option ℕ
+due_behind w taken now = due (round_after first_round w taken) now
+
+-- a line comes next
 abbrev pub IsReading : WorldState → List Taken → WorldState → Type 0
-IsReading w taken now = due (round_after first_round w taken) now ≡ Some 0
+IsReading w taken now = due_behind w taken now ≡ Some 0
 
 -- at some place something may come
 abbrev pub IsRunning : WorldState → Type 0

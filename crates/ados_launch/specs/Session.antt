@@ -1,13 +1,17 @@
 -- Sessions: what a driven world took from a reader and a launcher, and what was written for it.
-use Rattle.std.specs.Prelude.{◌≡◌, ℕ, ◌+◌, ◌<◌, List, [], ◌∷◌, ◌++◌, length, take, Bool, Option, Some}
+use Rattle.std.specs.Prelude.{◌≡◌, ℕ, ◌+◌, ◌<◌, List, [], ◌∷◌, ◌++◌, length, take, Bool, true, Option, Some}
 use Rattle.std.specs.Io.KnownBytes.{Appends}
-use Rattle.ados_machine.specs.World.{WorldState}
+use Rattle.ados_machine.specs.declared.answers.Answer.{Answer as Reply}
+use Rattle.ados_machine.specs.declared.events.Event.TheVariants.{Answer}
+use Rattle.ados_machine.specs.declared.requests.Request.{Request}
+use Rattle.ados_machine.specs.Children.{fits}
+use Rattle.ados_machine.specs.World.{WorldState, pending_of}
 use Rattle.ados_machine.specs.Runs.{Runs}
 use Rattle.ados_launcher.specs.declared.calls.Call.{Call}
 use Rattle.ados_launch.specs.Lines.{Known, ahead}
 use Rattle.ados_launch.specs.Taken.{Taken, events_in, outs_in, bytes_of, written_for, world_behind, IsAccepted, IsNext, IsOfReader, left_behind, AreRead}
-use Rattle.ados_launch.specs.Asked.{IsAsked, AreAsked}
-use Rattle.ados_launch.specs.Schedule.{InOrder, place_of, first_round}
+use Rattle.ados_launch.specs.Asked.{IsAsked, AreAsked, call_of}
+use Rattle.ados_launch.specs.Schedule.{InOrder, place_of, place_of_event, first_round}
 
 -- From a world, with a reader that had this left, and a launcher that is full in the end or not and listed these calls, this
 -- was taken, and the last world stands behind it.
@@ -20,6 +24,22 @@ pub record Session (w : WorldState) (left : Option (List ℕ)) (is_full : Bool) 
   pub lines : Known left (λ bytes. AreRead bytes taken)
   -- the answers are the launcher's: each request was called once, and in their order
   pub asked : AreAsked is_full w taken listed
+
+-- The call is one for the answer that comes next: for what its shell asks for, with an answer of that kind.
+pub record IsForNext (w : WorldState) (next : Option ℕ) (call : Call) : Type 0 where
+  pub number : ℕ
+  pub request : Request
+  pub reply : Reply
+  pub next_is : next ≡ Some (place_of_event (Answer number reply))
+  pub pending_is : pending_of w number ≡ Some request
+  pub fit : fits request reply ≡ true
+  pub call_is : call ≡ call_of request reply
+
+-- Calls whose answers the world did not take: none, or one for the answer that comes next.
+abbrev pub AreDropped : WorldState → Option ℕ → List Call → Type 0
+AreDropped w next [] = Unit {0}
+AreDropped w next (call ∷ []) = IsForNext w next call
+AreDropped w next (call ∷ other ∷ calls) = ⊥
 
 -- So many events and long lines were taken, and all of their bytes were written. The launcher listed what was asked for them,
 -- and then these other calls.

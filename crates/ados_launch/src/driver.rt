@@ -4,11 +4,11 @@ ghost use Rattle.std.specs.Io.KnownBytes.{Appends};
 ghost use Rattle.ados_machine.specs.World.{codes_at, is_over};
 ghost use Rattle.ados_launcher.specs.Lives.{Between, life_of};
 ghost use Rattle.ados_launcher.specs.declared.calls.Call.{Call};
-ghost use Rattle.ados_launch.specs.Agreement.{Agrees, AreOver, AreWaits, AreWhole, IsOpenTable, OneMore, WaitsForOpen};
+ghost use Rattle.ados_launch.specs.Agreement.{Agrees, AreOver, AreWaitsFor, AreWhole, IsOpenTable, WaitsForOpen};
 ghost use Rattle.ados_launch.specs.Faults.{one_more};
 ghost use Rattle.ados_launch.specs.Lines.{Known, kind_of};
-ghost use Rattle.ados_launch.specs.Schedule.{IsIdle, IsReading, IsRunning, takes_input};
-ghost use Rattle.ados_launch.specs.Session.{Session, Stands, StandsCut, IsReadAhead};
+ghost use Rattle.ados_launch.specs.Schedule.{due_behind, IsIdle, IsReading, IsRunning, takes_input};
+ghost use Rattle.ados_launch.specs.Session.{AreDropped, Session, Stands, StandsCut, IsReadAhead};
 ghost use Rattle.ados_launch.specs.Taken.{Taken, written_for, left_after};
 
 use crate::children::{open_children, wait_for_open};
@@ -85,11 +85,14 @@ pub fn drive<L: Launcher, S: Source, K: Sink>(
     requires agrees { Agrees world.old (L.calls launcher.old) }
 
     // At every end, whatever the reader, the writer and the launcher do: what was taken is a run of the machine, which
-    // accepted each event, in the order of the schedule; the launcher listed what was asked for it, and at most one call
-    // and the waits for open children behind; and a front of its bytes was written.
-    ensures session { (taken : List Taken) × (listed others : List Call) × (length taken ≤ turns)
+    // accepted each event, in the order of the schedule; the launcher listed what was asked for it, behind that at most
+    // one call, for the answer that comes next and was not taken, and then a wait for each child that was open; and a
+    // front of its bytes was written.
+    ensures session { (taken : List Taken) × (listed dropped waits : List Call) × (length taken ≤ turns)
         × Session world.old (S.left reader.old) (L.is_full launcher.new) listed taken world.new
-        × (L.calls launcher.new ≡ L.calls launcher.old ++ (listed ++ others)) × OneMore others
+        × AreDropped world.new (due_behind world.old taken world.new) dropped
+        × AreWaitsFor (L.calls launcher.old ++ (listed ++ dropped)) waits
+        × (L.calls launcher.new ≡ L.calls launcher.old ++ (listed ++ (dropped ++ waits)))
         × (n : ℕ) × Appends (K.contents writer.old) (K.contents writer.new) (take n (written_for taken)) }
     // At every end no child is open, and each was waited for once.
     ensures over { AreOver (L.calls launcher.new) }
@@ -115,40 +118,45 @@ pub fn drive<L: Launcher, S: Source, K: Sink>(
     ensures waits { OnErr result ((calls : List Call) × AreWhole calls × WaitsForOpen calls (L.calls launcher.new)) }
 
     // As many as were allowed were taken, all of their bytes were written, and something is due.
-    ensures turns { IsErrOf result DriveFault.Turns → (others : List Call) × AreWaits others
-        × Stands world.old (S.left reader.old) (L.is_full launcher.new) turns
-        world.new (K.contents writer.old) (K.contents writer.new) (L.calls launcher.old) (L.calls launcher.new) others × IsRunning world.new }
+    ensures turns { IsErrOf result DriveFault.Turns → (waits : List Call)
+        × (stands : Stands world.old (S.left reader.old) (L.is_full launcher.new) turns
+        world.new (K.contents writer.old) (K.contents writer.new) (L.calls launcher.old) (L.calls launcher.new) waits)
+        × AreWaitsFor (L.calls launcher.old ++ stands.listed) waits × IsRunning world.new }
     // For what is due nothing was read: no read failed, and what is left stands behind the lines that were taken,
     // but for less than 4,096 bytes that came with them.
-    ensures turns_unread { IsErrOf result DriveFault.Turns → Known (S.left reader.old) (λ bytes. (others : List Call) × AreWaits others
+    ensures turns_unread { IsErrOf result DriveFault.Turns → Known (S.left reader.old) (λ bytes. (waits : List Call)
         × (stands : Stands world.old (S.left reader.old) (L.is_full launcher.new) turns
-        world.new (K.contents writer.old) (K.contents writer.new) (L.calls launcher.old) (L.calls launcher.new) others)
-        × IsReadAhead (left_after bytes stands.taken) (S.left reader.new)) }
+        world.new (K.contents writer.old) (K.contents writer.new) (L.calls launcher.old) (L.calls launcher.new) waits)
+        × AreWaitsFor (L.calls launcher.old ++ stands.listed) waits × IsReadAhead (left_after bytes stands.taken) (S.left reader.new)) }
     ensures turns_honest { IsErrOf result DriveFault.Turns → (S.faults reader.new ≡ S.faults reader.old)
         × (K.faults writer.new ≡ K.faults writer.old) × (K.stalls writer.new ≡ K.stalls writer.old) }
     // Where none is allowed the reader and the writer stay as they are.
     ensures untouched { turns ≡ 0 → (reader.new ≡ reader.old) × (writer.new ≡ writer.old) }
 
-    // Less than were allowed were taken, all of their bytes were written, and something is due.
-    ensures memory { IsErrOf result DriveFault.Memory → (n : ℕ) × (n < turns) × (others : List Call) × OneMore others
-        × Stands world.old (S.left reader.old) (L.is_full launcher.new) n
-        world.new (K.contents writer.old) (K.contents writer.new) (L.calls launcher.old) (L.calls launcher.new) others × IsRunning world.new }
+    // Less than were allowed were taken, all of their bytes were written, and something is due; one call at most was made
+    // for it.
+    ensures memory { IsErrOf result DriveFault.Memory → (n : ℕ) × (n < turns) × (dropped waits : List Call)
+        × (stands : Stands world.old (S.left reader.old) (L.is_full launcher.new) n
+        world.new (K.contents writer.old) (K.contents writer.new) (L.calls launcher.old) (L.calls launcher.new) (dropped ++ waits))
+        × AreDropped world.new (due_behind world.old stands.taken world.new) dropped
+        × AreWaitsFor (L.calls launcher.old ++ (stands.listed ++ dropped)) waits × IsRunning world.new }
     ensures memory_honest { IsErrOf result DriveFault.Memory → (S.faults reader.new ≡ S.faults reader.old)
         × (K.faults writer.new ≡ K.faults writer.old) × (K.stalls writer.new ≡ K.stalls writer.old) }
     // Less than were allowed were taken, all of their bytes were written, and a line is due: its read failed, or it is
     // too long to be read, and no read failed.
-    ensures read { IsErrOf result DriveFault.Read → (n : ℕ) × (n < turns) × (others : List Call) × AreWaits others
+    ensures read { IsErrOf result DriveFault.Read → (n : ℕ) × (n < turns) × (waits : List Call)
         × (stands : Stands world.old (S.left reader.old) (L.is_full launcher.new) n
-        world.new (K.contents writer.old) (K.contents writer.new) (L.calls launcher.old) (L.calls launcher.new) others)
-        × IsReading world.old stands.taken world.new
+        world.new (K.contents writer.old) (K.contents writer.new) (L.calls launcher.old) (L.calls launcher.new) waits)
+        × AreWaitsFor (L.calls launcher.old ++ stands.listed) waits × IsReading world.old stands.taken world.new
         × ((S.faults reader.new ≡ S.faults reader.old + 1)
         ⊎ ((S.faults reader.new ≡ S.faults reader.old) × Known (S.left reader.old) (λ bytes. kind_of (left_after bytes stands.taken) ≡ LineKind.Overlong))) }
     // No write failed, and none took nothing.
     ensures read_honest { IsErrOf result DriveFault.Read → (K.faults writer.new ≡ K.faults writer.old) × (K.stalls writer.new ≡ K.stalls writer.old) }
     // All bytes but some of the last one's were written, at whose write the writer failed or took nothing.
-    ensures write { IsErrOf result DriveFault.Write → (n : ℕ) × (n ≤ turns) × (others : List Call) × AreWaits others
-        × StandsCut world.old (S.left reader.old) (L.is_full launcher.new) n
-        world.new (K.contents writer.old) (K.contents writer.new) (L.calls launcher.old) (L.calls launcher.new) others }
+    ensures write { IsErrOf result DriveFault.Write → (n : ℕ) × (n ≤ turns) × (waits : List Call)
+        × (stands : StandsCut world.old (S.left reader.old) (L.is_full launcher.new) n
+        world.new (K.contents writer.old) (K.contents writer.new) (L.calls launcher.old) (L.calls launcher.new) waits)
+        × AreWaitsFor (L.calls launcher.old ++ stands.listed) waits }
     // It alone failed, or took nothing, and no read failed.
     ensures write_cause { IsErrOf result DriveFault.Write →
         ((K.faults writer.new ≡ K.faults writer.old + 1) × (K.stalls writer.new ≡ K.stalls writer.old))
@@ -216,10 +224,12 @@ fn drive_rounds<L: Launcher, S: Source, K: Sink>(
     // Where none is allowed the reader and the writer stay as they are.
     ensures untouched { turns ≡ 0 → (reader.new ≡ reader.old) × (writer.new ≡ writer.old) }
 
-    // Less than were allowed were taken, all of their bytes were written, and something is due.
-    ensures memory { IsErrOf result DriveFault.Memory → (n : ℕ) × (n < turns) × (others : List Call) × (length others ≤ 1)
-        × Stands world.old (S.left reader.old) (L.is_full launcher.new) n
-        world.new (K.contents writer.old) (K.contents writer.new) (L.calls launcher.old) (L.calls launcher.new) others × IsRunning world.new }
+    // Less than were allowed were taken, all of their bytes were written, and something is due; one call at most was made
+    // for it.
+    ensures memory { IsErrOf result DriveFault.Memory → (n : ℕ) × (n < turns) × (dropped : List Call)
+        × (stands : Stands world.old (S.left reader.old) (L.is_full launcher.new) n
+        world.new (K.contents writer.old) (K.contents writer.new) (L.calls launcher.old) (L.calls launcher.new) dropped)
+        × AreDropped world.new (due_behind world.old stands.taken world.new) dropped × IsRunning world.new }
     ensures memory_honest { IsErrOf result DriveFault.Memory → (S.faults reader.new ≡ S.faults reader.old)
         × (K.faults writer.new ≡ K.faults writer.old) × (K.stalls writer.new ≡ K.stalls writer.old) }
     // Less than were allowed were taken, all of their bytes were written, and a line is due: its read failed, or it is

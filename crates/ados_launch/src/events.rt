@@ -1,5 +1,5 @@
 // Taking the event that is due.
-ghost use Rattle.std.specs.Prelude.{◌≡◌, ◌⊎◌, ◌<◌, ◌≤◌, ◌^◌, ◌-◌, ◌+◌, ◌++◌, List, [], true, length, nat_lt, if◌then◌else◌, OnOk, OnErr, IsErrOf, Ok, Err};
+ghost use Rattle.std.specs.Prelude.{◌≡◌, ◌⊎◌, ◌<◌, ◌≤◌, ◌^◌, ◌-◌, ◌+◌, ◌++◌, List, [], true, length, nat_lt, Some, if◌then◌else◌, OnOk, OnErr, IsErrOf, Ok, Err};
 ghost use Rattle.ados_machine.specs.World.{wants_line};
 ghost use Rattle.ados_machine.specs.Step.{giving, is_accepted, step_of};
 ghost use Rattle.ados_machine.specs.Runs.{IsAnswer, world_after};
@@ -8,7 +8,7 @@ ghost use Rattle.ados_launcher.specs.declared.calls.Call.{Call};
 ghost use Rattle.ados_launch.specs.Agreement.{Agrees, AreWhole, IsOpenTable};
 ghost use Rattle.ados_launch.specs.Lines.{ahead, Known, kind_of};
 ghost use Rattle.ados_launch.specs.Schedule.{comes};
-ghost use Rattle.ados_launch.specs.Session.{TakesAt, TakesLineAt};
+ghost use Rattle.ados_launch.specs.Session.{AreDropped, TakesAt, TakesLineAt};
 
 use crate::Source;
 use crate::asks::answer;
@@ -49,7 +49,8 @@ pub fn take_event<L: Launcher, S: Source>(
     ensures few { OnOk result (length held.old < 4096 → length held.new < 4096) }
     ensures honest { OnOk result (S.faults reader.new ≡ S.faults reader.old) }
     ensures err { OnErr result (world.new ≡ world.old) }
-    ensures dropped { OnErr result ((others : List Call) × (length others ≤ 1) × (L.calls launcher.new ≡ L.calls launcher.old ++ others)) }
+    ensures dropped { OnErr result ((dropped : List Call) × AreDropped world.old (Some place) dropped
+        × (L.calls launcher.new ≡ L.calls launcher.old ++ dropped)) }
     ensures unasked { IsErrOf result DriveFault.Read → L.calls launcher.new ≡ L.calls launcher.old }
     ensures read { IsErrOf result DriveFault.Read → (S.faults reader.new ≡ S.faults reader.old + 1)
         ⊎ ((S.faults reader.new ≡ S.faults reader.old) × Known (ahead held.old (S.left reader.old)) (λ bytes. kind_of bytes ≡ LineKind.Overlong)) }

@@ -1,7 +1,7 @@
 use Rattle.std.proofs.Common.{rules, IsErrOf, ◌≡◌, ◌+◌, [], subst, sym, ◌∙◌, ap, append-nil, arith, refl}
 use Rattle.ados_launch.proofs.Agreeing.{agrees-whole}
 use Rattle.ados_launch.proofs.Places.{due_below, due_comes, idle, behind_in_round, running}
-use Rattle.ados_launch.proofs.Sessions.{driven-more, driven-cut, driven-none, stands, stands-behind, why-read, reading}
+use Rattle.ados_launch.proofs.Sessions.{driven-more, driven-cut, driven-none, stands, stands-behind, why-read, next-dropped, reading}
 use Rattle.ados_launch.proofs.ReaderEnd.{reader-ended}
 use Rattle.ados_launch.specs.declared.faults.DriveFault.TheVariants.{Read}
 use Rattle.ados_launch.specs.Schedule.{IsRunning, marked, place_behind}
@@ -56,9 +56,10 @@ returns-in_err-take_event-clause-memory g c _ =
       c.loop-events.events,
       c.loop-events-test.true,
       dropped.0,
-      dropped.1,
       stands-behind _ _ (g.L.Launcher.is_full c.loop-events.launcher) (g.L.Launcher.is_full c.take_event.new.launcher) c.loop-events.events c.loop-events.round c.loop-events.world _ _ _ (g.L.Launcher.calls c.args.launcher.now) (g.L.Launcher.calls c.loop-events.launcher)
           (g.L.Launcher.calls c.take_event.new.launcher) dropped.0 c.take_event.ensures.stays dropped.2 i.driven,
+      next-dropped _ _ (g.L.Launcher.is_full c.loop-events.launcher) c.loop-events.events c.in-Some.place c.loop-events.round c.loop-events.world _ _ _ (g.L.Launcher.calls c.args.launcher.now) (g.L.Launcher.calls c.loop-events.launcher) dropped.0 i.driven
+          c.in-Some.ensures.due dropped.1,
       running c.loop-events.round c.in-Some.place c.loop-events.world i.in_round c.in-Some.ensures.due,
     )
 

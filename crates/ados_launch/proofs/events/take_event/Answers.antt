@@ -4,7 +4,7 @@ use Rattle.ados_shell.specs.Drafts.{out_of}
 use Rattle.ados_launch.proofs.Accepts.{turn-accepted}
 use Rattle.ados_launch.proofs.Agreeing.{given-agrees, answers-agree, answers-whole}
 use Rattle.ados_launch.proofs.Places.{comes-turn}
-use Rattle.ados_launch.proofs.Taking.{took-at-turn, took-at-answer}
+use Rattle.ados_launch.proofs.Taking.{took-at-turn, took-at-answer, dropped-at-answer}
 use Rattle.ados_launch.proofs.events.take_event.Goals as goal
 
 pub give-requires : goal.give-requires
@@ -21,6 +21,11 @@ returns-then-place-lt21-clause-agrees g c =
 pub returns-else-place-lt21-clause-took : goal.returns-else-place-lt21-clause-took
 returns-else-place-lt21-clause-took g c =
     took-at-answer c.args.world.now _ _ (g.L.Launcher.is_full c.args.launcher.now) (g.L.Launcher.is_full c.answer.new.launcher) (g.L.Launcher.calls c.args.launcher.now) (g.L.Launcher.calls c.answer.new.launcher) c.args.place (out_of c.answer.new.draft) c.answer.result
+    (omega arith) c.requires.due (rw c.shell_answered.ensures at c.answer.ensures.answers)
+
+pub returns-else-place-lt21-clause-dropped : goal.returns-else-place-lt21-clause-dropped
+returns-else-place-lt21-clause-dropped g c =
+    dropped-at-answer c.args.world.now _ (g.L.Launcher.is_full c.args.launcher.now) (g.L.Launcher.is_full c.answer.new.launcher) (g.L.Launcher.calls c.args.launcher.now) (g.L.Launcher.calls c.answer.new.launcher) c.args.place (out_of c.answer.new.draft) c.answer.result
     (omega arith) c.requires.due (rw c.shell_answered.ensures at c.answer.ensures.answers)
 
 pub returns-else-place-lt21-clause-agrees : goal.returns-else-place-lt21-clause-agrees
