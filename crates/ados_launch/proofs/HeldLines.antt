@@ -58,6 +58,7 @@ taken_front front back later kept now i e within few k n =
     record {
       kind_is = sym kind;
       kept_is = λ _. k ∙ (take-append-le i front back (omega arith) ∙ sym line);
+      cut_is = λ k. cc;
       now_is = λ _. ap (λ xs. Some (xs ++ later)) (n ∙ drop-append-le (i + 1) front back (omega arith))
           ∙ ap Some (append_assoc (drop (i + 1) front) back later ∙ (sym h.rest ∙ ap rest_of (sym whole)));
     }

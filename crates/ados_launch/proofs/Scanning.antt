@@ -1,5 +1,6 @@
 -- How far a line has been scanned.
-use Rattle.std.proofs.Common.{◌≡◌, ◌≢◌, ℕ, ◌+◌, ◌<◌, ◌≤◌, List, [], ◌∷◌, ◌++◌, length, take, Option, Some, None, arith, refl, ap, sym, ◌∙◌, append_assoc, append-nil, length-append, length-take, inl, inr}
+use Rattle.std.proofs.Common.{◌≡◌, ◌≢◌, ℕ, ◌+◌, ◌<◌, ◌≤◌, List, [], ◌∷◌, ◌++◌, length, take, drop, Option, Some, None, arith, refl, ap, sym, ◌∙◌, append_assoc, append-nil, length-append, length-take, inl, inr}
+use Rattle.std.proofs.Math.Seq.{drop-append_seam}
 use Rattle.std.proofs.lemmas.Bool.{cases_lt}
 use Rattle.std.proofs.lemmas.Grind.{common_steps}
 use Rattle.std.proofs.lemmas.List.{take_all, take-append-le}
@@ -95,6 +96,9 @@ line_short n e = grind (arith, common_steps)
 pub overlong_kind : (n : ℕ) → 65536 < n → kind_of_length n ≡ Overlong
 overlong_kind n h = grind (arith, common_steps)
 
+within_kind : (n : ℕ) → n ≤ 65536 → kind_of_length n ≡ Overlong → ⊥
+within_kind n h e = grind (arith, common_steps)
+
 pub kept_next : (xs : List ℕ) (now next : Option (List ℕ)) → now ≡ Some xs → Keeps now next → next ≡ Some xs
 kept_next xs None next e h = cc
 kept_next xs (Some zs) None e h = absurd h
@@ -106,11 +110,11 @@ takes_end bytes n now next kept z s h e =
     let none : s.later ≡ [] = ended_empty s.later now s.now_is h in
     let empty : bytes ≡ [] = grind (arith, common_steps) in
     let left : next ≡ Some s.later = kept_next s.later now next s.now_is e in
-    record { kind_is = rw empty refl; kept_is = λ k. cc; now_is = λ _. left ∙ (ap Some none ∙ ap (λ xs. Some (rest_of xs)) (sym empty)) }
+    record { kind_is = rw empty refl; kept_is = λ k. cc; now_is = λ _. left ∙ (ap Some none ∙ ap (λ xs. Some (rest_of xs)) (sym empty)); cut_is = λ k. cc }
 
 -- the input ended behind n bytes
-pub takes_last : (bytes : List ℕ) (n : ℕ) (now next : Option (List ℕ)) (kept : List ℕ) → 0 < n → Scanned bytes n now kept → IsAtEnd now → Keeps now next → TakesLine bytes (kind_of_length n) kept next
-takes_last bytes n now next kept some s h e =
+pub takes_last : (bytes : List ℕ) (n : ℕ) (now next : Option (List ℕ)) (kept : List ℕ) → 0 < n → n ≤ 65536 → Scanned bytes n now kept → IsAtEnd now → Keeps now next → TakesLine bytes (kind_of_length n) kept next
+takes_last bytes n now next kept some within s h e =
     let none : s.later ≡ [] = ended_empty s.later now s.now_is h in
     let line : line_of bytes ≡ s.front = s.line ∙ (ap (λ xs. s.front ++ line_of xs) none ∙ append-nil s.front) in
     let long : 0 < length bytes = rw (s.split, length-append) (omega (arith, s.counted)) in
@@ -119,11 +123,12 @@ takes_last bytes n now next kept some s h e =
       kind_is = ap kind_of_length (sym s.counted ∙ ap length (sym line)) ∙ sym (kind_of-line bytes long);
       kept_is = λ k. s.kept_is ∙ (take_all 512 s.front (rw s.counted (line_short n k)) ∙ sym line);
       now_is = λ _. left ∙ ap Some (none ∙ (sym (ap rest_of none) ∙ sym s.rest));
+      cut_is = λ k. absurd (within_kind n within k);
     }
 
 -- byte 10 came behind n bytes
-pub takes_broken : (bytes : List ℕ) (n : ℕ) (now next : Option (List ℕ)) (kept : List ℕ) → Scanned bytes n now kept → Consumes now next (10 ∷ []) → TakesLine bytes (kind_of_length n) kept next
-takes_broken bytes n now next kept s h =
+pub takes_broken : (bytes : List ℕ) (n : ℕ) (now next : Option (List ℕ)) (kept : List ℕ) → n ≤ 65536 → Scanned bytes n now kept → Consumes now next (10 ∷ []) → TakesLine bytes (kind_of_length n) kept next
+takes_broken bytes n now next kept within s h =
     let first = consumed_first s.later now next 10 s.now_is h in
     let line : line_of bytes ≡ s.front = s.line ∙ (ap (λ xs. s.front ++ line_of xs) first.1 ∙ append-nil s.front) in
     let long : 0 < length bytes = rw (s.split, length-append, first.1) (omega arith) in
@@ -131,15 +136,17 @@ takes_broken bytes n now next kept s h =
       kind_is = ap kind_of_length (sym s.counted ∙ ap length (sym line)) ∙ sym (kind_of-line bytes long);
       kept_is = λ k. s.kept_is ∙ (take_all 512 s.front (rw s.counted (line_short n k)) ∙ sym line);
       now_is = λ _. first.2 ∙ ap Some (sym (ap rest_of first.1) ∙ sym s.rest);
+      cut_is = λ k. absurd (within_kind n within k);
     }
 
 -- more than 65,536 bytes came
-pub takes_overlong : (bytes : List ℕ) (n : ℕ) (now : Option (List ℕ)) (kept : List ℕ) → 65536 < n → Scanned bytes n now kept → TakesLine bytes Overlong kept now
+pub takes_overlong : (bytes : List ℕ) (n : ℕ) (now : Option (List ℕ)) (kept : List ℕ) → n ≡ 65537 → Scanned bytes n now kept → TakesLine bytes Overlong kept now
 takes_overlong bytes n now kept many s =
-    let long : 0 < length bytes = rw (s.split, length-append) (omega (arith, s.counted)) in
-    let longer : 65536 < length (line_of bytes) = rw (s.line, length-append) (omega (arith, s.counted)) in
+    let long : 0 < length bytes = rw (s.split, length-append) (omega (arith, s.counted, many)) in
+    let longer : 65536 < length (line_of bytes) = rw (s.line, length-append) (omega (arith, s.counted, many)) in
     record {
       kind_is = sym (kind_of-line bytes long ∙ overlong_kind (length (line_of bytes)) longer);
       kept_is = λ k. cc;
       now_is = λ no. absurd (no refl);
+      cut_is = λ _. s.now_is ∙ ap Some (sym (drop-append_seam s.front s.later) ∙ (ap (λ xs. drop (length s.front) xs) (sym s.split) ∙ ap (λ m. drop m bytes) (s.counted ∙ many)));
     }

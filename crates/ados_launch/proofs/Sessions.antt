@@ -8,13 +8,12 @@ use Rattle.ados_machine.specs.World.{WorldState}
 use Rattle.ados_launcher.specs.declared.calls.Call.{Call}
 use Rattle.ados_launch.specs.declared.faults.DriveFault.{DriveFault}
 use Rattle.ados_launch.specs.declared.faults.DriveFault.TheVariants.{Read, Write, Turns, Memory}
-use Rattle.ados_launch.specs.declared.lines.LineKind.TheVariants.{Overlong}
 use Rattle.ados_launch.specs.declared.schedule.Round.{Round}
 use Rattle.ados_launch.specs.Agreement.{AreWaitsFor}
-use Rattle.ados_launch.specs.Lines.{Known, kind_of}
+use Rattle.ados_launch.specs.Lines.{ahead, BeginsOverlong, Known}
 use Rattle.ados_launch.specs.Taken.{Taken, bytes_of, written_for, left_after}
 use Rattle.ados_launch.specs.Schedule.{due, due_behind, first_round, place_of, round_after, round_behind, IsReading}
-use Rattle.ados_launch.specs.Session.{AreDropped, Session, Stands, StandsCut, TakesAt}
+use Rattle.ados_launch.specs.Session.{AreDropped, LeavesOverlong, Session, Stands, StandsCut, TakesAt}
 use Rattle.ados_launch.proofs.Taken.{run-more, order-more, round-more, asked-more, asked-full, lines-more, left-more, written-more, count-more}
 
 -- so many were taken, and all of their bytes written; the round goes on, with this left to read
@@ -191,11 +190,12 @@ written-cut w left is_full n most last before now calls calls_now waits within s
 )
 
 -- a read failed, or none did and the line that is due is too long
-pub why-read : (w : WorldState) (left : Option (List ℕ)) (was_full : Bool) (n : ℕ) (round : Round) (world : WorldState) (rest before now : Option (List ℕ)) (calls calls_now : List Call) (d : Driven w left was_full n round world rest before now calls calls_now) (faults old new : ℕ)
-    → faults ≡ old → (new ≡ faults + 1) ⊎ ((new ≡ faults) × Known rest (λ bytes. kind_of bytes ≡ Overlong))
-    → (new ≡ old + 1) ⊎ ((new ≡ old) × Known left (λ bytes. kind_of (left_after bytes d.taken) ≡ Overlong))
-why-read w left was_full n round world rest before now calls calls_now d faults old new same (inl failed) = inl (failed ∙ ap (λ m. m + 1) same)
-why-read w left was_full n round world rest before now calls calls_now d faults old new same (inr long) = inr (long.0 ∙ same, λ bytes e. long.1 (left_after bytes d.taken) (d.left_is bytes e))
+pub why-read : (w : WorldState) (left : Option (List ℕ)) (was_full : Bool) (n : ℕ) (round : Round) (world : WorldState) (rest before now : Option (List ℕ)) (calls calls_now : List Call) (d : Driven w left was_full n round world rest before now calls calls_now) (faults old new : ℕ) (held : List ℕ) (later : Option (List ℕ))
+    → faults ≡ old → length held < 4096 → (new ≡ faults + 1) ⊎ ((new ≡ faults) × Known rest (λ bytes. BeginsOverlong bytes (ahead held later)))
+    → (new ≡ old + 1) ⊎ ((new ≡ old) × Known left (λ bytes. LeavesOverlong (left_after bytes d.taken) later))
+why-read w left was_full n round world rest before now calls calls_now d faults old new held later same few (inl failed) = inl (failed ∙ ap (λ m. m + 1) same)
+why-read w left was_full n round world rest before now calls calls_now d faults old new held later same few (inr long) =
+    inr (long.0 ∙ same, λ bytes e. let begins = long.1 (left_after bytes d.taken) (d.left_is bytes e) in (begins.0, held, few, begins.1))
 
 -- behind what was taken a line is the next that is due
 pub reading : (w : WorldState) (left : Option (List ℕ)) (is_full : Bool) (n : ℕ) (round : Round) (world : WorldState) (rest before now : Option (List ℕ)) (calls calls_now : List Call) (d : Driven w left is_full n round world rest before now calls calls_now)

@@ -1,5 +1,5 @@
 -- The lines of an input.
-use Rattle.std.specs.Prelude.{◌≡◌, ℕ, Option, Some, List, [], ◌∷◌, length, nat_le, if◌then◌else◌}
+use Rattle.std.specs.Prelude.{◌≡◌, ℕ, Option, Some, List, [], ◌∷◌, ◌+◌, drop, length, nat_le, if◌then◌else◌}
 use Rattle.std.specs.Io.KnownBytes.{prepend_known}
 use Rattle.ados_text.specs.Lines.{is_newline}
 use Rattle.ados_line.specs.Cut.{line_limit}
@@ -29,6 +29,10 @@ abbrev pub kind_of : List ℕ → LineKind
 kind_of [] = End
 kind_of (byte ∷ bytes) = kind_of_length (length (line_of (byte ∷ bytes)))
 
+-- what is left behind as many bytes of an overlong line as show that it is one
+abbrev pub behind_overlong : List ℕ → List ℕ
+behind_overlong bytes = drop (input_limit + 1) bytes
+
 -- what is still to be read: the bytes read ahead, and then what the reader has left
 abbrev pub ahead : List ℕ → Option (List ℕ) → Option (List ℕ)
 ahead held left = prepend_known held left
@@ -37,8 +41,13 @@ ahead held left = prepend_known held left
 abbrev pub Known : Option (List ℕ) → (List ℕ → Type 0) → Type 0
 Known known P = (bytes : List ℕ) → known ≡ Some bytes → P bytes
 
+-- these bytes begin with an overlong line, and as many were taken as show it
+abbrev pub BeginsOverlong : List ℕ → Option (List ℕ) → Type 0
+BeginsOverlong bytes now = (kind_of bytes ≡ Overlong) × (now ≡ Some (behind_overlong bytes))
+
 -- of these bytes the next line was taken: what comes, the line where it is short, and what is left
 pub record TakesLine (bytes : List ℕ) (kind : LineKind) (kept : List ℕ) (now : Option (List ℕ)) : Type 0 where
   pub kind_is : kind ≡ kind_of bytes
   pub kept_is : kind ≡ Short → kept ≡ line_of bytes
   pub now_is : (kind ≡ Overlong → ⊥) → now ≡ Some (rest_of bytes)
+  pub cut_is : kind ≡ Overlong → now ≡ Some (behind_overlong bytes)

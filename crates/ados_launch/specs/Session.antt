@@ -8,7 +8,8 @@ use Rattle.ados_machine.specs.Children.{fits}
 use Rattle.ados_machine.specs.World.{WorldState, pending_of}
 use Rattle.ados_machine.specs.Runs.{Runs}
 use Rattle.ados_launcher.specs.declared.calls.Call.{Call}
-use Rattle.ados_launch.specs.Lines.{Known, ahead}
+use Rattle.ados_launch.specs.declared.lines.LineKind.TheVariants.{Overlong}
+use Rattle.ados_launch.specs.Lines.{Known, ahead, behind_overlong, kind_of}
 use Rattle.ados_launch.specs.Taken.{Taken, events_in, outs_in, bytes_of, written_for, world_behind, IsAccepted, IsNext, IsOfReader, left_behind, AreRead}
 use Rattle.ados_launch.specs.Asked.{IsAsked, AreAsked, call_of}
 use Rattle.ados_launch.specs.Schedule.{InOrder, place_of, place_of_event, first_round}
@@ -66,6 +67,11 @@ pub record StandsCut (w : WorldState) (left : Option (List ℕ)) (is_full : Bool
 -- of what is left to read, less than 4,096 bytes were taken from the reader
 abbrev pub IsReadAhead : List ℕ → Option (List ℕ) → Type 0
 IsReadAhead left now = (held : List ℕ) × (length held < 4096) × (ahead held now ≡ Some left)
+
+-- of what was left to read, the bytes by which a line shows that it is overlong were taken from the reader, and less than 4,096
+-- behind them
+abbrev pub LeavesOverlong : List ℕ → Option (List ℕ) → Type 0
+LeavesOverlong left now = (kind_of left ≡ Overlong) × IsReadAhead (behind_overlong left) now
 
 -- One thing was taken: the world behind it, what is left to read, and the bytes that are to be written.
 pub record Takes (w : WorldState) (left : Option (List ℕ)) (item : Taken) (now : WorldState) (rest : Option (List ℕ)) (bytes : List ℕ) : Type 0 where

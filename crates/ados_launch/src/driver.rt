@@ -6,15 +6,14 @@ ghost use Rattle.ados_launcher.specs.Lives.{Between, life_of};
 ghost use Rattle.ados_launcher.specs.declared.calls.Call.{Call};
 ghost use Rattle.ados_launch.specs.Agreement.{Agrees, AreOver, AreWaitsFor, AreWhole, IsOpenTable, WaitsForOpen};
 ghost use Rattle.ados_launch.specs.Faults.{one_more};
-ghost use Rattle.ados_launch.specs.Lines.{Known, kind_of};
+ghost use Rattle.ados_launch.specs.Lines.{Known};
 ghost use Rattle.ados_launch.specs.Schedule.{due_behind, IsIdle, IsReading, IsRunning, takes_input};
-ghost use Rattle.ados_launch.specs.Session.{AreDropped, Session, Stands, StandsCut, IsReadAhead};
+ghost use Rattle.ados_launch.specs.Session.{AreDropped, Session, Stands, StandsCut, IsReadAhead, LeavesOverlong};
 ghost use Rattle.ados_launch.specs.Taken.{Taken, written_for, left_after};
 
 use crate::children::{open_children, wait_for_open};
 use crate::events::take_event;
 use crate::faults::DriveFault;
-use crate::lines::LineKind;
 use crate::read_ahead::ReadAhead;
 use crate::schedule::Round;
 use crate::written::write_whole;
@@ -143,13 +142,15 @@ pub fn drive<L: Launcher, S: Source, K: Sink>(
     ensures memory_honest { IsErrOf result DriveFault.Memory → (S.faults reader.new ≡ S.faults reader.old)
         × (K.faults writer.new ≡ K.faults writer.old) × (K.stalls writer.new ≡ K.stalls writer.old) }
     // Less than were allowed were taken, all of their bytes were written, and a line is due: its read failed, or it is
-    // too long to be read, and no read failed.
+    // too long to be read: then no read failed, and what is left stands behind its first 65,537 bytes, but for less than
+    // 4,096 bytes that came with them.
     ensures read { IsErrOf result DriveFault.Read → (n : ℕ) × (n < turns) × (waits : List Call)
         × (stands : Stands world.old (S.left reader.old) (L.is_full launcher.new) n
         world.new (K.contents writer.old) (K.contents writer.new) (L.calls launcher.old) (L.calls launcher.new) waits)
         × AreWaitsFor (L.calls launcher.old ++ stands.listed) waits × IsReading world.old stands.taken world.new
         × ((S.faults reader.new ≡ S.faults reader.old + 1)
-        ⊎ ((S.faults reader.new ≡ S.faults reader.old) × Known (S.left reader.old) (λ bytes. kind_of (left_after bytes stands.taken) ≡ LineKind.Overlong))) }
+        ⊎ ((S.faults reader.new ≡ S.faults reader.old) × Known (S.left reader.old)
+        (λ bytes. LeavesOverlong (left_after bytes stands.taken) (S.left reader.new)))) }
     // No write failed, and none took nothing.
     ensures read_honest { IsErrOf result DriveFault.Read → (K.faults writer.new ≡ K.faults writer.old) × (K.stalls writer.new ≡ K.stalls writer.old) }
     // All bytes but some of the last one's were written, at whose write the writer failed or took nothing.
@@ -233,12 +234,14 @@ fn drive_rounds<L: Launcher, S: Source, K: Sink>(
     ensures memory_honest { IsErrOf result DriveFault.Memory → (S.faults reader.new ≡ S.faults reader.old)
         × (K.faults writer.new ≡ K.faults writer.old) × (K.stalls writer.new ≡ K.stalls writer.old) }
     // Less than were allowed were taken, all of their bytes were written, and a line is due: its read failed, or it is
-    // too long to be read, and no read failed.
+    // too long to be read: then no read failed, and what is left stands behind its first 65,537 bytes, but for less than
+    // 4,096 bytes that came with them.
     ensures read { IsErrOf result DriveFault.Read → (n : ℕ) × (n < turns) × (stands : Stands world.old (S.left reader.old) (L.is_full launcher.new) n
         world.new (K.contents writer.old) (K.contents writer.new) (L.calls launcher.old) (L.calls launcher.new) [])
         × IsReading world.old stands.taken world.new
         × ((S.faults reader.new ≡ S.faults reader.old + 1)
-        ⊎ ((S.faults reader.new ≡ S.faults reader.old) × Known (S.left reader.old) (λ bytes. kind_of (left_after bytes stands.taken) ≡ LineKind.Overlong))) }
+        ⊎ ((S.faults reader.new ≡ S.faults reader.old) × Known (S.left reader.old)
+        (λ bytes. LeavesOverlong (left_after bytes stands.taken) (S.left reader.new)))) }
     // No write failed, and none took nothing.
     ensures read_honest { IsErrOf result DriveFault.Read → (K.faults writer.new ≡ K.faults writer.old) × (K.stalls writer.new ≡ K.stalls writer.old) }
     // All bytes but some of the last one's were written, at whose write the writer failed or took nothing.

@@ -6,7 +6,7 @@ ghost use Rattle.ados_machine.specs.Runs.{IsAnswer, world_after};
 ghost use Rattle.ados_shell.specs.Drafts.{out_of};
 ghost use Rattle.ados_launcher.specs.declared.calls.Call.{Call};
 ghost use Rattle.ados_launch.specs.Agreement.{Agrees, AreWhole, IsOpenTable};
-ghost use Rattle.ados_launch.specs.Lines.{ahead, Known, kind_of};
+ghost use Rattle.ados_launch.specs.Lines.{ahead, BeginsOverlong, Known};
 ghost use Rattle.ados_launch.specs.Schedule.{comes};
 ghost use Rattle.ados_launch.specs.Session.{AreDropped, TakesAt, TakesLineAt};
 
@@ -46,14 +46,15 @@ pub fn take_event<L: Launcher, S: Source>(
     ensures children { IsOpenTable children.new (L.calls launcher.new) }
     ensures whole { AreWhole (L.calls launcher.new) }
     ensures stays { L.is_full launcher.old ≡ true → L.is_full launcher.new ≡ true }
-    ensures few { OnOk result (length held.old < 4096 → length held.new < 4096) }
+    ensures few { length held.old < 4096 → length held.new < 4096 }
     ensures honest { OnOk result (S.faults reader.new ≡ S.faults reader.old) }
     ensures err { OnErr result (world.new ≡ world.old) }
     ensures dropped { OnErr result ((dropped : List Call) × AreDropped world.old (Some place) dropped
         × (L.calls launcher.new ≡ L.calls launcher.old ++ dropped)) }
     ensures unasked { IsErrOf result DriveFault.Read → L.calls launcher.new ≡ L.calls launcher.old }
     ensures read { IsErrOf result DriveFault.Read → (S.faults reader.new ≡ S.faults reader.old + 1)
-        ⊎ ((S.faults reader.new ≡ S.faults reader.old) × Known (ahead held.old (S.left reader.old)) (λ bytes. kind_of bytes ≡ LineKind.Overlong)) }
+        ⊎ ((S.faults reader.new ≡ S.faults reader.old) × Known (ahead held.old (S.left reader.old))
+        (λ bytes. BeginsOverlong bytes (ahead held.new (S.left reader.new)))) }
     ensures reading { IsErrOf result DriveFault.Read → place ≡ 0 }
     ensures memory_honest { IsErrOf result DriveFault.Memory → S.faults reader.new ≡ S.faults reader.old }
     ensures no_write { IsErrOf result DriveFault.Write → ⊥ }
@@ -91,11 +92,12 @@ fn take_line<S: Source>(
     requires due { wants_line world.old ≡ true }
     ensures took { OnOk result
         (TakesLineAt world.old (ahead held.old (S.left reader.old)) world.new (ahead held.new (S.left reader.new)) draft.new.printed.items) }
-    ensures few { OnOk result (length held.old < 4096 → length held.new < 4096) }
+    ensures few { length held.old < 4096 → length held.new < 4096 }
     ensures honest { OnOk result (S.faults reader.new ≡ S.faults reader.old) }
     ensures err { OnErr result (world.new ≡ world.old) }
     ensures read { IsErrOf result DriveFault.Read → (S.faults reader.new ≡ S.faults reader.old + 1)
-        ⊎ ((S.faults reader.new ≡ S.faults reader.old) × Known (ahead held.old (S.left reader.old)) (λ bytes. kind_of bytes ≡ LineKind.Overlong)) }
+        ⊎ ((S.faults reader.new ≡ S.faults reader.old) × Known (ahead held.old (S.left reader.old))
+        (λ bytes. BeginsOverlong bytes (ahead held.new (S.left reader.new)))) }
     ensures memory_honest { IsErrOf result DriveFault.Memory → S.faults reader.new ≡ S.faults reader.old }
     ensures never_write { IsErrOf result DriveFault.Write → ⊥ }
     ensures never_turns { IsErrOf result DriveFault.Turns → ⊥ }

@@ -61,7 +61,7 @@ pub fn next_line<S: Source>(
     ensures taken { IfOk result (λ kind. Known (ahead held.old (S.left source.old))
         (λ bytes. TakesLine bytes kind line.new.items (ahead held.new (S.left source.new)))) }
     ensures short { vec_len line.new ≤ 512 }
-    ensures few { OnOk result (length held.old < 4096 → length held.new < 4096) }
+    ensures few { length held.old < 4096 → length held.new < 4096 }
     ensures read { IsErrOf result LineFault.Read → S.faults source.new ≡ S.faults source.old + 1 }
     ensures others { (IsErrOf result LineFault.Read → ⊥) → S.faults source.new ≡ S.faults source.old }
 {
@@ -96,7 +96,7 @@ fn take_held(held: &mut ReadAhead, line: &mut Vec<u8>) -> Result<bool, AllocErro
         TakesLine bytes LineKind.Short line.new.items (ahead held.new left))) }
     ensures none { IfOk result (λ is_taken. is_taken ≡ false → (held.new ≡ held.old) × (line.new.items ≡ [])) }
     ensures short { vec_len line.new ≤ 512 }
-    ensures few { OnOk result (length held.old < 4096 → length held.new < 4096) }
+    ensures few { length held.old < 4096 → length held.new < 4096 }
 {
     let bytes = held.bytes();
     let Some(length) = newline_at(&bytes[..bytes.len().min(LINE_BYTES + 1)]) else {

@@ -48,7 +48,7 @@ impl ReadAhead {
             Consumes (ahead self.old (S.left source.old)) (ahead self.new (S.left source.new)) (byte ∷ []))) }
         ensures end { IfOk result (λ next. IfNone next
             (IsAtEnd (ahead self.old (S.left source.old)) × Keeps (ahead self.old (S.left source.old)) (ahead self.new (S.left source.new)))) }
-        ensures few { OnOk result (length self.new < 4096) }
+        ensures few { length self.new < 4096 }
         ensures counted { CountsFault (S.faults source.old) (S.faults source.new) result }
     {
         if self.from == self.to {

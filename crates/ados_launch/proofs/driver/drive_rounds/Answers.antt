@@ -27,7 +27,7 @@ loop-events-preserved g c =
       writer = c.in_ok-write_whole.ensures.honest.0 ∙ i.writer;
       stalls = c.in_ok-write_whole.ensures.honest.1 ∙ i.stalls;
       in_round = rw c.pass.ensures (behind_in_round c.in-Some.place (due_below c.loop-events.round c.in-Some.place c.loop-events.world i.in_round due_is));
-      few = c.in_ok-take_event.ensures.few i.few;
+      few = c.take_event.ensures.few i.few;
       fresh_reader = λ none. absurd (omega (arith, none));
       fresh_writer = λ none. absurd (omega (arith, none));
       agrees = c.in_ok-take_event.ensures.agrees;
@@ -73,7 +73,8 @@ returns-in_err-take_event-clause-read g c err =
       stands-behind _ _ (g.L.Launcher.is_full c.loop-events.launcher) (g.L.Launcher.is_full c.take_event.new.launcher) c.loop-events.events c.loop-events.round c.loop-events.world _ _ _ (g.L.Launcher.calls c.args.launcher.now) (g.L.Launcher.calls c.loop-events.launcher)
           (g.L.Launcher.calls c.take_event.new.launcher) [] c.take_event.ensures.stays (c.take_event.ensures.unasked failed ∙ sym (append-nil (g.L.Launcher.calls c.loop-events.launcher))) i.driven,
       reading _ _ (g.L.Launcher.is_full c.loop-events.launcher) c.loop-events.events c.loop-events.round c.loop-events.world _ _ _ (g.L.Launcher.calls c.args.launcher.now) (g.L.Launcher.calls c.loop-events.launcher) i.driven (rw (c.take_event.ensures.reading failed) at c.in-Some.ensures.due),
-      why-read _ _ (g.L.Launcher.is_full c.loop-events.launcher) c.loop-events.events c.loop-events.round c.loop-events.world _ _ _ (g.L.Launcher.calls c.args.launcher.now) (g.L.Launcher.calls c.loop-events.launcher) i.driven _ _ _ i.reader (c.take_event.ensures.read failed),
+      why-read _ _ (g.L.Launcher.is_full c.loop-events.launcher) c.loop-events.events c.loop-events.round c.loop-events.world _ _ _ (g.L.Launcher.calls c.args.launcher.now) (g.L.Launcher.calls c.loop-events.launcher) i.driven _ _ _ c.take_event.new.held _ i.reader (c.take_event.ensures.few i.few)
+          (c.take_event.ensures.read failed),
     )
 
 pub loop-events-init : goal.loop-events-init

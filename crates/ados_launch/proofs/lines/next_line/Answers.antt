@@ -10,13 +10,13 @@ returns-then-length-eq0-clause-taken g c bytes e =
 pub returns-else-length-eq0-clause-taken : goal.returns-else-length-eq0-clause-taken
 returns-else-length-eq0-clause-taken g c bytes e =
     let h = rw c.in-Ok-None.field-0-is at c.in-Ok-None.ensures.end in
-    rw c.kind_of.ensures (takes_last bytes c.loop-length.length _ _ _ (omega arith) (c.loop-length.invariant.scanned bytes e) h.0 h.1)
+    rw c.kind_of.ensures (takes_last bytes c.loop-length.length _ _ _ (omega arith) (omega arith) (c.loop-length.invariant.scanned bytes e) h.0 h.1)
 
 pub returns-in-Ok-Some-eq10-clause-taken : goal.returns-in-Ok-Some-eq10-clause-taken
 returns-in-Ok-Some-eq10-clause-taken g c bytes e =
     let h = rw c.in-Ok-Some-eq10.field-0-is at c.in-Ok-Some-eq10.ensures.byte in
     let ten = rw c.in-Ok-Some-eq10.field-0-0-test at h in
-    rw c.kind_of-in-Ok-Some-eq10.ensures (takes_broken bytes c.loop-length.length _ _ _ (c.loop-length.invariant.scanned bytes e) ten)
+    rw c.kind_of-in-Ok-Some-eq10.ensures (takes_broken bytes c.loop-length.length _ _ _ (omega arith) (c.loop-length.invariant.scanned bytes e) ten)
 
 pub returns-clause-taken : goal.returns-clause-taken
 returns-clause-taken g c bytes e = takes_overlong bytes c.loop-length.length _ _ (omega arith) (c.loop-length.invariant.scanned bytes e)
