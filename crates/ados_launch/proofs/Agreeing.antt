@@ -1,10 +1,8 @@
 -- The world and the launcher's list agree behind each event.
-use Rattle.std.proofs.Common.{◌≡◌, ◌≢◌, ℕ, ◌<◌, List, [], ◌∷◌, ◌++◌, Bool, true, false, Option, Some, None, Result, Ok, Err, OnOk, refl, sym, ap, ◌∙◌, inl, inr, subst, get_or, length, slice_set, append-nil}
-use Rattle.std.specs.Prelude.{MatchResult}
+use Rattle.std.proofs.Common.{◌≡◌, ◌≢◌, ℕ, ◌<◌, List, [], ◌++◌, Bool, false, Option, Some, None, Result, Ok, Err, OnOk, refl, sym, ap, ◌∙◌, inl, inr, subst, get_or, length, slice_set, append-nil}
 use Rattle.std.proofs.lemmas.Bool.{cases_eq}
 use Rattle.std.proofs.lemmas.List.{get_or-set_same, get_or-set_other}
 use Rattle.ados_machine.specs.declared.answers.Answer.{Answer as Reply}
-use Rattle.ados_machine.specs.declared.answers.Answer.TheVariants.{Memory}
 use Rattle.ados_machine.specs.declared.children.ChildState.{ChildState}
 use Rattle.ados_machine.specs.declared.children.ChildState.TheVariants.{Closed, Reading, Waiting}
 use Rattle.ados_machine.specs.declared.events.Event.{Event}
@@ -12,7 +10,7 @@ use Rattle.ados_machine.specs.declared.events.Event.TheVariants.{Answer}
 use Rattle.ados_machine.specs.declared.outs.Out.{Out}
 use Rattle.ados_machine.specs.declared.requests.Request.{Request}
 use Rattle.ados_machine.specs.declared.requests.Request.TheVariants.{Start, Read, Wait}
-use Rattle.ados_machine.specs.Children.{behind_answer, child_asked, child_in, fits, is_launchers, shell_named}
+use Rattle.ados_machine.specs.Children.{behind_answer, child_asked, child_in, is_launchers, shell_named}
 use Rattle.ados_machine.specs.Items.{Item}
 use Rattle.ados_machine.specs.Limits.{IsSane}
 use Rattle.ados_machine.specs.Runs.{IsAnswer, world_after}
@@ -22,7 +20,7 @@ use Rattle.ados_machine.proofs.ChildLemmas.{turns-keep, answers-move, request-na
 use Rattle.ados_launcher.specs.declared.calls.Call.{Call}
 use Rattle.ados_launcher.specs.Lives.{life_of, life_in, life_behind, is_open, state_of}
 use Rattle.ados_launch.specs.Agreement.{Agrees, AreWhole, IsWhole, IsOpenTable}
-use Rattle.ados_launch.specs.Asked.{Answers, Asks, Lists, TakesAnswer, call_of, is_start}
+use Rattle.ados_launch.specs.Asked.{Answers, Asks, Lists, TakesAnswer, call_of}
 use Rattle.ados_launch.specs.Schedule.{asks_further}
 use Rattle.ados_launch.proofs.Rows.{life-more, life-here, life-there, state-is}
 

@@ -1,5 +1,5 @@
 -- How far a line that runs alone has come.
-use Rattle.std.proofs.Common.{◌≡◌, ◌≢◌, ℕ, zero, suc, ◌+◌, ◌-◌, ◌≤◌, ◌<◌, List, [], ◌∷◌, ◌++◌, Bool, true, false, Option, Some, None, Result, Ok, Err, OnOk, is_some, length, arith, refl, ap, sym, ◌∙◌, inl, inr, subst, append_assoc, append-nil}
+use Rattle.std.proofs.Common.{◌≡◌, ℕ, suc, ◌+◌, ◌≤◌, ◌<◌, List, [], ◌∷◌, ◌++◌, Bool, true, Option, Some, None, Ok, is_some, length, arith, refl, ap, sym, ◌∙◌, inl, inr, append_assoc, append-nil}
 use Rattle.std.proofs.lemmas.Bool.{cases_eq}
 use Rattle.ados_text.specs.Text.{Bytes, Text}
 use Rattle.ados_find.specs.declared.codes.Codes.{Codes}
@@ -9,7 +9,7 @@ use Rattle.ados_machine.specs.declared.events.Event.TheVariants.{Typed, EndOfInp
 use Rattle.ados_machine.specs.declared.outs.Out.{Out}
 use Rattle.ados_machine.specs.declared.refusals.Refusal.TheVariants.{NoMemory}
 use Rattle.ados_machine.specs.declared.requests.Request.{Request}
-use Rattle.ados_machine.specs.Alone.{AreOf, alone, bytes_in, is_hosted}
+use Rattle.ados_machine.specs.Alone.{AreOf, alone, bytes_in}
 use Rattle.ados_machine.specs.Children.{child_asked}
 use Rattle.ados_machine.specs.Numbers.{free_number}
 use Rattle.ados_machine.specs.Requests.{request_of}
@@ -27,7 +27,7 @@ use Rattle.ados_launch.specs.Agreement.{Agrees}
 use Rattle.ados_launch.specs.Alone.{EndedAs, IsNextOf, IsUntaken, RunsLine, RunsOn, StandsAt, TakesNext}
 use Rattle.ados_launch.specs.declared.alone.SystemFault.{SystemFault}
 use Rattle.ados_launch.specs.Asked.{AreAsked, Asks}
-use Rattle.ados_launch.specs.Taken.{Taken, Given, LongLine, bytes_of, events_in, outs_in}
+use Rattle.ados_launch.specs.Taken.{Taken, Given, LongLine, events_in, outs_in}
 use Rattle.ados_launch.proofs.Sessions.{calls-more}
 use Rattle.ados_launch.proofs.Taken.{run-more, asked-more, asked-full}
 

@@ -1,17 +1,12 @@
 -- The places of a round.
-use Rattle.std.proofs.Common.{◌≡◌, ◌≢◌, ℕ, zero, suc, ◌∷◌, ◌+◌, ◌-◌, ◌<◌, ◌≤◌, List, [], Option, Some, None, Bool, true, false, ◌&&◌, nat_lt, get_or, arith, refl, sym, subst, ◌∙◌, ap, cond, inl, inr}
+use Rattle.std.proofs.Common.{◌≡◌, ℕ, zero, suc, ◌∷◌, ◌+◌, ◌-◌, ◌<◌, ◌≤◌, List, [], Option, Some, None, Bool, true, false, ◌&&◌, get_or, arith, refl, sym, subst, ◌∙◌, cond, inl, inr}
 use Rattle.std.proofs.Math.ListN.{replicate}
 use Rattle.std.specs.List.{find, range_with_len}
 use Rattle.std.specs.Option.{option_or}
 use Rattle.std.proofs.lemmas.Bool.{cases_Bool, cases_eq}
 use Rattle.std.proofs.lemmas.Grind.{common_steps}
 use Rattle.ados_machine.specs.declared.requests.Request.{Request}
-use Rattle.ados_machine.specs.Children.{child_asked, child_in}
-use Rattle.ados_machine.specs.declared.children.ChildState.TheVariants.{Closed}
-use Rattle.ados_machine.specs.World.{WorldState, is_ready, pending_of, shell_at, wants_line}
-use Rattle.ados_launcher.specs.declared.calls.Call.{Call}
-use Rattle.ados_launcher.specs.Lives.{Between, life_of, life_in}
-use Rattle.ados_launch.specs.Agreement.{Agrees, AreOver, IsOver}
+use Rattle.ados_machine.specs.World.{WorldState, is_ready, pending_of, wants_line}
 use Rattle.ados_launch.specs.declared.schedule.Round.{Round}
 use Rattle.ados_launch.specs.Schedule.{asks_further, asks_start, comes, is_due, due, in_this_round, in_next_round, none_answered, place_behind, IsRunning, IsIdle}
 

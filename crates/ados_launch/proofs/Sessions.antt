@@ -195,7 +195,7 @@ pub why-read : (w : WorldState) (left : Option (List ℕ)) (was_full : Bool) (n 
     → (new ≡ old + 1) ⊎ ((new ≡ old) × Known left (λ bytes. LeavesOverlong (left_after bytes d.taken) later))
 why-read w left was_full n round world rest before now calls calls_now d faults old new held later same few (inl failed) = inl (failed ∙ ap (λ m. m + 1) same)
 why-read w left was_full n round world rest before now calls calls_now d faults old new held later same few (inr long) =
-    inr (long.0 ∙ same, λ bytes e. let begins = long.1 (left_after bytes d.taken) (d.left_is bytes e) in (begins.0, held, few, begins.1))
+    inr (long.0 ∙ same, λ bytes e. let begins = long.1 (left_after bytes d.taken) (d.left_is bytes e) in (begins.0, (held, few, begins.1)))
 
 -- behind what was taken a line is the next that is due
 pub reading : (w : WorldState) (left : Option (List ℕ)) (is_full : Bool) (n : ℕ) (round : Round) (world : WorldState) (rest before now : Option (List ℕ)) (calls calls_now : List Call) (d : Driven w left is_full n round world rest before now calls calls_now)

@@ -1,5 +1,5 @@
 -- What an event that was taken is in a session.
-use Rattle.std.proofs.Common.{◌≡◌, ℕ, ◌+◌, ◌-◌, ◌<◌, ◌≤◌, List, [], ◌++◌, Bool, true, false, not, Option, Some, Result, Ok, Err, OnOk, OnErr, nat_lt, refl, ap, sym, subst, ◌∙◌, append-nil, arith, inl, inr}
+use Rattle.std.proofs.Common.{◌≡◌, ℕ, ◌+◌, ◌-◌, ◌≤◌, List, [], ◌++◌, Bool, true, false, not, Option, Some, Result, Ok, Err, OnOk, OnErr, nat_lt, refl, ap, sym, subst, ◌∙◌, append-nil, arith, inl, inr}
 use Rattle.std.specs.Prelude.{if◌then◌else◌}
 use Rattle.std.proofs.lemmas.Bool.{cases_Bool}
 use Rattle.std.proofs.lemmas.Grind.{common_steps}
@@ -15,12 +15,12 @@ use Rattle.ados_machine.specs.Step.{step_of}
 use Rattle.ados_machine.specs.Runs.{IsAnswer, world_after}
 use Rattle.ados_launcher.specs.declared.calls.Call.{Call}
 use Rattle.ados_launch.specs.declared.lines.LineKind.{LineKind}
-use Rattle.ados_launch.specs.declared.lines.LineKind.TheVariants.{End, Short}
+use Rattle.ados_launch.specs.declared.lines.LineKind.TheVariants.{End, Overlong, Short}
 use Rattle.ados_launch.specs.Asked.{Answers, IsAsked, Lists, TakesAnswer}
-use Rattle.ados_launch.specs.Lines.{Known, TakesLine, line_of, rest_of, kind_of}
+use Rattle.ados_launch.specs.Lines.{BeginsOverlong, Known, TakesLine, line_of, rest_of, kind_of}
 use Rattle.ados_launch.specs.Taken.{Taken, Given, LongLine, IsNext, IsOfReader, left_behind, text_of}
 use Rattle.ados_launch.specs.Schedule.{asks_further, asks_start, comes, place_of, place_of_event}
-use Rattle.ados_launch.specs.Session.{AreDropped, Takes, TakesAt, TakesLineAt}
+use Rattle.ados_launch.specs.Session.{AreDropped, TakesAt, TakesLineAt}
 use Rattle.ados_launch.proofs.Places.{comes-start, comes-late}
 
 -- a line of the reader, or its end
@@ -149,3 +149,7 @@ pub next-short : (bytes : List ℕ) (kind : LineKind) (kept : List ℕ) (now : O
     → ((kind_of bytes ≡ Short) × (text ≡ text_of (line_of bytes))) × (now ≡ Some (rest_of bytes))
 next-short bytes kind kept now text slice t e said same =
     ((sym t.kind_is ∙ e, said ∙ ap text_of (same ∙ t.kept_is e)), t.now_is (λ k. cc))
+
+-- as many bytes of an overlong line were taken as show it
+pub next-overlong : (bytes : List ℕ) (kind : LineKind) (kept : List ℕ) (now : Option (List ℕ)) → TakesLine bytes kind kept now → kind ≡ Overlong → BeginsOverlong bytes now
+next-overlong bytes kind kept now t e = (sym t.kind_is ∙ e, t.cut_is e)

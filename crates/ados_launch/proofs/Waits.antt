@@ -1,5 +1,5 @@
 -- One wait for each open child.
-use Rattle.std.proofs.Common.{◌≡◌, ◌≢◌, ℕ, zero, suc, ◌<◌, ◌≤◌, ◌+◌, List, [], ◌∷◌, ◌++◌, Bool, true, false, Some, None, refl, sym, ap, ◌∙◌, inl, inr, arith, subst, get_or, length, map, filter, nat_lt, slice_set, append_assoc, append-nil, add-one}
+use Rattle.std.proofs.Common.{◌≡◌, ◌≢◌, ℕ, zero, suc, ◌<◌, ◌+◌, List, [], ◌∷◌, ◌++◌, Bool, true, false, Some, refl, sym, ap, ◌∙◌, inl, inr, arith, subst, get_or, length, map, filter, nat_lt, slice_set, append_assoc, append-nil, add-one}
 use Rattle.std.specs.Prelude.{if◌then◌else◌, MatchBool}
 use Rattle.std.specs.List.{range_with_len}
 use Rattle.std.proofs.lemmas.Bool.{cases_eq}
@@ -10,7 +10,7 @@ use Rattle.ados_machine.specs.Children.{answers_wait}
 use Rattle.ados_launcher.specs.declared.calls.Call.{Call}
 use Rattle.ados_launcher.specs.declared.calls.Call.TheVariants.{Start as Starts, Read as Reads, Wait as Waits}
 use Rattle.ados_launcher.specs.Lives.{Life, Between, InReads, BehindReads, Cut, Broken, life_of, life_waited, is_open}
-use Rattle.ados_launch.specs.Agreement.{AddsWait, AreWaits, AreWaitsFor, AreWhole, AreOver, IsWhole, IsOver, IsOpenTable, WaitsForOpen, open_children, waited_child}
+use Rattle.ados_launch.specs.Agreement.{AddsWait, AreWaits, AreWaitsFor, AreWhole, AreOver, IsWhole, IsOver, IsOpenTable, WaitsForOpen, waited_child}
 use Rattle.ados_launch.proofs.Rows.{life-more}
 
 -- a row once its open child was waited for

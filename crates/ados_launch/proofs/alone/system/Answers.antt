@@ -1,4 +1,4 @@
-use Rattle.std.proofs.Common.{rules, arith, ◌≡◌, ◌≤◌, ◌-◌, ◌++◌, ◌∷◌, [], length, Some, None, true, is_some, refl, sym, ap, ◌∙◌}
+use Rattle.std.proofs.Common.{rules, arith, ◌≡◌, ◌≤◌, ◌-◌, ◌++◌, ◌∷◌, [], length, Some, None, true, is_some, refl}
 use Rattle.ados_machine.specs.Numbers.{free_number}
 use Rattle.ados_machine.specs.Whole.{opened}
 use Rattle.ados_machine.specs.World.{codes_at, shell_at}

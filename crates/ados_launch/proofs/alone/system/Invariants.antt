@@ -1,5 +1,3 @@
-use Rattle.std.proofs.Common.{◌≡◌, ◌≤◌, Some, length}
-use Rattle.ados_machine.specs.Numbers.{free_number}
 use Rattle.ados_launch.specs.Agreement.{Agrees}
 use Rattle.ados_launch.proofs.AloneLemmas.{Going}
 use Rattle.ados_launch.proofs.alone.system.Given as goal

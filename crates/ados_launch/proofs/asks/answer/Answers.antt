@@ -1,6 +1,6 @@
 use Rattle.std.proofs.Common.{rules}
 use Rattle.ados_machine.proofs.ChildLemmas.{fitting-accepted}
-use Rattle.ados_launch.proofs.Agreeing.{state-asked, number-asked, table-asked}
+use Rattle.ados_launch.proofs.Agreeing.{state-asked, table-asked}
 use Rattle.ados_launch.proofs.asks.answer.Goals as goal
 
 pub ask-answer-requires-clause-state : goal.ask-answer-requires-clause-state

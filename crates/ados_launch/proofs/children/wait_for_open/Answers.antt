@@ -1,6 +1,6 @@
 use Rattle.std.proofs.Common.{rules, ◌∙◌, sym, false, refl, get_or}
 use Rattle.ados_launch.proofs.Rows.{open-state}
-use Rattle.ados_launch.proofs.Waits.{rows-more, waits-more, still-open, none-waited, no-waits, all-waits}
+use Rattle.ados_launch.proofs.Waits.{rows-more, waits-more, still-open, none-waited, no-waits}
 use Rattle.ados_launch.proofs.children.wait_for_open.Goals as goal
 
 pub wait_if-requires-clause-children : goal.wait_if-requires-clause-children

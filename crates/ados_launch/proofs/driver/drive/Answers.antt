@@ -1,4 +1,4 @@
-use Rattle.std.proofs.Common.{◌≡◌, ℕ, List, [], ◌++◌, Err, rules, refl, ap, sym, ◌∙◌}
+use Rattle.std.proofs.Common.{[], Err, rules, ap}
 use Rattle.ados_launch.proofs.Agreeing.{table-begins}
 use Rattle.ados_launch.proofs.Over.{over, idle-between, between-over, size-of}
 use Rattle.ados_launch.proofs.Sessions.{stands-more, cut-more, written-whole, fault-written, waits-behind, waits-alone}

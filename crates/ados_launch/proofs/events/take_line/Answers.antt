@@ -1,4 +1,4 @@
-use Rattle.std.proofs.Common.{arith, ap, length, refl, sym, [], subst, List, ℕ, OnOk}
+use Rattle.std.proofs.Common.{arith, rules, ap, inr, length, sym, [], subst, List, ℕ, OnOk, ◌≡◌}
 use Rattle.std.proofs.lemmas.List.{length-map}
 use Rattle.ados_text.specs.Text.{to_ascii}
 use Rattle.ados_machine.specs.declared.events.Event.TheVariants.{Typed, EndOfInput}
@@ -8,7 +8,7 @@ use Rattle.ados_shell.specs.Drafts.{out_of}
 use Rattle.ados_launch.specs.Lines.{ahead}
 use Rattle.ados_launch.specs.Session.{TakesLineAt}
 use Rattle.ados_launch.proofs.Accepts.{end-accepted, line-accepted}
-use Rattle.ados_launch.proofs.Taking.{took-line, next-end, next-short}
+use Rattle.ados_launch.proofs.Taking.{took-line, next-end, next-overlong, next-short}
 use Rattle.ados_launch.proofs.events.take_line.Goals as goal
 
 pub give-requires : goal.give-requires
@@ -28,3 +28,8 @@ returns-in_ok-text-in-Short-clause-took g c =
     subst P (sym (ap (λ o. o.bytes) c.give_nothing.ensures))
     (took-line _ _ _ _ (Typed c.in_ok-text-in-Short.text) (giving [] None []) c.give_line.result c.give_line.ensures.answer c.give_line.ensures.world tt
     (λ bytes e. next-short bytes _ _ _ _ _ (c.in_ok-next_line.ensures.taken bytes e) c.in-Short.is c.in_ok-text-in-Short.ensures c.as_slice.ensures.value))
+
+pub returns-in-Overlong-clause-read : goal.returns-in-Overlong-clause-read
+returns-in-Overlong-clause-read g c failed =
+    let honest : g.S.Source.faults c.next_line.new.source ≡ g.S.Source.faults c.args.reader.now = search rules in
+    inr (honest, λ bytes e. next-overlong bytes _ _ _ (c.in_ok-next_line.ensures.taken bytes e) c.in-Overlong.is)
