@@ -9,6 +9,26 @@ use ados_text::{NoMemory, push_number};
 use ados_world::{Answer, Event, Out, Refusal, Request, World};
 use std::alloc::Global;
 
+/// The texts of a launcher's answers, of which so many were taken.
+#[derive(Drop)]
+struct Left<'a> {
+    texts: &'a [&'a str],
+    taken: usize,
+}
+
+impl<'a> Left<'a> {
+    // The answer of the next text; `None` where none is left.
+    fn next(&mut self, alloc: Global) -> Result<Option<Answer>, NoMemory> {
+        match self.texts.get(self.taken) {
+            None => Ok(None),
+            Some(text) => {
+                self.taken += 1;
+                answer_of(alloc, text)
+            }
+        }
+    }
+}
+
 /// Runs a line by `system`, with a launcher that has its answers from these texts, and adds what that gave.
 ///
 /// At a fault its fields are added, and where memory was wanting the shell goes on by them.
@@ -30,8 +50,10 @@ pub fn push_system(
         order.events,
         &mut printed,
     );
-    let taken = launcher.calls().len().saturating_sub(before);
-    let mut left = &texts[taken.min(texts.len())..];
+    let mut left = Left {
+        texts,
+        taken: launcher.calls().len().saturating_sub(before),
+    };
     let end = match result {
         Ok(end) => Some(end),
         Err(fault) => {
@@ -41,7 +63,7 @@ pub fn push_system(
     };
     push_lines(text, b"", printed.as_slice())?;
     push_end(text, end)?;
-    push_left(text, texts, left)
+    push_left(text, &left)
 }
 
 // Adds how a line ended that was not refused.
@@ -83,12 +105,12 @@ fn push_fault(text: &mut Vec<u8>, fault: &SystemFault) -> Result<(), NoMemory> {
 }
 
 // Adds how many of the listed answers were not taken, where any were listed.
-fn push_left(text: &mut Vec<u8>, texts: &[&str], left: &[&str]) -> Result<(), NoMemory> {
-    if texts.is_empty() {
+fn push_left(text: &mut Vec<u8>, left: &Left) -> Result<(), NoMemory> {
+    if left.texts.is_empty() {
         return Ok(());
     }
     text.extend_from_slice(b"left: ")?;
-    push_count(text, left.len())?;
+    push_count(text, left.texts.len().saturating_sub(left.taken))?;
     push_all(text, &[b"\n"])
 }
 
@@ -99,7 +121,7 @@ fn end_behind(
     world: &mut World,
     order: &Order,
     fault: SystemFault,
-    left: &mut &[&str],
+    left: &mut Left,
     printed: &mut Vec<u8>,
 ) -> Result<Option<SystemEnd>, NoMemory> {
     let SystemFault {
@@ -154,28 +176,19 @@ fn next_out(
     alloc: Global,
     world: &mut World,
     number: u8,
-    left: &mut &[&str],
+    left: &mut Left,
 ) -> Result<Out, NoMemory> {
     let Some(request) = world.pending(number) else {
         return accepted(world.step(&Event::Turn(number)));
     };
     let other = answer_without(request);
-    if let Some(answer) = next_answer(alloc, left)? {
+    if let Some(answer) = left.next(alloc)? {
         match world.step(&Event::Answer(number, answer)) {
             Err(Refusal::WrongAnswer) => {}
             out => return accepted(out),
         }
     }
     accepted(world.step(&Event::Answer(number, other)))
-}
-
-// The answer of the next text; `None` where none is left.
-fn next_answer(alloc: Global, left: &mut &[&str]) -> Result<Option<Answer>, NoMemory> {
-    let Some((first, behind)) = left.split_first() else {
-        return Ok(None);
-    };
-    *left = behind;
-    answer_of(alloc, first)
 }
 
 // What a listed launcher answers to a request for which it has no answer of its kind.
