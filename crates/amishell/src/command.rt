@@ -12,10 +12,12 @@ use std::convert::AsStr;
 
 const VERSION: &str = "1.0";
 
-const ABOUT: &str = "The Shell of AmigaDOS Release 2, in an ASCII profile";
+const ABOUT: &str =
+    "The Shell of the Amiga (AmigaDOS Release 2): runs Amiga command scripts on this machine";
 
 const MORE: &str =
-    "Without a command it is run, without options. The exit status is the last code of the first shell,
+    "Lines are read from standard input. Files live in memory, and are gone at the end.
+Without a command it is run, without options. The exit status is the last code of the first shell,
 or 20 where that is no status and after a fault, which is a line on standard error.
 amishell COMMAND --help tells the options of a command.";
 
