@@ -21,6 +21,7 @@ use Rattle.ados_machine.specs.World.{WorldState, shell_at, pending_by, pending_o
 use Rattle.ados_machine.proofs.Loops.{IsTaken, alone-turn, alone-reply, pending-hosted, turn-taken}
 use Rattle.ados_machine.proofs.Shells.{IsFree, found, found-set_other, free-number}
 use Rattle.ados_machine.proofs.Systems.{opened-stands, system-ended, system-late}
+use Rattle.ados_world.specs.Opened.{opening_fault}
 use Rattle.ados_launcher.specs.declared.calls.Call.{Call}
 use Rattle.ados_launcher.specs.Lives.{life_in}
 use Rattle.ados_launch.specs.Agreement.{Agrees}
@@ -227,9 +228,10 @@ none-behind : (calls now listed : List Call) → now ≡ calls ++ listed → now
 none-behind calls now listed e = e ∙ ap (λ xs. calls ++ xs) (sym (append-nil listed))
 
 abbrev pub runs-line : (k : ℕ) (w : WorldState) (line : Text) (turns n : ℕ) (was_full is_full : Bool) (world : WorldState) (before now : Bytes) (calls mid_calls calls_now others : List Call) →
-    free_number w.shells ≡ Some k → (was_full ≡ true → is_full ≡ true) → calls_now ≡ mid_calls ++ others →
+    opening_fault w line ≡ None → free_number w.shells ≡ Some k → (was_full ≡ true → is_full ≡ true) → calls_now ≡ mid_calls ++ others →
     (g : Going k w line turns n was_full world before now calls mid_calls) → RunsLine k w line is_full g.taken g.answers world calls calls_now others
-runs-line k w line turns n was_full is_full world before now calls mid_calls calls_now others free stays e g = record {
+runs-line k w line turns n was_full is_full world before now calls mid_calls calls_now others good free stays e g = record {
+  no_fault = good;
   free = free;
   run = g.run;
   events_are = g.events_are;
@@ -239,9 +241,9 @@ runs-line k w line turns n was_full is_full world before now calls mid_calls cal
 }
 
 pub going-ended : (k : ℕ) (w : WorldState) (line : Text) (turns n left : ℕ) (is_full : Bool) (world : WorldState) (before now : Bytes) (calls calls_now : List Call) (codes : Codes) →
-    Going k w line turns n is_full world before now calls calls_now → free_number w.shells ≡ Some k → k ≤ length w.ended → left + n ≡ turns →
+    Going k w line turns n is_full world before now calls calls_now → opening_fault w line ≡ None → free_number w.shells ≡ Some k → k ≤ length w.ended → left + n ≡ turns →
     shell_at world k ≡ None → codes ≡ codes_at world k → EndedAs w line turns is_full world before now calls calls_now codes
-going-ended k w line turns n left is_full world before now calls calls_now codes g free room all gone told =
+going-ended k w line turns n left is_full world before now calls calls_now codes g good free room all gone told =
     let e = system-ended turns k w line g.answers before now left world free room (g.steps left all) gone in
     record {
       k = k;
@@ -249,21 +251,21 @@ going-ended k w line turns n left is_full world before now calls calls_now codes
       answers = g.answers;
       left = left;
       bytes = e.0;
-      runs = runs-line k w line turns n is_full is_full world before now calls calls_now calls_now [] free (λ is. is) (sym (append-nil calls_now)) g;
+      runs = runs-line k w line turns n is_full is_full world before now calls calls_now calls_now [] good free (λ is. is) (sym (append-nil calls_now)) g;
       count = omega (arith, all, g.count);
       meaning = rw told e.2;
       written = e.1;
     }
 
 pub going-late : (k : ℕ) (w : WorldState) (line : Text) (turns : ℕ) (is_full : Bool) (world : WorldState) (before now : Bytes) (calls calls_now : List Call) (shell : ShellState) →
-    Going k w line turns turns is_full world before now calls calls_now → free_number w.shells ≡ Some k → shell_at world k ≡ Some shell →
+    Going k w line turns turns is_full world before now calls calls_now → opening_fault w line ≡ None → free_number w.shells ≡ Some k → shell_at world k ≡ Some shell →
     RunsOn w line turns is_full world before now calls calls_now k
-going-late k w line turns is_full world before now calls calls_now shell g free runs =
+going-late k w line turns is_full world before now calls calls_now shell g good free runs =
     let e = system-late turns k w line g.answers before now 0 world shell free (g.steps 0 (omega arith)) refl runs in
     record {
       taken = g.taken;
       answers = g.answers;
-      runs = runs-line k w line turns turns is_full is_full world before now calls calls_now calls_now [] free (λ is. is) (sym (append-nil calls_now)) g;
+      runs = runs-line k w line turns turns is_full is_full world before now calls calls_now calls_now [] good free (λ is. is) (sym (append-nil calls_now)) g;
       count = g.count;
       meaning = e.2;
       written = g.printed;
@@ -271,39 +273,35 @@ going-late k w line turns is_full world before now calls calls_now shell g free 
 
 -- where an event was not taken
 pub stands-untaken : (k : ℕ) (w : WorldState) (line : Text) (turns n : ℕ) (was_full is_full : Bool) (world : WorldState) (before now : Bytes) (calls mid_calls calls_now : List Call) (fault : SystemFault) →
-    Going k w line turns n was_full world before now calls mid_calls → free_number w.shells ≡ Some k → (was_full ≡ true → is_full ≡ true) → n ≤ turns →
+    Going k w line turns n was_full world before now calls mid_calls → opening_fault w line ≡ None → free_number w.shells ≡ Some k → (was_full ≡ true → is_full ≡ true) → n < turns →
     (others : List Call) × IsUntaken is_full world k fault.answer others × (calls_now ≡ mid_calls ++ others) →
     fault.refusal ≡ NoMemory → fault.events ≡ n → fault.unwritten ≡ [] → StandsAt w line turns is_full fault world before now calls calls_now k
-stands-untaken k w line turns n was_full is_full world before now calls mid_calls calls_now fault g free stays within untaken why count none = record {
+stands-untaken k w line turns n was_full is_full world before now calls mid_calls calls_now fault g good free stays within untaken why count none = record {
   taken = g.taken;
   answers = g.answers;
   others = untaken.0;
-  runs = runs-line k w line turns n was_full is_full world before now calls mid_calls calls_now untaken.0 free stays untaken.2 g;
+  runs = runs-line k w line turns n was_full is_full world before now calls mid_calls calls_now untaken.0 good free stays untaken.2 g;
   count = g.count ∙ sym count;
-  within = rw count within;
   refusal_is = why;
-  untaken = untaken.1;
-  of_last = inl none;
+  stops = inl (omega (arith, count, within), untaken.1, none);
   written = rw none (append-nil now ∙ g.printed);
 }
 
 -- where there was no room for what the last event printed
 pub stands-unwritten : (k : ℕ) (w : WorldState) (line : Text) (turns n : ℕ) (was_full is_full : Bool) (world next : WorldState) (before mid : Bytes)
     (calls mid_calls calls_now : List Call) (out : Out) (fault : SystemFault) →
-    Going k w line turns n was_full world before mid calls mid_calls → free_number w.shells ≡ Some k → (was_full ≡ true → is_full ≡ true) → is_some (shell_at world k) ≡ true → n < turns →
+    Going k w line turns n was_full world before mid calls mid_calls → opening_fault w line ≡ None → free_number w.shells ≡ Some k → (was_full ≡ true → is_full ≡ true) → is_some (shell_at world k) ≡ true → n < turns →
     TakesNext k world is_full mid_calls next calls_now out → fault.refusal ≡ NoMemory → fault.events ≡ n + 1 → fault.answer ≡ None → fault.unwritten ≡ out.bytes →
     StandsAt w line turns is_full fault next before mid calls calls_now k
-stands-unwritten k w line turns n was_full is_full world next before mid calls mid_calls calls_now out fault g free stays runs within t why count none bytes =
+stands-unwritten k w line turns n was_full is_full world next before mid calls mid_calls calls_now out fault g good free stays runs within t why count none bytes =
     let more = going-more k w line turns n was_full is_full world next before mid (mid ++ out.bytes) calls mid_calls calls_now out g stays runs t refl in
     record {
       taken = more.taken;
       answers = more.answers;
       others = [];
-      runs = runs-line k w line turns (n + 1) is_full is_full next before (mid ++ out.bytes) calls calls_now calls_now [] free (λ is. is) (sym (append-nil calls_now)) more;
+      runs = runs-line k w line turns (n + 1) is_full is_full next before (mid ++ out.bytes) calls calls_now calls_now [] good free (λ is. is) (sym (append-nil calls_now)) more;
       count = more.count ∙ sym count;
-      within = omega (arith, count, within);
       refusal_is = why;
-      untaken = rw none refl;
-      of_last = rw bytes (inr (g.taken, Given t.event out, refl, refl));
+      stops = inr (omega (arith, count, within), (g.taken, t.event, out, refl, bytes), none, refl);
       written = rw bytes more.printed;
     }

@@ -1,5 +1,5 @@
 -- Lines that run alone: what a shell that was opened for a line took, and what a launcher was asked for it.
-use Rattle.std.specs.Prelude.{◌≡◌, ◌⊎◌, ℕ, ◌+◌, ◌≤◌, List, [], ◌∷◌, ◌++◌, length, Bool, Option, Some, None, Result, Ok, Err}
+use Rattle.std.specs.Prelude.{◌≡◌, ◌⊎◌, ℕ, ◌+◌, ◌<◌, ◌≤◌, List, [], ◌∷◌, ◌++◌, length, Bool, Option, Some, None, Result, Ok, Err}
 use Rattle.ados_text.specs.Text.{Bytes, Text}
 use Rattle.ados_find.specs.declared.codes.Codes.{Codes}
 use Rattle.ados_machine.specs.declared.answers.Answer.{Answer as Reply}
@@ -15,14 +15,14 @@ use Rattle.ados_machine.specs.Runs.{IsAnswer, Runs, world_after}
 use Rattle.ados_machine.specs.Step.{step_of}
 use Rattle.ados_machine.specs.Whole.{opened, whole}
 use Rattle.ados_machine.specs.World.{WorldState, pending_of}
-use Rattle.ados_world.specs.Opened.{Refuses}
+use Rattle.ados_world.specs.Opened.{Refuses, opening_fault}
 use Rattle.ados_launcher.specs.declared.calls.Call.{Call}
 use Rattle.ados_launch.specs.declared.alone.SystemEnd.{SystemEnd}
 use Rattle.ados_launch.specs.declared.alone.SystemEnd.TheVariants.{Ended, NoShell, StillRunning}
 use Rattle.ados_launch.specs.declared.alone.SystemFault.{SystemFault}
 use Rattle.ados_launch.specs.Agreement.{Agrees}
 use Rattle.ados_launch.specs.Asked.{AreAsked, IsAsked, ListsOf}
-use Rattle.ados_launch.specs.Taken.{Taken, Given, bytes_of, events_in, outs_in}
+use Rattle.ados_launch.specs.Taken.{Taken, Given, events_in, outs_in}
 
 -- the next event of a shell: an answer where it waits for one, and else a turn
 abbrev pub IsNextOf : ℕ → Option Request → Event → Type 0
@@ -56,10 +56,11 @@ abbrev pub AgreesBehind : WorldState → Option ℕ → Option Reply → List Ca
 AgreesBehind w None answer calls = Agrees w calls
 AgreesBehind w (Some k) answer calls = AgreesOnceTaken w k answer calls
 
--- In a world a shell was opened for a line, with the lowest number that was free. It took these events, with these answers among
+-- In a world a shell was opened for a line that has no fault, with the lowest number that was free. It took these events, with these answers among
 -- them; no other event was taken, and the last world stands behind them. The launcher was asked for each of the answers once, in their
 -- order, and then for these others.
 pub record RunsLine (k : ℕ) (w : WorldState) (line : Text) (is_full : Bool) (taken : List Taken) (answers : List Reply) (last : WorldState) (calls calls_now others : List Call) : Type 0 where
+  pub no_fault : opening_fault w line ≡ None
   pub free : free_number w.shells ≡ Some k
   pub run : Runs (opened w k (line ∷ [])) (events_in taken) (outs_in taken) last
   pub events_are : AreOf k (events_in taken) answers []
@@ -88,22 +89,29 @@ pub record RunsOn (w : WorldState) (line : Text) (turns : ℕ) (is_full : Bool) 
   pub meaning : IsLate (whole turns k w (line ∷ []) answers)
   pub written : now ≡ before ++ bytes_in (outs_in taken)
 
--- nothing, or the bytes of the last that was taken
+-- these are the bytes of the last event that was taken
 abbrev pub AreOfLast : Bytes → List Taken → Type 0
-AreOfLast bytes taken = (bytes ≡ []) ⊎ ((front : List Taken) × (item : Taken) × (taken ≡ front ++ item ∷ []) × (bytes ≡ bytes_of item))
+AreOfLast bytes taken = (front : List Taken) × (event : Event) × (out : Out) × (taken ≡ front ++ Given event out ∷ []) × (bytes ≡ out.bytes)
 
--- The shell stands behind the events that the fault counts; what it holds is the answer that was not taken, and what the last event
--- printed where there was no room for it.
+-- One more event was allowed, and there was no memory for it: the answer that was asked for it, if one was, is handed back.
+abbrev pub StopsAtEvent : Bool → ℕ → SystemFault → WorldState → ℕ → List Call → Type 0
+StopsAtEvent is_full turns fault w k others =
+    (fault.events < turns) × IsUntaken is_full w k fault.answer others × (fault.unwritten ≡ [])
+
+-- There was no room for what the last event printed, which is handed back; nothing was asked for a further one.
+abbrev pub StopsAtBytes : ℕ → SystemFault → List Taken → List Call → Type 0
+StopsAtBytes turns fault taken others =
+    (fault.events ≤ turns) × AreOfLast fault.unwritten taken × (fault.answer ≡ None) × (others ≡ [])
+
+-- The shell stands after the events that the fault counts, and may have ended with the last of them.
 pub record StandsAt (w : WorldState) (line : Text) (turns : ℕ) (is_full : Bool) (fault : SystemFault) (last : WorldState) (before now : Bytes) (calls calls_now : List Call) (k : ℕ) : Type 0 where
   pub taken : List Taken
   pub answers : List Reply
   pub others : List Call
   pub runs : RunsLine k w line is_full taken answers last calls calls_now others
   pub count : length (events_in taken) ≡ fault.events
-  pub within : fault.events ≤ turns
   pub refusal_is : fault.refusal ≡ NoMemory
-  pub untaken : IsUntaken is_full last k fault.answer others
-  pub of_last : AreOfLast fault.unwritten taken
+  pub stops : StopsAtEvent is_full turns fault last k others ⊎ StopsAtBytes turns fault taken others
   pub written : now ++ fault.unwritten ≡ before ++ bytes_in (outs_in taken)
 
 -- what holds of an end with codes, and of a shell that runs on

@@ -14,6 +14,7 @@ use ados_launcher::Launcher;
 use ados_text::{Octets, Text};
 use ados_world::{Answer, Codes, Draft, Event, Refusal, World};
 use std::alloc::Global;
+use thiserror::Error;
 
 /// What a line came to that ran alone.
 #[derive(Clone, Copy, PartialEq, Eq, Debug)]
@@ -22,16 +23,18 @@ pub enum SystemEnd {
     Ended(Codes),
     /// No number was free for a shell.
     NoShell,
-    /// The shell of this number runs on behind the last event that was allowed.
+    /// The shell of this number still runs after the last event that was allowed.
     StillRunning(u8),
 }
 
 /// Why a line that ran alone did not go on, and where it stands.
-#[derive(Debug, Drop)]
+#[derive(Debug, Drop, Error)]
+#[error("{refusal}")]
 pub struct SystemFault {
     /// Why: one of those for which no shell is opened, or want of memory.
     pub refusal: Refusal,
-    /// The shell that was opened, if one was: it stands behind the events that were taken.
+    /// The shell that was opened, if one was: it stands after the events that were taken, and may have ended with the last
+    /// of them; its codes tell then how.
     pub shell: Option<u8>,
     /// How many events were taken.
     pub events: u64,
@@ -58,21 +61,22 @@ impl SystemFault {
     }
 }
 
-/// Runs a line alone, in a shell that is opened for it: the shell takes turns and the launcher's answers until it ends, and what it
-/// prints is appended to `out`. The other shells take no turn meanwhile.
+/// Runs a line alone, in a shell that is opened for it: the shell takes turns and the launcher's answers until it ends, and
+/// what it prints is appended to `out`. The other shells take no turn meanwhile.
 ///
-/// `Ended` gives the last codes of the shell, and `NoShell` comes where all numbers from 2 to 20 are taken. At most `turns` events
-/// are given, and where the shell runs on behind the last of them the call answers `StillRunning`; the launcher is asked for no answer
-/// that these events do not take.
+/// `Ended` gives the last codes of the shell, and `NoShell` comes where all numbers from 2 to 20 are taken. At most `turns`
+/// events, turns and answers, are given; where the shell still runs after the last of them the call answers `StillRunning`.
+/// The launcher is asked for no answer that is not one of these events.
 ///
 /// A line for which no shell is opened is refused with `Over` where no shell is left, then `LineTooLong` for more than 512
 /// bytes, then `NoMemory`; the world, the launcher and `out` are then as they were. Where memory is wanting later the fault
-/// says where the shell stands, and holds what would else be lost: an answer that was not taken, and bytes for which `out` had no room.
-/// Given that answer, and then turns and further answers, the shell goes on by steps of the world. A child that is open stays open at
-/// each return.
+/// says where the shell stands, and holds what would else be lost: the answer to the event for which there was no memory,
+/// or the last event's bytes, for which `out` had no room. A shell that still runs goes on by steps of the world: that
+/// answer, and then turns and further answers. A child that is open stays open at each return.
 ///
-/// Before the call the launcher's open children are those that the world reads or waits for, as with a new world and a new
-/// launcher; it is so too behind a call, once an answer that was not taken is given.
+/// Before the call every child that the launcher lists and that is not open was read to its end and waited for once. The open
+/// ones are those that the world reads, no end of whose reads is listed, and those that it waits for, whose end is listed. A
+/// new world and a new launcher have none. It is so again after a call, once an answer that was not taken is given.
 pub fn system<L: Launcher>(
     alloc: Global,
     world: &mut World,
@@ -83,21 +87,26 @@ pub fn system<L: Launcher>(
 ) -> Result<SystemEnd, SystemFault>
     requires agrees { Agrees world.old (L.calls launcher.old) }
 
-    // The codes, the world and the bytes are those of the line's direct meaning with the launcher's answers, and the events that are left are the meaning's too.
-    ensures ended { IfEnded result (EndedAs world.old line.now turns (L.is_full launcher.new) world.new out.old.items out.new.items
-        (L.calls launcher.old) (L.calls launcher.new)) }
-    // All events were taken, and in the direct meaning one more is due.
-    ensures running { IfRunning result (RunsOn world.old line.now turns (L.is_full launcher.new) world.new out.old.items out.new.items
-        (L.calls launcher.old) (L.calls launcher.new)) }
+    // The direct meaning of the line, with the launcher's answers, comes to its end after as many events, with these codes,
+    // this world and these bytes.
+    ensures ended { IfEnded result (EndedAs world.old line.now turns (L.is_full launcher.new) world.new
+        out.old.items out.new.items (L.calls launcher.old) (L.calls launcher.new)) }
+    // All events were taken, and by the direct meaning one more is due.
+    ensures running { IfRunning result (RunsOn world.old line.now turns (L.is_full launcher.new) world.new
+        out.old.items out.new.items (L.calls launcher.old) (L.calls launcher.new)) }
     // No shell was opened: for want of a number, or by a fault.
-    ensures unopened { IfUnopened result (UnopenedFor result (opening_fault world.old line.now) (free_number world.old.shells)) }
-    ensures untouched { IfUnopened result ((world.new ≡ world.old) × (launcher.new ≡ launcher.old) × (out.new ≡ out.old)) }
-    // At a later fault the shell stands behind the events that it took, and nothing is lost.
-    ensures fault { IfErr result (λ fault. IfSome fault.shell (StandsAt world.old line.now turns (L.is_full launcher.new) fault world.new out.old.items out.new.items
-        (L.calls launcher.old) (L.calls launcher.new))) }
-    // The launcher's open children are those that the world reads or waits for, once an answer that was not taken is given.
+    ensures unopened { IfUnopened result
+        (UnopenedFor result (opening_fault world.old line.now) (free_number world.old.shells)) }
+    ensures untouched { IfUnopened result
+        ((world.new ≡ world.old) × (launcher.new ≡ launcher.old) × (out.new ≡ out.old)) }
+    // At a later fault the shell stands after the events that it took, and nothing is lost.
+    ensures fault { IfErr result (λ fault. IfSome fault.shell
+        (StandsAt world.old line.now turns (L.is_full launcher.new) fault world.new
+        out.old.items out.new.items (L.calls launcher.old) (L.calls launcher.new))) }
+    // The launcher's list and the world agree again, once an answer that was not taken is given.
     ensures agrees { OnOk result (Agrees world.new (L.calls launcher.new)) }
-    ensures agrees_behind { IfErr result (λ fault. AgreesBehind world.new fault.shell fault.answer (L.calls launcher.new)) }
+    ensures agrees_behind { IfErr result
+        (λ fault. AgreesBehind world.new fault.shell fault.answer (L.calls launcher.new)) }
 {
     let number = match world.open_shell(line) {
         Ok(Some(number)) => number,
@@ -134,12 +143,11 @@ pub fn system<L: Launcher>(
     }
 }
 
-/// Gives a background shell its next event: the launcher's answer to what it waits for, or else a turn. The draft holds then what the
-/// event gives.
-///
-/// An error is want of memory: the world is as it was, and the answer, if one was asked, comes with the error. Once it is given by a
-/// step, the launcher and the world agree as before.
-pub fn next_event<L: Launcher>(
+// Gives a background shell that runs its next event: the launcher's answer to what it waits for, or else a turn. The draft
+// holds then what the event gives.
+//
+// An error is want of memory: the world is as it was, and the answer, if one was asked for, comes with the error.
+fn next_event<L: Launcher>(
     world: &mut World,
     launcher: &mut L,
     number: u8,
@@ -149,13 +157,16 @@ pub fn next_event<L: Launcher>(
     requires last { number < 21 }
     requires runs { is_some (shell_at world.old number) ≡ true }
     requires agrees { Agrees world.old (L.calls launcher.old) }
-    ensures event { OnOk result (TakesNext number world.old (L.is_full launcher.new) (L.calls launcher.old) world.new (L.calls launcher.new) (out_of draft.new)) }
+    ensures event { OnOk result (TakesNext number world.old (L.is_full launcher.new)
+        (L.calls launcher.old) world.new (L.calls launcher.new) (out_of draft.new)) }
     ensures err { OnErr result (world.new ≡ world.old) }
-    ensures untaken { IfErr result (λ answer. (others : List Call) × IsUntaken (L.is_full launcher.new) world.old number answer others
+    ensures untaken { IfErr result (λ answer. (others : List Call)
+        × IsUntaken (L.is_full launcher.new) world.old number answer others
         × (L.calls launcher.new ≡ L.calls launcher.old ++ others)) }
     ensures stays { L.is_full launcher.old ≡ true → L.is_full launcher.new ≡ true }
     ensures agrees { OnOk result (Agrees world.new (L.calls launcher.new)) }
-    ensures agrees_behind { IfErr result (λ answer. AgreesOnceTaken world.new number answer (L.calls launcher.new)) }
+    ensures agrees_behind { IfErr result
+        (λ answer. AgreesOnceTaken world.new number answer (L.calls launcher.new)) }
 {
     let Some(request) = world.pending(number) else {
         return match give(world, &Event::Turn(number), draft) {

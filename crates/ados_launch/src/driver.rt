@@ -67,8 +67,9 @@ impl End {
 /// 65,536 bytes. `Write`: the writer failed, or took nothing. `Turns`: a further event was due. `Memory`: there was
 /// none for the next line or event. A read or write that is interrupted has failed, and is not tried again.
 ///
-/// Before the call the reader's faults and the writer's are below 2^64 - 1, and the launcher's open children are those
-/// that the world reads or waits for, as with a new world and a new launcher there is none. Bytes are read ahead of the
+/// Before the call the reader's faults and the writer's are below 2^64 - 1, and the launcher's list agrees with the world as
+/// for [`system`](crate::system); a new world and a new launcher do. After a fault the pair is not driven again: the world
+/// still asks for children that are gone. Bytes are read ahead of the
 /// lines, as many as come with a read: those read and not taken are lost at the return, also to a second call with the
 /// same reader.
 pub fn drive<L: Launcher, S: Source, K: Sink>(

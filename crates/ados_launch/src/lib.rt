@@ -1,5 +1,6 @@
 #![tactic(auto)]
-//! Drives the machine: bytes in, bytes out, with programs of the host started by a launcher.
+//! Drives the machine: bytes in, bytes out, with programs of the host started by a launcher; or runs one line alone
+//! ([`system`]).
 //!
 //! A reader and a writer are any of std's, within [`Counted`], which counts how often they failed. A launcher is one of
 //! [`Host`], which starts real programs, and [`Listed`], which answers from a list.
@@ -18,7 +19,7 @@ mod schedule;
 mod written;
 
 pub use ados_launcher::{Call, Host, Launcher, Listed};
-pub use alone::{SystemEnd, SystemFault, next_event, system};
+pub use alone::{SystemEnd, SystemFault, system};
 pub use counted::{Counted, Sink, Source};
 pub use driver::{End, drive};
 pub use faults::DriveFault;

@@ -129,6 +129,8 @@ impl Log {
         requires kind { answers_read answer ≡ true }
         ensures kind { answers_read result ≡ true }
         ensures answer { (result ≡ answer) ⊎ (result ≡ Answer.PipeFault) }
+        // The end of the reads always finds its room.
+        ensures end { answer ≡ Answer.End → result ≡ Answer.End }
         ensures calls { self.new.calls ≡ self.old.calls ++ Call.Read child result ∷ [] }
         ensures full { self.new.is_full ≡ self.old.is_full }
     {

@@ -3,6 +3,7 @@ use Rattle.ados_machine.specs.Numbers.{free_number}
 use Rattle.ados_machine.specs.Whole.{opened}
 use Rattle.ados_machine.specs.World.{codes_at, shell_at}
 use Rattle.ados_machine.proofs.Systems.{free-two}
+use Rattle.ados_world.specs.Opened.{opening_fault}
 use Rattle.ados_shell.specs.Drafts.{out_of}
 use Rattle.ados_launch.proofs.AloneLemmas.{going-ended, going-late, going-more, going-none, opened-agrees, stands-untaken, stands-unwritten}
 use Rattle.ados_launch.proofs.alone.system.Goals as goal
@@ -36,45 +37,50 @@ loop-events-preserved g c =
 
 pub returns-in_default-clause-ended : goal.returns-in_default-clause-ended
 returns-in_default-clause-ended g c =
+    let good : opening_fault c.args.world.now c.args.line.now ≡ None = search rules in
     let free : free_number c.args.world.now.shells ≡ Some c.in-Ok-Some.number = search rules in
     let place : c.in-Ok-Some.number ≤ length c.args.world.now.ended = search rules in
     let gone : shell_at c.loop-events.world c.in-Ok-Some.number ≡ None = search rules in
     let told : c.codes.result ≡ codes_at c.loop-events.world c.in-Ok-Some.number = search rules in
     going-ended c.in-Ok-Some.number c.args.world.now c.args.line.now c.args.turns c.loop-events.events (c.args.turns - c.loop-events.events) (g.L.Launcher.is_full c.loop-events.launcher)
     c.loop-events.world c.args.out.now.items c.loop-events.out.items (g.L.Launcher.calls c.args.launcher.now) (g.L.Launcher.calls c.loop-events.launcher) c.codes.result
-    c.loop-events.invariant.going free place (omega (arith, c.loop-events-test.true)) gone told
+    c.loop-events.invariant.going good free place (omega (arith, c.loop-events-test.true)) gone told
 
 pub returns-in-None-clause-ended : goal.returns-in-None-clause-ended
 returns-in-None-clause-ended g c =
+    let good : opening_fault c.args.world.now c.args.line.now ≡ None = search rules in
     let free : free_number c.args.world.now.shells ≡ Some c.in-Ok-Some.number = search rules in
     let place : c.in-Ok-Some.number ≤ length c.args.world.now.ended = search rules in
     let gone : shell_at c.loop-events.world c.in-Ok-Some.number ≡ None = search rules in
     let told : c.codes-in-None.result ≡ codes_at c.loop-events.world c.in-Ok-Some.number = search rules in
     going-ended c.in-Ok-Some.number c.args.world.now c.args.line.now c.args.turns c.loop-events.events 0 (g.L.Launcher.is_full c.loop-events.launcher)
     c.loop-events.world c.args.out.now.items c.loop-events.out.items (g.L.Launcher.calls c.args.launcher.now) (g.L.Launcher.calls c.loop-events.launcher) c.codes-in-None.result
-    c.loop-events.invariant.going free place (omega arith) gone told
+    c.loop-events.invariant.going good free place (omega arith) gone told
 
 pub returns-clause-running : goal.returns-clause-running
 returns-clause-running g c =
+    let good : opening_fault c.args.world.now c.args.line.now ≡ None = search rules in
     let free : free_number c.args.world.now.shells ≡ Some c.in-Ok-Some.number = search rules in
     let runs : shell_at c.loop-events.world c.in-Ok-Some.number ≡ Some c.in-Some-shell.field-0.now = search rules in
     let same : c.loop-events.events ≡ c.args.turns = omega arith in
     going-late c.in-Ok-Some.number c.args.world.now c.args.line.now c.args.turns (g.L.Launcher.is_full c.loop-events.launcher)
     c.loop-events.world c.args.out.now.items c.loop-events.out.items (g.L.Launcher.calls c.args.launcher.now) (g.L.Launcher.calls c.loop-events.launcher) c.in-Some-shell.field-0.now
-    (rw same at c.loop-events.invariant.going) free runs
+    (rw same at c.loop-events.invariant.going) good free runs
 
 pub returns-in-Err-next_event-clause-fault : goal.returns-in-Err-next_event-clause-fault
 returns-in-Err-next_event-clause-fault g c =
+    let good : opening_fault c.args.world.now c.args.line.now ≡ None = search rules in
     let free : free_number c.args.world.now.shells ≡ Some c.in-Ok-Some.number = search rules in
     let none : c.from_vec.result ≡ [] = search rules in
     rw c.in-Err-next_event.ensures.err
     (stands-untaken c.in-Ok-Some.number c.args.world.now c.args.line.now c.args.turns c.loop-events.events (g.L.Launcher.is_full c.loop-events.launcher) (g.L.Launcher.is_full c.next_event.new.launcher)
     c.loop-events.world c.args.out.now.items c.loop-events.out.items
     (g.L.Launcher.calls c.args.launcher.now) (g.L.Launcher.calls c.loop-events.launcher) (g.L.Launcher.calls c.next_event.new.launcher) _
-    c.loop-events.invariant.going free c.next_event.ensures.stays (omega (arith, c.loop-events-test.true)) c.in-Err-next_event.ensures.untaken refl refl none)
+    c.loop-events.invariant.going good free c.next_event.ensures.stays c.loop-events-test.true c.in-Err-next_event.ensures.untaken refl refl none)
 
 pub returns-then-is_err-clause-fault : goal.returns-then-is_err-clause-fault
 returns-then-is_err-clause-fault g c =
+    let good : opening_fault c.args.world.now c.args.line.now ≡ None = search rules in
     let free : free_number c.args.world.now.shells ≡ Some c.in-Ok-Some.number = search rules in
     let runs : is_some (shell_at c.loop-events.world c.in-Ok-Some.number) ≡ true = search rules in
     let kept : c.extend_from_slice.new.self.items ≡ c.loop-events.out.items = search rules in
@@ -83,4 +89,4 @@ returns-then-is_err-clause-fault g c =
     (stands-unwritten c.in-Ok-Some.number c.args.world.now c.args.line.now c.args.turns c.loop-events.events (g.L.Launcher.is_full c.loop-events.launcher) (g.L.Launcher.is_full c.next_event.new.launcher)
     c.loop-events.world c.next_event.new.world c.args.out.now.items c.loop-events.out.items
     (g.L.Launcher.calls c.args.launcher.now) (g.L.Launcher.calls c.loop-events.launcher) (g.L.Launcher.calls c.next_event.new.launcher) (out_of c.next_event.new.draft) _
-    c.loop-events.invariant.going free c.next_event.ensures.stays runs c.loop-events-test.true c.in_default-next_event.ensures.event refl refl refl bytes)
+    c.loop-events.invariant.going good free c.next_event.ensures.stays runs c.loop-events-test.true c.in_default-next_event.ensures.event refl refl refl bytes)
