@@ -1,5 +1,5 @@
 -- Lines that run alone: what a shell that was opened for a line took, and what a launcher was asked for it.
-use Rattle.std.specs.Prelude.{◌≡◌, ◌⊎◌, ℕ, ◌+◌, ◌<◌, ◌≤◌, List, [], ◌∷◌, ◌++◌, length, Bool, Option, Some, None, Result, Ok, Err}
+use Rattle.std.specs.Prelude.{◌≡◌, ◌⊎◌, ℕ, ◌+◌, ◌<◌, ◌≤◌, List, [], ◌∷◌, ◌++◌, length, Bool, Option, Some, None, IfNone, Result, Ok, Err}
 use Rattle.ados_text.specs.Text.{Bytes, Text}
 use Rattle.ados_find.specs.declared.codes.Codes.{Codes}
 use Rattle.ados_machine.specs.declared.answers.Answer.{Answer as Reply}
@@ -124,10 +124,6 @@ IfRunning (Ok (StillRunning k)) P = P k
 IfRunning result P = Unit {0}
 
 -- what holds where no shell was opened
-abbrev pub IfNone : Option ℕ → Type 0 → Type 0
-IfNone None P = P
-IfNone (Some k) P = Unit {0}
-
 abbrev pub IfUnopened : Result SystemEnd SystemFault → Type 0 → Type 0
 IfUnopened (Ok NoShell) P = P
 IfUnopened (Ok (Ended codes)) P = Unit {0}
