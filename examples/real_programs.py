@@ -17,8 +17,10 @@ Ran = namedtuple("Ran", "out err status left")
 
 
 def adopt():
-    """Lets each process that loses its parent pass to this one."""
-    signal.signal(signal.SIGCHLD, signal.SIG_DFL)
+    """Lets each process that loses its parent pass to this one, and signals do what they do at first: who started this one in the
+    background, or for a time without a terminal, may have had them ignored, which programs inherit."""
+    for it in [signal.SIGCHLD, signal.SIGHUP, signal.SIGINT, signal.SIGQUIT]:
+        signal.signal(it, signal.SIG_DFL)
     if ctypes.CDLL(None, use_errno=True).prctl(PR_SET_CHILD_SUBREAPER, 1, 0, 0, 0) != 0:
         raise OSError(ctypes.get_errno(), "prctl")
 
