@@ -273,17 +273,17 @@ going-late k w line turns is_full world before now calls calls_now shell g good 
 
 -- where an event was not taken
 pub stands-untaken : (k : ℕ) (w : WorldState) (line : Text) (turns n : ℕ) (was_full is_full : Bool) (world : WorldState) (before now : Bytes) (calls mid_calls calls_now : List Call) (fault : SystemFault) →
-    Going k w line turns n was_full world before now calls mid_calls → opening_fault w line ≡ None → free_number w.shells ≡ Some k → (was_full ≡ true → is_full ≡ true) → n < turns →
+    Going k w line turns n was_full world before now calls mid_calls → opening_fault w line ≡ None → free_number w.shells ≡ Some k → (was_full ≡ true → is_full ≡ true) → is_some (shell_at world k) ≡ true → n < turns →
     (others : List Call) × IsUntaken is_full world k fault.answer others × (calls_now ≡ mid_calls ++ others) →
     fault.refusal ≡ NoMemory → fault.events ≡ n → fault.unwritten ≡ [] → StandsAt w line turns is_full fault world before now calls calls_now k
-stands-untaken k w line turns n was_full is_full world before now calls mid_calls calls_now fault g good free stays within untaken why count none = record {
+stands-untaken k w line turns n was_full is_full world before now calls mid_calls calls_now fault g good free stays runs within untaken why count none = record {
   taken = g.taken;
   answers = g.answers;
   others = untaken.0;
   runs = runs-line k w line turns n was_full is_full world before now calls mid_calls calls_now untaken.0 good free stays untaken.2 g;
   count = g.count ∙ sym count;
   refusal_is = why;
-  stops = inl (omega (arith, count, within), untaken.1, none);
+  stops = inl (runs, omega (arith, count, within), untaken.1, none);
   written = rw none (append-nil now ∙ g.printed);
 }
 

@@ -1,5 +1,5 @@
 -- Lines that run alone: what a shell that was opened for a line took, and what a launcher was asked for it.
-use Rattle.std.specs.Prelude.{◌≡◌, ◌⊎◌, ℕ, ◌+◌, ◌<◌, ◌≤◌, List, [], ◌∷◌, ◌++◌, length, Bool, Option, Some, None, IfNone, Result, Ok, Err}
+use Rattle.std.specs.Prelude.{◌≡◌, ◌⊎◌, ℕ, ◌+◌, ◌<◌, ◌≤◌, List, [], ◌∷◌, ◌++◌, length, Bool, true, Option, Some, None, is_some, IfNone, Result, Ok, Err}
 use Rattle.ados_text.specs.Text.{Bytes, Text}
 use Rattle.ados_find.specs.declared.codes.Codes.{Codes}
 use Rattle.ados_machine.specs.declared.answers.Answer.{Answer as Reply}
@@ -14,7 +14,7 @@ use Rattle.ados_machine.specs.Numbers.{free_number}
 use Rattle.ados_machine.specs.Runs.{IsAnswer, Runs, world_after}
 use Rattle.ados_machine.specs.Step.{step_of}
 use Rattle.ados_machine.specs.Whole.{opened, whole}
-use Rattle.ados_machine.specs.World.{WorldState, pending_of}
+use Rattle.ados_machine.specs.World.{WorldState, pending_of, shell_at}
 use Rattle.ados_world.specs.Opened.{Refuses, opening_fault}
 use Rattle.ados_launcher.specs.declared.calls.Call.{Call}
 use Rattle.ados_launch.specs.declared.alone.SystemEnd.{SystemEnd}
@@ -93,10 +93,11 @@ pub record RunsOn (w : WorldState) (line : Text) (turns : ℕ) (is_full : Bool) 
 abbrev pub AreOfLast : Bytes → List Taken → Type 0
 AreOfLast bytes taken = (front : List Taken) × (event : Event) × (out : Out) × (taken ≡ front ++ Given event out ∷ []) × (bytes ≡ out.bytes)
 
--- One more event was allowed, and there was no memory for it: the answer that was asked for it, if one was, is handed back.
+-- The shell still runs, one more event was allowed, and there was no memory for it: the answer that was asked for it, if one was,
+-- is handed back.
 abbrev pub StopsAtEvent : Bool → ℕ → SystemFault → WorldState → ℕ → List Call → Type 0
 StopsAtEvent is_full turns fault w k others =
-    (fault.events < turns) × IsUntaken is_full w k fault.answer others × (fault.unwritten ≡ [])
+    (is_some (shell_at w k) ≡ true) × (fault.events < turns) × IsUntaken is_full w k fault.answer others × (fault.unwritten ≡ [])
 
 -- There was no room for what the last event printed, which is handed back; nothing was asked for a further one.
 abbrev pub StopsAtBytes : ℕ → SystemFault → List Taken → List Call → Type 0

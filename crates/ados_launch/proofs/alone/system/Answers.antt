@@ -71,12 +71,13 @@ pub returns-in-Err-next_event-clause-fault : goal.returns-in-Err-next_event-clau
 returns-in-Err-next_event-clause-fault g c =
     let good : opening_fault c.args.world.now c.args.line.now ≡ None = search rules in
     let free : free_number c.args.world.now.shells ≡ Some c.in-Ok-Some.number = search rules in
+    let runs : is_some (shell_at c.loop-events.world c.in-Ok-Some.number) ≡ true = search rules in
     let none : c.from_vec.result ≡ [] = search rules in
     rw c.in-Err-next_event.ensures.err
     (stands-untaken c.in-Ok-Some.number c.args.world.now c.args.line.now c.args.turns c.loop-events.events (g.L.Launcher.is_full c.loop-events.launcher) (g.L.Launcher.is_full c.next_event.new.launcher)
     c.loop-events.world c.args.out.now.items c.loop-events.out.items
     (g.L.Launcher.calls c.args.launcher.now) (g.L.Launcher.calls c.loop-events.launcher) (g.L.Launcher.calls c.next_event.new.launcher) _
-    c.loop-events.invariant.going good free c.next_event.ensures.stays c.loop-events-test.true c.in-Err-next_event.ensures.untaken refl refl none)
+    c.loop-events.invariant.going good free c.next_event.ensures.stays runs c.loop-events-test.true c.in-Err-next_event.ensures.untaken refl refl none)
 
 pub returns-then-is_err-clause-fault : goal.returns-then-is_err-clause-fault
 returns-then-is_err-clause-fault g c =
