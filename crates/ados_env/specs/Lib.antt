@@ -1,6 +1,7 @@
 pub mod Commands
 pub mod Directories
 pub mod AssignNames
+pub mod AssignLines
 pub mod Assign
 pub mod Cd
 pub mod Echo

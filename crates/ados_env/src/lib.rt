@@ -4,6 +4,7 @@
 
 mod aliases;
 mod assign;
+mod assign_lines;
 mod assign_names;
 mod cd;
 mod commands;

@@ -1,7 +1,6 @@
 pub mod Stays
 pub mod CopyStays
 pub mod RenameStays
-pub mod PartLemmas
 pub mod DeleteStays
 pub mod ShellsLemmas
 mod RenameLemmas

@@ -2,12 +2,15 @@
 use Rattle.std.specs.Prelude.{Bool, false, ◌||◌, List, [], ◌∷◌, Option, Some, None, Result, Ok, Err}
 use Rattle.ados_text.specs.Text.{Text}
 use Rattle.ados_readargs.specs.declared.args.Arg.{Arg}
-use Rattle.ados_readargs.specs.Args.{texts_at, text_at}
+use Rattle.ados_readargs.specs.Args.{texts_at, text_at, is_on}
 use Rattle.ados_ram.specs.Place.{Place, Key, key_of, is_at_or_below}
 use Rattle.ados_find.specs.declared.codes.Codes.{Codes}
+use Rattle.ados_find.specs.Done.{Done, fresh}
 use Rattle.ados_find.specs.Shared.{SharedState}
 use Rattle.ados_find.specs.Views.{View}
 use Rattle.ados_find.specs.Paths.{place_of}
+use Rattle.ados_files.specs.Acts.{at_names}
+use Rattle.ados_files.specs.Delete.{delete_place}
 use Rattle.ados_files.specs.Names.{FoundPlaces, named}
 
 -- the key is at a place or below it, where there is one
@@ -29,18 +32,21 @@ abbrev pub is_under_found : Result FoundPlaces Codes → Key → Bool
 is_under_found (Err codes) key = false
 is_under_found (Ok found) key = is_under_any found.places key
 
--- the key is at or below an object that one of the arguments names
-abbrev pub is_under_names : SharedState → View → List Text → Key → Bool
-is_under_names shared view [] key = false
-is_under_names shared view (text ∷ texts) key = is_under_found (named shared view.parts.directory text) key || is_under_names shared view texts key
+-- the key is at or below an object that one of the arguments names, each in the files as those before it left them: where M: has
+-- two directories and both have x, the second of two M:x names the other x
+abbrev pub is_under_worked : (Done → Text → Done) → View → Done → List Text → Key → Bool
+is_under_worked act view done [] key = false
+is_under_worked act view done (text ∷ texts) key =
+    is_under_found (named done.shared view.parts.directory text) key || is_under_worked act view (act done text) texts key
 
 -- Copy: TO, and what is below it
 abbrev pub copy_may_change : SharedState → View → List Arg → Key → Bool
 copy_may_change shared view args key = is_under_path shared view (text_at args 1) key
 
--- Delete: the objects that its arguments name, and what is below them
+-- Delete: the objects that its arguments name as it comes to them, and what is below them
 abbrev pub delete_may_change : SharedState → View → List Arg → Key → Bool
-delete_may_change shared view args key = is_under_names shared view (texts_at args 0) key
+delete_may_change shared view args key =
+    is_under_worked (at_names (delete_place view (is_on args 1) (is_on args 2)) view) view (fresh shared) (texts_at args 0) key
 
 -- Rename: FROM and TO, and what is below them
 abbrev pub rename_may_change : SharedState → View → List Arg → Key → Bool

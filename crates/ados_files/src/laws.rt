@@ -10,8 +10,8 @@ ghost use Rattle.ados_files.specs.Rename.{rename_row};
 ghost use Rattle.ados_files.specs.MayChange.{copy_may_change, delete_may_change, rename_may_change};
 
 /// Copy, Delete and Rename leave other places alone, each with the entry that it had: Copy all that is not TO or below
-/// it; Delete all that is not at or below an object that its arguments name in the files as they were; Rename all that
-/// is not FROM or TO, or below one of them.
+/// it; Delete all that is not at or below an object that one of its arguments names when it comes to that argument;
+/// Rename all that is not FROM or TO, or below one of them.
 pub fn others_stay()
     ensures copy { (shared : SharedState) (view : View) (args : List Arg) → OthersStay (copy_may_change shared view args) shared.files (copy_row shared view args).shared.files }
     ensures delete { (shared : SharedState) (view : View) (args : List Arg) → OthersStay (delete_may_change shared view args) shared.files (delete_row shared view args).shared.files }

@@ -3,7 +3,7 @@
 use crate::answers::push_request;
 use crate::lines::View;
 use crate::texts::{push_all, push_codes, push_count, push_lines};
-use ados_assign::Assign;
+use ados_assign::{Assign, Binding};
 use ados_ram::{Bits, Entry, Place, Ram};
 use ados_resident::{Program, Resident};
 use ados_text::{NoMemory, Text, push_number, same};
@@ -135,8 +135,35 @@ fn letters(bits: Bits) -> [u8; 8] {
 fn push_assigns(text: &mut Vec<u8>, files: &Ram, assigns: &[Assign]) -> Result<(), NoMemory> {
     for assign in assigns {
         let name = assign.name.text().as_bytes();
-        let path = files.full_path(&assign.directory)?;
-        push_all(text, &[b"= ", name, b": ", path.as_bytes(), b"\n"])?;
+        match &assign.binding {
+            Binding::Dirs(places) => push_places(text, files, name, places.as_slice())?,
+            Binding::Path(path) => {
+                push_all(text, &[b"= ", name, b": [", path.as_bytes(), b"]\n"])?;
+            }
+            Binding::Defer(path) => {
+                push_all(text, &[b"= ", name, b": <", path.as_bytes(), b">\n"])?;
+            }
+        }
+    }
+    Ok(())
+}
+
+// Adds a line of each directory of an assign; its name stands on that of the first.
+fn push_places(
+    text: &mut Vec<u8>,
+    files: &Ram,
+    name: &[u8],
+    places: &[Place],
+) -> Result<(), NoMemory> {
+    let mut is_first = true;
+    for place in places {
+        let path = files.full_path(place)?;
+        if is_first {
+            push_all(text, &[b"= ", name, b": ", path.as_bytes(), b"\n"])?;
+        } else {
+            push_all(text, &[b"= + ", path.as_bytes(), b"\n"])?;
+        }
+        is_first = false;
     }
     Ok(())
 }
