@@ -21,7 +21,7 @@ pub use ados_resident::{DiskCommand, InternalCommand};
 pub use changes::Change;
 pub use codes::Codes;
 pub use outcomes::{Outcome, Renamed};
-pub use paths::place_of;
+pub use paths::{bases_of, place_of};
 pub use refusals::Refusal;
 pub use search::{Found, ProgramFile, find, find_file};
 pub use search_path::SearchPath;
