@@ -40,7 +40,7 @@ fn push_further(
     requires within { from ≤ length bases.now }
     ensures { OnOk result (out.new.items ≡ out.old.items ++ further_children ram.now (take from bases.now) (drop from bases.now)) }
 {
-    if from == bases.len() {
+    if from >= bases.len() {
         return Ok(());
     }
     push_new(out, ram, &bases[..from], &ram.children(&bases[from])?)?;
