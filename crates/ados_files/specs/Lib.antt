@@ -1,3 +1,4 @@
+pub mod Bases
 pub mod Names
 pub mod Acts
 pub mod Texts

@@ -2,6 +2,7 @@
 //! The commands on files: MakeDir, Delete, Rename, Copy, Type, Join, List, Dir, Protect and Filenote.
 
 mod acts;
+mod bases;
 mod commands;
 mod copy;
 mod copy_one;
