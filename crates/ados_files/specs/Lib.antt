@@ -17,3 +17,4 @@ pub mod Jobs
 pub mod Copy
 pub mod Commands
 pub mod Rows
+pub mod Devices

@@ -7,6 +7,7 @@ mod commands;
 mod copy;
 mod copy_one;
 mod delete;
+mod devices;
 mod dir;
 mod filenote;
 mod jobs;
@@ -22,5 +23,6 @@ mod rows;
 mod type_files;
 
 pub use commands::Command;
+pub use devices::push_devices;
 pub use laws::others_stay;
 pub use rows::run;
