@@ -19,3 +19,4 @@ pub mod Which
 pub mod Status
 pub mod Resident
 pub mod Rows
+pub mod Devices

@@ -8,6 +8,7 @@ mod assign_lines;
 mod assign_names;
 mod cd;
 mod commands;
+mod devices;
 mod directories;
 mod echo;
 mod eval;
@@ -25,4 +26,5 @@ mod which;
 mod why;
 
 pub use commands::Command;
+pub use devices::push_devices;
 pub use rows::run;
