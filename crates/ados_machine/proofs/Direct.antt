@@ -1,6 +1,6 @@
 -- The events of a shell that runs alone come to what its lines mean: those of the newest frame, and then those of the frames
 -- below it.
-use Rattle.std.proofs.Common.{◌≡◌, ℕ, ◌<◌, ◌≤◌, zero, suc, List, [], ◌∷◌, Bool, true, false, ◌||◌, ◌&&◌, nat_le, Option, Some, None, length, refl, arith, inl, inr, codes, get_or, if◌then◌else◌}
+use Rattle.std.proofs.Common.{◌≡◌, ℕ, ◌<◌, ◌≤◌, zero, suc, List, [], ◌∷◌, Bool, true, false, ◌||◌, ◌&&◌, nat_le, Option, Some, None, length, refl, arith, inl, inr, get_or, if◌then◌else◌}
 use Rattle.std.specs.List.{slice_get}
 use Rattle.std.proofs.lemmas.Bool.{leb-false, leb-true, cases_Bool}
 use Rattle.std.proofs.lemmas.Option.{slice_get_past, slice_get-get_or}
@@ -213,14 +213,11 @@ deed-agrees k gas ih n answers common frame frames further (Calls word output sc
           (frame ∷ frames) lt))
     ]
 deed-agrees k gas ih n answers common frame frames further (Ticks before command after course) lt waits =
-    elim (cases_Bool (nat_le frame_limit (length (frame ∷ frames)))) [
-      | inl e ↦ rw e (finished-agrees k gas ih n answers common frame frames (codes "Shell") (failed TOO_MANY_LEVELS) false lt)
-      | inr e ↦ rw e (tick-agrees k gas ih n _
-          (lines k gas n answers (ticking common) (tick_at (at_of frame frames) command) None) frame frames
-          before after (command ∷ []) common.said.parts.limit lt
-          (ih n answers (ticking common) (began (Tick before after) (command ∷ []) common.said.parts.limit None)
-          (frame ∷ frames) None lt refl))
-    ]
+    tick-agrees k gas ih n _
+    (lines k gas n answers (ticking common) (tick_at (at_of frame frames) command) None) frame frames
+    before after (command ∷ []) common.said.parts.limit lt
+    (ih n answers (ticking common) (began (Tick before after) (command ∷ []) common.said.parts.limit None)
+    (frame ∷ frames) None lt refl)
 deed-agrees k gas ih n answers common frame frames further (Waits wait course) lt waits = waits common wait
 
 -- an event that comes to a deed

@@ -22,11 +22,12 @@ use Rattle.ados_machine.specs.Settle.{Turned}
 use Rattle.ados_machine.specs.Numbers.{free_number}
 use Rattle.ados_machine.specs.Turning.{Turning, Refuses, Ends, Takes, turning, answering}
 use Rattle.ados_machine.specs.World.{WorldState, flatten, numbered, shell_at, is_over, seen_in, input_of}
+use Rattle.ados_machine.specs.Course.{shared_behind}
 use Rattle.ados_machine.specs.Carrying.{moved_by, carried_shells}
-use Rattle.ados_machine.specs.Step.{Response, Refused, Accepted, of_shell, begun_items, with_begun, is_done, left, moved_in, ended_with, queue_behind, queue_limit, shells_behind, took, shell_ended, start, applied, turned, answered, typed, end_of_input, happened, step_of}
+use Rattle.ados_machine.specs.Step.{Response, Refused, Accepted, of_shell, begun_items, with_begun, is_done, left, moved_in, ended_with, queue_behind, queue_limit, took, shell_ended, start, applied, turned, answered, typed, end_of_input, happened, step_of}
 use Rattle.ados_machine.specs.Runs.{MayWantMemory, IsAnswer, world_after, Runs}
 use Rattle.ados_machine.specs.Quiet.{shell_of, Outside, outside, StaysIf, IsQuiet, other_events, other_outs, SameBut, QuietShellsAreInvisible}
-use Rattle.ados_machine.proofs.Shells.{found, found-set_same, found-set_other, runs_pos, place_before, IsFree, free-number}
+use Rattle.ados_machine.proofs.Shells.{shells_behind, found, found-set_same, found-set_other, runs_pos, place_before, IsFree, free-number}
 use Rattle.ados_machine.proofs.Moves.{placed-at}
 use Rattle.ados_machine.proofs.Alike.{Alike, alike-same, alike-get, alike-set, alike-own, LooksLike, looks-same, alike-seen, free-seen, any-seen, alike-carried}
 
@@ -100,7 +101,7 @@ shells-both j xs ys k moved t alike free =
 took-both : (j : ℕ) (a b : WorldState) (k : ℕ) (queue : List (List ℕ)) (t : Turned) → Twins j a b → k ≢ j →
     Both j (took a k queue t) (took b k queue t)
 took-both j a b k queue t twins ne =
-    let moved : moved_in b t ≡ moved_in a t = ap (λ s. moved_by s t.course.shared t.course.renamed) twins.shared in (
+    let moved : moved_in b t ≡ moved_in a t = ap (λ s. moved_by s (shared_behind t.course) t.course.renamed) twins.shared in (
       refl,
       ap (λ n. of_shell k t.log ++ begun_items t.course.begun n) (twins-free j a b twins),
       record {
@@ -292,8 +293,8 @@ queue-own j now queue queue' ne same = rw (ne_eqb j 1 ne) same
 
 took-own : (j : ℕ) (a : WorldState) (shell : ShellState) (queue : List (List ℕ)) (t : Turned) → shell_at a j ≡ Some shell → Own j a (took a j queue t)
 took-own j a shell queue t is = λ quiet b twins.
-    let shared : t.course.shared ≡ a.shared = ap (λ o. o.shared) quiet in
-    let moved : moved_in a t ≡ None = still a.shared t.course.shared t.course.renamed shared in
+    let shared : shared_behind t.course ≡ a.shared = ap (λ o. o.shared) quiet in
+    let moved : moved_in a t ≡ None = still a.shared (shared_behind t.course) t.course.renamed shared in
     let now = left j (moved_in a t) t in
     let carried : carried_shells (moved_in a t) a.shells ≡ a.shells = rw moved refl in
     let runs = ap (λ o. o.running) quiet in

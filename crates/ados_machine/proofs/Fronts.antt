@@ -1,6 +1,6 @@
 -- The code rule over what an event hands on is the code rule over what was handed through before it: what is printed before stays
 -- in front, and a current directory may be carried first.
-use Rattle.std.proofs.Common.{◌≡◌, ◌∙◌, suc, List, [], ◌∷◌, ◌++◌, Bool, false, Option, length, refl, ap, inl, inr, codes, nat_le}
+use Rattle.std.proofs.Common.{◌≡◌, ◌∙◌, suc, List, [], ◌∷◌, ◌++◌, Bool, false, Option, length, refl, ap, inl, inr, nat_le}
 use Rattle.std.proofs.lemmas.Bool.{cases_Bool}
 use mathlib.Core.List.{append_assoc}
 use Rattle.ados_text.specs.Text.{Bytes, Text}
@@ -18,7 +18,7 @@ use Rattle.ados_machine.specs.CodeRule.{fault_line, failed_line}
 use Rattle.ados_machine.specs.Items.{Began, noted, end_of}
 use Rattle.ados_machine.specs.Deeds.{Deed, Passes, Answers, Jumps, Calls, Ticks, Waits}
 use Rattle.ados_machine.specs.Settled.{Said, Settled, behind, told, with_limit, rests, after_end, finish, passed, finished}
-use Rattle.ados_machine.specs.Settle.{jumped_in, called, ticked, ruled}
+use Rattle.ados_machine.specs.Settle.{jumped_in, called, tick_begun, ruled}
 use Rattle.ados_machine.specs.Whole.{carried_parts}
 
 -- these bytes were printed before, and the current directory is carried
@@ -99,12 +99,8 @@ called-front bytes moved word output script frames said =
     ]
 
 ticked-front : (bytes : Bytes) (moved : Option Renamed) (before command after : Text) (frames : List FrameState) (said : Said) →
-    ticked before command after frames (front bytes moved said) ≡ fronted bytes moved (ticked before command after frames said)
-ticked-front bytes moved before command after frames said =
-    elim (cases_Bool (nat_le frame_limit (length frames))) [
-      | inl e ↦ rw e (finished-front bytes moved (codes "Shell") (failed TOO_MANY_LEVELS) false frames said)
-      | inr e ↦ rw e refl
-    ]
+    tick_begun before command after frames (front bytes moved said) ≡ fronted bytes moved (tick_begun before command after frames said)
+ticked-front bytes moved before command after frames said = refl
 
 pub ruled-front : (bytes : Bytes) (moved : Option Renamed) (deed : Deed) (frames : List FrameState) (said : Said) →
     ruled deed frames (front bytes moved said) ≡ fronted bytes moved (ruled deed frames said)

@@ -16,7 +16,7 @@ use Rattle.ados_machine.specs.declared.phases.Phase.TheVariants.{Ready, GoingOn,
 use Rattle.ados_machine.specs.declared.phases.Wait.{Wait}
 use Rattle.ados_machine.specs.declared.phases.Wait.TheVariants.{ForAnswer, ForLines, ForStart, ForPiece, ForEnd}
 use Rattle.ados_machine.specs.Shells.{ShellState, entry_in}
-use Rattle.ados_machine.specs.Course.{Course}
+use Rattle.ados_machine.specs.Course.{Course, shared_behind}
 use Rattle.ados_machine.specs.Deeds.{Deed}
 use Rattle.ados_machine.specs.Settle.{Turned}
 use Rattle.ados_machine.specs.Answers.{answered_deed, answered_in}
@@ -25,10 +25,10 @@ use Rattle.ados_machine.specs.Sinks.{Sink, sink_in}
 use Rattle.ados_machine.specs.Turning.{Turning, Refuses, Ends, Takes, turning, replied}
 use Rattle.ados_machine.specs.World.{WorldState, shell_at, ended_at, is_over, input_of}
 use Rattle.ados_machine.specs.Carrying.{carried_by}
-use Rattle.ados_machine.specs.Step.{Response, Refused, Accepted, is_done, shell_of_turn, left, moved_in, shells_behind, shell_ended, start, applied, answered, step_of}
+use Rattle.ados_machine.specs.Step.{Response, Refused, Accepted, is_done, shell_of_turn, left, moved_in, shell_ended, start, applied, answered, step_of}
 use Rattle.ados_machine.specs.Runs.{IsAnswer, world_after, Runs}
 use Rattle.ados_machine.specs.Starts.{IsFailure, IsBehindFailure, use_count, own_use, StartFails, AllRefused, KeepsSettingsIf, FailedStartsLeaveNothing}
-use Rattle.ados_machine.proofs.Shells.{found, found-set_same, found-set_other, runs_pos, found-left}
+use Rattle.ados_machine.proofs.Shells.{shells_behind, found, found-set_same, found-set_other, runs_pos, found-left}
 use Rattle.ados_machine.proofs.Starts.{plain-shells, plain-shell, not-moved, uses-found, ended-other, Fails, step-fails}
 use Rattle.ados_machine.proofs.Asked.{TurningHands, turning-hands}
 
@@ -71,12 +71,12 @@ took-asked w k shell queue t is none hands = λ now starting there asks.
     let moved = moved_in w t in
     let leaves = left-phase k moved t now (sym (found-left w.shells k shell moved t is) ∙ there) in
     let course : t.course ≡ start w shell = (rw (sym leaves.0 ∙ asks) at hands) in
-    let still : moved ≡ None = not-moved w.shared t.course.shared t.course.renamed (ap (λ c. c.renamed) course) in
+    let still : moved ≡ None = not-moved w.shared (shared_behind t.course) t.course.renamed (ap (λ c. c.renamed) course) in
     let plain = plain-shells w.shells moved t.course.begun (free_number w.shells) still (ap (λ c. c.begun) course) in
     let shells : shells_behind w.shells k moved t ≡ slice_set w.shells (k - 1) (left k moved t) = rw plain refl in
     let left_now : left k moved t ≡ Some now = sym (found-left w.shells k shell moved t is) ∙ there in
     record {
-      shared = ap (λ c. c.shared) course;
+      shared = ap shared_behind course;
       others = λ j differ. ap (λ s. found s j) shells ∙ found-set_other w.shells k (left k moved t) j differ (runs_pos w.shells k shell is);
       their_codes = λ j differ. ended-other (is_done k t.frames) k t.course.parts.codes w.ended j differ (runs_pos w.shells k shell is);
       parts = ap (λ s. s.parts) (leaves.1 ∙ plain-shell moved (shell_of_turn t) still) ∙ ap (λ c. c.parts) course;

@@ -14,7 +14,7 @@ use Rattle.ados_machine.specs.Items.{Item}
 use Rattle.ados_machine.specs.Numbers.{free_number}
 use Rattle.ados_machine.specs.Shells.{Begun, ShellState, seen_of}
 use Rattle.ados_machine.specs.Sinks.{sink_in}
-use Rattle.ados_machine.specs.Course.{Course}
+use Rattle.ados_machine.specs.Course.{Course, shared_behind}
 use Rattle.ados_machine.specs.Deeds.{Deed, Passes, course_of}
 use Rattle.ados_machine.specs.Lines.{line_deed}
 use Rattle.ados_machine.specs.NewShells.{gathered_deed}
@@ -24,10 +24,10 @@ use Rattle.ados_machine.specs.Settle.{here_of, said_of, by_rule, ruled, settle}
 use Rattle.ados_machine.specs.Turning.{Input, frame_turned, turning, replied}
 use Rattle.ados_machine.specs.World.{WorldState, shell_at, input_of, is_over}
 use Rattle.ados_machine.specs.Carrying.{carried_shells, carried_by, moved_by}
-use Rattle.ados_machine.specs.Step.{with_begun, ended_with, queue_behind, is_done, moved_in, shells_behind, took, start, applied, step_of}
+use Rattle.ados_machine.specs.Step.{with_begun, ended_with, queue_behind, is_done, moved_in, took, start, applied, step_of}
 use Rattle.ados_machine.specs.Whole.{Common, absorbed, carried_parts}
 use Rattle.ados_machine.specs.Alone.{Exec, go_on, reply_next, event_next, alone, world_behind}
-use Rattle.ados_machine.proofs.Shells.{found, found-set_same, found-carried, carried-runs, found-placed_other, carried-free, free-number}
+use Rattle.ados_machine.proofs.Shells.{shells_behind, found, found-set_same, found-carried, carried-runs, found-placed_other, carried-free, free-number}
 use Rattle.ados_machine.proofs.Places.{map-set, any-found, shells-same}
 use Rattle.ados_machine.proofs.Fronts.{front, ruled-front}
 use Rattle.ados_machine.proofs.Alone.{lift, shell_of, standing, start_in, Go, with_said, does, line_event, deed_event, reply_event, event_in, exec}
@@ -83,8 +83,8 @@ carried-stands k moved begun shells shell is =
 stands-behind : (k : ℕ) (common : Common) (course : Course) → Stands k common → Stands k (absorbed common course)
 stands-behind k common course stands = record {
   above = stands.above;
-  shell = carried_by (moved_by common.shared course.shared course.renamed) stands.shell;
-  is = carried-stands k (moved_by common.shared course.shared course.renamed) course.begun common.shells stands.shell stands.is;
+  shell = carried_by (moved_by common.shared (shared_behind course) course.renamed) stands.shell;
+  is = carried-stands k (moved_by common.shared (shared_behind course) course.renamed) course.begun common.shells stands.shell stands.is;
 }
 
 stands-again : (k : ℕ) (common : Common) (course : Course) (said : Said) → Stands k common →
@@ -106,13 +106,13 @@ took_world w k course settled = (let t = by_rule course settled in record {
   ended = ended_with (is_done k t.frames) k t.course.parts.codes w.ended;
   queue = queue_behind k w.queue [];
   input_ended = w.input_ended;
-  shared = t.course.shared;
+  shared = shared_behind t.course;
 })
 
 -- what is handed through behind an event
 abbrev common_by : Common → Course → Said → Common
 common_by common course said =
-    with_said (front common.said.printed (moved_by common.shared course.shared course.renamed) said) (absorbed common course)
+    with_said (front common.said.printed (moved_by common.shared (shared_behind course) course.renamed) said) (absorbed common course)
 
 world-same : (k : ℕ) (w : WorldState) (old : List FrameState) (phase : Phase) (common : Common) (course : Course)
     (frames : List FrameState) (next : Phase) (said : Said) (log : List Item) →
@@ -120,13 +120,13 @@ world-same : (k : ℕ) (w : WorldState) (old : List FrameState) (phase : Phase) 
     took_world (standing k w old phase common) k course (record { frames = frames; phase = next; said = said; log = log })
     ≡ world_of k w frames next (common_by common course said)
 world-same k w old phase common course [] next said log stands =
-    let moved = moved_by common.shared course.shared course.renamed in
+    let moved = moved_by common.shared (shared_behind course) course.renamed in
     rw (
       not-first k common stands,
       shells-same moved course.begun common.shells k stands.shell (shell_of old phase common) None stands.is,
     ) refl
 world-same k w old phase common course (frame ∷ frames) next said log stands =
-    let moved = moved_by common.shared course.shared course.renamed in
+    let moved = moved_by common.shared (shared_behind course) course.renamed in
     let now : ShellState = record { frames = frame ∷ frames; phase = next; parts = said.parts; kept = said.kept } in
     rw (
       not-first k common stands,
@@ -147,7 +147,7 @@ took-does : (k : ℕ) (w : WorldState) (go : Goes) (on : Go) (old : List FrameSt
     go_on go common.said.printed (took (standing k w old phase common) k [] (settle deed frames)) ≡ lift k w (does on frames common deed)
 took-does k w go on old phase common deed frames stands same =
     let course = course_of deed in
-    let moved = moved_by common.shared course.shared course.renamed in
+    let moved = moved_by common.shared (shared_behind course) course.renamed in
     let settled = ruled deed frames (said_of course) in
     rw (
       ruled-front common.said.printed moved deed frames (said_of course),

@@ -20,7 +20,7 @@ use Rattle.ados_machine.specs.declared.phases.Phase.TheVariants.{Ready, GoingOn,
 use Rattle.ados_machine.specs.declared.phases.Wait.{Wait}
 use Rattle.ados_machine.specs.declared.phases.Wait.TheVariants.{ForStart, ForPiece, ForEnd}
 use Rattle.ados_machine.specs.Shells.{Begun, ShellState, entry_in}
-use Rattle.ados_machine.specs.Course.{Course, with_use, uses_of}
+use Rattle.ados_machine.specs.Course.{Course, shared_behind, with_use, uses_of}
 use Rattle.ados_machine.specs.Deeds.{Deed, refused}
 use Rattle.ados_machine.specs.Settled.{Said, Settled, faulted, told, with_limit, after_end, finish}
 use Rattle.ados_machine.specs.Settle.{Turned, said_of, settle}
@@ -30,9 +30,9 @@ use Rattle.ados_machine.specs.Sinks.{Sink, sink_in}
 use Rattle.ados_machine.specs.Numbers.{free_number}
 use Rattle.ados_machine.specs.World.{WorldState, flatten, numbered, shell_at, seen_in, is_over as no_shell, has_frame, input_of}
 use Rattle.ados_machine.specs.Carrying.{moved_by, carried_shells, carried_by}
-use Rattle.ados_machine.specs.Step.{Response, Refused, Accepted, with_begun, is_done, shell_of_turn, left, moved_in, ended_with, queue_behind, shells_behind, took, start, applied, step_of}
+use Rattle.ados_machine.specs.Step.{Response, Refused, Accepted, with_begun, is_done, shell_of_turn, left, moved_in, ended_with, queue_behind, took, start, applied, step_of}
 use Rattle.ados_machine.specs.Starts.{IsFailure, MayAllEnd, IsBehindEnd, HasAnswered, KeepsSettings, IsBehindFailure, own_use, StartFails, FailedStartsChangeTheCodes}
-use Rattle.ados_machine.proofs.Shells.{found, found-set_same, found-set_other, runs_pos, place_before, slice_get-set_other}
+use Rattle.ados_machine.proofs.Shells.{shells_behind, found, found-set_same, found-set_other, runs_pos, place_before, slice_get-set_other}
 
 -- the shell that the code rule leaves
 abbrev pub settled_shell : Settled → ShellState
@@ -78,7 +78,7 @@ finish-rules word answer quits (frame ∷ frames) said =
 
 -- behind a failure an event hands on what it began with, the codes aside
 pub record Keeps (frames : List FrameState) (course : Course) (t : Turned) : Type 0 where
-  pub shared : t.course.shared ≡ course.shared
+  pub shared : shared_behind t.course ≡ shared_behind course
   pub renamed : t.course.renamed ≡ course.renamed
   pub begun : t.course.begun ≡ course.begun
   pub parts : KeepsSettings course.parts t.course.parts
@@ -271,7 +271,7 @@ took-fails : (k : ℕ) (shell : ShellState) (w : WorldState) (t : Turned) → sh
     Fails k shell w (took w k (input_of w k).queue t)
 took-fails k shell w t is keeps =
     let moved = moved_in w t in
-    let none = not-moved w.shared t.course.shared t.course.renamed keeps.renamed in
+    let none = not-moved w.shared (shared_behind t.course) t.course.renamed keeps.renamed in
     let plain = plain-shells w.shells moved t.course.begun (free_number w.shells) none keeps.begun in
     let shells : shells_behind w.shells k moved t ≡ slice_set w.shells (k - 1) (left k moved t) = rw plain refl in
     record {

@@ -17,9 +17,9 @@ use Rattle.ados_machine.specs.declared.phases.Wait.{Wait}
 use Rattle.ados_machine.specs.declared.phases.Wait.TheVariants.{ForStart, ForPiece, ForEnd}
 use Rattle.ados_machine.specs.declared.phases.Starting.{Starting}
 use Rattle.ados_machine.specs.declared.phases.Child.{Child}
-use Rattle.ados_machine.specs.Course.{Course, Put, put}
+use Rattle.ados_machine.specs.Course.{Course, using, Put, put}
 use Rattle.ados_machine.specs.Deeds.{Deed, Answers, Waits, refused}
-use Rattle.ados_machine.specs.Opening.{Opened, opening}
+use Rattle.ados_machine.specs.Opening.{Opened, opening, output_devices}
 use Rattle.ados_machine.specs.Sinks.{Sink, sink_or}
 
 -- a program that has started, with an output of its own or none, and a fault that came or none
@@ -31,16 +31,20 @@ child_of starting output fault = record { word = starting.word; entry = starting
 abbrev pub started_deed : Starting → Course → Result Opened Result2 → Deed
 started_deed starting course (Err fault) = Waits (ForPiece (child_of starting None (Some fault))) course
 started_deed starting course (Ok opened) =
-    Waits (ForPiece (child_of starting opened.target None)) (record course { shared = opened.shared })
+    Waits (ForPiece (child_of starting opened.target None)) (using (output_devices starting.output) (record course { shared = opened.shared }))
 
 -- the fault of what was put out, if there was one
 abbrev pub fault_in : Codes → Option Result2
 fault_in codes = if codes.result2.0 == 0 then None else Some codes.result2
 
--- a program behind a piece of its output: a fault of that is its first, and closes its output
+-- the end of a program's output could not be read: its fault, unless one came before
+abbrev pub with_fault : Child → Result2 → Child
+with_fault child fault = record child { fault = option_or child.fault (Some fault) }
+
+-- a program behind a piece of its output, which may be a fault; its output stays open
 abbrev pub behind_piece : Child → Option Result2 → Child
 behind_piece child None = child
-behind_piece child (Some fault) = record child { output = None; fault = Some fault }
+behind_piece child (Some fault) = with_fault child fault
 
 abbrev pub piece_put : Child → Put → Deed
 piece_put child done = Waits (ForPiece (behind_piece child (fault_in done.codes))) done.course
@@ -53,10 +57,6 @@ piece_deed child bytes sink course None = piece_put child (put (sink_or child.ou
 -- a piece has 1 to 4,096 bytes
 abbrev pub is_piece : Bytes → Bool
 is_piece bytes = nat_lt 0 (length bytes) && nat_le (length bytes) 4096
-
--- the end of a program's output could not be read: its fault, unless one came before
-abbrev pub with_fault : Child → Result2 → Child
-with_fault child fault = record child { fault = option_or child.fault (Some fault) }
 
 -- the code of a program that ended with a status
 abbrev pub code_of : ℕ → Code

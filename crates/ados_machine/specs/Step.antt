@@ -3,6 +3,7 @@ use Rattle.std.specs.Prelude.{ℕ, List, [], ◌∷◌, ◌++◌, length, Bool, 
 use Rattle.ados_line.specs.Cut.{line_limit}
 use Rattle.ados_find.specs.declared.codes.Codes.{Codes}
 use Rattle.ados_find.specs.declared.outcomes.Renamed.{Renamed}
+use Rattle.ados_find.specs.Shared.{SharedState}
 use Rattle.ados_machine.specs.declared.answers.Answer.{Answer as Reply}
 use Rattle.ados_machine.specs.declared.events.Event.{Event}
 use Rattle.ados_machine.specs.declared.events.Event.TheVariants.{Typed, EndOfInput, Turn, Answer}
@@ -14,7 +15,7 @@ use Rattle.ados_machine.specs.declared.refusals.Refusal.{Refusal}
 use Rattle.ados_machine.specs.declared.refusals.Refusal.TheVariants.{Over, NoSuchShell, NotReady, QueueFull, LineTooLong}
 use Rattle.ados_machine.specs.Items.{Item, Began, reports_of}
 use Rattle.ados_machine.specs.Shells.{Begun, begun_shell, ShellState}
-use Rattle.ados_machine.specs.Course.{Course}
+use Rattle.ados_machine.specs.Course.{Course, shared_behind}
 use Rattle.ados_machine.specs.Carrying.{moved_by, carried_shells, carried_by}
 use Rattle.ados_flow.specs.declared.kinds.Kind.TheVariants.{Lines}
 use Rattle.ados_flow.specs.Frames.{FrameState, first_limit}
@@ -70,34 +71,52 @@ is_done k frames = not (k == 1) && not (has_frame frames)
 abbrev pub left : ℕ → Option Renamed → Turned → Option ShellState
 left k moved turned = if is_done k turned.frames then None else Some (carried_by moved (shell_of_turn turned))
 
--- the shells behind an event of one of them: the one that begins has the lowest free number
-abbrev pub shells_behind : List (Option ShellState) → ℕ → Option Renamed → Turned → List (Option ShellState)
-shells_behind shells k moved turned =
-    slice_set (with_begun turned.course.begun (free_number shells) (carried_shells moved shells)) (k - 1) (left k moved turned)
+-- what an event leaves of what all share and of the shells, its own one as it was before; and what it moved
+pub record Behind : Type 0 where
+  pub shared : SharedState
+  pub moved : Option Renamed
+  pub shells : List (Option ShellState)
+
+-- the shells behind an event that moved this: their directories are carried, and then one may begin, which has the lowest free
+-- number
+abbrev pub others_behind : List (Option ShellState) → Option Renamed → Course → List (Option ShellState)
+others_behind shells moved course = with_begun course.begun (free_number shells) (carried_shells moved shells)
+
+-- An event ends: its files and assigns stay, and the assigns that it used are bound over them; what it renamed has moved, or
+-- has not; and the shells come behind that.
+abbrev pub behind_event : SharedState → List (Option ShellState) → Course → Behind
+behind_event before shells course =
+    (let shared = shared_behind course in
+    let moved = moved_by before shared course.renamed in
+    record { shared = shared; moved = moved; shells = others_behind shells moved course })
 
 -- the codes of a shell that has ended stay
 abbrev pub ended_with : Bool → ℕ → Codes → List Codes → List Codes
 ended_with done k codes ended = if done then slice_set ended (k - 1) codes else ended
 
--- what an event moved in a world
+-- what an event of a world leaves of it, and what it moved
+abbrev pub behind_in : WorldState → Turned → Behind
+behind_in w turned = behind_event w.shared w.shells turned.course
+
 abbrev pub moved_in : WorldState → Turned → Option Renamed
-moved_in w turned = moved_by w.shared turned.course.shared turned.course.renamed
+moved_in w turned = (behind_in w turned).moved
 
 -- the lines that wait behind an event of a shell: shell 1 alone takes of them
 abbrev pub queue_behind : ℕ → List (List ℕ) → List (List ℕ) → List (List ℕ)
 queue_behind k queue now = if k == 1 then now else queue
 
--- the shell of this number took a turn, which leaves these lines to wait
+-- the shell of this number took a turn, which leaves these lines to wait; its own place is set last
 abbrev pub took : WorldState → ℕ → List (List ℕ) → Turned → Response
 took w k queue turned =
+    (let behind = behind_in w turned in
     Accepted (record w {
-      shells = shells_behind w.shells k (moved_in w turned) turned;
+      shells = slice_set behind.shells (k - 1) (left k behind.moved turned);
       ended = ended_with (is_done k turned.frames) k turned.course.parts.codes w.ended;
       queue = queue_behind k w.queue queue;
-      shared = turned.course.shared;
+      shared = behind.shared;
     })
     (giving turned.course.printed (request_of turned.course.parts.number turned.phase) (reports_of k turned.log))
-    (of_shell k turned.log ++ begun_items turned.course.begun (free_number w.shells))
+    (of_shell k turned.log ++ begun_items turned.course.begun (free_number w.shells)))
 
 -- the shell of this number ended; its codes stay
 abbrev pub shell_ended : WorldState → ℕ → Codes → Response
@@ -114,6 +133,7 @@ start w shell = record {
   printed = [];
   renamed = None;
   begun = None;
+  used = [];
 }
 
 -- what an event of a shell, whose codes are these, makes of the world

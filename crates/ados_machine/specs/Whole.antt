@@ -19,7 +19,6 @@ use Rattle.ados_machine.specs.declared.answers.Answer.{Answer as Reply}
 use Rattle.ados_machine.specs.declared.phases.Parted.{Parted}
 use Rattle.ados_machine.specs.declared.phases.Wait.{Wait}
 use Rattle.ados_machine.specs.declared.phases.Wait.TheVariants.{ForAnswer, ForLines}
-use Rattle.ados_machine.specs.Numbers.{free_number}
 use Rattle.ados_machine.specs.Sinks.{Sink, Console, Kept, sink_or, held_while}
 use Rattle.ados_machine.specs.Names.{waiting_word}
 use Rattle.ados_machine.specs.Shells.{ShellState, Seen, begun_shell, entry_while, parts_in}
@@ -30,8 +29,7 @@ use Rattle.ados_machine.specs.NewShells.{gathered_deed}
 use Rattle.ados_machine.specs.Answers.{answered_deed}
 use Rattle.ados_machine.specs.Settled.{Said, faulted, told, with_limit, newest_kept, with_tick, without_tick}
 use Rattle.ados_machine.specs.World.{WorldState, seen_in}
-use Rattle.ados_machine.specs.Carrying.{moved_by, carried_shells}
-use Rattle.ados_machine.specs.Step.{with_begun}
+use Rattle.ados_machine.specs.Step.{behind_event}
 
 -- what lines hand through: the shells (at the shell's own number it is only looked at that there is one), what all share, and
 -- what the shell itself has: its parts, what its ticks put out, and what is printed
@@ -67,6 +65,10 @@ pub data Whole : Type 0 where
 abbrev pub Meaning : Type 0
 Meaning = ℕ → List Reply → Common → At → Option Parted → Whole
 
+-- no lines may stand deeper
+abbrev pub is_deepest : At → Bool
+is_deepest at = nat_le frame_limit at.depth
+
 -- what a line knows of where it stands
 abbrev pub script_line_at : At → Option ScriptLine
 script_line_at at = if at.in_script then Some (record { lines = at.lines; line = at.line }) else None
@@ -76,6 +78,7 @@ here_at at = record {
   sink = at.sink;
   script_line = script_line_at at;
   frame_lines = Some (record { lines = at.lines; position = at.position });
+  is_full = is_deepest at;
 }
 
 -- what a shell that waits for something, or for nothing, keeps open by that, runs from, and is called
@@ -110,6 +113,7 @@ start_at k at wait common = record {
   printed = [];
   renamed = None;
   begun = None;
+  used = [];
 }
 
 -- a current directory goes along with what was moved, if anything was
@@ -120,14 +124,14 @@ carried_in (Some moved) directory = carried moved.from moved.to directory
 abbrev pub carried_parts : Option Renamed → Parts → Parts
 carried_parts moved parts = record parts { directory = carried_in moved parts.directory }
 
--- an event ends: the current directories are carried, a shell may have begun, and what was printed joins what was before
+-- an event ends, and what was printed joins what was before
 abbrev pub absorbed : Common → Course → Common
 absorbed common course =
-    (let moved = moved_by common.shared course.shared course.renamed in
+    (let behind = behind_event common.shared common.shells course in
     record {
-      shells = with_begun course.begun (free_number common.shells) (carried_shells moved common.shells);
-      shared = course.shared;
-      said = record { parts = carried_parts moved course.parts; kept = course.kept; printed = common.said.printed ++ course.printed };
+      shells = behind.shells;
+      shared = behind.shared;
+      said = record { parts = carried_parts behind.moved course.parts; kept = course.kept; printed = common.said.printed ++ course.printed };
     })
 
 -- a command answered: the shell has its codes, and that it failed is printed where its code reaches the limit
@@ -192,10 +196,6 @@ after_tick go at before after (Done n answers answer common) =
 after_tick go at before after (Late answers) = Late answers
 after_tick go at before after Short = Short
 
--- no lines may stand deeper
-abbrev pub is_deepest : At → Bool
-is_deepest at = nat_le frame_limit at.depth
-
 -- what a deed means behind its event; `further` is what it means to wait
 abbrev pub behind_deed : (Common → Wait → Whole) → Meaning → ℕ → List Reply → Common → At → Deed → Whole
 behind_deed further go n answers common at (Passes course) = go n answers common at None
@@ -206,8 +206,7 @@ behind_deed further go n answers common at (Calls word output called course) =
     if is_deepest at then answered_at go n answers common at word (failed TOO_MANY_LEVELS) false
     else after_call go at common.said.parts.limit word (go n answers common (script_at at output called) None)
 behind_deed further go n answers common at (Ticks before command after course) =
-    if is_deepest at then answered_at go n answers common at (codes "Shell") (failed TOO_MANY_LEVELS) false
-    else after_tick go at before after (go n answers (ticking common) (tick_at at command) None)
+    after_tick go at before after (go n answers (ticking common) (tick_at at command) None)
 behind_deed further go n answers common at (Waits wait course) = further common wait
 
 -- what a deed means

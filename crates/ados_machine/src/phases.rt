@@ -167,16 +167,14 @@ impl Child {
         })
     }
 
-    /// The same behind a piece of its output: a fault of that is its first, and closes its output.
+    /// The same behind a piece of its output, which may be a fault; its output stays open.
     pub fn behind_piece(&self, fault: Option<Result2>) -> Result<Child, NoMemory>
         ensures { IfOk result (λ child. child ≡ behind_piece self.now fault) }
     {
-        let mut child = self.copy()?;
-        if fault.is_some() {
-            child.output = None;
-            child.fault = fault;
+        match fault {
+            None => self.copy(),
+            Some(fault) => self.with_fault(fault),
         }
-        Ok(child)
     }
 
     /// The same, at whose output a fault came; the first fault stays.

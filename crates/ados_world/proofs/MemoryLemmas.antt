@@ -16,10 +16,10 @@ use Rattle.ados_machine.specs.Runs.{IsAnswer}
 use Rattle.ados_machine.specs.Settle.{Turned}
 use Rattle.ados_machine.specs.Shells.{ShellState}
 use Rattle.ados_machine.specs.Stacks.{stack_of}
-use Rattle.ados_machine.specs.Step.{applied, begun_items, ended_with, is_done, left, moved_in, of_shell, queue_behind, shells_behind, start, turned, with_begun}
+use Rattle.ados_machine.specs.Step.{applied, begun_items, ended_with, is_done, left, moved_in, of_shell, queue_behind, start, turned, with_begun}
 use Rattle.ados_machine.specs.Turning as turning
 use Rattle.ados_machine.specs.World.{WorldState, has_frame, input_of, shell_at}
-use Rattle.ados_machine.proofs.Shells.{carried-free, carried-runs, found, found-carried, found-placed_other, found-set_same, free-number}
+use Rattle.ados_machine.proofs.Shells.{shells_behind, carried-free, carried-runs, found, found-carried, found-placed_other, found-set_same, free-number}
 use Rattle.ados_machine.proofs.Turnings.{TurningGoes, turning-goes}
 use Rattle.ados_machine.proofs.Turns.{Goes}
 use Rattle.ados_shell.specs.Turnings.{MayWantMemory}

@@ -25,9 +25,9 @@ use Rattle.ados_machine.specs.Requests.{request_of}
 use Rattle.ados_machine.specs.declared.answers.Answer.{Answer as Reply}
 use Rattle.ados_shell.specs.declared.answers.Answering.TheVariants as reply
 use Rattle.ados_shell.specs.Answerings.{IsAnswering, answering_in}
-use Rattle.ados_machine.specs.Step.{Response, Refused, Accepted, applied, begun_items, ended_with, giving, is_done, moved_in as moved_of, of_shell, queue_behind, shell_of_turn, shells_behind, start, turned, answered as answered_of, with_begun}
+use Rattle.ados_machine.specs.Step.{Response, Refused, Accepted, applied, begun_items, ended_with, giving, is_done, moved_in as moved_of, of_shell, queue_behind, shell_of_turn, start, turned, answered as answered_of, with_begun}
 use Rattle.ados_machine.proofs.Sane.{sane-after}
-use Rattle.ados_machine.proofs.Shells.{carried-free, carried-runs, found, found-carried, found-placed_other, found-set_same, free-number}
+use Rattle.ados_machine.proofs.Shells.{shells_behind, carried-free, carried-runs, found, found-carried, found-placed_other, found-set_same, free-number}
 use Rattle.ados_shell.specs.declared.drafts.Draft.{Draft}
 use Rattle.ados_shell.specs.declared.drafts.ShellDraft.{ShellDraft}
 use Rattle.ados_shell.specs.declared.scenes.Scene.{Scene}
