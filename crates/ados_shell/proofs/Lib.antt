@@ -4,3 +4,4 @@ pub mod StackLemmas
 pub mod TurnLemmas
 pub mod RunLemmas
 pub mod NumberLemmas
+pub mod UseLemmas

@@ -3,12 +3,13 @@ use Rattle.std.proofs.Common.{◌≡◌, ◌∙◌, List, Option, Some, None, Re
 use Rattle.ados_text.specs.Text.{Text}
 use Rattle.ados_text.specs.declared.codes.Result2.{Result2}
 use Rattle.ados_line.specs.declared.lines.Line.{Line}
-use Rattle.ados_ram.specs.FileOperations.{Gives}
 use Rattle.ados_ram.specs.declared.faults.FsFault.TheVariants.{Refused}
 use Rattle.ados_find.specs.declared.targets.Target.{Target}
 use Rattle.ados_machine.specs.declared.builtins.Builtin.{Builtin}
 use Rattle.ados_flow.specs.Frames.{FrameState}
-use Rattle.ados_machine.specs.Course.{Course, printing}
+use Rattle.ados_line.specs.declared.lines.Redirection.{Redirection}
+use Rattle.ados_machine.specs.Course.{Course, printing, using}
+use Rattle.ados_machine.specs.Uses.{devices_named}
 use Rattle.ados_machine.specs.Answers.{child_of, started_deed}
 use Rattle.ados_machine.specs.Deeds.{Deed, Here, Waits, opened_by, read_by, refused}
 use Rattle.ados_machine.specs.Hosted.{tested_deed}
@@ -23,53 +24,57 @@ use Rattle.ados_machine.specs.Settle.{here_of, settle}
 use Rattle.ados_shell.specs.declared.scenes.Scene.{Scene}
 use Rattle.ados_shell.specs.declared.drafts.Draft.{Draft}
 use Rattle.ados_shell.specs.Drafts.{Settles, course_of, frames_of, here}
+use Rattle.ados_shell.specs.Inputs.{HasRead}
 use Rattle.ados_shell.specs.Outputs.{HasOpened, IsOpened}
 use Rattle.ados_shell.specs.Stacks.{frames_in}
 use Rattle.ados_shell.proofs.TurnLemmas.{goes-same}
+use Rattle.ados_shell.proofs.UseLemmas.{used-goes}
 
 -- the input of a line was refused
-pub input-refused : (scene : Scene) (before after : Draft) (word : Text) (work : Option (List Text) → Deed) (fault : Result2) (read : Result (Option (List Text)) Result2)
-    → Gives (Err (Refused fault)) read
-    → Settles scene before after (refused word fault (course_of scene before))
-    → Settles scene before after (read_by word work (course_of scene before) read)
-input-refused scene before after word work fault (Err other) h g =
-    let P : Result2 → Type 0 = λ f. Settles scene before after (refused word f (course_of scene before)) in
-    subst P h g
-input-refused scene before after word work fault (Ok lines) h g = absurd h
-
--- it was read
-pub input-given : (scene : Scene) (before after : Draft) (word : Text) (work : Option (List Text) → Deed) (input : Option (List Text)) (read : Result (Option (List Text)) Result2)
-    → Gives (Ok input) read
-    → Settles scene before after (work input)
-    → Settles scene before after (read_by word work (course_of scene before) read)
-input-given scene before after word work input (Ok lines) h g =
-    let P : Option (List Text) → Type 0 = λ i. Settles scene before after (work i) in
-    subst P h g
-input-given scene before after word work input (Err fault) h g = absurd h
-
--- the output of a line was refused
-pub output-refused : (scene : Scene) (before mid after : Draft) (word : Text) (work : Here → Option Target → Course → Deed) (fault : Result2) (opened : Result Opened Result2)
-    → HasOpened scene before mid (Err (Refused fault)) opened
+pub input-refused : (scene : Scene) (before mid after : Draft) (word : Text) (work : Here → Option (List Text) → Course → Deed) (fault : Result2) (input : Option Text) (read : Result (Option (List Text)) Result2)
+    → HasRead scene before mid input (Err (Refused fault)) read
     → Settles scene mid after (refused word fault (course_of scene mid))
-    → Settles scene before after (opened_by word (work (here scene before)) (course_of scene before) opened)
-output-refused scene before mid after word work fault (Err other) h g =
+    → Settles scene before after (read_by word (work (here scene before)) (course_of scene before) input read)
+input-refused scene before mid after word work fault input (Err other) h g =
     let P : Draft → Type 0 = λ d. Settles scene d after (refused word fault (course_of scene d)) in
     let Q : Result2 → Type 0 = λ f. Settles scene before after (refused word f (course_of scene before)) in
     subst Q h.0 (subst P h.1 g)
-output-refused scene before mid after word work fault (Ok opened) h g = absurd h
+input-refused scene before mid after word work fault input (Ok lines) h g = absurd h
+
+-- it was read
+pub input-given : (scene : Scene) (before mid after : Draft) (word : Text) (work : Here → Option (List Text) → Course → Deed) (lines : Option (List Text)) (input : Option Text) (read : Result (Option (List Text)) Result2)
+    → HasRead scene before mid input (Ok lines) read
+    → Settles scene mid after (work (here scene mid) lines (course_of scene mid))
+    → Settles scene before after (read_by word (work (here scene before)) (course_of scene before) input read)
+input-given scene before mid after word work lines input (Ok given) h g =
+    used-goes scene before mid after (λ here course. work here given course) (using (devices_named input) (course_of scene before)) h.used
+    (let P : Option (List Text) → Type 0 = λ l. Settles scene mid after (work (here scene mid) l (course_of scene mid)) in
+    subst P h.lines_are g)
+input-given scene before mid after word work lines input (Err fault) h g = absurd h
+
+-- the output of a line was refused
+pub output-refused : (scene : Scene) (before mid after : Draft) (word : Text) (work : Here → Option Target → Course → Deed) (fault : Result2) (output : Option Redirection) (opened : Result Opened Result2)
+    → HasOpened scene before mid output (Err (Refused fault)) opened
+    → Settles scene mid after (refused word fault (course_of scene mid))
+    → Settles scene before after (opened_by word (work (here scene before)) (course_of scene before) output opened)
+output-refused scene before mid after word work fault output (Err other) h g =
+    let P : Draft → Type 0 = λ d. Settles scene d after (refused word fault (course_of scene d)) in
+    let Q : Result2 → Type 0 = λ f. Settles scene before after (refused word f (course_of scene before)) in
+    subst Q h.0 (subst P h.1 g)
+output-refused scene before mid after word work fault output (Ok opened) h g = absurd h
 
 -- it was opened
-pub output-given : (scene : Scene) (before mid after : Draft) (word : Text) (work : Here → Option Target → Course → Deed) (target : Option Target) (opened : Result Opened Result2)
-    → HasOpened scene before mid (Ok target) opened
+pub output-given : (scene : Scene) (before mid after : Draft) (word : Text) (work : Here → Option Target → Course → Deed) (target : Option Target) (output : Option Redirection) (opened : Result Opened Result2)
+    → HasOpened scene before mid output (Ok target) opened
     → Settles scene mid after (work (here scene mid) target (course_of scene mid))
-    → Settles scene before after (opened_by word (work (here scene before)) (course_of scene before) opened)
-output-given scene before mid after word work target (Ok opened) h g =
+    → Settles scene before after (opened_by word (work (here scene before)) (course_of scene before) output opened)
+output-given scene before mid after word work target output (Ok opened) h g =
     goes-same scene before mid after _ _ h.reports
     (ap (λ x. settle (work (here_of (frames_in scene.shell.now x)) target (course_of scene mid)) (frames_in scene.shell.now x)) h.frames
     ∙ ap (λ x. settle (work (here scene before) x (course_of scene mid)) (frames_of scene before)) h.target_is
-    ∙ ap (λ x. settle (work (here scene before) opened.target x) (frames_of scene before)) h.course)
+    ∙ ap (λ x. settle (work (here scene before) opened.target x) (frames_of scene before)) h.course_is)
     g
-output-given scene before mid after word work target (Err fault) h g = absurd h
+output-given scene before mid after word work target output (Err fault) h g = absurd h
 
 -- the prompt was printed, and lines of an input answer it
 pub prompt-goes : (scene : Scene) (before mid after : Draft) (builtin : Builtin) (line : Line) (lines : List Text)
@@ -96,7 +101,7 @@ tested-refused scene before after shared entry program line fault (Ok opened) h 
 
 -- a program has started, whose output is refused
 pub started-refused : (scene : Scene) (before mid after : Draft) (starting : Starting) (child : Child) (fault : Result2) (opened : Result Opened Result2)
-    → HasOpened scene before mid (Err (Refused fault)) opened
+    → HasOpened scene before mid starting.output (Err (Refused fault)) opened
     → child ≡ child_of starting None (Some fault)
     → Settles scene mid after (Waits (ForPiece child) (course_of scene mid))
     → Settles scene before after (started_deed starting (course_of scene before) opened)

@@ -18,12 +18,12 @@ use Rattle.ados_machine.specs.Items.{Item, Ended, noted, end_of, reports_of}
 use Rattle.ados_machine.specs.Course.{Course}
 use Rattle.ados_machine.specs.Deeds.{Answers, Calls, Jumps, Passes, Ticks, line_fault, refused}
 use Rattle.ados_machine.specs.Settled.{Said, Settled, behind, rests, told, with_limit, newest_kept, without_tick, after_end, finish, finished, passed}
-use Rattle.ados_machine.specs.Settle.{Turned, begun, by_rule, jumped_in, said_of, tick_begun}
+use Rattle.ados_machine.specs.Settle.{Turned, begun, by_rule, jumped_in, said_of, settle, tick_begun}
 use Rattle.ados_shell.specs.declared.scenes.Scene.{Scene}
 use Rattle.ados_shell.specs.declared.drafts.Draft.{Draft}
 use Rattle.ados_shell.specs.Reports.{report_of}
 use Rattle.ados_shell.specs.Stacks.{frames_in}
-use Rattle.ados_shell.specs.Drafts.{GoesOn, IsReported, IsTicked, IsRuled, Settles, course_by, course_of, frames_of, held_of, phase_in}
+use Rattle.ados_shell.specs.Drafts.{GoesOn, IsReported, IsTicked, IsRuled, Settles, course_by, course_of, frames_of, held_of, here, phase_in}
 
 goes-on : (scene : Scene) (before mid after : Draft) (t t' : Turned) (rs : List EndReport)
     → mid.reports.items ≡ before.reports.items ++ rs
@@ -307,17 +307,17 @@ jump-goes scene before mid after word codes line f s g =
 pub tick-begins : (scene : Scene) (before after : Draft) (front command rear : Text)
     → nat_le frame_limit (length (frames_of scene before)) ≡ false
     → IsRuled scene before after (tick_begun front command rear (frames_of scene before) (said_in scene before))
-    → Settles scene before after (Ticks front command rear (course_of scene before))
+    → Settles scene before after (if (here scene before).is_full then line_fault TOO_MANY_LEVELS (course_of scene before) else Ticks front command rear (course_of scene before))
 tick-begins scene before after front command rear e g =
-    goes-same scene before before after _ _ refl (ap (by_rule (course_of scene before)) (sym (else-is _ _ _ e))) g
+    goes-same scene before before after _ _ refl (ap (λ deed. settle deed (frames_of scene before)) (sym (else-is _ _ _ e))) g
 
 -- and where none may
 pub tick-refused : (scene : Scene) (before after : Draft) (front command rear : Text)
     → nat_le frame_limit (length (frames_of scene before)) ≡ true
     → Settles scene before after (line_fault TOO_MANY_LEVELS (course_of scene before))
-    → Settles scene before after (Ticks front command rear (course_of scene before))
+    → Settles scene before after (if (here scene before).is_full then line_fault TOO_MANY_LEVELS (course_of scene before) else Ticks front command rear (course_of scene before))
 tick-refused scene before after front command rear e g =
-    goes-same scene before before after _ _ refl (ap (by_rule (course_of scene before)) (sym (then-is _ _ _ e))) g
+    goes-same scene before before after _ _ refl (ap (λ deed. settle deed (frames_of scene before)) (sym (then-is _ _ _ e))) g
 
 -- a tick was put on
 pub tick-goes : (scene : Scene) (before after : Draft) (front command rear : Text)

@@ -18,7 +18,7 @@ use Rattle.ados_machine.specs.Items.{reports_of}
 use Rattle.ados_find.specs.Parts.{Parts}
 use Rattle.ados_machine.specs.Shells.{Begun, ShellState}
 use Rattle.ados_find.specs.declared.targets.Target.{Target}
-use Rattle.ados_machine.specs.Course.{Course}
+use Rattle.ados_machine.specs.Course.{Course, shared_behind}
 use Rattle.ados_machine.specs.NewShells.{beginning}
 use Rattle.ados_machine.specs.Deeds.{Here, Deed}
 use Rattle.ados_machine.specs.Settled.{Settled, newest_kept}
@@ -84,6 +84,7 @@ start_of scene = record {
   printed = [];
   renamed = None;
   begun = None;
+  used = [];
 }
 
 -- what a turn holds that no answer changes
@@ -94,6 +95,7 @@ pub record Held : Type 0 where
   pub shared : Option SharedState
   pub renamed : Option Renamed
   pub begun : Option Begun
+  pub used : List Text
 
 abbrev pub held_of : Draft → Held
 held_of draft = record {
@@ -103,6 +105,7 @@ held_of draft = record {
   shared = draft.shared;
   renamed = option_map (λ r. r.value) draft.renamed;
   begun = option_map (λ b. b.value) draft.begun;
+  used = draft.used.items;
 }
 
 abbrev pub course_by : Scene → Held → Code → Codes → List ℕ → Course
@@ -120,6 +123,7 @@ course_by scene held limit codes printed = record {
   printed = printed;
   renamed = held.renamed;
   begun = held.begun;
+  used = held.used;
 }
 
 -- what a turn hands on that sees this
@@ -144,6 +148,7 @@ pub record IsFresh (shell : ShellState) (draft : Draft) : Type 0 where
   pub begun_is : option_map (λ b. b.value) draft.begun ≡ None
   pub printed_is : draft.printed.items ≡ []
   pub reports_are : draft.reports.items ≡ []
+  pub used_are : draft.used.items ≡ []
 
 -- a turn went on by what a definition leaves
 pub record GoesOn (scene : Scene) (before after : Draft) (turned : Turned) : Type 0 where
@@ -160,10 +165,10 @@ Settles scene before after deed = GoesOn scene before after (settle deed (frames
 abbrev pub IsRuled : Scene → Draft → Draft → Settled → Type 0
 IsRuled scene before after settled = GoesOn scene before after (by_rule (course_of scene before) settled)
 
--- the draft holds what a turn of the scene's shell leaves
+-- the draft holds what a turn of the scene's shell leaves, and the assigns that it used are bound
 pub record IsDrafted (scene : Scene) (draft : Draft) (turned : Turned) : Type 0 where
   pub shell_is : behind draft.shell scene.shell.now ≡ shell_of_turn turned
-  pub shared_is : version scene.shared.now draft.shared ≡ turned.course.shared
+  pub shared_is : version scene.shared.now draft.shared ≡ shared_behind turned.course
   pub renamed_is : option_map (λ r. r.value) draft.renamed ≡ turned.course.renamed
   pub begun_is : option_map (λ b. b.value) draft.begun ≡ turned.course.begun
   pub printed_is : draft.printed.items ≡ turned.course.printed
@@ -193,6 +198,7 @@ pub record HoldsEffect (before after : Draft) (change : Option Change) (shared :
   pub shared_is : (old : SharedState) → version old after.shared ≡ version (version old before.shared) shared
   pub renamed_is : option_map (λ r. r.value) after.renamed ≡ renamed
   pub begun : option_map (λ b. b.value) after.begun ≡ option_map (λ b. b.value) before.begun
+  pub used : after.used.items ≡ before.used.items
   pub printed : after.printed.items ≡ before.printed.items
   pub reports : after.reports.items ≡ before.reports.items
 

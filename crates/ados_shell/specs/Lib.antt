@@ -2,7 +2,9 @@ pub mod Shells
 pub mod Reports
 pub mod Stacks
 pub mod Drafts
+pub mod Uses
 pub mod Outputs
+pub mod Inputs
 pub mod Turnings
 pub mod Views
 pub mod Answerings

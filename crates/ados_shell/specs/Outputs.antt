@@ -3,12 +3,14 @@ use Rattle.std.specs.Prelude.{◌≡◌, Option, Some, None, Result, Ok, Err}
 use Rattle.ados_text.specs.declared.codes.Result2.{Result2}
 use Rattle.ados_ram.specs.declared.faults.FsFault.{FsFault}
 use Rattle.ados_ram.specs.declared.faults.FsFault.TheVariants.{Refused, NoMemory}
+use Rattle.ados_line.specs.declared.lines.Redirection.{Redirection}
 use Rattle.ados_find.specs.declared.codes.Codes.{Codes}
 use Rattle.ados_find.specs.Shared.{SharedState, with_files}
 use Rattle.ados_ram.specs.Files.{Files}
 use Rattle.ados_find.specs.declared.targets.Target.{Target}
 use Rattle.ados_find.specs.declared.targets.Target.TheVariants.{Nil as Null, At}
 use Rattle.ados_machine.specs.Course as course
+use Rattle.ados_machine.specs.Course.{Course, using}
 use Rattle.ados_machine.specs.Opening as line
 use Rattle.ados_shell.specs.declared.outputs.Opened.{Opened}
 use Rattle.ados_shell.specs.declared.outputs.Opened.TheVariants.{Nothing, Nil, File}
@@ -27,18 +29,30 @@ IsOpened shared _ _ = ⊥
 
 -- a turn after what a line's redirection opens was opened: it leads there, and the shared parts are new ones; where it
 -- was refused, nothing changed
-pub record LeadsTo (scene : Scene) (before after : Draft) (target : Option Target) (opened : line.Opened) : Type 0 where
+pub record LeadsTo (scene : Scene) (before after : Draft) (target : Option Target) (opened : line.Opened) (course : Course) : Type 0 where
   pub frames : after.shell.frames ≡ before.shell.frames
   pub target_is : target ≡ opened.target
-  pub course : course_of scene after ≡ record (course_of scene before) { shared = opened.shared }
+  pub course_is : course_of scene after ≡ course
   pub setting : after.shell.setting ≡ before.shell.setting
   pub reports : after.reports.items ≡ before.reports.items
 
-abbrev pub HasOpened : Scene → Draft → Draft → Result (Option Target) FsFault → Result line.Opened Result2 → Type 0
-HasOpened scene before after (Ok target) (Ok opened) = LeadsTo scene before after target opened
-HasOpened scene before after (Err (Refused fault)) (Err other) = (fault ≡ other) × (after ≡ before)
-HasOpened scene before after (Err NoMemory) opened = Unit {0}
-HasOpened scene before after _ _ = ⊥
+-- the course of an event where an output was opened
+abbrev pub opened_in : Course → line.Opened → Course
+opened_in course opened = record course { shared = opened.shared }
+
+abbrev pub HasHeld : Scene → Draft → Draft → Result (Option Target) FsFault → Result line.Opened Result2 → Type 0
+HasHeld scene before after (Ok target) (Ok opened) = LeadsTo scene before after target opened (opened_in (course_of scene before) opened)
+HasHeld scene before after (Err (Refused fault)) (Err other) = (fault ≡ other) × (after ≡ before)
+HasHeld scene before after (Err NoMemory) opened = Unit {0}
+HasHeld scene before after _ _ = ⊥
+
+-- and its device is used
+abbrev pub HasOpened : Scene → Draft → Draft → Option Redirection → Result (Option Target) FsFault → Result line.Opened Result2 → Type 0
+HasOpened scene before after output (Ok target) (Ok opened) =
+    LeadsTo scene before after target opened (using (line.output_devices output) (opened_in (course_of scene before) opened))
+HasOpened scene before after output (Err (Refused fault)) (Err other) = (fault ≡ other) × (after ≡ before)
+HasOpened scene before after output (Err NoMemory) opened = Unit {0}
+HasOpened scene before after output _ _ = ⊥
 
 -- a turn after output was put, and what the command answers then
 pub record IsPut (scene : Scene) (before after : Draft) (codes : Codes) (done : course.Put) : Type 0 where

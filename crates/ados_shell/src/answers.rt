@@ -42,7 +42,13 @@ impl Draft {
         ensures memory { OnErr result (TakesReply scene.now answer.now) }
     {
         self.begin_turn(scene.shell);
-        self.reply_by(scene, answer)
+        match self.reply_by(scene, answer)? {
+            Answering::WrongAnswer => Ok(Answering::WrongAnswer),
+            Answering::Goes => {
+                self.bind(scene)?;
+                Ok(Answering::Goes)
+            }
+        }
     }
 
     /// An answer for the scene's shell, of which nothing is changed yet.
@@ -171,7 +177,7 @@ impl Draft {
     }
 
     /// A piece of the program's output is put out, and the shell waits for the next. That it does not fit is the program's
-    /// first fault, and closes its output.
+    /// first fault; its output stays open.
     fn put_piece(&mut self, scene: &Scene, child: &Child, bytes: &Octets) -> Result<(), NoMemory>
         ensures { OnOk result (Settles scene.now self.old self.new
             (piece_deed child.now bytes.now (here scene.now self.old).sink (course_of scene.now self.old) None)) }

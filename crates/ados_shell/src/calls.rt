@@ -25,7 +25,7 @@ impl Draft {
         ensures { OnOk result (Settles scene.now self.old self.new
             (script_deed place line.now (here scene.now self.old) (course_of scene.now self.old))) }
     {
-        match self.input(scene, line.input.as_ref()) {
+        match self.read_own(scene, line.input.as_ref()) {
             Err(FsFault::NoMemory) => Err(NoMemory),
             Err(FsFault::Refused(fault)) => self.refuse(scene, &line.command, fault),
             Ok(_) => self.call_into(scene, &place, line),

@@ -1,5 +1,8 @@
 // The commands and their templates.
-ghost use Rattle.std.specs.Prelude.{◌≡◌, map, IfOk};
+ghost use Rattle.std.specs.Prelude.{◌≡◌, ◌++◌, map, IfOk, OnOk};
+ghost use Rattle.std.specs.List.{flat_map};
+ghost use Rattle.ados_assign.specs.Uses.{reached};
+ghost use Rattle.ados_machine.specs.Uses.{argument_devices, devices_of};
 ghost use Rattle.ados_find.specs.Shared.{SharedState};
 ghost use Rattle.ados_machine.specs.Commands.{action_of, row_of, template_of};
 ghost use Rattle.std.specs.Option.{option_copied};
@@ -10,7 +13,7 @@ use ados_find::{Codes, Shared, ShellView};
 use ados_flow::{Action, Frame};
 use ados_machine::Builtin;
 use ados_readargs::{Args, Template};
-use ados_text::{NoMemory, Text};
+use ados_text::{Name, NoMemory, Text};
 use std::alloc::Global;
 use std::marker::Model;
 
@@ -49,8 +52,8 @@ impl Commands {
     }
 
     /// What a command of the newest frame does with the text of its arguments, which are filled into those that are
-    /// lent.
-    #[tactic(auto, unfolding(ados_machine::specs::Commands::action_of))]
+    /// lent; and the devices that they use are pushed.
+    #[tactic(auto, unfolding(ados_machine::specs::Commands::action_of, ados_machine::specs::Uses::devices_of))]
     pub fn perform(
         &self,
         alloc: Global,
@@ -60,11 +63,16 @@ impl Commands {
         view: &ShellView,
         text: &Text,
         args: &mut Args,
+        used: &mut Vec<Name>,
     ) -> Result<Action, NoMemory>
-        ensures { IfOk result (λ action. acting shared.now action ≡ action_of builtin shared.now (script_line_of (option_copied frame.entry)) view.now text.now) }
+        ensures action { IfOk result (λ action. acting shared.now action ≡ action_of builtin shared.now (script_line_of (option_copied frame.entry)) view.now text.now) }
+        ensures used { OnOk result (used.new.items ≡ used.old.items ++ flat_map (reached shared.now.assigns) (devices_of builtin shared.now view.now.parts text.now)) }
     {
         match self.template(builtin).fill_into(text.as_bytes(), args) {
-            Ok(()) => row(alloc, builtin, shared, frame, view, args),
+            Ok(()) => {
+                push_devices(alloc, builtin, shared, view, args, used)?;
+                row(alloc, builtin, shared, frame, view, args)
+            }
             Err(fault) => Ok(Action::answering(alloc, Codes::failed(fault.result2()?))),
         }
     }
@@ -104,5 +112,23 @@ fn row(
             alloc, command, shared, view, args,
         )?)),
         Builtin::Flow(command) => ados_flow::run(alloc, command, shared, frame, view, args),
+    }
+}
+
+/// Pushes the devices that the arguments of a command use, with those to which they lead.
+fn push_devices(
+    alloc: Global,
+    builtin: Builtin,
+    shared: &Shared,
+    view: &ShellView,
+    args: &Args,
+    used: &mut Vec<Name>,
+) -> Result<(), NoMemory>
+    ensures { OnOk result (used.new.items ≡ used.old.items ++ flat_map (reached shared.now.assigns) (argument_devices builtin shared.now view.now.parts args.now)) }
+{
+    match builtin {
+        Builtin::Env(command) => ados_env::push_devices(alloc, command, shared, view, args, used),
+        Builtin::Files(command) => ados_files::push_devices(alloc, command, shared, args, used),
+        Builtin::Flow(command) => ados_flow::push_devices(alloc, command, shared, view, args, used),
     }
 }

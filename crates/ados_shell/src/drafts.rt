@@ -13,7 +13,7 @@ use ados_flow::FIRST_LIMIT;
 use ados_machine::{EndReport, Out, Phase, Request};
 use ados_ram::Place;
 use ados_readargs::Args;
-use ados_text::{Code, NoMemory, Octets};
+use ados_text::{Code, Name, NoMemory, Octets};
 use std::alloc::Global;
 
 /// What a turn has changed so far, and nothing else. One draft serves for one turn after another, so that its buffers
@@ -35,6 +35,8 @@ pub struct Draft {
     pub reports: Vec<EndReport>,
     /// Room for the arguments of the line at work; between two lines it says nothing.
     pub args: Args,
+    /// The devices that the event used so far, with those to which they lead; it takes no memory where none was used.
+    pub used: Vec<Name>,
 }
 
 /// What a turn makes of its shell. What it did not change it does not hold.
@@ -67,6 +69,7 @@ impl Drop for Draft {
             request: _request,
             reports: _reports,
             args: _args,
+            used: _used,
         } = self;
     }
 }
@@ -110,6 +113,7 @@ impl Draft {
             request: None,
             reports: Vec::new(alloc),
             args: Args::new(alloc),
+            used: Vec::new(alloc),
         }
     }
 
@@ -123,6 +127,7 @@ impl Draft {
         self.begun = None;
         self.printed.clear();
         self.reports.clear();
+        self.used.clear();
     }
 
     /// Nothing is printed, nothing is asked for, and no script ended.
@@ -155,6 +160,7 @@ impl Draft {
             request,
             reports,
             args: _,
+            used: _,
         } = self;
         Out::giving(printed, request, reports)
     }

@@ -90,7 +90,7 @@ impl Draft {
         }
     }
 
-    /// The shell waits for the start of the program, with these arguments.
+    /// The shell waits for the start of the program, with these arguments; nothing is used before it has started.
     fn wait_for_start(
         &mut self,
         scene: &Scene,
@@ -108,6 +108,7 @@ impl Draft {
             args,
             output: copied(line.output.as_ref())?,
         };
+        self.use_nothing(scene);
         self.wait(scene, Wait::ForStart(starting))
     }
 }

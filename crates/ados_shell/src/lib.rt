@@ -25,6 +25,7 @@ mod shells;
 mod stacks;
 mod ticks;
 mod turnings;
+mod uses;
 
 pub use answers::Answering;
 pub use begun::Begun;

@@ -1,10 +1,13 @@
 // Taking a raw line.
 ghost use Rattle.std.specs.Prelude.{◌≡◌, IfOk, OnOk};
-ghost use Rattle.ados_machine.specs.Lines.{expanded_deed, found_deed, found_in, line_deed};
+ghost use Rattle.ados_find.specs.Routes.{devices_by};
+ghost use Rattle.ados_machine.specs.Course.{using};
+ghost use Rattle.ados_machine.specs.Deeds.{line_fault};
+ghost use Rattle.ados_machine.specs.Lines.{expanded_deed, found_deed, found_in, line_deed, searching};
 
 use crate::drafts::Draft;
 use crate::scenes::Scene;
-use ados_find::{Codes, Found, find};
+use ados_find::{Codes, Found, Search, find};
 use ados_line::{Expanded, Line, LineFault, Scope, expand};
 use ados_machine::Builtin;
 use ados_text::{NoMemory, Result2, Text};
@@ -18,6 +21,8 @@ impl Draft {
     ghost use Rattle.ados_line.specs.Expansion.{expanded_in};
     ghost use Rattle.ados_line.specs.Values.{variables_in as variables_by};
     ghost use Rattle.ados_machine.specs.Lines.{variables_in};
+    ghost use Rattle.ados_find.specs.Parts.{locals_of};
+    ghost use Rattle.ados_vars.specs.Locals.{shown};
 
     /// Takes a raw line.
     pub fn obey(&mut self, scene: &Scene, raw: &Text) -> Result<(), NoMemory>
@@ -26,6 +31,7 @@ impl Draft {
             (line_deed raw.now (here scene.now self.old) (course_of scene.now self.old))) }
     {
         let expanded = self.expanded(scene, raw);
+        self.use_variables(scene, raw)?;
         self.work_line(scene, expanded)
     }
 
@@ -41,11 +47,19 @@ impl Draft {
     {
         match expanded {
             Err(LineFault::NoMemory) => Err(NoMemory),
-            Err(fault) => self.answer(scene, b"Shell", Codes::failed(fault.result2()), false),
+            Err(fault) => self.fault_line(scene, fault.result2()),
             Ok(Expanded::Nothing) => self.pass(scene),
             Ok(Expanded::Ready(line)) => self.seek(scene, &line),
             Ok(Expanded::Tick(tick)) => self.tick(scene, tick),
         }
+    }
+
+    /// The line is at fault: it uses nothing.
+    pub fn fault_line(&mut self, scene: &Scene, fault: Result2) -> Result<(), NoMemory>
+        ensures { OnOk result (Settles scene.now self.old self.new (line_fault fault (course_of scene.now self.old))) }
+    {
+        self.use_nothing(scene);
+        self.answer(scene, b"Shell", Codes::failed(fault), false)
     }
 
     /// What a raw line comes to, as the shell and the shared parts stand.
@@ -58,10 +72,11 @@ impl Draft {
     }
 
     /// Where the words of a line have their meanings, as the shell and the shared parts stand.
-    fn scope<'b>(&'b self, scene: &'b Scene) -> Scope<'b>
+    pub fn scope<'b>(&'b self, scene: &'b Scene) -> Scope<'b>
         requires { IsUnset self.now }
         ensures aliases { result.aliases.now ≡ (course_of scene.now self.now).parts.settings.aliases }
         ensures variables { variables_by result ≡ variables_in (course_of scene.now self.now) }
+        ensures locals { shown result.locals.now result.code result.result2 ≡ locals_of (course_of scene.now self.now).parts }
     {
         let shared = self.current(scene);
         let settings = scene.shell.settings();
@@ -77,14 +92,25 @@ impl Draft {
         }
     }
 
-    /// Seeks the command of a line. What is not known, or can't be run, reads and opens nothing.
+    /// Seeks the command of a line.
     fn seek(&mut self, scene: &Scene, line: &Line) -> Result<(), NoMemory>
         requires { IsUnset self.old }
         ensures { OnOk result (Settles scene.now self.old self.new
-            (found_deed (found_in (course_of scene.now self.old) line.now.command) line.now (here scene.now self.old) (course_of scene.now self.old))) }
+            (found_deed (found_in (course_of scene.now self.old) line.now.command) line.now (here scene.now self.old) (searching line.now.command (course_of scene.now self.old)))) }
+    {
+        let Search { found, route } = self.find(scene, &line.command)?;
+        self.use_route(scene, route, &line.command)?;
+        self.work_found(scene, found, line)
+    }
+
+    /// Works a line for whose command this was found. What is not known, or can't be run, reads and opens nothing.
+    fn work_found(&mut self, scene: &Scene, found: Found, line: &Line) -> Result<(), NoMemory>
+        requires { IsUnset self.old }
+        ensures { OnOk result (Settles scene.now self.old self.new
+            (found_deed found line.now (here scene.now self.old) (course_of scene.now self.old))) }
     {
         let word = line.command.as_bytes();
-        match self.find(scene, &line.command)? {
+        match found {
             Found::Internal(command) => match Builtin::of_internal(command) {
                 Some(builtin) => self.prepare(scene, builtin, line),
                 None => self.run(scene, line),
@@ -103,10 +129,11 @@ impl Draft {
         }
     }
 
-    /// What a word stands for, as the shell and the shared parts stand.
-    fn find(&self, scene: &Scene, word: &Text) -> Result<Found, NoMemory>
+    /// What a word stands for, as the shell and the shared parts stand, and which device its search used.
+    fn find(&self, scene: &Scene, word: &Text) -> Result<Search, NoMemory>
         requires { IsUnset self.now }
-        ensures { IfOk result (λ found. found ≡ found_in (course_of scene.now self.now) word.now) }
+        ensures found { IfOk result (λ s. s.found ≡ found_in (course_of scene.now self.now) word.now) }
+        ensures used { IfOk result (λ s. using (devices_by s.route word.now) (course_of scene.now self.now) ≡ searching word.now (course_of scene.now self.now)) }
     {
         let path = scene.shell.settings().path.entries();
         find(

@@ -65,7 +65,7 @@ impl Opened {
 }
 
 impl Draft {
-    ghost use Rattle.ados_shell.specs.Outputs.{HasOpened, HoldsFiles, IsOpened, IsPut};
+    ghost use Rattle.ados_shell.specs.Outputs.{HasHeld, HasOpened, HoldsFiles, IsOpened, IsPut};
     ghost use Rattle.ados_shell.specs.Drafts.{course_of, here};
 
     /// Opens what a redirection names, as the shell and the shared parts stand.
@@ -87,8 +87,8 @@ impl Draft {
         }
     }
 
-    /// Opens what a redirection names, and holds what that makes of the shared parts; gives where it leads, if one is
-    /// named. Where it is refused nothing is changed.
+    /// Opens what a redirection names, holds what that makes of the shared parts, and uses its device; gives where it
+    /// leads, if one is named. Where it is refused nothing is changed.
     ///
     /// 210 for a name that is no path, what resolving refuses (204, 205, 212, 218), and what writing refuses (202,
     /// 212, 221, 223).
@@ -97,7 +97,22 @@ impl Draft {
         scene: &Scene,
         output: Option<&Redirection>,
     ) -> Result<Option<Target>, FsFault>
-        ensures { HasOpened scene.now self.old self.new result (opening (course_of scene.now self.old) (option_copied output.entry)) }
+        ensures { HasOpened scene.now self.old self.new (option_copied output.entry) result (opening (course_of scene.now self.old) (option_copied output.entry)) }
+    {
+        let target = self.hold_opened(scene, output)?;
+        if let Some(output) = output {
+            self.use_path(scene, &output.name)?;
+        }
+        Ok(target)
+    }
+
+    /// The same, where its device is not used yet.
+    fn hold_opened(
+        &mut self,
+        scene: &Scene,
+        output: Option<&Redirection>,
+    ) -> Result<Option<Target>, FsFault>
+        ensures { HasHeld scene.now self.old self.new result (opening (course_of scene.now self.old) (option_copied output.entry)) }
     {
         match self.open(scene, output)? {
             Opened::Nothing => Ok(None),

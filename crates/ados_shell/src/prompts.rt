@@ -18,6 +18,7 @@ use std::alloc::Global;
 
 impl Draft {
     ghost use Rattle.ados_shell.specs.Drafts.{IsUnset, Settles, course_of, here};
+    ghost use Rattle.ados_shell.specs.Inputs.{HasRead};
 
     /// Reads the input of a command, if it has one, and asks for its arguments where they are `?`.
     pub fn prepare(&mut self, scene: &Scene, builtin: Builtin, line: &Line) -> Result<(), NoMemory>
@@ -25,7 +26,7 @@ impl Draft {
         ensures { OnOk result (Settles scene.now self.old self.new
             (builtin_deed builtin line.now (here scene.now self.old) (course_of scene.now self.old))) }
     {
-        match self.input(scene, line.input.as_ref()) {
+        match self.read_own(scene, line.input.as_ref()) {
             Err(FsFault::NoMemory) => Err(NoMemory),
             Err(FsFault::Refused(fault)) => self.refuse(scene, &line.command, fault),
             Ok(None) => self.proceed(scene, builtin, line, None),
@@ -34,7 +35,7 @@ impl Draft {
     }
 
     /// The lines of an input, if there is one, as the shell and the shared parts stand.
-    pub fn input(&self, scene: &Scene, name: Option<&Text>) -> Result<Option<Texts>, FsFault>
+    fn input(&self, scene: &Scene, name: Option<&Text>) -> Result<Option<Texts>, FsFault>
         ensures { Gives result (input_lines (course_of scene.now self.now) (option_copied name.entry)) }
     {
         match name {
@@ -47,6 +48,17 @@ impl Draft {
         }
     }
 
+    /// Reads an input, if there is one, and uses its device. Where it is refused nothing is changed.
+    pub fn read_own(&mut self, scene: &Scene, name: Option<&Text>) -> Result<Option<Texts>, FsFault>
+        ensures { HasRead scene.now self.old self.new (option_copied name.entry) result (input_lines (course_of scene.now self.old) (option_copied name.entry)) }
+    {
+        let lines = self.input(scene, name)?;
+        if let Some(name) = name {
+            self.use_path(scene, name)?;
+        }
+        Ok(lines)
+    }
+
     /// Asks for a command's arguments where they are `?`, and lets it begin; its input has these lines, if there is one.
     fn proceed(
         &mut self,
@@ -57,7 +69,7 @@ impl Draft {
     ) -> Result<(), NoMemory>
         requires { IsUnset self.old }
         ensures { OnOk result (Settles scene.now self.old self.new
-            (asked_deed builtin line.now (here scene.now self.old) (course_of scene.now self.old) (option_map (λ l. l.now) input.entry))) }
+            (asked_deed builtin line.now (here scene.now self.old) (option_map (λ l. l.now) input.entry) (course_of scene.now self.old))) }
     {
         if asks(&line.args) {
             self.ask(scene, builtin, line, input)

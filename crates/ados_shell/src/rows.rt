@@ -3,7 +3,7 @@ ghost use Rattle.std.specs.Prelude.{◌≡◌, None, IfOk, OnOk};
 ghost use Rattle.std.specs.Option.{option_copied, option_map};
 ghost use Rattle.ados_find.specs.Effects.{effect_of};
 ghost use Rattle.ados_flow.specs.Actions.{Does, acting};
-ghost use Rattle.ados_machine.specs.Lines.{action_deed, action_in, busy_in, command_deed, names_in, view_of, work_deed};
+ghost use Rattle.ados_machine.specs.Lines.{action_deed, action_in, busy_in, command_deed, names_in, view_of, with_arguments, work_deed};
 
 use crate::drafts::{Draft, ShellDraft};
 use crate::scenes::Scene;
@@ -14,12 +14,13 @@ use ados_line::Line;
 use ados_machine::{Builtin, Question};
 use ados_ram::{Busy, FsFault};
 use ados_readargs::Args;
-use ados_text::{NoMemory, Text, Texts};
+use ados_text::{Name, NoMemory, Text, Texts};
 
 impl Draft {
     ghost use Rattle.ados_shell.specs.Drafts.{IsUnset, Settles, course_of, here, parts_of};
     ghost use Rattle.ados_shell.specs.Views.{Serves, ServesInUse, ServesNames, ServesUses, seen};
     ghost use Rattle.ados_machine.specs.Course.{uses_of};
+    ghost use Rattle.ados_shell.specs.Uses.{HasUsed};
 
     /// Opens a command's output, and lets it do its work; its input has these lines, if there is one.
     pub fn begin(
@@ -87,8 +88,9 @@ impl Draft {
         }
     }
 
-    /// What a command does whose output leads there, as the shell and the shared parts stand. Of the draft only the
-    /// room for arguments changes.
+    /// What a command does whose output leads there, as the shell and the shared parts stand; the devices that its
+    /// arguments use are used.
+    #[tactic(auto, unfolding(ados_machine::specs::Uses::reached))]
     fn action(
         &mut self,
         scene: &Scene,
@@ -99,7 +101,7 @@ impl Draft {
         requires { IsUnset self.old }
         ensures action { IfOk result (λ action. acting (course_of scene.now self.old).shared action
             ≡ action_in builtin line.now (option_copied target.entry) (here scene.now self.old) (course_of scene.now self.old)) }
-        ensures same { self.new ≡ record self.old { args = self.new.args } }
+        ensures used { OnOk result (HasUsed scene.now self.old self.new (with_arguments builtin line.now (course_of scene.now self.old))) }
     {
         let others = self.others_for(scene, builtin, &line.command, target)?;
         let shared = match &self.shared {
@@ -107,8 +109,9 @@ impl Draft {
             Some(new) => new,
         };
         let args = &mut self.args;
+        let used = &mut self.used;
         self.shell
-            .perform(scene, builtin, line, shared, others, args)
+            .perform(scene, builtin, line, shared, others, args, used)
     }
 
     /// What the command of this word, whose output leads there, sees of the shells that run.
@@ -210,6 +213,10 @@ impl Draft {
 }
 
 impl ShellDraft {
+    ghost use Rattle.std.specs.Prelude.{◌++◌};
+    ghost use Rattle.std.specs.List.{flat_map};
+    ghost use Rattle.ados_assign.specs.Uses.{reached};
+    ghost use Rattle.ados_machine.specs.Uses.{devices_of};
     ghost use Rattle.ados_flow.specs.Frames.{script_line_of};
     ghost use Rattle.ados_machine.specs.Commands.{action_of};
     ghost use Rattle.ados_machine.specs.Settle.{newest};
@@ -218,7 +225,7 @@ impl ShellDraft {
     ghost use Rattle.ados_shell.specs.Views.{seen};
 
     /// What a command of the newest frame does that sees this of the shells that run; its arguments are filled into those
-    /// that are lent.
+    /// that are lent, and the devices that they use are pushed.
     fn perform(
         &self,
         scene: &Scene,
@@ -227,14 +234,25 @@ impl ShellDraft {
         shared: &Shared,
         others: Others,
         args: &mut Args,
+        used: &mut Vec<Name>,
     ) -> Result<Action, NoMemory>
         requires { self.now.setting ≡ None }
-        ensures { IfOk result (λ action. acting shared.now action ≡ action_of builtin shared.now
+        ensures used { OnOk result (used.new.items ≡ used.old.items ++ flat_map (reached shared.now.assigns) (devices_of builtin shared.now (behind self.now scene.now.shell.now).parts line.now.args)) }
+        ensures action { IfOk result (λ action. acting shared.now action ≡ action_of builtin shared.now
             (script_line_of (newest (frames_in scene.now.shell.now self.now.frames))) (seen (behind self.now scene.now.shell.now).parts others.busy others.names others.uses) line.now.args) }
     {
         let view = self.view(scene.shell, others);
         let frame = self.frames.newest(scene.shell);
         let commands = scene.commands;
-        commands.perform(scene.alloc, builtin, shared, frame, &view, &line.args, args)
+        commands.perform(
+            scene.alloc,
+            builtin,
+            shared,
+            frame,
+            &view,
+            &line.args,
+            args,
+            used,
+        )
     }
 }

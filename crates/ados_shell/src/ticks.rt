@@ -1,7 +1,9 @@
 // Ticks: a line that has one waits for it, and goes on with what it put out.
 ghost use Rattle.std.specs.Prelude.{◌≡◌, ◌++◌, ◌∷◌, [], reverse, take, IfOk, OnOk};
 ghost use Rattle.ados_machine.specs.Course.{put, tick_limit};
-ghost use Rattle.ados_machine.specs.Deeds.{Ticks};
+ghost use Rattle.std.specs.Prelude.{if◌then◌else◌};
+ghost use Rattle.ados_text.specs.declared.codes.TheConstants.Result2.{TOO_MANY_LEVELS};
+ghost use Rattle.ados_machine.specs.Deeds.{Ticks, line_fault};
 ghost use Rattle.ados_machine.specs.Lines.{parted_deed};
 ghost use Rattle.ados_machine.specs.Settle.{said_of, tick_begun};
 ghost use Rattle.ados_machine.specs.Sinks.{Kept};
@@ -25,11 +27,12 @@ impl Draft {
 
     /// A line has a tick, which begins: where there are as many frames as a shell may have, that is the line's fault.
     pub fn tick(&mut self, scene: &Scene, tick: Tick) -> Result<(), NoMemory>
-        ensures { OnOk result (Settles scene.now self.old self.new (Ticks tick.before tick.command tick.after (course_of scene.now self.old))) }
+        ensures { OnOk result (Settles scene.now self.old self.new
+            (if (here scene.now self.old).is_full then line_fault TOO_MANY_LEVELS (course_of scene.now self.old)
+            else Ticks tick.before tick.command tick.after (course_of scene.now self.old))) }
     {
         if self.shell.frames.is_full(scene.shell) {
-            let codes = Codes::failed(Result2::TOO_MANY_LEVELS);
-            self.answer(scene, b"Shell", codes, false)
+            self.fault_line(scene, Result2::TOO_MANY_LEVELS)
         } else {
             self.begin_tick(scene, tick)
         }

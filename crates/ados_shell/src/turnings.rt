@@ -71,7 +71,8 @@ impl Draft {
             (settle (parted_deed parted.now (here_of scene.now.shell.now.frames) (start_of scene.now)) scene.now.shell.now.frames)) }
     {
         self.begin_turn(scene.shell);
-        self.go_on(scene, parted)
+        self.go_on(scene, parted)?;
+        self.bind(scene)
     }
 
     /// A turn of a shell that is ready.
@@ -122,7 +123,8 @@ impl Draft {
             (settle (joined_deed gathering.now line.now (here_of scene.now.shell.now.frames).sink (start_of scene.now)) scene.now.shell.now.frames)) }
     {
         self.begin_turn(scene.shell);
-        self.join(scene, gathering, line)
+        self.join(scene, gathering, line)?;
+        self.bind(scene)
     }
 
     /// No further line comes for a Run that gathers.
@@ -131,7 +133,8 @@ impl Draft {
             (settle (gathered_deed gathering.now (here_of scene.now.shell.now.frames).sink (start_of scene.now)) scene.now.shell.now.frames)) }
     {
         self.begin_turn(scene.shell);
-        self.gather_no_more(scene, gathering)
+        self.gather_no_more(scene, gathering)?;
+        self.bind(scene)
     }
 
     /// A turn of a shell that waits for the answer to a prompt.
@@ -163,7 +166,8 @@ impl Draft {
             (settle (answer_deed line.now asking.now (here_of scene.now.shell.now.frames) (start_of scene.now)) scene.now.shell.now.frames)) }
     {
         self.begin_turn(scene.shell);
-        self.resume(scene, asking, line)
+        self.resume(scene, asking, line)?;
+        self.bind(scene)
     }
 
     /// A turn of a shell that is ready and runs no frame.
@@ -188,7 +192,8 @@ impl Draft {
             (settle (line_deed line.now (here_of scene.now.shell.now.frames) (start_of scene.now)) scene.now.shell.now.frames)) }
     {
         self.begin_turn(scene.shell);
-        self.obey(scene, line)
+        self.obey(scene, line)?;
+        self.bind(scene)
     }
 
     /// The next line of the newest frame is taken; a frame without one ends.
@@ -197,10 +202,14 @@ impl Draft {
     {
         self.begin_turn(scene.shell);
         match scene.shell.next_line() {
-            None => self.pass(scene),
+            None => {
+                self.pass(scene)?;
+                self.bind(scene)
+            }
             Some(line) => {
                 self.shell.frames.move_on(scene.shell)?;
-                self.obey(scene, line)
+                self.obey(scene, line)?;
+                self.bind(scene)
             }
         }
     }

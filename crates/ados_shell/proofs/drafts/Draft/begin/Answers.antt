@@ -14,10 +14,10 @@ returns-in-Err-Refused c =
     on_ok_weaker c.refuse.result
     (λ g. output-refused c.args.scene.now c.args.self.now c.open_own.new.self c.refuse.new.self c.args.line.now.command
     (λ here target further. work_deed c.args.builtin c.args.line.now target (option_map (λ l. l.now) c.args.input) here further) c.in-Err-Refused.fault
-    (opening (course_of c.args.scene.now c.args.self.now) c.args.line.now.output)
-    (subst (λ x. HasOpened c.args.scene.now c.args.self.now c.open_own.new.self x (opening (course_of c.args.scene.now c.args.self.now) c.args.line.now.output))
+    c.args.line.now.output (opening (course_of c.args.scene.now c.args.self.now) c.args.line.now.output)
+    (subst (λ x. HasOpened c.args.scene.now c.args.self.now c.open_own.new.self c.args.line.now.output x (opening (course_of c.args.scene.now c.args.self.now) c.args.line.now.output))
     (ap Err c.in-Err-Refused.field-0-is)
-    (subst (λ o. HasOpened c.args.scene.now c.args.self.now c.open_own.new.self (Err c.in-Err-Refused.field-0) (opening (course_of c.args.scene.now c.args.self.now) o))
+    (subst (λ o. HasOpened c.args.scene.now c.args.self.now c.open_own.new.self o (Err c.in-Err-Refused.field-0) (opening (course_of c.args.scene.now c.args.self.now) o))
     c.as_ref.ensures.value c.in-Err-Refused.ensures)) g)
     (subst (λ f. OnOk c.refuse.result (Settles c.args.scene.now c.open_own.new.self c.refuse.new.self (refused c.args.line.now.command f (course_of c.args.scene.now c.open_own.new.self))))
     c.in-Err-Refused.fault-is c.refuse.ensures)
@@ -27,7 +27,7 @@ returns-in-Ok c =
     on_ok_weaker c.work.result
     (λ g. output-given c.args.scene.now c.args.self.now c.open_own.new.self c.work.new.self c.args.line.now.command
     (λ here target further. work_deed c.args.builtin c.args.line.now target (option_map (λ l. l.now) c.args.input) here further) c.in-Ok.target
-    (opening (course_of c.args.scene.now c.args.self.now) c.args.line.now.output)
-    (subst (λ o. HasOpened c.args.scene.now c.args.self.now c.open_own.new.self (Ok c.in-Ok.target) (opening (course_of c.args.scene.now c.args.self.now) o))
+    c.args.line.now.output (opening (course_of c.args.scene.now c.args.self.now) c.args.line.now.output)
+    (subst (λ o. HasOpened c.args.scene.now c.args.self.now c.open_own.new.self o (Ok c.in-Ok.target) (opening (course_of c.args.scene.now c.args.self.now) o))
     c.as_ref.ensures.value c.in-Ok.ensures) g)
     c.work.ensures

@@ -1,0 +1,24 @@
+-- Inputs that are read.
+use Rattle.std.specs.Prelude.{◌≡◌, List, Option, Result, Ok, Err}
+use Rattle.ados_text.specs.Text.{Text}
+use Rattle.ados_text.specs.declared.codes.Result2.{Result2}
+use Rattle.ados_ram.specs.declared.faults.FsFault.{FsFault}
+use Rattle.ados_ram.specs.declared.faults.FsFault.TheVariants.{Refused, NoMemory}
+use Rattle.ados_machine.specs.Course.{using}
+use Rattle.ados_machine.specs.Uses.{devices_named}
+use Rattle.ados_shell.specs.declared.scenes.Scene.{Scene}
+use Rattle.ados_shell.specs.declared.drafts.Draft.{Draft}
+use Rattle.ados_shell.specs.Drafts.{course_of}
+use Rattle.ados_shell.specs.Uses.{HasUsed}
+
+-- a turn after the input of a line was read, if it names one: these are its lines, and its device is used; where it was
+-- refused, nothing changed
+pub record Reads (scene : Scene) (before after : Draft) (name : Option Text) (lines given : Option (List Text)) : Type 0 where
+  pub lines_are : lines ≡ given
+  pub used : HasUsed scene before after (using (devices_named name) (course_of scene before))
+
+abbrev pub HasRead : Scene → Draft → Draft → Option Text → Result (Option (List Text)) FsFault → Result (Option (List Text)) Result2 → Type 0
+HasRead scene before after name (Ok lines) (Ok given) = Reads scene before after name lines given
+HasRead scene before after name (Err (Refused fault)) (Err other) = (fault ≡ other) × (after ≡ before)
+HasRead scene before after name (Err NoMemory) given = Unit {0}
+HasRead scene before after name _ _ = ⊥

@@ -1,0 +1,26 @@
+-- Devices that a turn uses, and the end at which their assigns are bound.
+use Rattle.std.specs.Prelude.{◌≡◌, Option}
+use Rattle.ados_assign.specs.Uses.{bound_of}
+use Rattle.ados_find.specs.Shared.{SharedState, version, with_assigns}
+use Rattle.ados_machine.specs.Course.{Course, shared_behind}
+use Rattle.ados_shell.specs.declared.scenes.Scene.{Scene}
+use Rattle.ados_shell.specs.declared.drafts.Draft.{Draft}
+use Rattle.ados_shell.specs.Drafts.{course_of}
+
+-- a turn went on to this course, in which devices are used, and nothing else was done
+pub record HasUsed (scene : Scene) (before after : Draft) (course : Course) : Type 0 where
+  pub frames : after.shell.frames ≡ before.shell.frames
+  pub course_is : course_of scene after ≡ course
+  pub setting : after.shell.setting ≡ before.shell.setting
+  pub reports : after.reports.items ≡ before.reports.items
+
+-- these are the shared parts with the assigns that it used bound, or none, where they stay as they are
+abbrev pub IsBound : Scene → Draft → Option SharedState → Type 0
+IsBound scene draft new =
+    version (course_of scene draft).shared new ≡ with_assigns (course_of scene draft).shared
+    (bound_of (course_of scene draft).used (course_of scene draft).shared.files (course_of scene draft).shared.assigns)
+
+-- the assigns that it used were bound, and nothing else was done
+pub record HasBound (scene : Scene) (before after : Draft) : Type 0 where
+  pub same : after ≡ record before { shared = after.shared }
+  pub shared_is : version scene.shared.now after.shared ≡ shared_behind (course_of scene before)
