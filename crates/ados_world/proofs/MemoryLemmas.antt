@@ -12,6 +12,7 @@ use Rattle.ados_machine.specs.Items.{Item}
 use Rattle.ados_machine.specs.Limits.{IsSane, RunsFrame}
 use Rattle.ados_machine.specs.Numbers.{free_number}
 use Rattle.ados_machine.specs.Runs as memory
+use Rattle.ados_machine.specs.Course.{shared_behind}
 use Rattle.ados_machine.specs.Runs.{IsAnswer}
 use Rattle.ados_machine.specs.Settle.{Turned}
 use Rattle.ados_machine.specs.Shells.{ShellState}
@@ -83,7 +84,7 @@ behind w k rest t = record w {
   shells = shells_behind w.shells k (moved_in w t) t;
   ended = ended_with (is_done k t.frames) k t.course.parts.codes w.ended;
   queue = queue_behind k w.queue rest;
-  shared = t.course.shared;
+  shared = shared_behind t.course;
 }
 
 wants : (w : WorldState) (k : ℕ) (shell : ShellState) (turning : turning.Turning) → IsSane w → shell_at w k ≡ Some shell

@@ -19,7 +19,7 @@ use Rattle.ados_machine.specs.Runs.{IsAnswer, world_after}
 use Rattle.ados_machine.specs.Settle.{Turned}
 use Rattle.ados_machine.specs.Turning as turning
 use Rattle.ados_machine.specs.World.{WorldState, input_of, is_over, seen_in, shell_at}
-use Rattle.ados_machine.specs.Course.{Course}
+use Rattle.ados_machine.specs.Course.{Course, shared_behind}
 use Rattle.ados_machine.specs.Numbers.{free_number}
 use Rattle.ados_machine.specs.Requests.{request_of}
 use Rattle.ados_machine.specs.declared.answers.Answer.{Answer as Reply}
@@ -104,7 +104,7 @@ abbrev behind_turn : WorldState → ℕ → Turned → WorldState
 behind_turn w k t = record w {
   shells = shells_behind w.shells k (moved_of w t) t;
   ended = ended_with (is_done k t.frames) k t.course.parts.codes w.ended;
-  shared = t.course.shared;
+  shared = shared_behind t.course;
 }
 
 -- what a turn changes, moved in part by part
@@ -132,11 +132,11 @@ taken-is w k shell scene draft t s d =
     let codes = t.course.parts.codes in
     let shells = slice_set (others w t) (k - 1) (Some (own w t)) in
     ap (λ x. without w k (shells_with k draft w) x (codes_left k (found (shells_with k draft w) k))) (ap (λ x. version x draft.shared) (sym s.shared_is) ∙ d.shared_is)
-    ∙ ap (λ l. without w k l t.course.shared (codes_left k (found l k))) (with-is w k shell scene draft t s d)
-    ∙ ap (λ o. without w k shells t.course.shared (codes_left k o)) (own-found w k shell t s.here)
-    ∙ ap (without w k shells t.course.shared) (codes-left k (moved_of w t) t)
-    ∙ ap (λ l. record w { shells = l; ended = ended_left (codes_of_end done codes) k w.ended; shared = t.course.shared }) (shells-left done codes k (others w t) (own w t))
-    ∙ ap (λ l. record w { shells = shells_behind w.shells k (moved_of w t) t; ended = l; shared = t.course.shared }) (ended-left done codes k w.ended)
+    ∙ ap (λ l. without w k l (shared_behind t.course) (codes_left k (found l k))) (with-is w k shell scene draft t s d)
+    ∙ ap (λ o. without w k shells (shared_behind t.course) (codes_left k o)) (own-found w k shell t s.here)
+    ∙ ap (without w k shells (shared_behind t.course)) (codes-left k (moved_of w t) t)
+    ∙ ap (λ l. record w { shells = l; ended = ended_left (codes_of_end done codes) k w.ended; shared = shared_behind t.course }) (shells-left done codes k (others w t) (own w t))
+    ∙ ap (λ l. record w { shells = shells_behind w.shells k (moved_of w t) t; ended = l; shared = shared_behind t.course }) (ended-left done codes k w.ended)
 
 -- what an event gives that a draft holds
 gives : (w : WorldState) (k : ℕ) (shell : ShellState) (scene : Scene) (draft : Draft) (t : Turned) → Shows w k shell scene → IsDrafted scene draft t
@@ -163,6 +163,7 @@ start_in shared shells shell = record {
   printed = [];
   renamed = None;
   begun = None;
+  used = [];
 }
 
 -- the machine's turn of a shell, by what the scene shows
