@@ -1,6 +1,7 @@
 //! The laws: what holds of every run, by the definitions alone.
 
 ghost use Rattle.ados_machine.specs.Alone.{AloneIsARun, AloneMeansWhole};
+ghost use Rattle.ados_machine.specs.Binding.{EventsBindOnlyWhatTheyUsed};
 ghost use Rattle.ados_machine.specs.Laws.{
   ScriptsEndWhereTheRuleSays,
   EventsKeepWorldsSane,
@@ -89,4 +90,10 @@ pub fn children_go_by_their_answers()
 pub fn alone_means_the_direct_meaning()
     ensures meaning { AloneMeansWhole }
     ensures run { AloneIsARun }
+{}
+
+/// The end of an event binds only assigns of Defer that the event used, and each only to a directory that stands behind the
+/// event. Else it changes no assign beyond what its commands did.
+pub fn events_bind_only_what_they_used()
+    ensures { EventsBindOnlyWhatTheyUsed }
 {}

@@ -1,0 +1,39 @@
+-- Binding: what the end of an event makes of assigns.
+use Rattle.std.specs.Prelude.{◌≡◌, ◌⊎◌, ℕ, List, [], ◌∷◌, Option, Some, option_map, true}
+use Rattle.std.specs.List.{Contains}
+use Rattle.std.specs.FinMap as map
+use Rattle.ados_text.specs.Text.{Text, folded}
+use Rattle.ados_ram.specs.Place.{Place, key_of}
+use Rattle.ados_ram.specs.Files.{Files, is_some_directory}
+use Rattle.ados_assign.specs.Assigns.{AssignMap}
+use Rattle.ados_assign.specs.Uses.{is_defer, is_used}
+use Rattle.ados_assign.specs.declared.assigns.Assign.{Assign}
+use Rattle.ados_assign.specs.declared.bindings.Binding.TheVariants.{Dirs}
+use Rattle.ados_machine.specs.Items.{Item}
+use Rattle.ados_machine.specs.declared.outs.Out.{Out}
+use Rattle.ados_machine.specs.Settle.{Turned}
+use Rattle.ados_machine.specs.Step.{Response, Accepted, took}
+use Rattle.ados_machine.specs.World.{WorldState}
+
+-- one of these assigns was bound, and stands for a directory now: it has the name, was a Defer, and was used
+pub record IsBound (used : List Text) (files : Files) (before : List Assign) (name : Text) (now : Option Assign) : Type 0 where
+  pub assign : Assign
+  pub was : Contains before assign
+  pub name_is : folded assign.name ≡ name
+  pub defers : is_defer assign.binding ≡ true
+  pub used_is : is_used used assign.name ≡ true
+  pub place : Place
+  pub stands_for : option_map (λ a. a.binding) now ≡ Some (Dirs (place ∷ []))
+  pub directory : is_some_directory (map.get files (key_of place)) ≡ true
+
+-- each assign is as it was, but for Defers among these devices, which are bound to directories that are there
+abbrev pub BindsOnly : List Text → Files → AssignMap → AssignMap → Type 0
+BindsOnly used files before after = (name : Text) → (map.get after name ≡ map.get before name) ⊎ IsBound used files (map.values before) name (map.get after name)
+
+-- an event of a shell changes no assign beyond what its commands did, but that it binds Defers that it used, to directories
+-- that stand behind it
+abbrev pub EventsBindOnlyWhatTheyUsed : Type 0
+EventsBindOnlyWhatTheyUsed =
+    (w world : WorldState) (k : ℕ) (queue : List Text) (turned : Turned) (out : Out) (items : List (ℕ × Item)) →
+    took w k queue turned ≡ Accepted world out items →
+    BindsOnly turned.course.used world.shared.files turned.course.shared.assigns world.shared.assigns
