@@ -9,3 +9,4 @@ pub mod SegmentLemmas
 pub mod TickLemmas
 pub mod UnmarkedLemmas
 pub mod ValueLemmas
+pub mod GlobalLemmas

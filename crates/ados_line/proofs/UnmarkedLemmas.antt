@@ -37,7 +37,7 @@ bared-plain mark (Starred c) bytes none text =
     rw other (ap (λ b. 42 ∷ b ∷ []) (kept c (first-ascii c bytes (rest-ascii 42 (c ∷ bytes) text))))
 
 -- and what follows it
-rest-none : (mark : ℕ) (letter : Letter) (bytes : List ℕ) → list_any (is_byte mark) (written letter ++ bytes) ≡ false → list_any (is_byte mark) bytes ≡ false
+pub rest-none : (mark : ℕ) (letter : Letter) (bytes : List ℕ) → list_any (is_byte mark) (written letter ++ bytes) ≡ false → list_any (is_byte mark) bytes ≡ false
 rest-none mark (Plain c) bytes none = (or_parts _ _ none).1
 rest-none mark (Starred c) bytes none = (or_parts _ _ (or_parts _ _ none).1).1
 

@@ -7,6 +7,7 @@ mod comments;
 mod cuts;
 mod expansion;
 mod faults;
+mod globals;
 mod letters;
 mod lines;
 mod references;
@@ -18,5 +19,6 @@ mod values;
 
 pub use expansion::{expand, resume};
 pub use faults::LineFault;
+pub use globals::asks_global;
 pub use lines::{Expanded, Line, Redirection, Tick};
 pub use scopes::Scope;
