@@ -118,6 +118,9 @@ impl Draft {
         ensures { IfOk result (λ new. IsBound scene.now self.now new) }
     {
         let shared = self.current(scene);
+        if !shared.assigns.has_defers() {
+            return Ok(None);
+        }
         if shared.assigns.is_settled(&self.used) {
             return Ok(None);
         }
