@@ -4,3 +4,4 @@ pub mod RenameStays
 pub mod DeleteStays
 pub mod ShellsLemmas
 mod RenameLemmas
+pub mod DeviceLemmas

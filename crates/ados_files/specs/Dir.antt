@@ -4,18 +4,18 @@ use Rattle.std.specs.FinMap as map
 use Rattle.ados_text.specs.declared.codes.Result2.{Result2}
 use Rattle.ados_readargs.specs.declared.args.Arg.{Arg}
 use Rattle.ados_readargs.specs.Args.{text_at, is_on}
-use Rattle.ados_ram.specs.Place.{key_of}
+use Rattle.ados_ram.specs.Place.{Place, key_of}
 use Rattle.ados_ram.specs.Entry.{is_directory}
 use Rattle.ados_ram.specs.Files.{Files}
 use Rattle.ados_ram.specs.FileOperations.{list_fault}
-use Rattle.ados_ram.specs.Contents.{children}
 use Rattle.ados_ram.specs.declared.entries.Entry.{Entry}
 use Rattle.ados_find.specs.declared.codes.Codes.{Codes}
 use Rattle.ados_find.specs.Codes.{erred}
 use Rattle.ados_find.specs.Shared.{SharedState}
 use Rattle.ados_find.specs.Views.{View}
 use Rattle.ados_find.specs.Effects.{Effect, answering, putting}
-use Rattle.ados_find.specs.Paths.{place_of}
+use Rattle.ados_find.specs.Paths.{bases_of}
+use Rattle.ados_files.specs.Bases.{all_children, entry_at}
 use Rattle.ados_files.specs.Lines.{keeps, lines_by}
 
 -- a directory has a line of its own among directories, and a file among files
@@ -43,17 +43,16 @@ abbrev pub dir_unless : Option Result2 → SharedState → List ℕ → Effect
 dir_unless None shared text = putting shared text
 dir_unless (Some fault) shared text = answering shared (erred fault)
 
--- a directory that a path leads to
-abbrev pub dir_at : SharedState → View → Bool → Bool → Result (List (List ℕ)) Codes → Effect
-dir_at shared view dirs files (Err codes) = answering shared codes
-dir_at shared view dirs files (Ok place) =
-    dir_unless (list_fault (map.get shared.files (key_of place))) shared
-    (dir_text dirs files shared.files (children (key_of place) (map.entries shared.files)))
+-- the directories for which a path stands
+abbrev pub dir_at : SharedState → Bool → Bool → Result (List Place) Codes → Effect
+dir_at shared dirs files (Err codes) = answering shared codes
+dir_at shared dirs files (Ok bases) =
+    dir_unless (list_fault (entry_at shared.files bases)) shared (dir_text dirs files shared.files (all_children shared.files bases))
 
 -- without DIR the current directory
-abbrev pub directory_given : SharedState → View → Option (List ℕ) → Result (List (List ℕ)) Codes
-directory_given shared view None = Ok view.parts.directory
-directory_given shared view (Some text) = place_of shared view.parts.directory text
+abbrev pub directories_given : SharedState → View → Option (List ℕ) → Result (List Place) Codes
+directories_given shared view None = Ok (view.parts.directory ∷ [])
+directories_given shared view (Some text) = bases_of shared view.parts.directory text
 
 abbrev pub dir_row : SharedState → View → List Arg → Effect
-dir_row shared view args = dir_at shared view (is_on args 1) (is_on args 2) (directory_given shared view (text_at args 0))
+dir_row shared view args = dir_at shared (is_on args 1) (is_on args 2) (directories_given shared view (text_at args 0))

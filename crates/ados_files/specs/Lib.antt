@@ -1,3 +1,4 @@
+pub mod Bases
 pub mod Names
 pub mod Acts
 pub mod Texts
@@ -16,3 +17,4 @@ pub mod Jobs
 pub mod Copy
 pub mod Commands
 pub mod Rows
+pub mod Devices

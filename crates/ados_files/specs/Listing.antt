@@ -4,7 +4,7 @@ use Rattle.std.specs.FinMap as map
 use Rattle.ados_pattern.specs.Meaning.{Meaning}
 use Rattle.ados_readargs.specs.declared.args.Arg.{Arg}
 use Rattle.ados_readargs.specs.Args.{texts_at, text_at, is_on}
-use Rattle.ados_ram.specs.Place.{key_of}
+use Rattle.ados_ram.specs.Place.{Place, key_of}
 use Rattle.ados_ram.specs.Entry.{is_directory}
 use Rattle.ados_ram.specs.Files.{Files}
 use Rattle.ados_ram.specs.FileOperations.{list_fault}
@@ -16,7 +16,8 @@ use Rattle.ados_find.specs.Views.{View}
 use Rattle.ados_find.specs.Effects.{Effect, answering}
 use Rattle.ados_find.specs.Done.{Done, fresh, stopped_by, refused_or, each, ended}
 use Rattle.ados_pattern.specs.Matching.{is_match}
-use Rattle.ados_files.specs.Names.{FoundPlaces, pattern_of, named}
+use Rattle.ados_files.specs.Bases.{all_children, entry_at}
+use Rattle.ados_files.specs.Names.{FoundPlaces, pattern_of, named_bases}
 use Rattle.ados_files.specs.Lines.{keeps, lines_by, list_line}
 use Rattle.ados_files.specs.declared.listing.Shape.{Shape}
 
@@ -41,18 +42,14 @@ abbrev pub line_there : Shape → Option Entry → List ℕ
 line_there shape None = []
 line_there shape (Some e) = kept_line shape e
 
--- what a place that is named by its path stands for: a directory for its entries
-abbrev pub entries_of : Files → List (List ℕ) → Option Entry → List (List (List ℕ))
-entries_of files place None = []
-entries_of files place (Some e) = cond (is_directory e) (children (key_of place) (map.entries files)) (place ∷ [])
-
-abbrev pub all_entries : Files → List (List (List ℕ)) → List (List (List ℕ))
-all_entries files [] = []
-all_entries files (place ∷ places) = entries_of files place (map.get files (key_of place)) ++ all_entries files places
+-- what places that are named by a path stand for: directories for their entries
+abbrev pub entries_of : Files → List Place → Option Entry → List Place
+entries_of files places None = []
+entries_of files places (Some e) = cond (is_directory e) (all_children files places) places
 
 -- a match of a pattern stands for itself
-abbrev pub listed : Files → FoundPlaces → List (List (List ℕ))
-listed files found = if found.literal then all_entries files found.places else found.places
+abbrev pub listed : Files → FoundPlaces → List Place
+listed files found = if found.literal then entries_of files found.places (entry_at files found.places) else found.places
 
 abbrev pub list_places : Shape → Done → List (List (List ℕ)) → Done
 list_places shape done places = record done { output = done.output ++ lines_by (line_there shape) done.shared.files places }
@@ -62,7 +59,7 @@ list_found shape done (Err codes) = stopped_by codes done
 list_found shape done (Ok found) = list_places shape done (listed done.shared.files found)
 
 abbrev pub list_text : Shape → View → Done → List ℕ → Done
-list_text shape view done text = list_found shape done (named done.shared view.parts.directory text)
+list_text shape view done text = list_found shape done (named_bases done.shared view.parts.directory text)
 
 -- the entries of a directory
 abbrev pub list_at : Shape → Done → List (List ℕ) → Done

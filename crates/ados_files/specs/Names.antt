@@ -1,6 +1,7 @@
 -- Arguments that name objects: a path, whose last piece may be a pattern of names.
 use Rattle.std.specs.Prelude.{ℕ, List, [], ◌∷◌, ◌++◌, take, drop, Bool, true, false, cond, Option, Some, None, Result, Ok, Err}
 use Rattle.std.specs.FinMap as map
+use Rattle.ados_text.specs.Text.{Text}
 use Rattle.ados_text.specs.declared.codes.Result2.{Result2}
 use Rattle.ados_text.specs.declared.codes.TheConstants.Result2.{LINE_TOO_LONG, DIRECTORY_NOT_FOUND, OBJECT_NOT_FOUND, INVALID_NAME, WRONG_TYPE, NO_FREE_STORE}
 use Rattle.ados_pattern.specs.Form.{Form}
@@ -9,16 +10,16 @@ use Rattle.ados_pattern.specs.Fault.{fault_of}
 use Rattle.ados_pattern.specs.declared.errors.PatternFault.{PatternFault}
 use Rattle.ados_pattern.specs.declared.errors.PatternFault.TheVariants.{BadPattern, TooLong, NoMemory}
 use Rattle.ados_names.specs.Path.{last_piece_of}
-use Rattle.ados_ram.specs.Place.{key_of}
+use Rattle.ados_ram.specs.Place.{Place, key_of}
 use Rattle.ados_ram.specs.Entry.{is_directory}
 use Rattle.ados_ram.specs.Files.{Files}
-use Rattle.ados_ram.specs.Contents.{children}
 use Rattle.ados_ram.specs.declared.entries.Entry.{Entry}
 use Rattle.ados_find.specs.declared.codes.Codes.{Codes}
 use Rattle.ados_find.specs.Codes.{erred, warned}
 use Rattle.ados_find.specs.Shared.{SharedState}
-use Rattle.ados_find.specs.Paths.{place_of}
+use Rattle.ados_find.specs.Paths.{place_of, bases_of}
 use Rattle.ados_pattern.specs.Matching.{is_match}
+use Rattle.ados_files.specs.Bases.{all_children, entry_at}
 
 -- what a text that is no pattern answers
 abbrev pub pattern_codes : PatternFault → Codes
@@ -55,30 +56,30 @@ abbrev pub some_matches : List (List (List ℕ)) → Result FoundPlaces Codes
 some_matches [] = Err (warned OBJECT_NOT_FOUND)
 some_matches (place ∷ places) = Ok (record { literal = false; places = place ∷ places })
 
--- the objects in a directory that match, in order
-abbrev pub matches_in : Form → Files → List (List ℕ) → Option Entry → Result FoundPlaces Codes
-matches_in form files directory None = Err (erred DIRECTORY_NOT_FOUND)
-matches_in form files directory (Some e) =
-    cond (is_directory e) (some_matches (matching form files (children (key_of directory) (map.entries files)))) (Err (erred WRONG_TYPE))
+-- the objects in directories that match, in order
+abbrev pub matches_in : Form → Files → List Place → Option Entry → Result FoundPlaces Codes
+matches_in form files bases None = Err (erred DIRECTORY_NOT_FOUND)
+matches_in form files bases (Some e) =
+    cond (is_directory e) (some_matches (matching form files (all_children files bases))) (Err (erred WRONG_TYPE))
 
 -- the one object that is there
 abbrev pub the_one : List (List ℕ) → Option Entry → Result FoundPlaces Codes
 the_one place None = Err (erred OBJECT_NOT_FOUND)
 the_one place (Some e) = Ok (record { literal = true; places = place ∷ [] })
 
--- the same, where a path leads to the place
-abbrev pub matches_at : Form → Files → Result (List (List ℕ)) Codes → Result FoundPlaces Codes
+-- the same, where a path stands for the directories, or leads to the place
+abbrev pub matches_at : Form → Files → Result (List Place) Codes → Result FoundPlaces Codes
 matches_at form files (Err codes) = Err codes
-matches_at form files (Ok directory) = matches_in form files directory (map.get files (key_of directory))
+matches_at form files (Ok bases) = matches_in form files bases (entry_at files bases)
 
 abbrev pub one_at : Files → Result (List (List ℕ)) Codes → Result FoundPlaces Codes
 one_at files (Err codes) = Err codes
 one_at files (Ok place) = the_one place (map.get files (key_of place))
 
--- a literal piece is a name behind the path before it; a pattern stands for its matches in the directory of that path
+-- a literal piece is a name behind the path before it; a pattern stands for its matches in the directories of that path
 abbrev pub named_by : SharedState → List (List ℕ) → List ℕ → Form → Option (List ℕ) → Result FoundPlaces Codes
 named_by shared directory head form (Some name) = one_at shared.files (place_of shared directory (head ++ name))
-named_by shared directory head form None = matches_at form shared.files (place_of shared directory head)
+named_by shared directory head form None = matches_at form shared.files (bases_of shared directory head)
 
 abbrev pub named_with : SharedState → List (List ℕ) → List ℕ → Result Meaning Codes → Result FoundPlaces Codes
 named_with shared directory head (Err codes) = Err codes
@@ -94,3 +95,23 @@ piece_of text = drop (last_piece_of text) text
 -- the objects that an argument names
 abbrev pub named : SharedState → List (List ℕ) → List ℕ → Result FoundPlaces Codes
 named shared directory text = named_with shared directory (head_of text) (pattern_of (piece_of text))
+
+-- the same where a literal path stands for all its directories, as a device alone does
+abbrev pub bases_there : List Place → Option Entry → Result FoundPlaces Codes
+bases_there bases None = Err (erred OBJECT_NOT_FOUND)
+bases_there bases (Some e) = Ok (record { literal = true; places = bases })
+
+abbrev pub bases_at : Files → Result (List Place) Codes → Result FoundPlaces Codes
+bases_at files (Err codes) = Err codes
+bases_at files (Ok bases) = bases_there bases (entry_at files bases)
+
+abbrev pub bases_by : SharedState → Place → Text → Form → Option Text → Result FoundPlaces Codes
+bases_by shared directory head form (Some name) = bases_at shared.files (bases_of shared directory (head ++ name))
+bases_by shared directory head form None = matches_at form shared.files (bases_of shared directory head)
+
+abbrev pub bases_with : SharedState → Place → Text → Result Meaning Codes → Result FoundPlaces Codes
+bases_with shared directory head (Err codes) = Err codes
+bases_with shared directory head (Ok pattern) = bases_by shared directory head pattern.form pattern.name
+
+abbrev pub named_bases : SharedState → Place → Text → Result FoundPlaces Codes
+named_bases shared directory text = bases_with shared directory (head_of text) (pattern_of (piece_of text))

@@ -1,14 +1,14 @@
 ghost use Rattle.std.specs.Prelude.{◌≡◌, ◌++◌, IfOk, OnOk, Ok};
-ghost use Rattle.std.specs.FinMap as map;
 ghost use Rattle.std.specs.Option.{option_copied};
-ghost use Rattle.ados_ram.specs.Place.{key_of};
-ghost use Rattle.ados_ram.specs.Contents.{children};
 ghost use Rattle.ados_find.specs.Effects.{effect_of};
 ghost use Rattle.ados_find.specs.Paths.{Gives};
-ghost use Rattle.ados_files.specs.Dir.{directory_line, file_line, directories_text, files_text, dir_text, dir_at, directory_given, dir_row};
+ghost use Rattle.ados_files.specs.Bases.{all_children};
+ghost use Rattle.ados_files.specs.Dir.{directory_line, file_line, directories_text, files_text, dir_text, dir_at, directories_given, dir_row};
 
+use crate::bases::{all_children, entry_at};
 use crate::lines::{Line, keeps, push_lines, put_between};
-use ados_find::{Codes, Outcome, Refusal, Shared, ShellView, place_of};
+use ados_assign::Places;
+use ados_find::{Codes, Outcome, Refusal, Shared, ShellView, bases_of};
 use ados_ram::{Entry, Place, Ram, list_refusal};
 use ados_readargs::Args;
 use ados_text::{NoMemory, Text};
@@ -24,41 +24,46 @@ pub fn show_directory(
     ensures { IfOk result (λ outcome. effect_of shared.now outcome ≡ dir_row shared.now view.now args.now) }
 {
     let directory = args.made_text(alloc, 0)?;
-    match directory_given(alloc, shared, view, directory.as_ref()) {
+    match directories_given(alloc, shared, view, directory.as_ref()) {
         Err(refusal) => Ok(Outcome::answering(alloc, refusal.codes()?)),
-        Ok(place) => dir_at(alloc, shared, view, args.is_on(1), args.is_on(2), &place),
+        Ok(bases) => dir_at(
+            alloc,
+            shared,
+            args.is_on(1),
+            args.is_on(2),
+            bases.as_slice(),
+        ),
     }
 }
 
 // Without DIR the current directory.
-fn directory_given(
+fn directories_given(
     alloc: Global,
     shared: &Shared,
     view: &ShellView,
     text: Option<&Text>,
-) -> Result<Place, Refusal>
-    ensures { Gives result (directory_given shared.now view.now (option_copied text.entry)) }
+) -> Result<Places, Refusal>
+    ensures { Gives result (directories_given shared.now view.now (option_copied text.entry)) }
 {
     match text {
-        None => Ok(view.directory.copy()?),
-        Some(text) => place_of(alloc, shared, view.directory, text),
+        None => Ok(Places::one(alloc, view.directory.copy()?)?),
+        Some(text) => bases_of(alloc, shared, view.directory, text),
     }
 }
 
 fn dir_at(
     alloc: Global,
     shared: &Shared,
-    view: &ShellView,
     dirs: bool,
     files: bool,
-    place: &Place,
+    bases: &[Place],
 ) -> Result<Outcome, NoMemory>
-    ensures { IfOk result (λ outcome. effect_of shared.now outcome ≡ dir_at shared.now view.now dirs files (Ok place.now)) }
+    ensures { IfOk result (λ outcome. effect_of shared.now outcome ≡ dir_at shared.now dirs files (Ok bases.now)) }
 {
-    match list_refusal(shared.ram.look(place)) {
+    match list_refusal(entry_at(&shared.ram, bases)) {
         Some(fault) => Ok(Outcome::answering(alloc, Codes::erred(fault))),
         None => {
-            let output = dir_text(alloc, dirs, files, &shared.ram, place)?;
+            let output = dir_text(alloc, dirs, files, &shared.ram, bases)?;
             Ok(Outcome::putting(output))
         }
     }
@@ -69,11 +74,11 @@ fn dir_text(
     dirs: bool,
     files: bool,
     ram: &Ram,
-    place: &Place,
+    bases: &[Place],
 ) -> Result<Vec<u8>, NoMemory>
-    ensures { IfOk result (λ text. text.items ≡ dir_text dirs files ram.now (children (key_of place.now) (map.entries ram.now))) }
+    ensures { IfOk result (λ text. text.items ≡ dir_text dirs files ram.now (all_children ram.now bases.now)) }
 {
-    let places = ram.children(place)?;
+    let places = all_children(alloc, ram, bases)?;
     let mut output = Vec::new(alloc);
     push_directories(&mut output, keeps(dirs, files), ram, &places)?;
     push_files(&mut output, keeps(files, dirs), ram, &places)?;

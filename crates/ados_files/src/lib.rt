@@ -2,10 +2,12 @@
 //! The commands on files: MakeDir, Delete, Rename, Copy, Type, Join, List, Dir, Protect and Filenote.
 
 mod acts;
+mod bases;
 mod commands;
 mod copy;
 mod copy_one;
 mod delete;
+mod devices;
 mod dir;
 mod filenote;
 mod jobs;
@@ -21,5 +23,6 @@ mod rows;
 mod type_files;
 
 pub use commands::Command;
+pub use devices::push_devices;
 pub use laws::others_stay;
 pub use rows::run;

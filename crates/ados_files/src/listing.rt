@@ -1,14 +1,14 @@
 ghost use Rattle.std.specs.Prelude.{◌≡◌, ◌++◌, IfOk, OnOk, Some};
-ghost use Rattle.std.specs.FinMap as map;
 ghost use Rattle.std.specs.Option.{option_copied};
-ghost use Rattle.ados_ram.specs.Place.{key_of};
+ghost use Rattle.ados_files.specs.Bases.{entry_at};
 ghost use Rattle.ados_find.specs.Done.{done_of, fresh, ended};
 ghost use Rattle.ados_find.specs.Effects.{effect_of};
 ghost use Rattle.ados_find.specs.Paths.{Gives};
 
 use crate::acts::done_with;
+use crate::bases::{all_children, entry_at};
 use crate::lines::{Line, keeps, push_line, push_lines};
-use crate::names::{Found, named, only, pattern_of, push_places};
+use crate::names::{Found, named_bases, pattern_of, push_places};
 use ados_find::{Act, Codes, Outcome, Refusal, Shared, ShellView, Work, current};
 use ados_pattern::Pattern;
 use ados_ram::{Entry, Place, Ram, list_refusal};
@@ -26,7 +26,7 @@ pub struct Shape {
     pub dirs: bool,
 }
 
-ghost use Rattle.ados_files.specs.Listing.{passes, is_kept, shown_line, kept_line, line_there, entries_of, all_entries, listed};
+ghost use Rattle.ados_files.specs.Listing.{passes, is_kept, shown_line, kept_line, line_there, entries_of, listed};
 ghost use Rattle.ados_files.specs.Listing.{list_text, list_at, list_texts, pattern_given, list_row};
 
 /// List puts out lines of objects, and of what is in directories.
@@ -109,7 +109,7 @@ fn list_text(
 {
     let alloc = *work.output.allocator();
     let now = current(shared, &work.shared);
-    match named(alloc, now, view.directory, text) {
+    match named_bases(alloc, now, view.directory, text) {
         Err(refusal) => {
             work.stopped = Some(refusal.codes()?);
             Ok(())
@@ -156,32 +156,26 @@ fn list_at(shape: &Shape, shared: &Shared, work: &mut Work, place: &Place) -> Re
 fn listed(alloc: Global, ram: &Ram, found: &Found) -> Result<Vec<Place>, NoMemory>
     ensures { IfOk result (λ places. places.items ≡ listed ram.now found.now) }
 {
-    let mut places = Vec::new(alloc);
     if found.is_literal() {
-        push_entries(&mut places, ram, found.places())?;
-    } else {
-        push_places(&mut places, found.places())?;
+        return entries_of(alloc, ram, found.places());
     }
+    let mut places = Vec::new(alloc);
+    push_places(&mut places, found.places())?;
     Ok(places)
 }
 
-fn push_entries(out: &mut Vec<Place>, ram: &Ram, places: &[Place]) -> Result<(), NoMemory>
-    ensures { OnOk result (out.new.items ≡ out.old.items ++ all_entries ram.now places.now) }
+// What places that are named by a path stand for.
+fn entries_of(alloc: Global, ram: &Ram, places: &[Place]) -> Result<Vec<Place>, NoMemory>
+    ensures { IfOk result (λ entries. entries.items ≡ entries_of ram.now places.now (entry_at ram.now places.now)) }
 {
-    for place in places {
-        push_places(out, &entries_of(*out.allocator(), ram, place)?)?;
-    }
-    Ok(())
-}
-
-// What a place that is named by its path stands for.
-fn entries_of(alloc: Global, ram: &Ram, place: &Place) -> Result<Vec<Place>, NoMemory>
-    ensures { IfOk result (λ places. places.items ≡ entries_of ram.now place.now (map.get ram.now (key_of place.now))) }
-{
-    match ram.look(place) {
+    match entry_at(ram, places) {
         None => Ok(Vec::new(alloc)),
-        Some(entry) if entry.is_directory() => ram.children(place),
-        Some(_) => only(alloc, place),
+        Some(entry) if entry.is_directory() => all_children(alloc, ram, places),
+        Some(_) => {
+            let mut own = Vec::new(alloc);
+            push_places(&mut own, places)?;
+            Ok(own)
+        }
     }
 }
 

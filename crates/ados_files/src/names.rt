@@ -1,11 +1,11 @@
 // Arguments that name objects.
 ghost use Rattle.std.specs.Prelude.{◌≡◌, ◌∷◌, ◌++◌, [], false, IfOk, OnOk};
-ghost use Rattle.std.specs.FinMap as map;
 ghost use Rattle.std.specs.Option.{option_copied};
-ghost use Rattle.ados_ram.specs.Place.{key_of};
-ghost use Rattle.ados_find.specs.Paths.{place_of, Gives};
+ghost use Rattle.ados_files.specs.Bases.{entry_at};
+ghost use Rattle.ados_find.specs.Paths.{bases_of, place_of, Gives};
 
-use ados_find::{Codes, Refusal, Shared, place_of};
+use crate::bases::{all_children, entry_at};
+use ados_find::{Codes, Refusal, Shared, bases_of, place_of};
 use ados_names::last_piece;
 use ados_pattern::{Pattern, PatternFault};
 use ados_ram::{Entry, Place, Ram};
@@ -28,7 +28,7 @@ impl Model for Found {
     ghost view = { λ n. record { literal = n.literal; places = n.places.items } };
 }
 
-ghost use Rattle.ados_files.specs.Names.{pattern_of, wants, matching, some_matches, matches_in, the_one, one_at, named_by, head_of, piece_of, named};
+ghost use Rattle.ados_files.specs.Names.{pattern_of, wants, matching, some_matches, matches_in, matches_at, the_one, one_at, bases_at, named_by, head_of, piece_of, named, named_bases};
 
 impl Found {
     /// Several objects.
@@ -75,6 +75,23 @@ pub fn named(
     named_by(alloc, shared, directory, &head, &pattern)
 }
 
+/// The same where a literal path stands for all its directories, as a device alone does.
+pub fn named_bases(
+    alloc: Global,
+    shared: &Shared,
+    directory: &Place,
+    text: &Text,
+) -> Result<Found, Refusal>
+    ensures { Gives result (named_bases shared.now directory.now text.now) }
+{
+    let head = head_of(text)?;
+    let pattern = pattern_of(alloc, &piece_of(text)?)?;
+    match pattern.literal() {
+        Some(name) => bases_at(alloc, shared, directory, &head.join(name)?),
+        None => matches_at(alloc, shared, directory, &head, &pattern),
+    }
+}
+
 // The path before the last piece of a text.
 fn head_of(text: &Text) -> Result<Text, NoMemory>
     ensures { IfOk result (λ head. head ≡ head_of text.now) }
@@ -115,10 +132,40 @@ fn named_by(
 {
     match pattern.literal() {
         Some(name) => one_at(alloc, shared, directory, &head.join(name)?),
-        None => {
-            let place = place_of(alloc, shared, directory, head)?;
-            matches_in(alloc, pattern, &shared.ram, &place)
-        }
+        None => matches_at(alloc, shared, directory, head, pattern),
+    }
+}
+
+// The matches in the directories for which a path stands.
+fn matches_at(
+    alloc: Global,
+    shared: &Shared,
+    directory: &Place,
+    head: &Text,
+    pattern: &Pattern,
+) -> Result<Found, Refusal>
+    ensures { Gives result (matches_at pattern.now.form shared.now.files (bases_of shared.now directory.now head.now)) }
+{
+    let bases = bases_of(alloc, shared, directory, head)?;
+    matches_in(alloc, pattern, &shared.ram, bases.as_slice())
+}
+
+// The directories for which a path stands, or the one place to which it leads.
+fn bases_at(
+    alloc: Global,
+    shared: &Shared,
+    directory: &Place,
+    path: &Text,
+) -> Result<Found, Refusal>
+    ensures { Gives result (bases_at shared.now.files (bases_of shared.now directory.now path.now)) }
+{
+    let bases = bases_of(alloc, shared, directory, path)?;
+    match entry_at(&shared.ram, bases.as_slice()) {
+        None => Err(Refusal::Stopped(Codes::erred(Result2::OBJECT_NOT_FOUND))),
+        Some(_) => Ok(Found {
+            literal: true,
+            places: bases.into_vec(),
+        }),
     }
 }
 
@@ -162,22 +209,22 @@ pub fn push_places(out: &mut Vec<Place>, places: &[Place]) -> Result<(), NoMemor
     Ok(())
 }
 
-// The objects in a directory that match.
+// The objects in directories that match.
 fn matches_in(
     alloc: Global,
     pattern: &Pattern,
     ram: &Ram,
-    directory: &Place,
+    bases: &[Place],
 ) -> Result<Found, Refusal>
-    ensures { Gives result (matches_in pattern.now.form ram.now directory.now (map.get ram.now (key_of directory.now))) }
+    ensures { Gives result (matches_in pattern.now.form ram.now bases.now (entry_at ram.now bases.now)) }
 {
-    match ram.look(directory) {
+    match entry_at(ram, bases) {
         None => Err(Refusal::Stopped(Codes::erred(Result2::DIRECTORY_NOT_FOUND))),
         Some(entry) => {
             if !entry.is_directory() {
                 return Err(Refusal::Stopped(Codes::erred(Result2::WRONG_TYPE)));
             }
-            let places = ram.children(directory)?;
+            let places = all_children(alloc, ram, bases)?;
             some_matches(matching(alloc, pattern, ram, &places)?)
         }
     }

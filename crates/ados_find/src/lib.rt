@@ -4,10 +4,12 @@
 
 mod changes;
 mod codes;
+mod devices;
 mod outcomes;
 mod paths;
 mod programs;
 mod refusals;
+mod routes;
 mod search;
 mod search_path;
 mod settings;
@@ -21,8 +23,9 @@ pub use ados_resident::{DiskCommand, InternalCommand};
 pub use changes::Change;
 pub use codes::Codes;
 pub use outcomes::{Outcome, Renamed};
-pub use paths::place_of;
+pub use paths::{bases_of, place_of};
 pub use refusals::Refusal;
+pub use routes::{Route, Search};
 pub use search::{Found, ProgramFile, find, find_file};
 pub use search_path::SearchPath;
 pub use settings::{Setting, Settings};

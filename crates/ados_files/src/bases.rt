@@ -1,0 +1,77 @@
+// What is in the directories for which a path stands.
+ghost use Rattle.std.specs.Prelude.{◌≡◌, ◌≤◌, ◌++◌, take, drop, length, IfOk, OnOk};
+ghost use Rattle.std.specs.Option.{option_copied};
+ghost use Rattle.ados_files.specs.Bases.{all_children, entry_at, further_children, has_name, new_in};
+
+use ados_ram::{Entry, Place, Ram};
+use ados_text::{Name, NoMemory};
+use std::alloc::Global;
+use std::slice;
+
+/// What is at the first of these directories.
+pub fn entry_at<'a>(ram: &'a Ram, bases: &[Place]) -> Option<&'a Entry>
+    ensures { option_copied result ≡ entry_at ram.now bases.now }
+{
+    match bases.first() {
+        None => None,
+        Some(base) => ram.look(base),
+    }
+}
+
+/// What is in these directories, in their order. A name that several of them have counts at the first.
+pub fn all_children(alloc: Global, ram: &Ram, bases: &[Place]) -> Result<Vec<Place>, NoMemory>
+    ensures { IfOk result (λ places. places.items ≡ all_children ram.now bases.now) }
+{
+    let Some(base) = bases.first() else {
+        return Ok(Vec::new(alloc));
+    };
+    let mut places = ram.children(base)?;
+    push_further(&mut places, ram, bases, 1)?;
+    Ok(places)
+}
+
+// What is in those from a place in the list on.
+fn push_further(
+    out: &mut Vec<Place>,
+    ram: &Ram,
+    bases: &[Place],
+    from: usize,
+) -> Result<(), NoMemory>
+    requires within { from ≤ length bases.now }
+    ensures { OnOk result (out.new.items ≡ out.old.items ++ further_children ram.now (take from bases.now) (drop from bases.now)) }
+{
+    if from >= bases.len() {
+        return Ok(());
+    }
+    push_new(out, ram, &bases[..from], &ram.children(&bases[from])?)?;
+    push_further(out, ram, bases, from + 1)
+}
+
+// Those of the places whose names nothing in the directories has.
+fn push_new(
+    out: &mut Vec<Place>,
+    ram: &Ram,
+    before: &[Place],
+    places: &[Place],
+) -> Result<(), NoMemory>
+    ensures { OnOk result (out.new.items ≡ out.old.items ++ new_in ram.now before.now places.now) }
+{
+    for place in places {
+        if !has_name(ram, before, &place.last_name()?)? {
+            out.push(place.copy()?)?;
+        }
+    }
+    Ok(())
+}
+
+// Something in one of the directories has this name.
+fn has_name(ram: &Ram, bases: &[Place], name: &Name) -> Result<bool, NoMemory>
+    ensures { IfOk result (λ there. there ≡ has_name ram.now bases.now name.now) }
+{
+    for base in bases {
+        if ram.look(&base.joined(slice::from_ref(name))?).is_some() {
+            return Ok(true);
+        }
+    }
+    Ok(false)
+}

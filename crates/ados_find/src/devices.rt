@@ -1,0 +1,66 @@
+// The devices that paths and searches use.
+ghost use Rattle.std.specs.Prelude.{◌≡◌, ◌++◌, ◌∷◌, [], OnOk, map as each};
+ghost use Rattle.std.specs.List.{flat_map};
+ghost use Rattle.ados_assign.specs.Uses.{reached};
+ghost use Rattle.ados_text.specs.Text.{to_ascii};
+ghost use Rattle.ados_find.specs.Routes.{devices_by};
+ghost use Rattle.ados_find.specs.Search.{device_named};
+
+use crate::routes::Route;
+use crate::shared::Shared;
+use ados_assign::device_in;
+use ados_text::{Name, NoMemory, Text};
+use std::alloc::Global;
+
+impl Shared {
+    /// Pushes the device of a path's text, if it names one, behind those that are used, and then each device to which the
+    /// texts of assigns lead on from it.
+    pub fn push_device_of(&self, used: &mut Vec<Name>, text: &Text) -> Result<(), NoMemory>
+        ensures { OnOk result (used.new.items ≡ used.old.items ++ flat_map (reached self.now.assigns) (device_named text.now)) }
+    {
+        match device_in(text)? {
+            None => Ok(()),
+            Some(device) => self.assigns.push_reached(used, device),
+        }
+    }
+
+    /// The same of each of these texts in turn.
+    pub fn push_devices_of(&self, used: &mut Vec<Name>, texts: &[Text]) -> Result<(), NoMemory>
+        ensures { OnOk result (used.new.items ≡ used.old.items ++ flat_map (reached self.now.assigns) (flat_map device_named texts.now)) }
+    {
+        for text in texts {
+            self.push_device_of(used, text)?;
+        }
+        Ok(())
+    }
+
+    /// The same of the device of this name.
+    pub fn push_device(
+        &self,
+        alloc: Global,
+        used: &mut Vec<Name>,
+        name: &[u8],
+    ) -> Result<(), NoMemory>
+        ensures { OnOk result (used.new.items ≡ used.old.items ++ flat_map (reached self.now.assigns) (each to_ascii name.now ∷ [])) }
+    {
+        let device = Name::new(Text::from_bytes(alloc, name)?);
+        self.assigns.push_reached(used, device)
+    }
+
+    /// The same of the devices that the search of a word uses, by how far it came.
+    pub fn push_searched(
+        &self,
+        alloc: Global,
+        used: &mut Vec<Name>,
+        route: Route,
+        word: &Text,
+    ) -> Result<(), NoMemory>
+        ensures { OnOk result (used.new.items ≡ used.old.items ++ flat_map (reached self.now.assigns) (devices_by route word.now)) }
+    {
+        match route {
+            Route::Listed => Ok(()),
+            Route::ByPath => self.push_device_of(used, word),
+            Route::ToC => self.push_device(alloc, used, b"C"),
+        }
+    }
+}
