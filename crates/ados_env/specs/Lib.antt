@@ -21,3 +21,4 @@ pub mod Which
 pub mod Status
 pub mod Resident
 pub mod Rows
+pub mod Devices

@@ -52,11 +52,11 @@ impl ListWork {
     ) -> Result<ListWork, Refusal>
         ensures { Gives result (all_worked shared.now view.now self texts.now) }
     {
-        let mut work = self;
-        for text in texts {
-            work = work.work(directory_of(alloc, shared, view, text)?)?;
-        }
-        Ok(work)
+        let Some((text, further)) = texts.split_first() else {
+            return Ok(self);
+        };
+        let work = self.work(directory_of(alloc, shared, view, text)?)?;
+        work.work_all(alloc, shared, view, further)
     }
 
     // A directory is added, or taken out.

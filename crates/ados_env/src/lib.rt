@@ -10,6 +10,7 @@ mod assign_names;
 mod assign_request;
 mod cd;
 mod commands;
+mod devices;
 mod directories;
 mod echo;
 mod eval;
@@ -27,4 +28,5 @@ mod which;
 mod why;
 
 pub use commands::Command;
+pub use devices::push_devices;
 pub use rows::run;

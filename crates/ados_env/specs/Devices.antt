@@ -1,0 +1,37 @@
+-- Devices that the arguments of a command use.
+use Rattle.std.specs.Prelude.{List, [], ◌∷◌, ◌||◌, Bool, Option, Some, None, if◌then◌else◌, codes}
+use Rattle.std.specs.List.{flat_map}
+use Rattle.ados_text.specs.Text.{Text}
+use Rattle.ados_readargs.specs.declared.args.Arg.{Arg}
+use Rattle.ados_readargs.specs.Args.{is_on, text_at, texts_at}
+use Rattle.ados_find.specs.Parts.{Parts}
+use Rattle.ados_find.specs.Search.{device_named, searched}
+use Rattle.ados_find.specs.Shared.{SharedState}
+use Rattle.ados_env.specs.declared.commands.Command.{Command}
+use Rattle.ados_env.specs.declared.commands.Command.TheVariants.{Assign, Cd, GetEnv, Path, Resident, SetEnv, UnsetEnv, Which}
+
+-- FILE of Resident, or NAME where that stands for it, as it does not where it names what is removed
+abbrev pub program_paths : Bool → Option Text → List Text → List Text
+program_paths removes (Some file) name = file ∷ []
+program_paths removes None name = if removes then [] else name
+
+-- the texts of its arguments that are paths: TARGET of Assign, unless it is kept as a text, and never its NAME
+abbrev pub paths_in : Command → List Arg → List Text
+paths_in Assign args = if is_on args 3 || is_on args 4 then [] else texts_at args 1
+paths_in Cd args = texts_at args 0
+paths_in Path args = texts_at args 0
+paths_in Resident args = program_paths (is_on args 2) (text_at args 1) (texts_at args 0)
+paths_in command args = []
+
+-- a word that is sought as a command's
+abbrev pub sought : SharedState → Parts → Option Text → List Text
+sought shared parts None = []
+sought shared parts (Some word) = searched shared parts.directory parts.settings.path word
+
+-- the devices that it uses: those of its paths; ENV: where global variables are; and those to which the search of Which comes
+abbrev pub devices_of : Command → SharedState → Parts → List Arg → List Text
+devices_of SetEnv shared parts args = codes "ENV" ∷ []
+devices_of GetEnv shared parts args = codes "ENV" ∷ []
+devices_of UnsetEnv shared parts args = codes "ENV" ∷ []
+devices_of Which shared parts args = sought shared parts (text_at args 0)
+devices_of command shared parts args = flat_map device_named (paths_in command args)

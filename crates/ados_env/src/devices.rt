@@ -1,0 +1,103 @@
+// The devices that the arguments of a command use.
+ghost use Rattle.std.specs.Prelude.{◌≡◌, ◌++◌, OnOk};
+ghost use Rattle.std.specs.List.{flat_map};
+ghost use Rattle.ados_assign.specs.Uses.{reached};
+ghost use Rattle.ados_readargs.specs.Args.{is_on, text_at, texts_at};
+ghost use Rattle.ados_find.specs.Search.{device_named};
+ghost use Rattle.ados_env.specs.declared.commands.Command.TheVariants.{Assign};
+ghost use Rattle.ados_env.specs.Devices.{devices_of, paths_in, program_paths, sought};
+
+use crate::commands::Command;
+use ados_find::{Shared, ShellView, find};
+use ados_readargs::Args;
+use ados_text::{Name, NoMemory};
+use std::alloc::Global;
+
+/// Pushes the devices that the arguments of a command use behind those of a list, each with the devices to which the
+/// texts of assigns lead on from it.
+pub fn push_devices(
+    alloc: Global,
+    command: Command,
+    shared: &Shared,
+    view: &ShellView,
+    args: &Args,
+    used: &mut Vec<Name>,
+) -> Result<(), NoMemory>
+    ensures { OnOk result (used.new.items ≡ used.old.items ++ flat_map (reached shared.now.assigns) (devices_of command shared.now view.now.parts args.now)) }
+{
+    match command {
+        Command::SetEnv | Command::GetEnv | Command::UnsetEnv => {
+            shared.push_device(alloc, used, b"ENV")
+        }
+        Command::Which => push_sought(alloc, shared, view, args, used),
+        Command::Assign => push_targets(alloc, shared, args, used),
+        Command::Cd | Command::Path => push_of(alloc, shared, args, 0, used),
+        Command::Resident => push_program(alloc, shared, args, used),
+        _ => Ok(()),
+    }
+}
+
+// Those of the texts of an option.
+fn push_of(
+    alloc: Global,
+    shared: &Shared,
+    args: &Args,
+    place: usize,
+    used: &mut Vec<Name>,
+) -> Result<(), NoMemory>
+    ensures { OnOk result (used.new.items ≡ used.old.items ++ flat_map (reached shared.now.assigns) (flat_map device_named (texts_at args.now place))) }
+{
+    let texts = args.made_texts(alloc, place)?;
+    shared.push_devices_of(used, texts.as_slice())
+}
+
+// Those of TARGET of Assign, unless it is kept as a text.
+fn push_targets(
+    alloc: Global,
+    shared: &Shared,
+    args: &Args,
+    used: &mut Vec<Name>,
+) -> Result<(), NoMemory>
+    ensures { OnOk result (used.new.items ≡ used.old.items ++ flat_map (reached shared.now.assigns) (flat_map device_named (paths_in Assign args.now))) }
+{
+    if args.is_on(3) || args.is_on(4) {
+        Ok(())
+    } else {
+        push_of(alloc, shared, args, 1, used)
+    }
+}
+
+// Those of Resident: of FILE, or of NAME if it stands for it.
+fn push_program(
+    alloc: Global,
+    shared: &Shared,
+    args: &Args,
+    used: &mut Vec<Name>,
+) -> Result<(), NoMemory>
+    ensures { OnOk result (used.new.items ≡ used.old.items ++ flat_map (reached shared.now.assigns)
+        (flat_map device_named (program_paths (is_on args.now 2) (text_at args.now 1) (texts_at args.now 0)))) }
+{
+    match args.made_text(alloc, 1)? {
+        Some(file) => shared.push_device_of(used, &file),
+        None if args.is_on(2) => Ok(()),
+        None => push_of(alloc, shared, args, 0, used),
+    }
+}
+
+// Those to which the search of a word comes.
+fn push_sought(
+    alloc: Global,
+    shared: &Shared,
+    view: &ShellView,
+    args: &Args,
+    used: &mut Vec<Name>,
+) -> Result<(), NoMemory>
+    ensures { OnOk result (used.new.items ≡ used.old.items ++ flat_map (reached shared.now.assigns) (sought shared.now view.now.parts (text_at args.now 0))) }
+{
+    let Some(word) = args.made_text(alloc, 0)? else {
+        return Ok(());
+    };
+    let path = view.settings.path.entries();
+    let search = find(alloc, &word, shared, view.directory, path)?;
+    shared.push_searched(alloc, used, search.route, &word)
+}
