@@ -1,3 +1,4 @@
 pub mod GatheringLemmas
 pub mod InUseLemmas
 pub mod ShellsLemmas
+pub mod DeviceLemmas

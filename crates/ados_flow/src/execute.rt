@@ -102,7 +102,7 @@ fn in_scripts(
 }
 
 /// A word without a colon and a slash.
-fn is_plain(word: &Text) -> bool
+pub fn is_plain(word: &Text) -> bool
     ensures { result ≡ is_plain word.now }
 {
     separator(word.as_bytes()).is_none()

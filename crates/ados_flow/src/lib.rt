@@ -7,6 +7,7 @@ mod branches;
 mod called;
 mod code_rule;
 mod commands;
+mod devices;
 mod execute;
 mod frames;
 mod gathering;
@@ -21,6 +22,7 @@ pub use ask::reply_of;
 pub use called::Called;
 pub use code_rule::{FIRST_LIMIT, is_reached};
 pub use commands::Command;
+pub use devices::push_devices;
 pub use execute::call_script;
 pub use frames::{FRAME_LIMIT, Frame};
 pub use gathering::{

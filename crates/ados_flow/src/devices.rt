@@ -1,0 +1,76 @@
+// The devices that the arguments of a command use.
+ghost use Rattle.std.specs.Prelude.{◌≡◌, ◌++◌, Ok, OnOk, IfOk};
+ghost use Rattle.std.specs.List.{flat_map};
+ghost use Rattle.ados_assign.specs.Uses.{reached};
+ghost use Rattle.ados_readargs.specs.Args.{text_at, texts_at};
+ghost use Rattle.ados_find.specs.Paths.{place_of};
+ghost use Rattle.ados_find.specs.Search.{device_named};
+ghost use Rattle.ados_flow.specs.Devices.{devices_of, is_absent, script_devices};
+
+use crate::commands::Command;
+use crate::execute::is_plain;
+use ados_find::{Refusal, Shared, ShellView, place_of};
+use ados_ram::Place;
+use ados_readargs::Args;
+use ados_text::{Name, NoMemory, Text};
+use std::alloc::Global;
+
+/// Pushes the devices that the arguments of a command use behind those of a list, each with the devices to which the
+/// texts of assigns lead on from it.
+pub fn push_devices(
+    alloc: Global,
+    command: Command,
+    shared: &Shared,
+    view: &ShellView,
+    args: &Args,
+    used: &mut Vec<Name>,
+) -> Result<(), NoMemory>
+    ensures { OnOk result (used.new.items ≡ used.old.items ++ flat_map (reached shared.now.assigns) (devices_of command shared.now view.now.parts args.now)) }
+{
+    match command {
+        Command::Execute => push_of_script(alloc, shared, view, args, used),
+        Command::If => {
+            let texts = args.made_texts(alloc, 9)?;
+            shared.push_devices_of(used, texts.as_slice())
+        }
+        _ => Ok(()),
+    }
+}
+
+// Those of Execute: of its word, and S: where it looks there.
+#[tactic(auto, using(crate::proofs::DeviceLemmas::two_parts))]
+fn push_of_script(
+    alloc: Global,
+    shared: &Shared,
+    view: &ShellView,
+    args: &Args,
+    used: &mut Vec<Name>,
+) -> Result<(), NoMemory>
+    ensures { OnOk result (used.new.items ≡ used.old.items ++ flat_map (reached shared.now.assigns) (script_devices shared.now view.now.parts (text_at args.now 0))) }
+{
+    let Some(word) = args.made_text(alloc, 0)? else {
+        return Ok(());
+    };
+    shared.push_device_of(used, &word)?;
+    if is_plain(&word) && is_absent(alloc, shared, view.directory, &word)? {
+        shared.push_device(alloc, used, b"S")
+    } else {
+        Ok(())
+    }
+}
+
+// Nothing is at the place to which a path leads.
+fn is_absent(
+    alloc: Global,
+    shared: &Shared,
+    directory: &Place,
+    word: &Text,
+) -> Result<bool, NoMemory>
+    ensures { IfOk result (λ absent. absent ≡ is_absent shared.now.files (place_of shared.now directory.now word.now)) }
+{
+    match place_of(alloc, shared, directory, word) {
+        Err(Refusal::NoMemory) => Err(NoMemory),
+        Err(Refusal::Stopped(_)) => Ok(false),
+        Ok(place) => Ok(shared.ram.look(&place).is_none()),
+    }
+}
