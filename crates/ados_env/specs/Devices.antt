@@ -1,5 +1,5 @@
 -- Devices that the arguments of a command use.
-use Rattle.std.specs.Prelude.{List, [], ◌∷◌, Bool, Option, Some, None, if◌then◌else◌, codes}
+use Rattle.std.specs.Prelude.{List, [], ◌∷◌, ◌||◌, Bool, Option, Some, None, if◌then◌else◌, codes}
 use Rattle.std.specs.List.{flat_map}
 use Rattle.ados_text.specs.Text.{Text}
 use Rattle.ados_readargs.specs.declared.args.Arg.{Arg}
@@ -17,7 +17,7 @@ program_paths removes None name = if removes then [] else name
 
 -- the texts of its arguments that are paths: TARGET of Assign, unless it is kept as a text, and never its NAME
 abbrev pub paths_in : Command → List Arg → List Text
-paths_in Assign args = texts_at args 1
+paths_in Assign args = if is_on args 3 || is_on args 4 then [] else texts_at args 1
 paths_in Cd args = texts_at args 0
 paths_in Path args = texts_at args 0
 paths_in Resident args = program_paths (is_on args 2) (text_at args 1) (texts_at args 0)

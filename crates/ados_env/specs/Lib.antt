@@ -2,6 +2,8 @@ pub mod Commands
 pub mod Directories
 pub mod AssignNames
 pub mod AssignLines
+pub mod AssignList
+pub mod AssignRequest
 pub mod Assign
 pub mod Cd
 pub mod Echo

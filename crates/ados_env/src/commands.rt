@@ -39,7 +39,7 @@ impl Command {
     {
         match self {
             Command::Alias => "NAME,STRING/F",
-            Command::Assign => "NAME,TARGET,EXISTS/S",
+            Command::Assign => "NAME,TARGET/M,EXISTS/S,DEFER/S,PATH/S,ADD/S,REMOVE/S",
             Command::Cd => "DIR",
             Command::Echo => "/M,NOLINE/S",
             Command::Eval => "VALUE1/A,OP,VALUE2",

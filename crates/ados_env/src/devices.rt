@@ -4,7 +4,8 @@ ghost use Rattle.std.specs.List.{flat_map};
 ghost use Rattle.ados_assign.specs.Uses.{reached};
 ghost use Rattle.ados_readargs.specs.Args.{is_on, text_at, texts_at};
 ghost use Rattle.ados_find.specs.Search.{device_named};
-ghost use Rattle.ados_env.specs.Devices.{devices_of, program_paths, sought};
+ghost use Rattle.ados_env.specs.declared.commands.Command.TheVariants.{Assign};
+ghost use Rattle.ados_env.specs.Devices.{devices_of, paths_in, program_paths, sought};
 
 use crate::commands::Command;
 use ados_find::{Shared, ShellView, find};
@@ -29,7 +30,7 @@ pub fn push_devices(
             shared.push_device(alloc, used, b"ENV")
         }
         Command::Which => push_sought(alloc, shared, view, args, used),
-        Command::Assign => push_of(alloc, shared, args, 1, used),
+        Command::Assign => push_targets(alloc, shared, args, used),
         Command::Cd | Command::Path => push_of(alloc, shared, args, 0, used),
         Command::Resident => push_program(alloc, shared, args, used),
         _ => Ok(()),
@@ -48,6 +49,22 @@ fn push_of(
 {
     let texts = args.made_texts(alloc, place)?;
     shared.push_devices_of(used, texts.as_slice())
+}
+
+// Those of TARGET of Assign, unless it is kept as a text.
+fn push_targets(
+    alloc: Global,
+    shared: &Shared,
+    args: &Args,
+    used: &mut Vec<Name>,
+) -> Result<(), NoMemory>
+    ensures { OnOk result (used.new.items ≡ used.old.items ++ flat_map (reached shared.now.assigns) (flat_map device_named (paths_in Assign args.now))) }
+{
+    if args.is_on(3) || args.is_on(4) {
+        Ok(())
+    } else {
+        push_of(alloc, shared, args, 1, used)
+    }
 }
 
 // Those of Resident: of FILE, or of NAME if it stands for it.

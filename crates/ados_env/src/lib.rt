@@ -5,7 +5,9 @@
 mod aliases;
 mod assign;
 mod assign_lines;
+mod assign_list;
 mod assign_names;
+mod assign_request;
 mod cd;
 mod commands;
 mod devices;

@@ -1,0 +1,42 @@
+-- The directories of an assign, as Assign changes them.
+use Rattle.std.specs.Prelude.{Bool, List, [], ◌∷◌, Result, Ok, Err, if◌then◌else◌}
+use Rattle.std.specs.List.{list_any}
+use Rattle.ados_text.specs.Text.{Text}
+use Rattle.ados_text.specs.declared.codes.TheConstants.Result2.{OBJECT_NOT_FOUND}
+use Rattle.ados_ram.specs.Place.{Place, is_same_place}
+use Rattle.ados_find.specs.declared.codes.Codes.{Codes}
+use Rattle.ados_find.specs.Codes.{erred}
+use Rattle.ados_find.specs.SearchPath.{with_entry, without_entry}
+use Rattle.ados_find.specs.Shared.{SharedState}
+use Rattle.ados_find.specs.Views.{View}
+use Rattle.ados_env.specs.Directories.{directory_of}
+use Rattle.ados_env.specs.AssignRequest.{changes_list}
+use Rattle.ados_env.specs.declared.assign_list.ListWork.{ListWork}
+use Rattle.ados_env.specs.declared.assign_request.Request.{Request}
+
+-- ADD and REMOVE begin with the directories as they stand, and else with none
+abbrev pub begun_with : Request → List Place → ListWork
+begun_with r before = record { removes = r.removes; before = before; list = if changes_list r then before else [] }
+
+-- a directory that TARGET names is added at the end, unless it is there; or it is taken out, and then it has to be one of those
+-- that stood
+abbrev pub worked_place : ListWork → Place → Result ListWork Codes
+worked_place work place =
+    if work.removes then
+    (if list_any (λ entry. is_same_place entry place) work.before then Ok (record work { list = without_entry work.list place })
+    else Err (erred OBJECT_NOT_FOUND))
+    else Ok (record work { list = with_entry work.list place })
+
+abbrev pub worked_at : ListWork → Result Place Codes → Result ListWork Codes
+worked_at work (Err codes) = Err codes
+worked_at work (Ok place) = worked_place work place
+
+-- the work behind the texts of TARGET in turn, unless one of them is refused
+abbrev pub and_then : Result ListWork Codes → (ListWork → Result ListWork Codes) → Result ListWork Codes
+and_then (Err codes) further = Err codes
+and_then (Ok work) further = further work
+
+abbrev pub all_worked : SharedState → View → ListWork → List Text → Result ListWork Codes
+all_worked shared view work [] = Ok work
+all_worked shared view work (text ∷ texts) =
+    and_then (worked_at work (directory_of shared view text)) (λ next. all_worked shared view next texts)

@@ -1,0 +1,51 @@
+-- What Assign is told beside NAME, and what is wrong with it.
+use Rattle.std.specs.Prelude.{Bool, true, false, not, ◌&&◌, ◌||◌, nat_lt, length, List, Option, Some, None, if◌then◌else◌}
+use Rattle.std.specs.Option.{option_or}
+use Rattle.ados_text.specs.Text.{Text}
+use Rattle.ados_text.specs.declared.codes.TheConstants.Result2.{ARGUMENT_MISSING, TOO_MANY_ARGUMENTS}
+use Rattle.ados_readargs.specs.declared.args.Arg.{Arg}
+use Rattle.ados_readargs.specs.Args.{texts_at, is_on}
+use Rattle.ados_find.specs.declared.codes.Codes.{Codes}
+use Rattle.ados_find.specs.Codes.{failed}
+use Rattle.ados_env.specs.declared.assign_request.Request.{Request}
+
+-- EXISTS tells; DEFER and PATH keep TARGET as a text; ADD and REMOVE change the directories of an assign
+abbrev pub request_of : List Arg → Request
+request_of args = record {
+  tells = is_on args 2;
+  defers = is_on args 3;
+  follows = is_on args 4;
+  adds = is_on args 5;
+  removes = is_on args 6;
+  targets = texts_at args 1;
+}
+
+abbrev pub has_target : Request → Bool
+has_target r = nat_lt 0 (length r.targets)
+
+abbrev pub keeps_text : Request → Bool
+keeps_text r = r.defers || r.follows
+
+abbrev pub changes_list : Request → Bool
+changes_list r = r.adds || r.removes
+
+-- two of the switches are on
+abbrev pub are_two : Request → Bool
+are_two r =
+    (r.tells && (r.defers || (r.follows || (r.adds || r.removes))))
+    || ((r.defers && (r.follows || (r.adds || r.removes))) || ((r.follows && (r.adds || r.removes)) || (r.adds && r.removes)))
+
+abbrev pub fault_if : Bool → Codes → Option Codes
+fault_if wrong codes = if wrong then Some codes else None
+
+-- before the name is judged: two switches, or EXISTS with TARGET; TARGET, or a switch other than EXISTS, without NAME
+abbrev pub request_fault : Request → Bool → Option Codes
+request_fault r has_name =
+    option_or (fault_if (are_two r || (r.tells && has_target r)) (failed TOO_MANY_ARGUMENTS))
+    (fault_if (not has_name && (has_target r || (keeps_text r || changes_list r))) (failed ARGUMENT_MISSING))
+
+-- and after it: ADD, PATH and DEFER ask for TARGET, and a text is one alone
+abbrev pub targets_fault : Request → Option Codes
+targets_fault r =
+    option_or (fault_if ((r.adds || keeps_text r) && not (has_target r)) (failed ARGUMENT_MISSING))
+    (fault_if (keeps_text r && nat_lt 1 (length r.targets)) (failed TOO_MANY_ARGUMENTS))
