@@ -13,7 +13,7 @@ use Rattle.ados_find.specs.Codes.{failed}
 use Rattle.ados_flow.specs.declared.kinds.Kind.{Kind}
 use Rattle.ados_flow.specs.declared.kinds.Kind.TheVariants.{Script, Lines, Tick}
 use Rattle.ados_flow.specs.CodeRule.{is_reached}
-use Rattle.ados_flow.specs.Frames.{FrameState, began, frame_limit, is_over, is_script, jumped, moved, scripts_in, script_line_by, limit_behind, last_codes, answered_frame, maker}
+use Rattle.ados_flow.specs.Frames.{FrameState, began, frame_limit, is_over, is_script, jumped, moved, scripts_in, script_line_by, limit_behind, last_line, last_codes, is_early, answered_frame, maker}
 use Rattle.ados_machine.specs.declared.answers.Answer.{Answer as Reply}
 use Rattle.ados_machine.specs.declared.phases.Parted.{Parted}
 use Rattle.ados_machine.specs.declared.phases.Phase.{Phase}
@@ -27,18 +27,19 @@ use Rattle.ados_machine.specs.Lines.{line_deed, parted_deed, answer_deed}
 use Rattle.ados_machine.specs.NewShells.{gathered_deed}
 use Rattle.ados_machine.specs.Settled.{with_limit, after_end, finish, passed, finished, faulted, newest_kept}
 use Rattle.ados_machine.specs.Settle.{here_of, jumped_in, ruled}
-use Rattle.ados_machine.specs.Whole.{Common, absorbed, At, Whole, Done, Late, Short, says, here_at, start_at, after_answer, answered_at, after_call, after_tick, behind_deed, waits, lines, ticking, ticked_out, reply_of, deed_of, script_at, tick_at}
-use Rattle.ados_machine.proofs.Alone.{Lone, Going, Unfed, go_by, does, deed_event, exec}
+use Rattle.ados_flow.specs.declared.records.Record.{Record}
+use Rattle.ados_machine.specs.Whole.{recorded, report_of, Common, absorbed, At, Whole, Done, Late, Short, says, here_at, start_at, after_answer, answered_at, after_call, after_tick, behind_deed, waits, lines, ticking, ticked_out, reply_of, deed_of, script_at, tick_at}
+use Rattle.ados_machine.proofs.Alone.{with_end, Lone, Going, Unfed, go_by, does, deed_event, exec}
 
 abbrev pub Next : Type 0
-Next = ℕ → List Reply → Codes → Common → Lone
+Next = ℕ → List Reply → Option Record → Common → Lone
 
 -- what a shell does once its newest frame has ended
 abbrev pub ended : ℕ → FrameState → List FrameState → Next
-ended k frame frames n answers answer common =
-    go_by (exec k n answers) common
+ended k frame frames n answers last common =
+    go_by k (exec k n answers) (record common { reports = with_end k frame.kind (last_line last) (last_codes last) (is_early frame.kind last) common.reports })
     (after_end frame.kind
-    (finish (maker frame.kind) answer false frames (with_limit (limit_behind frames frame.limit) common.said)) frames common.said)
+    (finish (maker frame.kind) (last_codes last) false frames (with_limit (limit_behind frames frame.limit) common.said)) frames common.said)
 
 abbrev pub IsRunning : List Reply → Lone → Type 0
 IsRunning answers (Going answers' frames phase common) = answers' ≡ answers
@@ -46,13 +47,14 @@ IsRunning answers _ = ⊥
 
 -- a shell does what lines mean, and then this
 abbrev pub AgreesBy : ℕ → Lone → Whole → Next → Type 0
-AgreesBy n exec (Done left answers answer common) next = (left ≤ n) × (exec ≡ next left answers answer common)
+AgreesBy n exec (Done left answers last common) next = (left ≤ n) × (exec ≡ next left answers last common)
 AgreesBy n exec (Late answers) next = IsRunning answers exec
 AgreesBy n exec Short next = exec ≡ Unfed
 
 -- where the lines of the newest frame stand
-abbrev pub at_of : FrameState → List FrameState → At
-at_of frame frames = record {
+abbrev pub at_of : ℕ → FrameState → List FrameState → At
+at_of k frame frames = record {
+  shell = k;
   sink = sink_in (frame ∷ frames);
   in_script = is_script frame.kind;
   scripts = scripts_in (frame ∷ frames);
@@ -62,7 +64,7 @@ at_of frame frames = record {
   name = name_in (frame ∷ frames);
   position = frame.position;
   line = frame.line;
-  last = last_codes frame.last;
+  last = frame.last;
 }
 
 abbrev pub phase_of : Option Parted → Phase
@@ -77,7 +79,7 @@ abbrev pub AgreesAt : ℕ → ℕ → Type 0
 AgreesAt k gas = (n : ℕ) (answers : List Reply) (common : Common) (frame : FrameState) (frames : List FrameState) (parted : Option Parted) →
     n < gas → HasNext parted frame →
     AgreesBy n (exec k n answers (frame ∷ frames) (phase_of parted) common)
-    (lines k gas n answers common (at_of frame frames) parted)
+    (lines k gas n answers common (at_of k frame frames) parted)
     (ended k frame frames)
 
 -- a line of the newest frame knows just what one of these lines knows
@@ -87,13 +89,13 @@ script-line (Script name command) frame = refl
 script-line Lines frame = refl
 script-line (Tick before after) frame = refl
 
-here-is : (frame : FrameState) (frames : List FrameState) → here_of (frame ∷ frames) ≡ here_at (at_of frame frames)
-here-is frame frames = rw (script-line frame.kind frame) refl
+here-is : (k : ℕ) (frame : FrameState) (frames : List FrameState) → here_of (frame ∷ frames) ≡ here_at (at_of k frame frames)
+here-is k frame frames = rw (script-line frame.kind frame) refl
 
 weaker : (m n : ℕ) (x : Lone) (w : Whole) (next : Next) → m ≤ n → AgreesBy m x w next → AgreesBy n x w next
 weaker m n x (Late answers) next le h = h
 weaker m n x Short next le h = h
-weaker m n x (Done left answers answer common) next le h = (omega (arith, h.0), h.1)
+weaker m n x (Done left answers last common) next le h = (omega (arith, h.0), h.1)
 
 -- no line left costs nothing
 lines-over : (k gas n : ℕ) (answers : List Reply) (common : Common) (at : At) → n < gas → nat_le (length at.lines) at.position ≡ true →
@@ -107,12 +109,12 @@ there xs i e = slice_get-get_or xs i [] (leb-false (length xs) i e)
 -- the newest frame goes on, or ends where no line is left
 passed-agrees : (k gas : ℕ) → AgreesAt k gas →
     (n : ℕ) (answers : List Reply) (common : Common) (frame : FrameState) (frames : List FrameState) → n < gas →
-    AgreesBy n (go_by (exec k n answers) common (passed (frame ∷ frames) common.said))
-    (lines k gas n answers common (at_of frame frames) None)
+    AgreesBy n (go_by k (exec k n answers) common (passed (frame ∷ frames) common.said))
+    (lines k gas n answers common (at_of k frame frames) None)
     (ended k frame frames)
 passed-agrees k gas ih n answers common frame frames lt =
     elim (cases_Bool (is_over frame)) [
-      | inl e ↦ rw (e, lines-over k gas n answers common (at_of frame frames) lt e) (omega arith, refl)
+      | inl e ↦ rw (e, lines-over k gas n answers common (at_of k frame frames) lt e) (omega arith, refl)
       | inr e ↦ rw e (ih n answers common frame frames None lt e)
     ]
 
@@ -120,12 +122,12 @@ passed-agrees k gas ih n answers common frame frames lt =
 answer-agrees : (k gas : ℕ) → AgreesAt k gas →
     (n : ℕ) (answers : List Reply) (common : Common) (frame : FrameState) (frames : List FrameState)
     (word : Text) (answer : Codes) (quits : Bool) → n < gas →
-    AgreesBy n (go_by (exec k n answers) common (finish word answer quits (frame ∷ frames) common.said))
-    (after_answer (lines k gas) n answers common (at_of frame frames) word answer quits)
+    AgreesBy n (go_by k (exec k n answers) common (finish word answer quits (frame ∷ frames) common.said))
+    (after_answer (lines k gas) n answers common (at_of k frame frames) word answer quits)
     (ended k frame frames)
 answer-agrees k gas ih n answers common frame frames word answer quits lt =
     elim (cases_Bool (is_over frame)) [
-      | inl e ↦ rw (e, lines-over k gas n answers (says word answer common) (record (at_of frame frames) { last = answer }) lt e)
+      | inl e ↦ rw (e, lines-over k gas n answers (says word answer common) (record (at_of k frame frames) { last = Some (recorded (at_of k frame frames) answer common) }) lt e)
           (over (is_script frame.kind && (quits || is_reached common.said.parts.limit answer.code)))
       | inr e ↦ elim (cases_Bool (is_script frame.kind && (quits || is_reached common.said.parts.limit answer.code))) [
         | inl f ↦ rw (e, f) (omega arith, refl)
@@ -135,8 +137,9 @@ answer-agrees k gas ih n answers common frame frames word answer quits lt =
     ]
   where
     over : (early : Bool) →
-        AgreesBy n (ended k frame frames n answers answer (says word answer common))
-        (if early then Done n answers answer (says word answer common) else Done n answers answer (says word answer common))
+        AgreesBy n (ended k frame frames n answers (Some (recorded (at_of k frame frames) answer common)) (says word answer common))
+        (if early then Done n answers (Some (recorded (at_of k frame frames) answer common)) (says word answer common)
+        else Done n answers (Some (recorded (at_of k frame frames) answer common)) (says word answer common))
         (ended k frame frames)
     over true = (omega arith, refl)
     over false = (omega arith, refl)
@@ -144,8 +147,8 @@ answer-agrees k gas ih n answers common frame frames word answer quits lt =
 finished-agrees : (k gas : ℕ) → AgreesAt k gas →
     (n : ℕ) (answers : List Reply) (common : Common) (frame : FrameState) (frames : List FrameState)
     (word : Text) (answer : Codes) (quits : Bool) → n < gas →
-    AgreesBy n (go_by (exec k n answers) common (finished word answer quits (frame ∷ frames) common.said))
-    (answered_at (lines k gas) n answers common (at_of frame frames) word answer quits)
+    AgreesBy n (go_by k (exec k n answers) common (finished word answer quits (frame ∷ frames) common.said))
+    (answered_at (lines k gas) n answers common (at_of k frame frames) word answer quits)
     (ended k frame frames)
 finished-agrees k gas ih n answers common frame frames word answer quits lt =
     answer-agrees k gas ih n answers (record common { said = faulted word answer.result2 common.said }) frame frames word answer quits lt
@@ -154,8 +157,8 @@ finished-agrees k gas ih n answers common frame frames word answer quits lt =
 jumped-agrees : (k gas : ℕ) → AgreesAt k gas →
     (n : ℕ) (answers : List Reply) (common : Common) (frame : FrameState) (frames : List FrameState)
     (word : Text) (answer : Codes) (line : ℕ) → n < gas →
-    AgreesBy n (go_by (exec k n answers) common (finished word answer false (jumped_in line (frame ∷ frames)) common.said))
-    (answered_at (lines k gas) n answers common (at_of (jumped line frame) frames) word answer false)
+    AgreesBy n (go_by k (exec k n answers) common (finished word answer false (jumped_in line (frame ∷ frames)) common.said))
+    (answered_at (lines k gas) n answers common (at_of k (jumped line frame) frames) word answer false)
     (ended k frame frames)
 jumped-agrees k gas ih n answers common frame frames word answer line lt =
     finished-agrees k gas ih n answers common (jumped line frame) frames word answer false lt
@@ -164,25 +167,25 @@ jumped-agrees k gas ih n answers common frame frames word answer line lt =
 call-agrees : (k gas : ℕ) → AgreesAt k gas → (n : ℕ) (exec : Lone) (meaning : Whole) (frame : FrameState) (frames : List FrameState)
     (name word : Text) (commands : List Text) (limit : Code) (output : Option Target) → n < gas →
     AgreesBy n exec meaning (ended k (began (Script name word) commands limit output) (frame ∷ frames)) →
-    AgreesBy n exec (after_call (lines k gas) (at_of frame frames) limit word meaning) (ended k frame frames)
+    AgreesBy n exec (after_call (lines k gas) (at_of k frame frames) limit name word meaning) (ended k frame frames)
 call-agrees k gas ih n exec (Late answers) frame frames name word commands limit output lt h = h
 call-agrees k gas ih n exec Short frame frames name word commands limit output lt h = h
-call-agrees k gas ih n exec (Done left answers answer common) frame frames name word commands limit output lt h =
-    let limited : Common = record common { said = with_limit (limit_behind (frame ∷ frames) limit) common.said } in
-    rw h.1 (weaker left n _ (after_answer (lines k gas) left answers limited (at_of frame frames) word answer false)
+call-agrees k gas ih n exec (Done left answers last common) frame frames name word commands limit output lt h =
+    let limited : Common = record common { said = with_limit (limit_behind (frame ∷ frames) limit) common.said; reports = report_of k name last ∷ common.reports } in
+    rw h.1 (weaker left n _ (after_answer (lines k gas) left answers limited (at_of k frame frames) word (last_codes last) false)
     (ended k frame frames) h.0
-    (answer-agrees k gas ih left answers limited frame frames word answer false (omega (arith, h.0))))
+    (answer-agrees k gas ih left answers limited frame frames word (last_codes last) false (omega (arith, h.0))))
 
 -- behind a tick the line goes on that waits for it
 tick-agrees : (k gas : ℕ) → AgreesAt k gas → (n : ℕ) (exec : Lone) (meaning : Whole) (frame : FrameState) (frames : List FrameState)
     (before after : Text) (commands : List Text) (limit : Code) → n < gas →
     AgreesBy n exec meaning (ended k (began (Tick before after) commands limit None) (frame ∷ frames)) →
-    AgreesBy n exec (after_tick (lines k gas) (at_of frame frames) before after meaning) (ended k frame frames)
+    AgreesBy n exec (after_tick (lines k gas) (at_of k frame frames) before after meaning) (ended k frame frames)
 tick-agrees k gas ih n exec (Late answers) frame frames before after commands limit lt h = h
 tick-agrees k gas ih n exec Short frame frames before after commands limit lt h = h
-tick-agrees k gas ih n exec (Done left answers answer common) frame frames before after commands limit lt h =
+tick-agrees k gas ih n exec (Done left answers last common) frame frames before after commands limit lt h =
     let parted : Parted = record { before = before; output = newest_kept common.said.kept; after = after } in
-    rw h.1 (weaker left n _ (lines k gas left answers (ticked_out common) (at_of frame frames) (Some parted)) (ended k frame frames) h.0
+    rw h.1 (weaker left n _ (lines k gas left answers (ticked_out common) (at_of k frame frames) (Some parted)) (ended k frame frames) h.0
     (ih left answers (ticked_out common) frame frames (Some parted) (omega (arith, h.0)) tt))
 
 -- what the shell waits for
@@ -194,8 +197,8 @@ WaitsAgree k n answers frame frames further = (common : Common) (wait : Wait) �
 deed-agrees : (k gas : ℕ) → AgreesAt k gas →
     (n : ℕ) (answers : List Reply) (common : Common) (frame : FrameState) (frames : List FrameState)
     (further : Common → Wait → Whole) (deed : Deed) → n < gas → WaitsAgree k n answers frame frames further →
-    AgreesBy n (go_by (exec k n answers) common (ruled deed (frame ∷ frames) common.said))
-    (behind_deed further (lines k gas) n answers common (at_of frame frames) deed)
+    AgreesBy n (go_by k (exec k n answers) common (ruled deed (frame ∷ frames) common.said))
+    (behind_deed further (lines k gas) n answers common (at_of k frame frames) deed)
     (ended k frame frames)
 deed-agrees k gas ih n answers common frame frames further (Passes course) lt waits =
     passed-agrees k gas ih n answers common frame frames lt
@@ -207,14 +210,14 @@ deed-agrees k gas ih n answers common frame frames further (Calls word output sc
     elim (cases_Bool (nat_le frame_limit (length (frame ∷ frames)))) [
       | inl e ↦ rw e (finished-agrees k gas ih n answers common frame frames word (failed TOO_MANY_LEVELS) false lt)
       | inr e ↦ rw e (call-agrees k gas ih n _
-          (lines k gas n answers common (script_at (at_of frame frames) output script) None) frame frames
+          (lines k gas n answers common (script_at (at_of k frame frames) output script) None) frame frames
           script.name word script.script common.said.parts.limit output lt
           (passed-agrees k gas ih n answers common (began (Script script.name word) script.script common.said.parts.limit output)
           (frame ∷ frames) lt))
     ]
 deed-agrees k gas ih n answers common frame frames further (Ticks before command after course) lt waits =
     tick-agrees k gas ih n _
-    (lines k gas n answers (ticking common) (tick_at (at_of frame frames) command) None) frame frames
+    (lines k gas n answers (ticking common) (tick_at (at_of k frame frames) command) None) frame frames
     before after (command ∷ []) common.said.parts.limit lt
     (ih n answers (ticking common) (began (Tick before after) (command ∷ []) common.said.parts.limit None)
     (frame ∷ frames) None lt refl)
@@ -224,31 +227,31 @@ deed-agrees k gas ih n answers common frame frames further (Waits wait course) l
 event-agrees : (k gas : ℕ) → AgreesAt k gas →
     (n : ℕ) (answers : List Reply) (common : Common) (frame : FrameState) (frames : List FrameState)
     (further : Common → Wait → Whole) (deed : Deed) → n < gas → WaitsAgree k n answers frame frames further →
-    AgreesBy (suc n) (does (exec k n answers) (frame ∷ frames) common deed)
-    (deed_of further (lines k gas) n answers common (at_of frame frames) deed)
+    AgreesBy (suc n) (does k (exec k n answers) (frame ∷ frames) common deed)
+    (deed_of further (lines k gas) n answers common (at_of k frame frames) deed)
     (ended k frame frames)
 event-agrees k gas ih n answers common frame frames further deed lt waits =
     let behind = absorbed common (course_of deed) in
-    weaker n (suc n) _ (behind_deed further (lines k gas) n answers behind (at_of frame frames) deed) (ended k frame frames)
+    weaker n (suc n) _ (behind_deed further (lines k gas) n answers behind (at_of k frame frames) deed) (ended k frame frames)
     (omega arith) (deed-agrees k gas ih n answers behind frame frames further deed lt waits)
 
 -- an event that comes to the deed of a line
 work-agrees : (k gas : ℕ) → AgreesAt k gas →
     (n : ℕ) (answers : List Reply) (common : Common) (frame : FrameState) (frames : List FrameState)
     (further : Common → Wait → Whole) (work : Here → Deed) → n < gas → WaitsAgree k n answers frame frames further →
-    AgreesBy (suc n) (does (exec k n answers) (frame ∷ frames) common (work (here_of (frame ∷ frames))))
-    (deed_of further (lines k gas) n answers common (at_of frame frames) (work (here_at (at_of frame frames))))
+    AgreesBy (suc n) (does k (exec k n answers) (frame ∷ frames) common (work (here_of (frame ∷ frames))))
+    (deed_of further (lines k gas) n answers common (at_of k frame frames) (work (here_at (at_of k frame frames))))
     (ended k frame frames)
 work-agrees k gas ih n answers common frame frames further work lt waits =
-    rw (here-is frame frames)
-    (event-agrees k gas ih n answers common frame frames further (work (here_at (at_of frame frames))) lt waits)
+    rw (here-is k frame frames)
+    (event-agrees k gas ih n answers common frame frames further (work (here_at (at_of k frame frames))) lt waits)
 
 -- what an answer comes to
 reply-agrees : (k gas : ℕ) → AgreesAt k gas →
     (n : ℕ) (answers : List Reply) (common : Common) (frame : FrameState) (frames : List FrameState)
     (further : Common → Wait → Whole) (deed : Option Deed) → n < gas → WaitsAgree k n answers frame frames further →
-    AgreesBy (suc n) (deed_event (exec k n answers) (frame ∷ frames) common deed)
-    (reply_of (deed_of further (lines k gas) n answers common (at_of frame frames)) deed)
+    AgreesBy (suc n) (deed_event k (exec k n answers) (frame ∷ frames) common deed)
+    (reply_of (deed_of further (lines k gas) n answers common (at_of k frame frames)) deed)
     (ended k frame frames)
 reply-agrees k gas ih n answers common frame frames further None lt waits = refl
 reply-agrees k gas ih n answers common frame frames further (Some deed) lt waits =
@@ -256,15 +259,15 @@ reply-agrees k gas ih n answers common frame frames further (Some deed) lt waits
 
 -- what the shell waits for, one event each
 waits-agree : (k gas : ℕ) → AgreesAt k gas → (n : ℕ) (answers : List Reply) (frame : FrameState) (frames : List FrameState) → n < gas →
-    WaitsAgree k n answers frame frames (waits k (lines k gas) (at_of frame frames) n answers)
+    WaitsAgree k n answers frame frames (waits k (lines k gas) (at_of k frame frames) n answers)
 waits-agree k gas ih zero answers frame frames lt common wait = refl
 waits-agree k gas ih (suc n) answers frame frames lt common (ForAnswer asking) =
-    work-agrees k gas ih n answers common frame frames (waits k (lines k gas) (at_of frame frames) n answers)
-    (λ here. answer_deed [] asking here (start_at k (at_of frame frames) (Some (ForAnswer asking)) common)) (omega arith)
+    work-agrees k gas ih n answers common frame frames (waits k (lines k gas) (at_of k frame frames) n answers)
+    (λ here. answer_deed [] asking here (start_at k (at_of k frame frames) (Some (ForAnswer asking)) common)) (omega arith)
     (waits-agree k gas ih n answers frame frames (omega arith))
 waits-agree k gas ih (suc n) answers frame frames lt common (ForLines gathering) =
-    event-agrees k gas ih n answers common frame frames (waits k (lines k gas) (at_of frame frames) n answers)
-    (gathered_deed gathering (sink_in (frame ∷ frames)) (start_at k (at_of frame frames) (Some (ForLines gathering)) common)) (omega arith)
+    event-agrees k gas ih n answers common frame frames (waits k (lines k gas) (at_of k frame frames) n answers)
+    (gathered_deed gathering (sink_in (frame ∷ frames)) (start_at k (at_of k frame frames) (Some (ForLines gathering)) common)) (omega arith)
     (waits-agree k gas ih n answers frame frames (omega arith))
 waits-agree k gas ih (suc n) [] frame frames lt common (ForStart starting) = refl
 waits-agree k gas ih (suc n) [] frame frames lt common (ForPiece child) = refl
@@ -282,12 +285,12 @@ agrees k zero n answers common frame frames parted lt next = absurd (omega arith
 agrees k (suc gas) zero answers common frame frames (Some parted) lt next = refl
 agrees k (suc gas) zero answers common frame frames None lt next = rw (there frame.lines frame.position next) refl
 agrees k (suc gas) (suc n) answers common frame frames (Some parted) lt next =
-    work-agrees k gas (agrees k gas) n answers common frame frames (waits k (lines k gas) (at_of frame frames) n answers)
-    (λ here. parted_deed parted here (start_at k (at_of frame frames) None common)) (omega arith)
+    work-agrees k gas (agrees k gas) n answers common frame frames (waits k (lines k gas) (at_of k frame frames) n answers)
+    (λ here. parted_deed parted here (start_at k (at_of k frame frames) None common)) (omega arith)
     (waits-agree k gas (agrees k gas) n answers frame frames (omega arith))
 agrees k (suc gas) (suc n) answers common frame frames None lt next =
     let line = get_or frame.lines frame.position [] in
     rw (there frame.lines frame.position next)
-    (work-agrees k gas (agrees k gas) n answers common (moved frame) frames (waits k (lines k gas) (at_of (moved frame) frames) n answers)
-    (λ here. line_deed line here (start_at k (at_of frame frames) None common)) (omega arith)
+    (work-agrees k gas (agrees k gas) n answers common (moved frame) frames (waits k (lines k gas) (at_of k (moved frame) frames) n answers)
+    (λ here. line_deed line here (start_at k (at_of k frame frames) None common)) (omega arith)
     (waits-agree k gas (agrees k gas) n answers (moved frame) frames (omega arith)))

@@ -30,7 +30,7 @@ use Rattle.ados_machine.specs.Alone.{Exec, go_on, reply_next, event_next, alone,
 use Rattle.ados_machine.proofs.Shells.{shells_behind, found, found-set_same, found-carried, carried-runs, found-placed_other, carried-free, free-number}
 use Rattle.ados_machine.proofs.Places.{map-set, any-found, shells-same}
 use Rattle.ados_machine.proofs.Fronts.{front, ruled-front}
-use Rattle.ados_machine.proofs.Alone.{lift, shell_of, standing, start_in, Go, with_said, does, line_event, deed_event, reply_event, event_in, exec}
+use Rattle.ados_machine.proofs.Alone.{lift, shell_of, standing, start_in, Go, with_ends, does, line_event, deed_event, reply_event, event_in, exec}
 
 -- a background shell's number, at which a shell runs
 pub record Stands (k : ℕ) (common : Common) : Type 0 where
@@ -46,11 +46,11 @@ world_of k w (frame ∷ frames) phase common = standing k w (frame ∷ frames) p
 not-first : (k : ℕ) (common : Common) → Stands k common → (k == 1) ≡ false
 not-first k common stands = ne_eqb k 1 (λ e. omega (arith, e, stands.above))
 
-stands-at : (k : ℕ) (w : WorldState) (frames : List FrameState) (phase : Phase) (common : Common) → Stands k common →
+pub stands-at : (k : ℕ) (w : WorldState) (frames : List FrameState) (phase : Phase) (common : Common) → Stands k common →
     shell_at (standing k w frames phase common) k ≡ Some (shell_of frames phase common)
 stands-at k w frames phase common stands = found-set_same common.shells k stands.shell (Some (shell_of frames phase common)) stands.is
 
-ended-at : (k : ℕ) (w : WorldState) (common : Common) → Stands k common → shell_at (world_behind k w common) k ≡ None
+pub ended-at : (k : ℕ) (w : WorldState) (common : Common) → Stands k common → shell_at (world_behind k w common) k ≡ None
 ended-at k w common stands = found-set_same common.shells k stands.shell None stands.is
 
 not-over : (k : ℕ) (w : WorldState) (frames : List FrameState) (phase : Phase) (common : Common) → Stands k common →
@@ -87,9 +87,9 @@ stands-behind k common course stands = record {
   is = carried-stands k (moved_by common.shared (shared_behind course) course.renamed) course.begun common.shells stands.shell stands.is;
 }
 
-stands-again : (k : ℕ) (common : Common) (course : Course) (said : Said) → Stands k common →
-    Stands k (with_said said (absorbed common course))
-stands-again k common course said stands =
+pub stands-again : (k : ℕ) (common : Common) (course : Course) (said : Said) (log : List Item) → Stands k common →
+    Stands k (record (absorbed common course) { said = said; reports = with_ends k log common.reports })
+stands-again k common course said log stands =
     let behind = stands-behind k common course stands in
     record { above = behind.above; shell = behind.shell; is = behind.is }
 
@@ -100,7 +100,7 @@ left-same None shell = refl
 left-same (Some renamed) shell = refl
 
 -- the world behind an event
-abbrev took_world : WorldState → ℕ → Course → Settled → WorldState
+abbrev pub took_world : WorldState → ℕ → Course → Settled → WorldState
 took_world w k course settled = (let t = by_rule course settled in record {
   shells = shells_behind w.shells k (moved_in w t) t;
   ended = ended_with (is_done k t.frames) k t.course.parts.codes w.ended;
@@ -110,15 +110,18 @@ took_world w k course settled = (let t = by_rule course settled in record {
 })
 
 -- what is handed through behind an event
-abbrev common_by : Common → Course → Said → Common
-common_by common course said =
-    with_said (front common.said.printed (moved_by common.shared (shared_behind course) course.renamed) said) (absorbed common course)
+abbrev pub common_by : ℕ → Common → Course → Said → List Item → Common
+common_by k common course said log =
+    record (absorbed common course) {
+      said = front common.said.printed (moved_by common.shared (shared_behind course) course.renamed) said;
+      reports = with_ends k log common.reports;
+    }
 
-world-same : (k : ℕ) (w : WorldState) (old : List FrameState) (phase : Phase) (common : Common) (course : Course)
+pub world-same : (k : ℕ) (w : WorldState) (old : List FrameState) (phase : Phase) (common : Common) (course : Course)
     (frames : List FrameState) (next : Phase) (said : Said) (log : List Item) →
     Stands k common →
     took_world (standing k w old phase common) k course (record { frames = frames; phase = next; said = said; log = log })
-    ≡ world_of k w frames next (common_by common course said)
+    ≡ world_of k w frames next (common_by k common course said log)
 world-same k w old phase common course [] next said log stands =
     let moved = moved_by common.shared (shared_behind course) course.renamed in
     rw (
@@ -144,7 +147,7 @@ took-does : (k : ℕ) (w : WorldState) (go : Goes) (on : Go) (old : List FrameSt
     (frames : List FrameState) → Stands k common →
     ((frames : List FrameState) (phase : Phase) (common : Common) → Stands k common →
     go (world_of k w frames phase common) common.said.printed ≡ lift k w (on frames phase common)) →
-    go_on go common.said.printed (took (standing k w old phase common) k [] (settle deed frames)) ≡ lift k w (does on frames common deed)
+    go_on go common.said.printed (took (standing k w old phase common) k [] (settle deed frames)) ≡ lift k w (does k on frames common deed)
 took-does k w go on old phase common deed frames stands same =
     let course = course_of deed in
     let moved = moved_by common.shared (shared_behind course) course.renamed in
@@ -153,11 +156,11 @@ took-does k w go on old phase common deed frames stands same =
       ruled-front common.said.printed moved deed frames (said_of course),
       world-same k w old phase common course settled.frames settled.phase settled.said settled.log stands,
     )
-    (same settled.frames settled.phase (common_by common course settled.said)
-    (stands-again k common course (front common.said.printed moved settled.said) stands))
+    (same settled.frames settled.phase (common_by k common course settled.said settled.log)
+    (stands-again k common course (front common.said.printed moved settled.said) settled.log stands))
 
 -- the world's turn of the shell
-turn-is : (k : ℕ) (w : WorldState) (frames : List FrameState) (phase : Phase) (common : Common) → Stands k common →
+pub turn-is : (k : ℕ) (w : WorldState) (frames : List FrameState) (phase : Phase) (common : Common) → Stands k common →
     step_of (standing k w frames phase common) (Turn k)
     ≡ applied (standing k w frames phase common) k common.said.parts.codes (turning no_input frames (start_in k frames phase common) phase)
 turn-is k w frames phase common stands =
@@ -169,7 +172,7 @@ turn-is k w frames phase common stands =
     ) refl
 
 -- an answer for it
-answer-is : (k : ℕ) (w : WorldState) (frames : List FrameState) (phase : Phase) (common : Common) (reply : Reply) → Stands k common →
+pub answer-is : (k : ℕ) (w : WorldState) (frames : List FrameState) (phase : Phase) (common : Common) (reply : Reply) → Stands k common →
     step_of (standing k w frames phase common) (Answer k reply)
     ≡ applied (standing k w frames phase common) k common.said.parts.codes
     (replied no_input frames (answered_in (sink_in frames) (start_in k frames phase common) phase reply))
@@ -201,7 +204,7 @@ deed-same : (k : ℕ) (w : WorldState) (go : Goes) (on : Go) (frames : List Fram
     (deed : Option Deed) → Stands k common → Same k w go on →
     go_on go common.said.printed
     (applied (standing k w frames phase common) k common.said.parts.codes (replied no_input frames deed))
-    ≡ lift k w (deed_event on frames common deed)
+    ≡ lift k w (deed_event k on frames common deed)
 deed-same k w go on frames phase common None stands same = refl
 deed-same k w go on frames phase common (Some deed) stands same = took-does k w go on frames phase common deed frames stands same
 

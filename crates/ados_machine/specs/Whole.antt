@@ -14,7 +14,9 @@ use Rattle.ados_find.specs.Shared.{SharedState}
 use Rattle.ados_find.specs.Targets.{open_at}
 use Rattle.ados_flow.specs.declared.called.Called.{Called}
 use Rattle.ados_flow.specs.CodeRule.{is_reached}
-use Rattle.ados_flow.specs.Frames.{ScriptLine, frame_limit, limit_for}
+use Rattle.ados_flow.specs.declared.records.Record.{Record}
+use Rattle.ados_flow.specs.Frames.{ScriptLine, frame_limit, limit_for, last_line, last_codes, is_at_limit}
+use Rattle.ados_machine.specs.declared.outs.EndReport.{EndReport}
 use Rattle.ados_machine.specs.declared.answers.Answer.{Answer as Reply}
 use Rattle.ados_machine.specs.declared.phases.Parted.{Parted}
 use Rattle.ados_machine.specs.declared.phases.Wait.{Wait}
@@ -31,17 +33,19 @@ use Rattle.ados_machine.specs.Settled.{Said, faulted, told, with_limit, newest_k
 use Rattle.ados_machine.specs.World.{WorldState, seen_in}
 use Rattle.ados_machine.specs.Step.{behind_event}
 
--- what lines hand through: the shells (at the shell's own number it is only looked at that there is one), what all share, and
--- what the shell itself has: its parts, what its ticks put out, and what is printed
+-- what lines hand through: the shells (at the shell's own number it is only looked at that there is one), what all share, what
+-- the shell itself has: its parts, what its ticks put out, and what is printed; and its scripts that ended, the newest first
 pub record Common : Type 0 where
   pub shells : List (Option ShellState)
   pub shared : SharedState
   pub said : Said
+  pub reports : List EndReport
 
 -- where lines stand. What their caller hands to them: where output goes, whether they are a script's, how many scripts run at or
 -- below them, their depth, the lines, the files kept open by them and their callers, and the shell's name in Status. And how far
--- they came: the place of the next line, the line at which the last command began, and what that answered
+-- they came: the place of the next line, the line at which the last command began, and the record of the last that answered
 pub record At : Type 0 where
+  pub shell : ℕ
   pub sink : Sink
   pub in_script : Bool
   pub scripts : ℕ
@@ -51,12 +55,12 @@ pub record At : Type 0 where
   pub name : Text
   pub position : ℕ
   pub line : ℕ
-  pub last : Codes
+  pub last : Option Record
 
 -- what lines mean: they come to their end, with so many events and these answers left, with what their last command answered,
 -- and hand this on; or an event more is due; or an answer is missing
 pub data Whole : Type 0 where
-  Done : (left : ℕ) (answers : List Reply) (codes : Codes) (common : Common) → Whole
+  Done : (left : ℕ) (answers : List Reply) (last : Option Record) (common : Common) → Whole
   Late : (answers : List Reply) → Whole
   Short : Whole
 
@@ -129,6 +133,7 @@ abbrev pub absorbed : Common → Course → Common
 absorbed common course =
     (let behind = behind_event common.shared common.shells course in
     record {
+      reports = common.reports;
       shells = behind.shells;
       shared = behind.shared;
       said = record { parts = carried_parts behind.moved course.parts; kept = course.kept; printed = common.said.printed ++ course.printed };
@@ -138,11 +143,15 @@ absorbed common course =
 abbrev pub says : Text → Codes → Common → Common
 says word answer common = record common { said = told word answer common.said }
 
+-- its record: the line at which it began, its codes, and the limit that stood
+abbrev pub recorded : At → Codes → Common → Record
+recorded at answer common = record { line = at.line; codes = answer; limit = common.said.parts.limit }
+
 -- a command of these lines answered: a script ends here at its limit, or where it quits; other lines go on
 abbrev pub after_answer : Meaning → ℕ → List Reply → Common → At → Text → Codes → Bool → Whole
 after_answer go n answers common at word answer quits =
-    if at.in_script && (quits || is_reached common.said.parts.limit answer.code) then Done n answers answer (says word answer common)
-    else go n answers (says word answer common) (record at { last = answer }) None
+    if at.in_script && (quits || is_reached common.said.parts.limit answer.code) then Done n answers (Some (recorded at answer common)) (says word answer common)
+    else go n answers (says word answer common) (record at { last = Some (recorded at answer common) }) None
 
 -- the same where the command did its work itself: the text of its fault is printed first, which that of a script was already
 abbrev pub answered_at : Meaning → ℕ → List Reply → Common → At → Text → Codes → Bool → Whole
@@ -152,6 +161,7 @@ answered_at go n answers common at word answer quits =
 -- where a script's lines begin, and a tick's
 abbrev pub script_at : At → Option Target → Called → At
 script_at at output called = record {
+  shell = at.shell;
   sink = sink_or output at.sink;
   in_script = true;
   scripts = suc at.scripts;
@@ -161,7 +171,7 @@ script_at at output called = record {
   name = called.name;
   position = 0;
   line = 0;
-  last = went_well;
+  last = None;
 }
 
 abbrev pub tick_at : At → Text → At
@@ -172,16 +182,21 @@ tick_at at command = record at {
   lines = command ∷ [];
   position = 0;
   line = 0;
-  last = went_well;
+  last = None;
 }
+
+-- a script ended: its shell, its name, the line of its last record or 0, that one's code, and whether it reached its limit
+abbrev pub report_of : ℕ → Text → Option Record → EndReport
+report_of k name last = record { shell = k; name = name; last_line = last_line last; code = (last_codes last).code; early = is_at_limit last }
 
 -- behind a script: the limit of its beginning comes back, and it is 10 where no script is left; what it came to is the answer of
 -- the command that called it
-abbrev pub after_call : Meaning → At → Code → Text → Whole → Whole
-after_call go at limit word (Done n answers answer common) =
-    after_answer go n answers (record common { said = with_limit (limit_for at.scripts limit) common.said }) at word answer false
-after_call go at limit word (Late answers) = Late answers
-after_call go at limit word Short = Short
+abbrev pub after_call : Meaning → At → Code → Text → Text → Whole → Whole
+after_call go at limit name word (Done n answers last common) =
+    after_answer go n answers (record common { said = with_limit (limit_for at.scripts limit) common.said; reports = report_of at.shell name last ∷ common.reports })
+    at word (last_codes last) false
+after_call go at limit name word (Late answers) = Late answers
+after_call go at limit name word Short = Short
 
 -- a tick begins to keep what is put out, and gives it to the line that goes on behind it
 abbrev pub ticking : Common → Common
@@ -204,7 +219,7 @@ behind_deed further go n answers common at (Jumps word answer line course) =
     answered_at go n answers common (record at { position = line - 1 }) word answer false
 behind_deed further go n answers common at (Calls word output called course) =
     if is_deepest at then answered_at go n answers common at word (failed TOO_MANY_LEVELS) false
-    else after_call go at common.said.parts.limit word (go n answers common (script_at at output called) None)
+    else after_call go at common.said.parts.limit called.name word (go n answers common (script_at at output called) None)
 behind_deed further go n answers common at (Ticks before command after course) =
     after_tick go at before after (go n answers (ticking common) (tick_at at command) None)
 behind_deed further go n answers common at (Waits wait course) = further common wait
@@ -253,8 +268,9 @@ lines k zero n answers common at parted = Late answers
 lines k (suc gas) n answers common at parted = next_of k (lines k gas) n answers common at parted (slice_get at.lines at.position)
 
 -- where the lines of a shell begin
-abbrev pub at_bottom : List Text → At
-at_bottom commands = record {
+abbrev pub at_bottom : ℕ → List Text → At
+at_bottom k commands = record {
+  shell = k;
   sink = Console;
   in_script = false;
   scripts = 0;
@@ -264,7 +280,7 @@ at_bottom commands = record {
   name = codes "No command";
   position = 0;
   line = 0;
-  last = went_well;
+  last = None;
 }
 
 -- a fresh shell of a number, with these lines: it begins in the root, and nothing but its own variables is set there
@@ -282,14 +298,9 @@ first_common w k commands = record {
   shells = (opened w k commands).shells;
   shared = w.shared;
   said = record { parts = parts_in k [] (first_settings k); kept = []; printed = [] };
+  reports = [];
 }
-
--- what its lines come to is told by the codes of the shell, which a tick may have set behind the last command of the lines
-abbrev pub by_shell : Whole → Whole
-by_shell (Done left answers answer common) = Done left answers common.said.parts.codes common
-by_shell (Late answers) = Late answers
-by_shell Short = Short
 
 -- the direct meaning of lines in a shell that is opened in a world and runs alone, with so many events and these answers
 abbrev pub whole : ℕ → ℕ → WorldState → List Text → List Reply → Whole
-whole n k w commands answers = by_shell (lines k (suc n) n answers (first_common w k commands) (at_bottom commands) None)
+whole n k w commands answers = lines k (suc n) n answers (first_common w k commands) (at_bottom k commands) None

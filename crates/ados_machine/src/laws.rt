@@ -2,6 +2,15 @@
 
 ghost use Rattle.ados_machine.specs.Alone.{AloneIsARun, AloneMeansWhole};
 ghost use Rattle.ados_machine.specs.Binding.{EventsBindOnlyWhatTheyUsed};
+ghost use Rattle.ados_machine.specs.Given.{
+  EventsGiveWhatIsPending,
+  FurtherLinesWait,
+  ReadyShellsAreTurned,
+  TypedLinesAreTakenInOrder,
+};
+ghost use Rattle.ados_machine.specs.InUse.{EntriesStayInUse, IdleShellsUseNoEntry};
+ghost use Rattle.ados_machine.specs.Kept.{EventsKeepAllCodes, FreshWorldsHaveAllCodes, LastCodesStay};
+ghost use Rattle.ados_machine.specs.Reports.{ReportsTellLastRecords};
 ghost use Rattle.ados_machine.specs.Laws.{
   ScriptsEndWhereTheRuleSays,
   EventsKeepWorldsSane,
@@ -17,6 +26,7 @@ ghost use Rattle.ados_machine.specs.Laws.{
 ghost use Rattle.ados_machine.specs.Limits.{IsSane};
 ghost use Rattle.ados_machine.specs.Quiet.{QuietShellsAreInvisible};
 ghost use Rattle.ados_machine.specs.Starts.{FailedStartsChangeTheCodes, FailedStartsLeaveNothing};
+ghost use Rattle.ados_machine.specs.Told.{AloneTellsReports};
 ghost use Rattle.ados_machine.specs.World.{fresh_world};
 ghost use Rattle.ados_resident.specs.declared.hosts.HostEntry.{HostEntry};
 ghost use Rattle.std.specs.Prelude.{List};
@@ -96,4 +106,46 @@ pub fn alone_means_the_direct_meaning()
 /// event. Else it changes no assign beyond what its commands did.
 pub fn events_bind_only_what_they_used()
     ensures { EventsBindOnlyWhatTheyUsed }
+{}
+
+/// What an accepted event gives is the request that is pending behind it of the shell to which it happened; a typed line and
+/// the end of input give none. A turn is accepted exactly where its shell is ready.
+pub fn events_give_what_is_pending()
+    ensures pending { EventsGiveWhatIsPending }
+    ensures ready { ReadyShellsAreTurned }
+{}
+
+/// The last codes of each number behind a run, also of a shell that has ended, are those of its last command in the trace, and
+/// 0 and 0 behind the beginning of a new shell there. A fresh world has last codes for each number, and each event keeps that.
+pub fn last_codes_stay()
+    ensures fresh { FreshWorldsHaveAllCodes }
+    ensures kept { EventsKeepAllCodes }
+    ensures run { LastCodesStay }
+{}
+
+/// From the event that asks for a program's start to the one behind which nothing is asked for any more, each event keeps
+/// the resident entry in use from which the program runs; and where nothing is asked for no entry is in use.
+pub fn entries_stay_in_use()
+    ensures lasts { EntriesStayInUse }
+    ensures idle { IdleShellsUseNoEntry }
+{}
+
+/// What waited and was typed in a run is what shell 1 took, in order, followed by what waits. It takes the first line that
+/// waits at each turn at which it takes of its input; what waits behind that line changes nothing of the turn.
+pub fn typed_lines_are_taken_in_order()
+    ensures run { TypedLinesAreTakenInOrder }
+    ensures one { FurtherLinesWait }
+{}
+
+/// The reports of a run are what its beginnings, its records and the places of its ends make, apart from what an end says:
+/// each script that ends is reported by its shell and its name, the line of its last record or 0, that one's code, and
+/// whether that reached its limit.
+pub fn reports_tell_last_records()
+    ensures { ReportsTellLastRecords }
+{}
+
+/// The reports of a shell that is opened and runs alone are those of the direct meaning of its lines, which keeps for each
+/// script the line at which its last command began, that one's codes and the limit that stood.
+pub fn alone_tells_reports()
+    ensures { AloneTellsReports }
 {}

@@ -1,0 +1,164 @@
+-- The reports of a shell that runs alone are those of the direct meaning.
+use Rattle.std.proofs.Common.{◌≡◌, ℕ, zero, suc, ◌-◌, List, [], ◌∷◌, Option, Some, None, refl, arith}
+use Rattle.std.specs.List.{slice_get}
+use Rattle.ados_text.specs.Text.{Text}
+use Rattle.ados_flow.specs.Frames.{FrameState, moved}
+use Rattle.ados_machine.specs.declared.answers.Answer.{Answer as Reply}
+use Rattle.ados_machine.specs.declared.phases.Phase.{Phase}
+use Rattle.ados_machine.specs.declared.phases.Phase.TheVariants.{Ready, GoingOn, Waiting}
+use Rattle.ados_machine.specs.declared.phases.Wait.TheVariants.{ForAnswer, ForEnd, ForLines, ForPiece, ForStart}
+use Rattle.ados_machine.specs.Items.{Item}
+use Rattle.ados_machine.specs.Shells.{ShellState}
+use Rattle.ados_machine.specs.Sinks.{sink_in}
+use Rattle.ados_machine.specs.Deeds.{Deed, Passes, course_of}
+use Rattle.ados_machine.specs.Lines.{line_deed}
+use Rattle.ados_machine.specs.NewShells.{gathered_deed}
+use Rattle.ados_machine.specs.Answers.{answered_in}
+use Rattle.ados_machine.specs.Settle.{here_of, said_of, ruled, settle}
+use Rattle.ados_machine.specs.Turning.{frame_turned, replied}
+use Rattle.ados_machine.specs.World.{WorldState}
+use Rattle.ados_machine.specs.Carrying.{moved_by}
+use Rattle.ados_machine.specs.Step.{took, applied}
+use Rattle.ados_machine.specs.Whole.{Common}
+use Rattle.ados_machine.proofs.Fronts.{front, ruled-front}
+use Rattle.ados_machine.proofs.Alone.{shell_of, standing, start_in, Go, does, line_event, deed_event, reply_event, event_in, exec}
+use Rattle.ados_flow.specs.declared.kinds.Kind.TheVariants.{Script, Lines, Tick}
+use Rattle.ados_flow.specs.Frames.{began, first_limit}
+use Rattle.std.proofs.lemmas.Bool.{lt-leb}
+use Rattle.std.proofs.Common.{length}
+use Rattle.ados_machine.specs.declared.outs.EndReport.{EndReport}
+use Rattle.ados_machine.specs.Items.{Began, Answered, Ended, reports_of}
+use Rattle.ados_machine.specs.Whole.{Whole, Done, Late, Short, lines, at_bottom, opened_shell, opened, first_common}
+use Rattle.ados_machine.specs.Course.{shared_behind}
+use Rattle.ados_machine.specs.Told.{onto, told_on, told_reply, told_next, told, TellsReports, AloneTellsReports}
+use Rattle.ados_machine.proofs.Alone.{with_ends, Lone, Rested, Going, Unfed, exec-rests}
+use Rattle.ados_machine.proofs.Direct.{AgreesBy, ended, agrees}
+use Rattle.ados_machine.proofs.Places.{set-set}
+use Rattle.ados_machine.proofs.Systems.{free-two, opened-stands}
+use Rattle.ados_machine.proofs.Lonely.{Stands, world_of, no_input, stands-at, ended-at, stands-again, world-same, turn-is, answer-is, common_by}
+
+onto-ends : (k : ℕ) (log : List Item) (reports : List EndReport) → onto (reports_of k log) reports ≡ with_ends k log reports
+onto-ends k [] reports = refl
+onto-ends k (Began depth kind limit ∷ log) reports = onto-ends k log reports
+onto-ends k (Answered depth entry ∷ log) reports = onto-ends k log reports
+onto-ends k (Ended depth (Script name command) line codes early ∷ log) reports =
+    onto-ends k log (record { shell = k; name = name; last_line = line; code = codes.code; early = early } ∷ reports)
+onto-ends k (Ended depth Lines line codes early ∷ log) reports = onto-ends k log reports
+onto-ends k (Ended depth (Tick before after) line codes early ∷ log) reports = onto-ends k log reports
+
+abbrev told_by : Lone → Option (List EndReport)
+told_by (Rested left answers common) = Some common.reports
+told_by (Going answers frames phase common) = Some common.reports
+told_by Unfed = None
+
+-- how the world goes on
+abbrev Goes : Type 0
+Goes = WorldState → List EndReport → Option (List EndReport)
+
+-- an event that comes to a deed
+took-does : (k : ℕ) (w : WorldState) (go : Goes) (on : Go) (old : List FrameState) (phase : Phase) (common : Common) (deed : Deed)
+    (frames : List FrameState) → Stands k common →
+    ((frames : List FrameState) (phase : Phase) (common : Common) → Stands k common →
+    go (world_of k w frames phase common) common.reports ≡ told_by (on frames phase common)) →
+    told_on go common.reports (took (standing k w old phase common) k [] (settle deed frames)) ≡ told_by (does k on frames common deed)
+took-does k w go on old phase common deed frames stands same =
+    let course = course_of deed in
+    let moved = moved_by common.shared (shared_behind course) course.renamed in
+    let settled = ruled deed frames (said_of course) in
+    rw (
+      ruled-front common.said.printed moved deed frames (said_of course),
+      world-same k w old phase common course settled.frames settled.phase settled.said settled.log stands,
+      onto-ends k settled.log common.reports,
+    )
+    (same settled.frames settled.phase (common_by k common course settled.said settled.log)
+    (stands-again k common course (front common.said.printed moved settled.said) settled.log stands))
+
+-- the world goes on as the shell does
+abbrev pub Same : ℕ → WorldState → Goes → Go → Type 0
+Same k w go on = (frames : List FrameState) (phase : Phase) (common : Common) → Stands k common →
+    go (world_of k w frames phase common) common.reports ≡ told_by (on frames phase common)
+
+line-same : (k : ℕ) (w : WorldState) (go : Goes) (on : Go) (frame : FrameState) (frames : List FrameState) (common : Common)
+    (line : Option Text) → Stands k common → Same k w go on →
+    told_on go common.reports
+    (took (standing k w (frame ∷ frames) Ready common) k [] (frame_turned frame frames (start_in k (frame ∷ frames) Ready common) line))
+    ≡ told_by (line_event k on frame frames common line)
+line-same k w go on frame frames common None stands same =
+    took-does k w go on (frame ∷ frames) Ready common (Passes (start_in k (frame ∷ frames) Ready common)) (frame ∷ frames) stands same
+line-same k w go on frame frames common (Some line) stands same =
+    took-does k w go on (frame ∷ frames) Ready common
+    (line_deed line (here_of (moved frame ∷ frames)) (start_in k (frame ∷ frames) Ready common)) (moved frame ∷ frames) stands same
+
+deed-same : (k : ℕ) (w : WorldState) (go : Goes) (on : Go) (frames : List FrameState) (phase : Phase) (common : Common)
+    (deed : Option Deed) → Stands k common → Same k w go on →
+    told_on go common.reports
+    (applied (standing k w frames phase common) k common.said.parts.codes (replied no_input frames deed))
+    ≡ told_by (deed_event k on frames common deed)
+deed-same k w go on frames phase common None stands same = refl
+deed-same k w go on frames phase common (Some deed) stands same = took-does k w go on frames phase common deed frames stands same
+
+reply-same : (k : ℕ) (w : WorldState) (go : List Reply → Goes) (on : List Reply → Go) (frames : List FrameState) (phase : Phase)
+    (common : Common) (answers : List Reply) → Stands k common →
+    ((answers : List Reply) → Same k w (go answers) (on answers)) →
+    told_reply go k (standing k w frames phase common) common.reports answers ≡ told_by (reply_event k on frames phase common answers)
+reply-same k w go on frames phase common [] stands same = refl
+reply-same k w go on frames phase common (reply ∷ answers) stands same =
+    rw (answer-is k w frames phase common reply stands)
+    (deed-same k w (go answers) (on answers) frames phase common
+    (answered_in (sink_in frames) (start_in k frames phase common) phase reply) stands (same answers))
+
+-- an event of the shell
+event-same : (k : ℕ) (w : WorldState) (go : List Reply → Goes) (on : List Reply → Go) (n : ℕ) (answers : List Reply)
+    (frame : FrameState) (frames : List FrameState) (common : Common) (phase : Phase) →
+    Stands k common → ((answers : List Reply) → Same k w (go answers) (on answers)) →
+    told_next go k answers (standing k w (frame ∷ frames) phase common) common.reports
+    (Some (shell_of (frame ∷ frames) phase common))
+    ≡ told_by (event_in k on answers frame frames common phase)
+event-same k w go on n answers frame frames common Ready stands same =
+    rw (turn-is k w (frame ∷ frames) Ready common stands)
+    (line-same k w (go answers) (on answers) frame frames common (slice_get frame.lines frame.position) stands (same answers))
+event-same k w go on n answers frame frames common (GoingOn parted) stands same =
+    rw (turn-is k w (frame ∷ frames) (GoingOn parted) common stands)
+    (took-does k w (go answers) (on answers) (frame ∷ frames) (GoingOn parted) common _ (frame ∷ frames) stands (same answers))
+event-same k w go on n answers frame frames common (Waiting (ForAnswer asking)) stands same =
+    rw (turn-is k w (frame ∷ frames) (Waiting (ForAnswer asking)) common stands)
+    (took-does k w (go answers) (on answers) (frame ∷ frames) (Waiting (ForAnswer asking)) common _ (frame ∷ frames) stands (same answers))
+event-same k w go on n answers frame frames common (Waiting (ForLines gathering)) stands same =
+    rw (turn-is k w (frame ∷ frames) (Waiting (ForLines gathering)) common stands)
+    (took-does k w (go answers) (on answers) (frame ∷ frames) (Waiting (ForLines gathering)) common
+    (gathered_deed gathering (sink_in (frame ∷ frames)) (start_in k (frame ∷ frames) (Waiting (ForLines gathering)) common))
+    (frame ∷ frames) stands (same answers))
+event-same k w go on n answers frame frames common (Waiting (ForStart starting)) stands same =
+    reply-same k w go on (frame ∷ frames) (Waiting (ForStart starting)) common answers stands same
+event-same k w go on n answers frame frames common (Waiting (ForPiece child)) stands same =
+    reply-same k w go on (frame ∷ frames) (Waiting (ForPiece child)) common answers stands same
+event-same k w go on n answers frame frames common (Waiting (ForEnd child)) stands same =
+    reply-same k w go on (frame ∷ frames) (Waiting (ForEnd child)) common answers stands same
+
+pub told-exec : (k : ℕ) (w : WorldState) (n : ℕ) (answers : List Reply) → Same k w (told k n answers) (exec k n answers)
+told-exec k w zero answers [] phase common stands = refl
+told-exec k w zero answers (frame ∷ frames) phase common stands = refl
+told-exec k w (suc n) answers [] phase common stands = rw (ended-at k w common stands) refl
+told-exec k w (suc n) answers (frame ∷ frames) phase common stands =
+    rw (stands-at k w (frame ∷ frames) phase common stands)
+    (event-same k w (told k n) (exec k n) n answers frame frames common phase stands (λ rest. told-exec k w n rest))
+
+-- the frame of its lines is the last to end
+bottom-tells : (k n : ℕ) (frame : FrameState) (meaning : Whole) (lone : Lone) → frame.kind ≡ Lines →
+    AgreesBy n lone meaning (ended k frame []) → TellsReports meaning (told_by lone)
+bottom-tells k n frame (Done left answers last common) lone lines h = rw (h.1, lines, exec-rests k left answers Ready common) refl
+bottom-tells k n frame (Late answers) lone lines h = tt
+bottom-tells k n frame Short lone lines h = tt
+
+pub alone-tells : AloneTellsReports
+alone-tells n k w command commands answers free =
+    let frame = began Lines (command ∷ commands) first_limit None in
+    let shell : ShellState = opened_shell k (command ∷ commands) in
+    let common : Common = first_common w k (command ∷ commands) in
+    let above = free-two w.shells k free in
+    let stands : Stands k common = record { above = above; shell = shell; is = opened-stands w k (command ∷ commands) free } in
+    let steps : told k n answers (opened w k (command ∷ commands)) [] ≡ told_by (exec k n answers (frame ∷ []) Ready common) =
+    rw (set-set w.shells (k - 1) (Some shell) (Some shell)) at (told-exec k w n answers (frame ∷ []) Ready common stands) in
+    rw steps (bottom-tells k n frame (lines k (suc n) n answers common (at_bottom k (command ∷ commands)) None)
+    (exec k n answers (frame ∷ []) Ready common) refl
+    (agrees k (suc n) n answers common frame [] None (omega arith) (lt-leb (length (command ∷ commands)) 0 (omega arith))))
