@@ -7,7 +7,7 @@ use Rattle.ados_ram.specs.Place.{Place, carried}
 use Rattle.ados_find.specs.declared.codes.Codes.{Codes}
 use Rattle.ados_find.specs.declared.outcomes.Renamed.{Renamed}
 use Rattle.ados_find.specs.declared.targets.Target.{Target}
-use Rattle.ados_find.specs.Codes.{went_well, failed}
+use Rattle.ados_find.specs.Codes.{failed}
 use Rattle.ados_find.specs.Parts.{Parts}
 use Rattle.ados_find.specs.Settings.{first_settings}
 use Rattle.ados_find.specs.Shared.{SharedState}
