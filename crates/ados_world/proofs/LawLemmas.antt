@@ -1,19 +1,24 @@
 -- The laws at the calls: of one event, and of each place of a run.
-use Rattle.std.proofs.Common.{◌≡◌, ℕ, List, [], ◌∷◌, ◌++◌, Option, Some, None, Result, Ok, Err, refl}
+use Rattle.std.proofs.Common.{◌≡◌, ℕ, List, [], ◌∷◌, ◌++◌, Bool, true, Option, Some, None, Result, Ok, Err, refl}
 use Rattle.std.specs.Prelude.{IfSome}
 use Rattle.ados_machine.specs.declared.answers.Answer.{Answer as Reply}
 use Rattle.ados_machine.specs.declared.events.Event.{Event}
 use Rattle.ados_machine.specs.declared.events.Event.TheVariants.{Typed, EndOfInput, Turn, Answer}
 use Rattle.ados_machine.specs.declared.outs.Out.{Out}
 use Rattle.ados_machine.specs.declared.refusals.Refusal.{Refusal}
+use Rattle.ados_machine.specs.Given.{asked_in}
+use Rattle.ados_machine.specs.InUse.{asks, entry_of}
+use Rattle.ados_machine.specs.Limits.{IsSane}
 use Rattle.ados_machine.specs.Shells.{ShellState}
 use Rattle.ados_machine.specs.World.{WorldState, shell_at}
 use Rattle.ados_machine.specs.Step.{Response, Refused, Accepted, step_of}
 use Rattle.ados_machine.specs.Runs.{IsAnswer, world_after, Runs}
 use Rattle.ados_machine.specs.Starts.{IsFailure, StartFails, AllRefused, StartLeavesNothing}
+use Rattle.ados_machine.proofs.GivenLemmas.{events-give}
 use Rattle.ados_machine.proofs.RunLemmas.{Runs-more}
 use Rattle.ados_machine.proofs.Starts.{Fails, step-fails}
 use Rattle.ados_machine.proofs.InVain.{leaves-nothing}
+use Rattle.ados_machine.proofs.UseLemmas.{entries-stay}
 use Rattle.ados_world.specs.Laws.{FailedStart, LeavesNothing, NextLeavesNothing, BehindTurn, FailedStartsLeaveNothingIn}
 
 -- an answer that was accepted
@@ -96,3 +101,23 @@ starts-leave-nothing w [] outs last run = tt
 starts-leave-nothing w (event ∷ events) [] last run = tt
 starts-leave-nothing w (event ∷ events) (out ∷ outs) last run =
     (behind-turn w event out events outs last run.0 run.1, starts-leave-nothing (world_after w out (step_of w event)) events outs last run.1)
+
+-- what is given as request is what is pending behind the event
+request-given : (w : WorldState) (event : Event) (out : Out) (r : Response) → step_of w event ≡ r → IsSane w → IsAnswer event (Ok out) r →
+    out.request ≡ asked_in (world_after w (Ok out) r) event
+request-given w event out (Refused why) is sane answer = absurd answer
+request-given w event out (Accepted world given items) is sane answer = rw answer (events-give w event world given items sane is)
+
+pub step-gives : (w : WorldState) (event : Event) (out : Out) → IsSane w → IsAnswer event (Ok out) (step_of w event) →
+    out.request ≡ asked_in (world_after w (Ok out) (step_of w event)) event
+step-gives w event out sane answer = request-given w event out (step_of w event) refl sane answer
+
+-- a resident entry stays in use
+entry-stays : (w : WorldState) (event : Event) (out : Out) (r : Response) → step_of w event ≡ r → IsAnswer event (Ok out) r →
+    (k : ℕ) → asks w k ≡ true → asks (world_after w (Ok out) r) k ≡ true → entry_of (world_after w (Ok out) r) k ≡ entry_of w k
+entry-stays w event out (Refused why) is answer k before behind = absurd answer
+entry-stays w event out (Accepted world given items) is answer k before behind = entries-stay w event world given items is k before behind
+
+pub step-keeps-entries : (w : WorldState) (event : Event) (out : Out) → IsAnswer event (Ok out) (step_of w event) →
+    (k : ℕ) → asks w k ≡ true → asks (world_after w (Ok out) (step_of w event)) k ≡ true → entry_of (world_after w (Ok out) (step_of w event)) k ≡ entry_of w k
+step-keeps-entries w event out answer k before behind = entry-stays w event out (step_of w event) refl answer k before behind

@@ -1,8 +1,13 @@
 // Runs: a list of events, one after another.
-ghost use Rattle.std.specs.Prelude.{◌≡◌, IfOk, IfErr};
+ghost use Rattle.std.specs.Prelude.{◌≡◌, ℕ, ◌++◌, IfOk, IfErr};
+ghost use Rattle.ados_machine.specs.Given.{taken_in, typed_in};
+ghost use Rattle.ados_machine.specs.Kept.{codes_behind};
 ghost use Rattle.ados_machine.specs.Runs.{Runs};
 ghost use Rattle.ados_machine.specs.Limits.{LimitsHold, ReportsHold};
+ghost use Rattle.ados_machine.specs.Reports.{reports_by, stacks_in};
 ghost use Rattle.ados_machine.specs.Stacks.{FramesHold};
+ghost use Rattle.ados_machine.specs.Trace.{own, reports_in, trace};
+ghost use Rattle.ados_machine.specs.World.{codes_at};
 ghost use Rattle.ados_world.specs.Laws.{FailedStartsLeaveNothingIn, QuietShellsAreInvisibleIn};
 
 use crate::worlds::World;
@@ -67,7 +72,9 @@ impl World {
     /// its limit, and the reports of the outs are the ends of scripts, in their order. Each end is that of the newest
     /// frame of its shell, told once by the frame's own name and last record. Where a program could not be started, and
     /// that is the next event accepted behind the turn that asked, nothing is left of the attempt. A shell whose events
-    /// leave what is seen of it as it was can be taken out: the others are answered the same without it.
+    /// leave what is seen of it as it was can be taken out: the others are answered the same without it. What waited and was
+    /// typed is what shell 1 took, in order, followed by what waits. Each report tells the last record of its script, and the
+    /// last codes of each number, also of a shell that has ended, are those of its last command.
     pub fn run(mut self, events: &[Event]) -> Result<Run, World>
         ensures run { IfOk result (λ run. Runs self events.now run.outs run.world) }
         ensures limits { IfOk result (λ run. LimitsHold self events.now run.outs) }
@@ -75,6 +82,9 @@ impl World {
         ensures frames { IfOk result (λ run. FramesHold self events.now run.outs run.world) }
         ensures starts { IfOk result (λ run. FailedStartsLeaveNothingIn self events.now run.outs) }
         ensures quiet { IfOk result (λ run. QuietShellsAreInvisibleIn self events.now run.outs run.world) }
+        ensures typed { IfOk result (λ run. self.queue ++ typed_in events.now run.outs ≡ taken_in self events.now run.outs ++ run.world.queue) }
+        ensures records { IfOk result (λ run. reports_in run.outs ≡ reports_by (stacks_in self) (trace self events.now run.outs)) }
+        ensures codes { IfOk result (λ run. (k : ℕ) → codes_at run.world k ≡ codes_behind (codes_at self k) (own k (trace self events.now run.outs))) }
         ensures err { IfErr result (λ world. world ≡ self) }
     {
         let Ok(mut outs) = Vec::with_capacity(self.alloc, events.len()) else {

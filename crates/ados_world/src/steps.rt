@@ -1,5 +1,7 @@
 // The step: what an event makes of a world.
-ghost use Rattle.std.specs.Prelude.{◌≡◌, [], drop, false, Err, IfErr, OnErr, OnOk, is_some, true};
+ghost use Rattle.std.specs.Prelude.{◌≡◌, ℕ, [], drop, false, Err, IfErr, IfOk, OnErr, OnOk, is_some, true};
+ghost use Rattle.ados_machine.specs.Given.{asked_in};
+ghost use Rattle.ados_machine.specs.InUse.{asks, entry_of};
 ghost use Rattle.ados_machine.specs.Limits.{IsSane};
 ghost use Rattle.ados_machine.specs.World.{is_over, shell_at};
 ghost use Rattle.ados_machine.specs.Step.{step_of, turned, answered, giving, queue_behind};
@@ -25,11 +27,15 @@ impl World {
     ///
     /// Refusals come in the order of their enum; the first six, an accepted end of input and the end of a shell take
     /// no memory. An answer that a start has failed changes the codes of the shell that asked, and what these change:
-    /// what all shells share, the other shells and the input stay.
+    /// what all shells share, the other shells and the input stay. What is given as request is what the event's shell waits
+    /// for then, and none behind a typed line or the end of input. A resident entry stays in use from the start of its program
+    /// to the answer that ends it.
     pub fn step(&mut self, event: &Event) -> Result<Out, Refusal>
         ensures answer { IsAnswer event.now result (step_of self.old event.now) }
         ensures world { self.new ≡ world_after self.old result (step_of self.old event.now) }
         ensures failed_start { OnOk result (FailedStart self.old event.now self.new) }
+        ensures request { IfOk result (λ out. out.request ≡ asked_in self.new event.now) }
+        ensures entries { OnOk result ((k : ℕ) → asks self.old k ≡ true → asks self.new k ≡ true → entry_of self.new k ≡ entry_of self.old k) }
     {
         let mut draft = Draft::new(self.alloc);
         self.step_into(event, &mut draft)?;

@@ -2,6 +2,9 @@ use Rattle.std.proofs.Common.{◌≡◌, ◌∙◌, ◌+◌, ◌++◌, ◌∷◌
 use Rattle.std.proofs.lemmas.Grind.{common_steps}
 use Rattle.std.proofs.lemmas.List.{take_more}
 use Rattle.ados_machine.specs.Runs.{Runs}
+use Rattle.ados_machine.proofs.GivenLemmas.{lines-in-order}
+use Rattle.ados_machine.proofs.KeptLemmas.{last-codes-stay}
+use Rattle.ados_machine.proofs.ReportLemmas.{reports-by}
 use Rattle.ados_machine.proofs.RunLemmas.{Runs-more}
 use Rattle.ados_machine.proofs.Traces.{frames-hold, limits-hold}
 use Rattle.ados_machine.proofs.Ends.{reports-hold}
@@ -52,3 +55,21 @@ returns-clause-quiet c =
     let all : take c.loop-event.event-index c.args.events.now ≡ c.args.events.now = grind (arith, common_steps) in
     let run : Runs c.args.self c.args.events.now c.loop-event.outs.items c.loop-event.self = rw all at c.loop-event.invariant.run in
     rw c.from_vec.ensures (λ j quiet. quiet-shells j c.args.self c.args.events.now c.loop-event.outs.items c.loop-event.self run quiet)
+
+pub returns-clause-typed : goal.returns-clause-typed
+returns-clause-typed c =
+    let all : take c.loop-event.event-index c.args.events.now ≡ c.args.events.now = grind (arith, common_steps) in
+    let run : Runs c.args.self c.args.events.now c.loop-event.outs.items c.loop-event.self = rw all at c.loop-event.invariant.run in
+    rw c.from_vec.ensures (lines-in-order c.args.self c.args.events.now c.loop-event.outs.items c.loop-event.self run)
+
+pub returns-clause-records : goal.returns-clause-records
+returns-clause-records c =
+    let all : take c.loop-event.event-index c.args.events.now ≡ c.args.events.now = grind (arith, common_steps) in
+    let run : Runs c.args.self c.args.events.now c.loop-event.outs.items c.loop-event.self = rw all at c.loop-event.invariant.run in
+    rw c.from_vec.ensures (reports-by c.args.self c.args.events.now c.loop-event.outs.items c.loop-event.self run (rw c.self.view_is at c.self.invariant))
+
+pub returns-clause-codes : goal.returns-clause-codes
+returns-clause-codes c =
+    let all : take c.loop-event.event-index c.args.events.now ≡ c.args.events.now = grind (arith, common_steps) in
+    let run : Runs c.args.self c.args.events.now c.loop-event.outs.items c.loop-event.self = rw all at c.loop-event.invariant.run in
+    rw c.from_vec.ensures (last-codes-stay c.args.self c.args.events.now c.loop-event.outs.items c.loop-event.self run (rw c.self.view_is at c.self.invariant) refl)

@@ -1,6 +1,14 @@
-use Rattle.ados_world.proofs.LawLemmas.{failed-start}
+use Rattle.ados_world.proofs.LawLemmas.{failed-start, step-gives, step-keeps-entries}
 use Rattle.ados_world.proofs.worlds.World.step.Goals as goal
 
 pub returns-clause-failed_start : goal.returns-clause-failed_start
 returns-clause-failed_start c =
     rw c.in_ok-step_into.ensures.world (failed-start c.args.self.now c.args.event.now _ c.in_ok-step_into.ensures.answer)
+
+pub returns-clause-request : goal.returns-clause-request
+returns-clause-request c =
+    rw c.in_ok-step_into.ensures.world (step-gives c.args.self.now c.args.event.now _ (rw c.self.view_is at c.self.invariant) c.in_ok-step_into.ensures.answer)
+
+pub returns-clause-entries : goal.returns-clause-entries
+returns-clause-entries c =
+    rw c.in_ok-step_into.ensures.world (step-keeps-entries c.args.self.now c.args.event.now _ c.in_ok-step_into.ensures.answer)
