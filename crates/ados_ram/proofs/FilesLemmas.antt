@@ -100,7 +100,7 @@ put_files {m} key new files clear keeps size total count = record {
   objects = count;
 }
 
-no_directory : (is_open : Bool) (o : Option Entry) → write_target_fault is_open o ≡ None → IsTrue (is_some_directory o) → ⊥
+pub no_directory : (is_open : Bool) (o : Option Entry) → write_target_fault is_open o ≡ None → IsTrue (is_some_directory o) → ⊥
 no_directory is_open None h d = cc
 no_directory is_open (Some e) h d = not_free (is_directory e) _ h d
   where
@@ -166,7 +166,7 @@ not_both : (b : Bool) → not b ≡ true → IsTrue b → ⊥
 not_both true h t = clash h
 not_both false h t = clash t
 
-a_file : (o : Option Entry) (more : Bool) → (is_some_file o && more) ≡ true → IsTrue (is_some_directory o) → ⊥
+pub a_file : (o : Option Entry) (more : Bool) → (is_some_file o && more) ≡ true → IsTrue (is_some_directory o) → ⊥
 a_file None more h d = clash d
 a_file (Some e) more h d = not_both (is_directory e) (first_of (not (is_directory e)) more h) d
   where
@@ -274,11 +274,11 @@ removed_files {m} key files not_root empty =
       objects = subst (λ (n : ℕ). n ≤ objects_limit) (sym (len-entries _ ∙ ap length left)) (omega (arith, length-without key (map.entries m), len-entries m));
     }
 
-record CanDelete (key : List (List ℕ)) (es : Rows) : Type 0 where
+pub record CanDelete (key : List (List ℕ)) (es : Rows) : Type 0 where
   pub not_root : is_root key ≡ false
   pub empty : any_below key es ≡ false
 
-can_delete : (busy : InUse) (key : List (List ℕ)) (es : Rows) (o : Option Entry) → delete_target_fault busy es key o ≡ None → CanDelete key es
+pub can_delete : (busy : InUse) (key : List (List ℕ)) (es : Rows) (o : Option Entry) → delete_target_fault busy es key o ≡ None → CanDelete key es
 can_delete busy key es None h = cc
 can_delete busy key es (Some e) h = by_tests (is_in_use busy key) (is_root key) e.bits.delete (any_below key es) h refl refl
   where
