@@ -48,13 +48,6 @@ clear_rest : (o : Option Entry) (rest : Option Result2) → on_the_way o rest �
 clear_rest None rest h = cc
 clear_rest (Some e) rest h = dir_rest (is_directory e) rest h
 
--- one place further on the way
-pub way_step : (m : Files) (names : List (List ℕ)) (i : ℕ) → i < length names → way_fault m (key_of (take i names)) (key_of (drop i names)) ≡ on_the_way (map.get m (key_of (take i names))) (way_fault m (key_of (take (i + 1) names)) (key_of (drop (i + 1) names)))
-way_step m names i h =
-    let d : drop i names ≡ get_or names i [] ∷ drop (i + 1) names = rw add-one (drop-cons names i [] h) in
-    let k : key_of (take (i + 1) names) ≡ key_of (take i names) ++ folded (get_or names i []) ∷ [] = ap key_of (take_more names i [] h) ∙ map-append folded (take i names) (get_or names i [] ∷ []) in
-    ap (λ d. way_fault m (key_of (take i names)) (key_of d)) d ∙ ap (λ a. on_the_way (map.get m (key_of (take i names))) (way_fault m a (key_of (drop (i + 1) names)))) (sym k)
-
 -- no fault on the way: a directory stands at each place above
 pub way_clear : (m : Files) (above rest : List (List ℕ)) (n : List ℕ) (more : List (List ℕ)) → way_fault m above (rest ++ n ∷ more) ≡ None → IsTrue (is_some_directory (map.get m (above ++ rest)))
 way_clear m above [] n more e = subst (λ (k : List (List ℕ)). IsTrue (is_some_directory (map.get m k))) (sym (append-nil above)) (clear_step (map.get m above) _ e)

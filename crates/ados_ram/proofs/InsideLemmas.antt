@@ -1,11 +1,10 @@
 -- What a change that is not refused tells: the place is not the root, and the directory above it is there.
-use Rattle.std.proofs.Common.{◌≡◌, ◌+◌, ℕ, Bool, true, false, cond, List, [], ◌∷◌, ◌++◌, Option, Some, None, is_some, IsSome, IsTrue, refl, sym, ap, ◌∙◌, subst, append_assoc, length, length-append, arith}
+use Rattle.std.proofs.Common.{◌≡◌, ℕ, Bool, true, false, cond, List, [], ◌∷◌, ◌++◌, Option, Some, None, is_some, IsSome, IsTrue, refl, sym, ap, ◌∙◌, subst, append_assoc, length, length-append, arith}
 use Rattle.std.specs.Cmp.{eq_by_cmp_equiv}
 use Rattle.std.specs.FinMap as map
 use Rattle.std.specs.FinMap.{get-insert}
-use Rattle.ados_text.specs.declared.codes.Result2.{Result2}
 use Rattle.ados_ram.specs.declared.entries.Entry.{Entry}
-use Rattle.ados_ram.specs.Place.{Key, key_of, place_cmp_total, is_same_key, is_root, behind, has_names, is_below, is_at_or_below}
+use Rattle.ados_ram.specs.Place.{Key, place_cmp_total, is_same_key, is_root, behind, has_names, is_below, is_at_or_below}
 use Rattle.ados_ram.specs.InUse.{InUse}
 use Rattle.ados_ram.specs.Files.{Files, AreFiles, is_some_directory}
 use Rattle.ados_ram.specs.FileOperations.{way_fault, write_target_fault, write_fault, is_put, free_fault, make_dir_fault, any_below, delete_target_fault, delete_fault, rename_target_fault, rename_fault}

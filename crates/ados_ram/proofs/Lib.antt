@@ -13,3 +13,4 @@ pub mod TableLemmas
 pub mod WalkLemmas
 pub mod TotalLemmas
 pub mod InsideLemmas
+pub mod WrittenLemmas

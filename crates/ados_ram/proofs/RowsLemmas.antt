@@ -271,7 +271,3 @@ length-sorted_of [] = omega arith
 length-sorted_of (e ∷ es) =
     let r = sorted_of_rows es in
     omega (arith, length-put_without e.0 e.1 (sorted_of es) (holds _ r.sorted), length-without e.0 (sorted_of es), length-sorted_of es)
-
--- the size of rows put in order one by one
-pub total-from_entries : (es : Rows) → total_of (map.entries (map.from_entries {R = place_cmp} es)) ≤ total_of es
-total-from_entries es = subst (λ (xs : Rows). total_of xs ≤ total_of es) (sym (entries_rows (sorted_of es) (sorted_of_rows es))) (total-sorted_of es)

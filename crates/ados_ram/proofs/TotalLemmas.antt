@@ -1,19 +1,18 @@
 -- A rename moves rows: their number and what their files hold stay.
-use Rattle.std.proofs.Common.{◌≡◌, ◌+◌, ℕ, Bool, true, false, T, cond, List, [], ◌∷◌, ◌++◌, Option, Some, None, is_some, IsSome, IsTrue, refl, sym, ap, ◌∙◌, subst, length, arith}
+use Rattle.std.proofs.Common.{◌≡◌, ◌+◌, ℕ, true, false, T, cond, List, [], ◌∷◌, Some, None, is_some, refl, sym, ap, ◌∙◌, length, arith}
 use Rattle.std.specs.Ordering.{is_eq}
 use Rattle.std.specs.Option.{option_map}
 use Rattle.std.specs.FinMap as map
-use Rattle.std.specs.FinMap.{find, is_sorted, get-from_entries, entries_sorted, len-entries}
+use Rattle.std.specs.FinMap.{find, is_sorted, get-from_entries, entries_sorted}
 use Rattle.std.specs.FinMap.Entries.{below_all}
-use Rattle.ados_ram.specs.declared.entries.Entry.{Entry}
-use Rattle.ados_ram.specs.Place.{Key, place_cmp, place_cmp_total, is_same_key, behind, is_at_or_below}
+use Rattle.ados_ram.specs.Place.{Key, place_cmp, place_cmp_total, is_same_key, behind}
 use Rattle.ados_ram.specs.Entry.{size_of, renamed}
 use Rattle.ados_ram.specs.Files.{Files, Rows, total_of}
 use Rattle.ados_ram.specs.FileOperations.{moved_row, moved_rows, rename_of}
 use Rattle.ados_ram.specs.Rows.{rows_without}
-use Rattle.ados_ram.proofs.RowsLemmas.{holds, first, second, tied, none_above, sorted_of, sorted_of_rows, get_rows, entries_rows, total-put, length-put_without}
+use Rattle.ados_ram.proofs.RowsLemmas.{holds, first, second, tied, sorted_of, sorted_of_rows, get_rows, entries_rows, total-put, length-put_without}
 use Rattle.ados_ram.proofs.FilesLemmas.{clash, nothing}
-use Rattle.ados_ram.proofs.RenameLemmas.{Within, later, here, behind-exact, false_of, at_or_below, find-moved_in, find-moved_out, none_of, total-moved_rows, length-moved_rows}
+use Rattle.ados_ram.proofs.RenameLemmas.{Within, later, here, behind-exact, false_of, find-moved_in, find-moved_out, none_of, total-moved_rows, length-moved_rows}
 
 -- no place comes twice
 abbrev Distinct : Rows → Type 0

@@ -1,5 +1,5 @@
 -- A walk down the tree gathers the rows below a place.
-use Rattle.std.proofs.Common.{◌≡◌, ℕ, ◌<◌, ◌≤◌, ◌==◌, suc, zero, Bool, true, false, T, cond, not, ◌&&◌, ◌||◌, IsTrue, ◌+◌, List, [], ◌∷◌, ◌++◌, Option, Some, None, IsSome, refl, sym, ap, ◌∙◌, subst, append_assoc, length, length-append, arith, slice_index_or, drop, drop-cons, get_or, add-one, nat_eq}
+use Rattle.std.proofs.Common.{◌≡◌, ℕ, ◌<◌, ◌≤◌, ◌==◌, suc, zero, Bool, true, false, T, cond, not, ◌&&◌, ◌||◌, ◌+◌, List, [], ◌∷◌, ◌++◌, Option, Some, None, IsSome, refl, sym, ap, ◌∙◌, subst, append_assoc, length, length-append, arith, slice_index_or, drop, drop-cons, add-one, nat_eq}
 use Rattle.std.proofs.lemmas.Bool.Decides.{nat_tests}
 use Rattle.std.specs.FinMap.{is_sorted, find}
 use Rattle.std.specs.FinMap.Entries.{below_all}
@@ -10,7 +10,7 @@ use Rattle.ados_ram.specs.FileOperations.{any_below, names_in}
 use Rattle.ados_ram.specs.Entry.{is_directory}
 use Rattle.ados_ram.specs.Contents.{is_within, children, put_behind, contents, files_below}
 use Rattle.ados_ram.specs.Rows.{rows_within}
-use Rattle.ados_ram.specs.Tree.{Kid, Kids, IsSubtree, AllSubtrees, AreKids, under, flatten, rows_of, rows_to, rows_from, with_way}
+use Rattle.ados_ram.specs.Tree.{Kid, Kids, IsSubtree, AllSubtrees, under, flatten, rows_of, rows_to, rows_from, with_way}
 use Rattle.ados_ram.proofs.RowsLemmas.{first, none_above}
 use Rattle.ados_ram.proofs.RenameLemmas.{behind-exact}
 use Rattle.ados_ram.proofs.TreeLemmas.{holds}

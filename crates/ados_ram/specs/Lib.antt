@@ -5,6 +5,6 @@ pub mod Files
 pub mod FileOperations
 pub mod Contents
 pub mod Rows
+pub mod Written
 pub mod Tree
 pub mod Falls
-pub mod Written

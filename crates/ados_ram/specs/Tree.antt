@@ -5,13 +5,14 @@ use Rattle.std.specs.Coded.{Coded, coded×, coded_list, coded_ℕ}
 use Rattle.std.specs.FinMap as map
 use Rattle.std.specs.Ordering.{is_eq}
 use Rattle.ados_text.specs.Name.{Name, name_cmp}
-use Rattle.ados_ram.specs.Place.{Key, place_cmp, behind, is_root, is_same_key, is_at_or_below, last_name}
+use Rattle.ados_ram.specs.Place.{Key, Place, place_cmp, behind, is_root, is_same_key, is_at_or_below, last_name}
 use Rattle.std.specs.Option.{option_map}
 use Rattle.ados_text.specs.Text.{folded}
 use Rattle.ados_ram.specs.Entry.{coded_entry, renamed, new_directory}
 use Rattle.ados_ram.specs.Files.{Files, Rows}
 use Rattle.ados_text.specs.declared.codes.Result2.{Result2}
 use Rattle.ados_ram.specs.FileOperations.{on_the_way}
+use Rattle.ados_ram.specs.Written.{spelled}
 use Rattle.ados_ram.specs.declared.entries.Entry.{Entry}
 
 abbrev pub Kid : Type 0
@@ -162,6 +163,11 @@ pub record MayMove (from to : Key) (m : Files) : Type 0 where
   pub above_to : IsSome (map.get m (above to))
   pub apart : is_at_or_below from (above to) ≡ false
   pub within : (k : Key) → IsSome (map.find place_cmp k (map.entries m)) → is_at_or_below to k ≡ true → is_at_or_below from k ≡ true
+
+-- names that lead down from a place, as they are written in the rows
+abbrev pub rows_written : Rows → Key → Place → Place
+rows_written es above [] = []
+rows_written es above (name ∷ rest) = spelled (map.find place_cmp (above ++ folded name ∷ []) es) name ∷ rows_written es (above ++ folded name ∷ []) rest
 
 -- the fault of the places above a place, by the rows
 abbrev pub rows_way : Rows → Key → Key → Option Result2

@@ -4,7 +4,7 @@ ghost use Rattle.std.specs.Option.{option_copied};
 ghost use Rattle.std.specs.FinMap as map;
 ghost use Rattle.ados_text.specs.Text.{folded};
 ghost use Rattle.ados_ram.specs.Place.{key_of, place_cmp, is_root};
-ghost use Rattle.ados_ram.specs.Tree.{AreKids, IsReplaced, MayStand, rows_at, rows_from, rows_of, rows_to, rows_way, with_flat, IsEntryAt};
+ghost use Rattle.ados_ram.specs.Tree.{AreKids, IsReplaced, MayStand, rows_at, rows_from, rows_of, rows_to, rows_way, rows_written, with_flat, IsEntryAt};
 ghost use Rattle.ados_ram.specs.Rows.{rows_within};
 ghost use Rattle.ados_ram.specs.FileOperations.{any_below};
 
@@ -104,6 +104,19 @@ impl Branch {
         match kid_at(&self.node.kids, name) {
             None => None,
             Some(kid) => kid.at(rest),
+        }
+    }
+
+    /// A place with names behind it that lead down from here, as they are written; what is not there stays as it is.
+    pub fn written(&self, written: Place, names: &[Name]) -> Result<Place, NoMemory>
+        ensures { IfOk result (λ place. place ≡ written ++ rows_written self.now.1 [] names.now) }
+    {
+        let Some((name, rest)) = names.split_first() else {
+            return Ok(written);
+        };
+        match kid_at(&self.node.kids, name) {
+            None => written.joined(names),
+            Some(kid) => kid.written(written.with(kid.entry().name.copy()?)?, rest),
         }
     }
 

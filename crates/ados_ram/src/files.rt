@@ -21,7 +21,6 @@ use crate::refusals::{
     rename_refusal, write_refusal,
 };
 use crate::table::{Table, bytes_at};
-use crate::written::written_below;
 use ados_text::{Name, NoMemory, Result2, Text};
 use std::alloc::Global;
 use std::marker::Model;
@@ -274,8 +273,7 @@ impl Ram {
     pub fn written(&self, place: &Place) -> Result<Place, NoMemory>
         ensures { IfOk result (λ written. written ≡ written_place self.now place.now) }
     {
-        let root = Place::root(self.alloc);
-        written_below(self, Place::root(self.alloc), root, place.names())
+        self.table.written(place)
     }
 
     /// The full path of a place, as `RAM:a/b`, with its names as they are written in the files.

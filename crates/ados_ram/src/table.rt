@@ -9,6 +9,7 @@ ghost use Rattle.ados_ram.specs.Entry.{size_of};
 ghost use Rattle.ados_ram.specs.Files.{AreFiles, bytes_at, total_of, bytes_limit, first_files};
 ghost use Rattle.ados_ram.specs.FileOperations.{any_below, rename_of, way_fault};
 ghost use Rattle.ados_ram.specs.Rows.{rows_within};
+ghost use Rattle.ados_ram.specs.Written.{written_place};
 ghost use Rattle.ados_ram.specs.Tree.{above, first_kid, first_kids, rows_from, IsEntryAt, IsRenamed, MayMove};
 
 use crate::branches::Branch;
@@ -71,6 +72,13 @@ impl Table {
         ensures { result ≡ way_fault self.now [] (key_of names.now) }
     {
         self.root.way(names)
+    }
+
+    /// A place with its names as they are written; what is not there stays as it is.
+    pub fn written(&self, place: &Place) -> Result<Place, NoMemory>
+        ensures { IfOk result (λ written. written ≡ written_place self.now place.now) }
+    {
+        self.root.written(Place::root(self.alloc), place.names())
     }
 
     /// Something is below a place.

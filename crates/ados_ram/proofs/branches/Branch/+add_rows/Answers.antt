@@ -1,10 +1,9 @@
-use Rattle.std.proofs.Common.{◌≡◌, ◌∙◌, ◌++◌, ◌∷◌, [], ℕ, List, sym, ap, subst, refl, true, false, Bool}
+use Rattle.std.proofs.Common.{◌≡◌, ◌∙◌, ◌++◌, ◌∷◌, [], ℕ, List, sym, ap, subst, refl, true, Bool}
 use Rattle.std.proofs.lemmas.List.{append-nil, map-append}
 use Rattle.ados_text.specs.Text.{folded}
 use Rattle.ados_ram.specs.declared.entries.Entry.{Entry}
 use Rattle.ados_ram.specs.Place.{Key, key_of}
-use Rattle.ados_ram.specs.Files.{Rows}
-use Rattle.ados_ram.specs.Tree.{Kid, Kids, AllSubtrees, rows_to}
+use Rattle.ados_ram.specs.Tree.{AllSubtrees, rows_to}
 use Rattle.ados_ram.specs.Rows.{rows_within}
 use Rattle.ados_ram.proofs.WalkLemmas.{gathered, rows_in}
 use Rattle.ados_ram.proofs.branches.Branch.+add_rows.Goals as goal
