@@ -48,13 +48,6 @@ clear_rest : (o : Option Entry) (rest : Option Result2) → on_the_way o rest �
 clear_rest None rest h = cc
 clear_rest (Some e) rest h = dir_rest (is_directory e) rest h
 
--- one place further on the way
-pub way_step : (m : Files) (names : List (List ℕ)) (i : ℕ) → i < length names → way_fault m (key_of (take i names)) (key_of (drop i names)) ≡ on_the_way (map.get m (key_of (take i names))) (way_fault m (key_of (take (i + 1) names)) (key_of (drop (i + 1) names)))
-way_step m names i h =
-    let d : drop i names ≡ get_or names i [] ∷ drop (i + 1) names = rw add-one (drop-cons names i [] h) in
-    let k : key_of (take (i + 1) names) ≡ key_of (take i names) ++ folded (get_or names i []) ∷ [] = ap key_of (take_more names i [] h) ∙ map-append folded (take i names) (get_or names i [] ∷ []) in
-    ap (λ d. way_fault m (key_of (take i names)) (key_of d)) d ∙ ap (λ a. on_the_way (map.get m (key_of (take i names))) (way_fault m a (key_of (drop (i + 1) names)))) (sym k)
-
 -- no fault on the way: a directory stands at each place above
 pub way_clear : (m : Files) (above rest : List (List ℕ)) (n : List ℕ) (more : List (List ℕ)) → way_fault m above (rest ++ n ∷ more) ≡ None → IsTrue (is_some_directory (map.get m (above ++ rest)))
 way_clear m above [] n more e = subst (λ (k : List (List ℕ)). IsTrue (is_some_directory (map.get m k))) (sym (append-nil above)) (clear_step (map.get m above) _ e)
@@ -100,7 +93,7 @@ put_files {m} key new files clear keeps size total count = record {
   objects = count;
 }
 
-no_directory : (is_open : Bool) (o : Option Entry) → write_target_fault is_open o ≡ None → IsTrue (is_some_directory o) → ⊥
+pub no_directory : (is_open : Bool) (o : Option Entry) → write_target_fault is_open o ≡ None → IsTrue (is_some_directory o) → ⊥
 no_directory is_open None h d = cc
 no_directory is_open (Some e) h d = not_free (is_directory e) _ h d
   where
@@ -166,7 +159,7 @@ not_both : (b : Bool) → not b ≡ true → IsTrue b → ⊥
 not_both true h t = clash h
 not_both false h t = clash t
 
-a_file : (o : Option Entry) (more : Bool) → (is_some_file o && more) ≡ true → IsTrue (is_some_directory o) → ⊥
+pub a_file : (o : Option Entry) (more : Bool) → (is_some_file o && more) ≡ true → IsTrue (is_some_directory o) → ⊥
 a_file None more h d = clash d
 a_file (Some e) more h d = not_both (is_directory e) (first_of (not (is_directory e)) more h) d
   where
@@ -274,11 +267,11 @@ removed_files {m} key files not_root empty =
       objects = subst (λ (n : ℕ). n ≤ objects_limit) (sym (len-entries _ ∙ ap length left)) (omega (arith, length-without key (map.entries m), len-entries m));
     }
 
-record CanDelete (key : List (List ℕ)) (es : Rows) : Type 0 where
+pub record CanDelete (key : List (List ℕ)) (es : Rows) : Type 0 where
   pub not_root : is_root key ≡ false
   pub empty : any_below key es ≡ false
 
-can_delete : (busy : InUse) (key : List (List ℕ)) (es : Rows) (o : Option Entry) → delete_target_fault busy es key o ≡ None → CanDelete key es
+pub can_delete : (busy : InUse) (key : List (List ℕ)) (es : Rows) (o : Option Entry) → delete_target_fault busy es key o ≡ None → CanDelete key es
 can_delete busy key es None h = cc
 can_delete busy key es (Some e) h = by_tests (is_in_use busy key) (is_root key) e.bits.delete (any_below key es) h refl refl
   where

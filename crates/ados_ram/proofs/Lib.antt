@@ -1,8 +1,16 @@
 pub mod PlaceLemmas
-pub mod PositionLemmas
 pub mod RowsLemmas
 pub mod FilesLemmas
 pub mod FirstLemmas
 pub mod RenameLemmas
 pub mod ContentsLemmas
 pub mod StayLemmas
+pub mod KidLemmas
+pub mod TreeLemmas
+pub mod ChangeLemmas
+pub mod WayLemmas
+pub mod TableLemmas
+pub mod WalkLemmas
+pub mod TotalLemmas
+pub mod InsideLemmas
+pub mod WrittenLemmas

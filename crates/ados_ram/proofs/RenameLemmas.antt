@@ -41,7 +41,7 @@ behind-exact (n ∷ ns) (x ∷ xs) way e =
     ] refl e
 
 -- behind the same directory the ways tell places apart
-same_behind : (place a b : List (List ℕ)) → is_same_key (place ++ a) (place ++ b) ≡ is_same_key a b
+pub same_behind : (place a b : List (List ℕ)) → is_same_key (place ++ a) (place ++ b) ≡ is_same_key a b
 same_behind place a b =
     elim (is_same_key a b) as (λ t. is_same_key a b ≡ t → is_same_key (place ++ a) (place ++ b) ≡ t) [
       | true ↦ λ t. subst (λ (w : List (List ℕ)). is_same_key (place ++ a) (place ++ w) ≡ true) (same a b t) (self (place ++ a))
@@ -51,20 +51,20 @@ same_behind place a b =
     ] refl
 
 -- what is at a place or below it is at another or below that
-abbrev Within : List (List ℕ) → List (List ℕ) → Rows → Type 0
+abbrev pub Within : List (List ℕ) → List (List ℕ) → Rows → Type 0
 Within to from es = (k : List (List ℕ)) → IsSome (find place_cmp k es) → is_at_or_below to k ≡ true → is_at_or_below from k ≡ true
 
-later : (k : List (List ℕ)) (e : List (List ℕ) × Entry) (es : Rows) → IsSome (find place_cmp k es) → IsSome (find place_cmp k (e ∷ es))
+pub later : (k : List (List ℕ)) (e : List (List ℕ) × Entry) (es : Rows) → IsSome (find place_cmp k es) → IsSome (find place_cmp k (e ∷ es))
 later k e es h = elim (is_same_key k e.0) as (λ b. IsSome (cond b (Some e.1) (find place_cmp k es))) [ true ↦ refl | false ↦ h ]
 
-here : (e : List (List ℕ) × Entry) (es : Rows) → IsSome (find place_cmp e.0 (e ∷ es))
+pub here : (e : List (List ℕ) × Entry) (es : Rows) → IsSome (find place_cmp e.0 (e ∷ es))
 here e es = subst (λ (b : Bool). IsSome (cond b (Some e.1) (find place_cmp e.0 es))) (sym (self e.0)) refl
 
 pub at_or_below : (place way k : List (List ℕ)) → k ≡ place ++ way → is_at_or_below place k ≡ true
 at_or_below place way k e = ap is_some (ap (behind place) e ∙ behind-append place way)
 
 -- what is found where things moved to
-find-moved_in : (from to : List (List ℕ)) (name : List ℕ) (es : Rows) (way : List (List ℕ)) → Within to from es
+pub find-moved_in : (from to : List (List ℕ)) (name : List ℕ) (es : Rows) (way : List (List ℕ)) → Within to from es
     → find place_cmp (to ++ way) (moved_rows from to name es) ≡ option_map (renamed name way) (find place_cmp (from ++ way) es)
 find-moved_in from to name [] way within = refl
 find-moved_in from to name (e ∷ es) way within =
@@ -86,7 +86,7 @@ find-moved_in from to name (e ∷ es) way within =
     ] refl
 
 -- what is found elsewhere
-find-moved_out : (from to : List (List ℕ)) (name : List ℕ) (es : Rows) (q : List (List ℕ)) → behind to q ≡ None
+pub find-moved_out : (from to : List (List ℕ)) (name : List ℕ) (es : Rows) (q : List (List ℕ)) → behind to q ≡ None
     → find place_cmp q (moved_rows from to name es) ≡ cond (is_at_or_below from q) nothing (find place_cmp q es)
 find-moved_out from to name [] q out = elim (is_at_or_below from q) as (λ b. nothing ≡ cond b nothing nothing) [ true ↦ refl | false ↦ refl ]
 find-moved_out from to name (e ∷ es) q out =
@@ -108,7 +108,7 @@ find-moved_out from to name (e ∷ es) q out =
           ] refl
     ] refl
 
-get-moved_in : (m : Files) (from to : List (List ℕ)) (name : List ℕ) (way : List (List ℕ)) → Within to from (map.entries m) → map.get (rename_of m from to name) (to ++ way) ≡ option_map (renamed name way) (map.get m (from ++ way))
+pub get-moved_in : (m : Files) (from to : List (List ℕ)) (name : List ℕ) (way : List (List ℕ)) → Within to from (map.entries m) → map.get (rename_of m from to name) (to ++ way) ≡ option_map (renamed name way) (map.get m (from ++ way))
 get-moved_in m from to name way within =
     get-from_entries place_cmp_total _ (to ++ way) ∙ find-moved_in from to name (map.entries m) way within ∙ ap (option_map (renamed name way)) (sym (get-entries m (from ++ way)))
 
@@ -142,12 +142,12 @@ total-moved_rows from to name (e ∷ es) =
       | Some w ↦ omega (arith, total-moved_rows from to name es, size-renamed name w e.1)
     ]
 
-length-moved_rows : (from to : List (List ℕ)) (name : List ℕ) (es : Rows) → length (moved_rows from to name es) ≡ length es
+pub length-moved_rows : (from to : List (List ℕ)) (name : List ℕ) (es : Rows) → length (moved_rows from to name es) ≡ length es
 length-moved_rows from to name [] = refl
 length-moved_rows from to name (e ∷ es) = omega (arith, length-moved_rows from to name es)
 
 -- what a rename that is not refused tells
-record CanMove (from to : List (List ℕ)) (there : Option Entry) : Type 0 where
+pub record CanMove (from to : List (List ℕ)) (there : Option Entry) : Type 0 where
   pub not_root : is_root from ≡ false
   pub not_below : is_below from to ≡ false
   pub free : is_some there ≡ true → is_same_key from to ≡ true
@@ -165,18 +165,18 @@ by_tests false false false true true h = record { not_root = refl; not_below = r
 by_tests false false false true false h = cc
 by_tests false false false false same h = record { not_root = refl; not_below = refl; free = λ t. clash t }
 
-can_move : (busy : InUse) (from to : List (List ℕ)) (found there : Option Entry) → rename_target_fault busy from to found there ≡ None → CanMove from to there
+pub can_move : (busy : InUse) (from to : List (List ℕ)) (found there : Option Entry) → rename_target_fault busy from to found there ≡ None → CanMove from to there
 can_move busy from to None there h = cc
 can_move busy from to (Some e) there h =
     let t = by_tests (holds_output busy from) (is_root from) (is_below from to) (is_some there) (is_same_key from to) h in
     record { not_root = t.not_root; not_below = t.not_below; free = t.free }
 
-some_of : (o : Option Entry) → IsTrue (is_some_directory o) → is_some o ≡ true
+pub some_of : (o : Option Entry) → IsTrue (is_some_directory o) → is_some o ≡ true
 some_of None h = clash h
 some_of (Some e) h = refl
 
 -- nothing is at the new place or below it but what moves itself
-within_from : (m : Files) (from to : List (List ℕ)) → AreFiles m → (is_some (map.get m to) ≡ true → is_same_key from to ≡ true) → Within to from (map.entries m)
+pub within_from : (m : Files) (from to : List (List ℕ)) → AreFiles m → (is_some (map.get m to) ≡ true → is_same_key from to ≡ true) → Within to from (map.entries m)
 within_from m from to files free k there at =
     elim (is_same_key from to) as (λ b. is_same_key from to ≡ b → is_at_or_below from k ≡ true) [
       | true ↦ λ t. subst (λ (d : List (List ℕ)). is_at_or_below d k ≡ true) (sym (same from to t)) at
@@ -191,7 +191,7 @@ within_from m from to files free k there at =
     taken (n ∷ ns) h = some_of (map.get m to) (files.above to n ns h)
 
 -- a place that another is at or below, but not at or below a third with it, is above that third
-record IsAbove (place to : List (List ℕ)) : Type 0 where
+pub record IsAbove (place to : List (List ℕ)) : Type 0 where
   pub name : List ℕ
   pub rest : List (List ℕ)
   pub is : to ≡ place ++ name ∷ rest
@@ -212,7 +212,7 @@ is_above (p ∷ ps) (t ∷ ts) way tail e out =
     let above = is_above ps ts way tail (tails p t (ps ++ tail) (ts ++ way) e) (sym (ap (λ b. cond b (behind ts ps) None) equal_names) ∙ out) in
     record { name = above.name; rest = above.rest; is = cons t p ts (ps ++ above.name ∷ above.rest) (sym h) above.is }
 
-no_root_behind : (w : List (List ℕ)) (n : List ℕ) (rest : List (List ℕ)) → not (is_root (w ++ n ∷ rest)) ≡ true
+pub no_root_behind : (w : List (List ℕ)) (n : List ℕ) (rest : List (List ℕ)) → not (is_root (w ++ n ∷ rest)) ≡ true
 no_root_behind [] n rest = refl
 no_root_behind (x ∷ xs) n rest = refl
 

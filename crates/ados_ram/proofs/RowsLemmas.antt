@@ -1,11 +1,12 @@
 -- Entries in order, and the map that they make.
-use Rattle.std.proofs.Common.{◌≡◌, ℕ, List, [], ◌∷◌, sym, ap, ◌∙◌, subst, IsTrue, Bool, true, false, T, cond, not, Option, Some, None, is_some, ◌+◌, ◌-◌, ◌≤◌, length, refl, unwrap_or, arith}
+use Rattle.std.proofs.Common.{◌≡◌, ℕ, List, [], ◌∷◌, sym, ap, ◌∙◌, subst, IsTrue, Bool, true, false, T, cond, not, ◌&&◌, Option, Some, None, is_some, ◌+◌, ◌-◌, ◌≤◌, length, refl, unwrap_or, arith}
+use Rattle.std.specs.declared.cmp.Ordering.{Ordering}
 use Rattle.std.specs.declared.cmp.Ordering.TheVariants.{Less, Equal, Greater}
-use Rattle.std.specs.Ordering.{eq_by_cmp, is_eq}
+use Rattle.std.specs.Ordering.{eq_by_cmp, is_eq, is_lt}
 use Rattle.std.specs.Cmp.{alike_right, eq_by_cmp_equiv}
 use Rattle.std.specs.FinMap as map
 use Rattle.std.specs.FinMap.{is_sorted, find, put, get-from_sorted, entries-from_sorted, entries-insert, same_entries_map, len-entries, entries_sorted, same_map, get-remove}
-use Rattle.std.specs.FinMap.Entries.{is_sorted-put, is_sorted-where_key, find-where_key, where_key, by_order}
+use Rattle.std.specs.FinMap.Entries.{below_all, is_sorted-put, is_sorted-where_key, find-where_key, where_key, by_order}
 use Rattle.ados_ram.specs.declared.entries.Entry.{Entry}
 use Rattle.ados_ram.specs.declared.entries.Bits.{Bits}
 use Rattle.ados_ram.specs.Place.{place_cmp, place_cmp_total, place_cmp_exact, is_same_key}
@@ -13,9 +14,37 @@ use Rattle.ados_ram.specs.Entry.{written_as, size_of}
 use Rattle.ados_ram.specs.Files.{Files, Rows, bytes_at, total_of}
 use Rattle.ados_ram.specs.FileOperations.{moved_rows, rename_of}
 use Rattle.ados_ram.specs.Rows.{rows_without}
-use Rattle.ados_ram.proofs.PositionLemmas.{first, second, above_all, tied_all}
 
-holds : (b : Bool) → IsTrue b → T b
+pub second : (a b : Bool) → T (a && b) → T b
+second true b p = p
+second false b p = absurd p
+
+pub first : (a b : Bool) → T (a && b) → T a
+first true b p = tt
+first false b p = p
+
+pub tied : (o : Ordering) → T (is_lt o) → o ≡ Less
+tied Less p = refl
+tied Equal p = absurd p
+tied Greater p = absurd p
+
+-- a place below all rows is none of theirs
+pub above_all : (k q : List (List ℕ)) (es : Rows) → place_cmp k q ≡ Less → T (below_all place_cmp q es) → rows_without k es ≡ es
+above_all k q [] p h = refl
+above_all k q (e ∷ es) p h =
+    ap (λ r. cond (is_eq r) (rows_without k es) (e ∷ rows_without k es)) (place_cmp_total.trans k q e.0 p (tied _ (first _ _ h))) ∙ ap (λ (r : Rows). e ∷ r) (above_all k q es p (second _ _ h))
+
+pub none_above : (k q : List (List ℕ)) (es : Rows) → place_cmp k q ≡ Less → T (below_all place_cmp q es) → find place_cmp k es ≡ None
+none_above k q [] p h = refl
+none_above k q (e ∷ es) p h =
+    ap (λ r. cond (is_eq r) (Some e.1) (find place_cmp k es)) (place_cmp_total.trans k q e.0 p (tied _ (first _ _ h))) ∙ none_above k q es p (second _ _ h)
+
+pub tied_all : (k q : List (List ℕ)) (es : Rows) → place_cmp k q ≡ Equal → T (below_all place_cmp q es) → rows_without k es ≡ es
+tied_all k q [] p h = refl
+tied_all k q (e ∷ es) p h =
+    ap (λ r. cond (is_eq r) (rows_without k es) (e ∷ rows_without k es)) (place_cmp_total.congr k q e.0 p ∙ tied _ (first _ _ h)) ∙ ap (λ (r : Rows). e ∷ r) (tied_all k q es p (second _ _ h))
+
+pub holds : (b : Bool) → IsTrue b → T b
 holds b h = subst T (sym h) tt
 
 -- the rows in order that make a map
@@ -242,7 +271,3 @@ length-sorted_of [] = omega arith
 length-sorted_of (e ∷ es) =
     let r = sorted_of_rows es in
     omega (arith, length-put_without e.0 e.1 (sorted_of es) (holds _ r.sorted), length-without e.0 (sorted_of es), length-sorted_of es)
-
--- the size of rows put in order one by one
-pub total-from_entries : (es : Rows) → total_of (map.entries (map.from_entries {R = place_cmp} es)) ≤ total_of es
-total-from_entries es = subst (λ (xs : Rows). total_of xs ≤ total_of es) (sym (entries_rows (sorted_of es) (sorted_of_rows es))) (total-sorted_of es)

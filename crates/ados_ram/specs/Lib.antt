@@ -3,6 +3,8 @@ pub mod Entry
 pub mod InUse
 pub mod Files
 pub mod FileOperations
-pub mod Rows
 pub mod Contents
+pub mod Rows
 pub mod Written
+pub mod Tree
+pub mod Falls

@@ -2,7 +2,7 @@
 ghost use Rattle.std.specs.Prelude.{◌≡◌, ◌≤◌, length, IfOk, OnOk};
 ghost use Rattle.std.specs.List.{All, insert};
 ghost use Rattle.ados_ram.specs.Place.{key_of};
-ghost use Rattle.ados_ram.specs.FileOperations.{names_in, any_below};
+ghost use Rattle.ados_ram.specs.FileOperations.{names_in};
 ghost use Rattle.ados_ram.specs.Contents.{children, contents, is_within, files_below};
 ghost use Rattle.ados_ram.specs.Rows.{IsKey, put_by_key};
 
@@ -22,18 +22,6 @@ pub fn names_in(alloc: Global, rows: &[Row], directory: &[Name]) -> Result<Vec<N
         }
     }
     Ok(names)
-}
-
-/// Something is below a directory.
-pub fn any_below(rows: &[Row], directory: &[Name]) -> bool
-    ensures { result ≡ any_below (key_of directory.now) rows.now }
-{
-    for row in rows {
-        if row.is_below(directory) {
-            return true;
-        }
-    }
-    false
 }
 
 /// The places directly in a directory, in order.

@@ -1,8 +1,8 @@
-ghost use Rattle.std.specs.Prelude.{◌≡◌, ◌++◌, IfOk};
+ghost use Rattle.std.specs.Prelude.{◌≡◌, ◌++◌, false, IfOk};
 ghost use Rattle.std.specs.Option.{option_copied};
 ghost use Rattle.std.specs.Result.{result_err};
 ghost use Rattle.std.specs.FinMap as map;
-ghost use Rattle.ados_ram.specs.Place.{key_of, last_name};
+ghost use Rattle.ados_ram.specs.Place.{key_of, is_root, last_name};
 ghost use Rattle.ados_ram.specs.Files.{AreFiles, bytes_at, first_files};
 ghost use Rattle.ados_ram.specs.InUse.{is_output};
 ghost use Rattle.ados_ram.specs.FileOperations.{Answers, read_fault, list_fault, names_in, write_of, write_fault, write_as_of, append_of, append_fault, put_open_of, put_open_fault};
@@ -21,7 +21,6 @@ use crate::refusals::{
     rename_refusal, write_refusal,
 };
 use crate::table::{Table, bytes_at};
-use crate::written::written_below;
 use ados_text::{Name, NoMemory, Result2, Text};
 use std::alloc::Global;
 use std::marker::Model;
@@ -92,7 +91,10 @@ impl Ram {
     {
         match list_refusal(self.table.find(place.names())) {
             Some(fault) => Err(FsFault::Refused(fault)),
-            None => Ok(names_in(self.alloc, self.table.rows(), place.names())?),
+            None => {
+                let rows = self.table.rows_below(place, false)?;
+                Ok(names_in(self.alloc, &rows, place.names())?)
+            }
         }
     }
 
@@ -206,13 +208,10 @@ impl Ram {
     {
         match rename_refusal(busy, &self.table, from.names(), to.names()) {
             Some(fault) => Err(FsFault::Refused(fault)),
-            None => {
-                let name = to.last_name()?;
-                Ok(Ram {
-                    table: self.table.moved(from.names(), to, &name)?,
-                    alloc: self.alloc,
-                })
-            }
+            None => Ok(Ram {
+                table: self.table.moved(from.names(), to)?,
+                alloc: self.alloc,
+            }),
         }
     }
 
@@ -250,29 +249,31 @@ impl Ram {
     pub fn children(&self, place: &Place) -> Result<Vec<Place>, NoMemory>
         ensures { IfOk result (λ places. places.items ≡ children (key_of place.now) (map.entries self.now)) }
     {
-        children(self.alloc, self.table.rows(), place.names())
+        let rows = self.table.rows_below(place, false)?;
+        children(self.alloc, &rows, place.names())
     }
 
     /// The places below a directory, in lower case and in order, but each directory behind what is in it.
     pub fn contents(&self, place: &Place) -> Result<Vec<Place>, NoMemory>
         ensures { IfOk result (λ places. places.items ≡ contents (key_of place.now) (map.entries self.now)) }
     {
-        contents(self.alloc, self.table.rows(), place.names())
+        let rows = self.table.rows_below(place, true)?;
+        contents(self.alloc, &rows, place.names())
     }
 
     /// The places of the files directly in a directory, or of all that are below it, in lower case and in order.
     pub fn files_below(&self, place: &Place, all: bool) -> Result<Vec<Place>, NoMemory>
         ensures { IfOk result (λ places. places.items ≡ files_below all (key_of place.now) (map.entries self.now)) }
     {
-        files_below(self.alloc, self.table.rows(), place.names(), all)
+        let rows = self.table.rows_below(place, all)?;
+        files_below(self.alloc, &rows, place.names(), all)
     }
 
     /// A place with its names as they are written in the files; what is not there stays as it is asked for.
     pub fn written(&self, place: &Place) -> Result<Place, NoMemory>
         ensures { IfOk result (λ written. written ≡ written_place self.now place.now) }
     {
-        let root = Place::root(self.alloc);
-        written_below(self, Place::root(self.alloc), root, place.names())
+        self.table.written(place)
     }
 
     /// The full path of a place, as `RAM:a/b`, with its names as they are written in the files.
@@ -332,7 +333,8 @@ impl Ram {
         more: &[u8],
         bits: Bits,
     ) -> Result<Ram, NoMemory>
-        requires { AreFiles (write_as_of self.now (key_of place.now) (last_name place.now) (kept.now ++ more.now) bits) }
+        requires root { is_root (key_of place.now) ≡ false }
+        requires files { AreFiles (write_as_of self.now (key_of place.now) (last_name place.now) (kept.now ++ more.now) bits) }
         ensures { IfOk result (λ new. new ≡ write_as_of self.now (key_of place.now) (last_name place.now) (kept.now ++ more.now) bits) }
     {
         let bytes = FileBytes::joined(self.alloc, kept, more)?;
@@ -343,7 +345,8 @@ impl Ram {
 
     // The files with an entry at a place.
     fn with(&self, place: &Place, entry: Entry) -> Result<Ram, NoMemory>
-        requires { AreFiles (map.insert self.now (key_of place.now) entry) }
+        requires root { is_root (key_of place.now) ≡ false }
+        requires files { AreFiles (map.insert self.now (key_of place.now) entry) }
         ensures { IfOk result (λ new. new ≡ map.insert self.now (key_of place.now) entry) }
     {
         Ok(Ram {

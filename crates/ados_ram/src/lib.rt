@@ -1,12 +1,14 @@
 #![tactic(auto)]
 //! The files of the RAM disk: places, entries, and a filing system of which each change is a new version.
 
+mod branches;
 mod contents;
 mod entries;
 mod faults;
 mod file_bytes;
 mod files;
 mod in_use;
+mod kids;
 mod laws;
 mod places;
 mod refusals;

@@ -1,14 +1,13 @@
 // Why the files refuse something: of each row of refusals the first that holds.
-ghost use Rattle.std.specs.Prelude.{◌≡◌, ◌+◌, ℕ, List, [], length, Some, IfOk};
+ghost use Rattle.std.specs.Prelude.{◌≡◌, ◌+◌, ℕ, List, length, Some, IfOk};
 ghost use Rattle.std.specs.Option.{option_copied};
 ghost use Rattle.std.specs.Result.{result_err};
 ghost use Rattle.std.specs.FinMap as map;
 ghost use Rattle.ados_ram.specs.declared.entries.Entry.{Entry};
 ghost use Rattle.ados_ram.specs.Place.{key_of};
 ghost use Rattle.ados_ram.specs.Entry.{size_of};
-ghost use Rattle.ados_ram.specs.FileOperations.{read_fault, list_fault, way_fault, write_target_fault, write_fault, full_fault, is_put, put_open_fault, free_fault, make_dir_fault, delete_fault, rename_target_fault, rename_fault, change_fault};
+ghost use Rattle.ados_ram.specs.FileOperations.{read_fault, list_fault, write_target_fault, write_fault, full_fault, is_put, put_open_fault, free_fault, make_dir_fault, delete_fault, rename_target_fault, rename_fault, change_fault};
 
-use crate::contents::any_below;
 use crate::entries::Entry;
 use crate::in_use::Busy;
 use crate::places::{is_below, is_same};
@@ -63,7 +62,8 @@ pub fn write_refusal(
 ) -> Option<Result2>
     ensures { (name bytes : List ℕ) → length bytes ≡ kept + more → result ≡ write_fault is_open table.now (key_of names.now) name bytes }
 {
-    way(table, names)
+    table
+        .way(names)
         .or(write_target(is_open, table.find(names)))
         .or(limits(table, names, kept, more))
 }
@@ -94,7 +94,8 @@ pub fn put_refusal(table: &Table, names: &[Name], bytes: &[u8]) -> Option<Result
 pub fn make_dir_refusal(table: &Table, names: &[Name]) -> Option<Result2>
     ensures { (name : List ℕ) → result ≡ make_dir_fault table.now (key_of names.now) name }
 {
-    way(table, names)
+    table
+        .way(names)
         .or(free(table.find(names)))
         .or(limits(table, names, 0, 0))
 }
@@ -112,7 +113,7 @@ pub fn delete_refusal(busy: &Busy, table: &Table, names: &[Name]) -> Option<Resu
     if !entry.bits.delete {
         return Some(Result2::DELETE_PROTECTED);
     }
-    if any_below(table.rows(), names) {
+    if table.any_below(names) {
         return Some(Result2::DIRECTORY_NOT_EMPTY);
     }
     None
@@ -122,7 +123,7 @@ pub fn delete_refusal(busy: &Busy, table: &Table, names: &[Name]) -> Option<Resu
 pub fn rename_refusal(busy: &Busy, table: &Table, from: &[Name], to: &[Name]) -> Option<Result2>
     ensures { result ≡ rename_fault busy.now table.now (key_of from.now) (key_of to.now) }
 {
-    way(table, to).or(rename_target(busy, table, from, to))
+    table.way(to).or(rename_target(busy, table, from, to))
 }
 
 /// The entry that is to be changed, or why it is not.
@@ -159,23 +160,6 @@ fn rename_target(busy: &Busy, table: &Table, from: &[Name], to: &[Name]) -> Opti
     }
     if table.find(to).is_some() && !is_same(from, to) {
         return Some(Result2::OBJECT_EXISTS);
-    }
-    None
-}
-
-// The fault of the places above a place.
-fn way(table: &Table, names: &[Name]) -> Option<Result2>
-    ensures { result ≡ way_fault table.now [] (key_of names.now) }
-{
-    for i in 0..names.len() {
-        match table.find(&names[..i]) {
-            None => return Some(Result2::DIRECTORY_NOT_FOUND),
-            Some(entry) => {
-                if !entry.is_directory() {
-                    return Some(Result2::WRONG_TYPE);
-                }
-            }
-        }
     }
     None
 }

@@ -1,24 +1,15 @@
-// Rows: the entries of the files, each with its place.
-ghost use Rattle.std.specs.Prelude.{◌≡◌, IfOk};
-ghost use Rattle.ados_ram.specs.Place.{key_of, place_cmp, is_child, is_below, behind};
-ghost use Rattle.ados_ram.specs.FileOperations.{moved_row};
+// Rows: entries of the files, each with its place.
+ghost use Rattle.std.specs.Prelude.{◌≡◌};
+ghost use Rattle.ados_ram.specs.Place.{key_of, is_child, is_below};
 
 use crate::entries::Entry;
 use crate::places::{Place, behind, is_below};
-use ados_text::{Name, NoMemory};
-use std::alloc::Global;
-use std::cmp::Ordering;
+use ados_text::Name;
 use std::marker::Model;
-use std::rc::Rc;
 
-/// An entry with its place, shared between versions. How the place is spelled does not matter.
+/// An entry with its place. How the place is spelled does not matter.
 #[derive(Drop)]
 pub struct Row {
-    object: Rc<Object>,
-}
-
-#[derive(Drop)]
-pub struct Object {
     place: Place,
     entry: Entry,
 }
@@ -34,46 +25,27 @@ impl Model for Row {
 
     ghost coded = { coded× (coded_list (coded_list coded_ℕ)) coded_entry };
 
-    ghost view = { λ r. (key_of r.object.value.place, r.object.value.entry) };
+    ghost view = { λ r. (key_of r.place, r.entry) };
 }
 
 impl Row {
-    pub fn new(alloc: Global, place: Place, entry: Entry) -> Result<Row, NoMemory>
-        ensures { IfOk result (λ row. row ≡ (key_of place, entry)) }
+    pub fn new(place: Place, entry: Entry) -> Row
+        ensures { result ≡ (key_of place, entry) }
     {
-        Ok(Row {
-            object: Rc::new(alloc, Object { place, entry })?,
-        })
-    }
-
-    /// The same row, shared.
-    pub fn share(&self) -> Result<Row, NoMemory>
-        ensures { IfOk result (λ row. row ≡ self.now) }
-    {
-        Ok(Row {
-            object: self.object.clone()?,
-        })
+        Row { place, entry }
     }
 
     pub fn entry(&self) -> &Entry
         ensures { result.now ≡ self.now.1 }
     {
-        &self.object.entry
+        &self.entry
     }
 
     /// The place, spelled in some way.
     pub fn place(&self) -> &Place
         ensures { key_of result.now ≡ self.now.0 }
     {
-        &self.object.place
-    }
-
-    /// How this row's place stands to another.
-    #[tactic(auto, using(crate::proofs::PlaceLemmas::order_by_key))]
-    pub fn order(&self, names: &[Name]) -> Ordering
-        ensures { result ≡ place_cmp self.now.0 (key_of names.now) }
-    {
-        self.place().names().cmp(&names)
+        &self.place
     }
 
     /// It is directly in a directory.
@@ -91,24 +63,5 @@ impl Row {
         ensures { result ≡ is_below (key_of directory.now) self.now.0 }
     {
         is_below(directory, self.place().names())
-    }
-
-    /// The row after a rename.
-    pub fn moved(
-        &self,
-        alloc: Global,
-        from: &[Name],
-        to: &Place,
-        name: &Name,
-    ) -> Result<Row, NoMemory>
-        ensures { IfOk result (λ row. row ≡ moved_row (key_of to.now) name.now self.now.0 self.now.1 (behind (key_of from.now) self.now.0)) }
-    {
-        let Some(way) = behind(from, self.place().names()) else {
-            return self.share();
-        };
-        if way.is_empty() {
-            return Row::new(alloc, to.copy()?, self.entry().renamed(name)?);
-        }
-        Row::new(alloc, to.joined(way)?, self.entry().copy()?)
     }
 }

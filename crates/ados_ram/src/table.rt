@@ -1,28 +1,34 @@
-// The table of all rows, in the order of their places: the files as a map.
-ghost use Rattle.std.specs.Prelude.{◌≡◌, ◌+◌, ◌≤◌, IsTrue, IfOk, OnOk, OnErr, map as each};
+// The table of all objects, in a tree: the files as a map.
+ghost use Rattle.std.specs.Prelude.{◌≡◌, ◌+◌, ◌≤◌, [], false, IfOk, IsSome, map as each};
 ghost use Rattle.std.specs.Option.{option_copied};
 ghost use Rattle.std.specs.FinMap as map;
 ghost use Rattle.ados_text.specs.Text.{to_ascii};
 ghost use Rattle.ados_ram.specs.declared.entries.Entry.{Entry};
-ghost use Rattle.ados_ram.specs.Place.{key_of, place_cmp};
+ghost use Rattle.ados_ram.specs.Place.{key_of, place_cmp, is_root, last_name};
 ghost use Rattle.ados_ram.specs.Entry.{size_of};
-ghost use Rattle.ados_ram.specs.Files.{bytes_at, total_of, bytes_limit, directory_row, first_files};
-ghost use Rattle.ados_ram.specs.FileOperations.{moved_rows, rename_of};
-ghost use Rattle.ados_ram.specs.Rows.{IsPosition, rows_without, first_rows};
+ghost use Rattle.ados_ram.specs.Files.{AreFiles, bytes_at, total_of, bytes_limit, first_files};
+ghost use Rattle.ados_ram.specs.FileOperations.{any_below, rename_of, way_fault};
+ghost use Rattle.ados_ram.specs.Rows.{rows_within};
+ghost use Rattle.ados_ram.specs.Written.{written_place};
+ghost use Rattle.ados_ram.specs.Tree.{above, first_kid, first_kids, rows_from, IsEntryAt, IsRenamed, MayMove};
 
+use crate::branches::Branch;
 use crate::entries::Entry;
 use crate::places::Place;
 use crate::rows::Row;
-use ados_text::{Name, NoMemory, Text};
+use ados_text::{Name, NoMemory, Result2, Text};
 use std::alloc::Global;
 use std::marker::Model;
 
-/// All rows, in the order of their places. The rows are shared between tables.
+/// All objects. Versions share what no change touched.
 #[derive(Drop)]
 pub struct Table {
-    rows: Vec<Row>,
+    root: Branch,
     // how many bytes all files hold
     total: usize,
+    // how many objects there are, with the root
+    count: usize,
+    alloc: Global,
 }
 
 impl Model for Table {
@@ -34,9 +40,9 @@ impl Model for Table {
 
     ghost coded = { coded_files };
 
-    ghost view = { λ t. map.from_sorted t.rows.items };
+    ghost view = { λ t. map.from_sorted t.root.1 };
 
-    ghost invariant = { λ t. AreRows t.rows.items t.total };
+    ghost invariant = { λ t. AreRows t.root.1 t.total t.count };
 }
 
 impl Table {
@@ -44,9 +50,13 @@ impl Table {
     pub fn first(alloc: Global) -> Result<Table, NoMemory>
         ensures { IfOk result (λ table. table ≡ first_files) }
     {
+        let kids = first_kids(alloc)?;
+        let root = Entry::directory(alloc, name(alloc, b"")?)?;
         Ok(Table {
-            rows: first_rows(alloc)?,
+            root: Branch::new(name(alloc, b"")?, root, kids)?,
             total: 0,
+            count: 5,
+            alloc,
         })
     }
 
@@ -54,17 +64,43 @@ impl Table {
     pub fn find(&self, names: &[Name]) -> Option<&Entry>
         ensures { option_copied result ≡ map.get self.now (key_of names.now) }
     {
-        match position(&self.rows, names) {
-            Ok(at) => Some(self.rows[at].entry()),
-            Err(_) => None,
+        self.root.find(names)
+    }
+
+    /// The fault of the places above a place.
+    pub fn way(&self, names: &[Name]) -> Option<Result2>
+        ensures { result ≡ way_fault self.now [] (key_of names.now) }
+    {
+        self.root.way(names)
+    }
+
+    /// A place with its names as they are written; what is not there stays as it is.
+    pub fn written(&self, place: &Place) -> Result<Place, NoMemory>
+        ensures { IfOk result (λ written. written ≡ written_place self.now place.now) }
+    {
+        self.root.written(Place::root(self.alloc), place.names())
+    }
+
+    /// Something is below a place.
+    pub fn any_below(&self, names: &[Name]) -> bool
+        ensures { result ≡ any_below (key_of names.now) (map.entries self.now) }
+    {
+        match self.root.at(names) {
+            None => false,
+            Some(branch) => branch.is_parent(),
         }
     }
 
-    /// The rows, in order.
-    pub fn rows(&self) -> &[Row]
-        ensures { result.now ≡ map.entries self.now }
+    /// The rows of what is directly in a directory, or of all that is below it, in order.
+    pub fn rows_below(&self, directory: &Place, all: bool) -> Result<Vec<Row>, NoMemory>
+        ensures { IfOk result (λ rows. rows.items ≡ rows_within all (key_of directory.now) (map.entries self.now)) }
     {
-        &self.rows
+        let mut rows = Vec::new(self.alloc);
+        let Some(branch) = self.root.at(directory.names()) else {
+            return Ok(rows);
+        };
+        branch.add_rows(directory, all, &mut rows)?;
+        Ok(rows)
     }
 
     /// How many bytes all files hold but that at a place.
@@ -80,117 +116,72 @@ impl Table {
         ensures { (new : Entry) → map.len (map.insert self.now (key_of names.now) new) ≡ result }
     {
         match self.find(names) {
-            None => self.rows.len() + 1,
-            Some(_) => self.rows.len(),
+            None => self.count + 1,
+            Some(_) => self.count,
         }
     }
 
-    /// The table with an entry at a place.
+    /// The table with an entry at a place, which is not the root.
     pub fn with(&self, place: &Place, entry: Entry) -> Result<Table, NoMemory>
-        requires { total_of (map.entries (map.insert self.now (key_of place.now) entry)) ≤ bytes_limit }
+        requires root { is_root (key_of place.now) ≡ false }
+        requires files { AreFiles (map.insert self.now (key_of place.now) entry) }
         ensures { IfOk result (λ new. new ≡ map.insert self.now (key_of place.now) entry) }
     {
-        let row = Row::new(*self.rows.allocator(), place.copy()?, entry)?;
-        let mut new = self.copy()?;
-        new.put(row)?;
-        Ok(new)
-    }
-
-    /// The table without what stands at a place.
-    pub fn without(&self, names: &[Name]) -> Result<Table, NoMemory>
-        ensures { IfOk result (λ new. new ≡ map.remove self.now (key_of names.now)) }
-    {
-        let mut new = self.copy()?;
-        new.take_out(names);
-        Ok(new)
-    }
-
-    /// The table after a rename.
-    pub fn moved(&self, from: &[Name], to: &Place, name: &Name) -> Result<Table, NoMemory>
-        ensures { IfOk result (λ new. new ≡ rename_of self.now (key_of from.now) (key_of to.now) name.now) }
-    {
-        moved(*self.rows.allocator(), &self.rows, from, to, name)
-    }
-
-    /// The same table; its rows are shared.
-    pub fn copy(&self) -> Result<Table, NoMemory>
-        ensures { IfOk result (λ new. new ≡ self.now) }
-    {
-        let mut rows = Vec::with_capacity(*self.rows.allocator(), self.rows.len() + 1)?;
-        for row in &self.rows {
-            rows.push(row.share()?)?;
-        }
+        let total = self.bytes_beside(place.names()) + entry.bytes().len();
+        let count = self.objects_with(place.names());
+        let new = with_entry(self.alloc, &self.root, place, entry)?;
         Ok(Table {
-            rows,
-            total: self.total,
+            root: self.root.with(place.names(), Some(new))?,
+            total,
+            count,
+            alloc: self.alloc,
         })
     }
 
-    // A table without rows.
-    fn empty(alloc: Global) -> Table
-        ensures { result ≡ map.empty }
+    /// The table without what stands at a place, which is not the root, and has nothing below it.
+    pub fn without(&self, names: &[Name]) -> Result<Table, NoMemory>
+        requires root { is_root (key_of names.now) ≡ false }
+        requires inside { IsSome (map.get self.now (above (key_of names.now))) }
+        requires empty { any_below (key_of names.now) (map.entries self.now) ≡ false }
+        ensures { IfOk result (λ new. new ≡ map.remove self.now (key_of names.now)) }
     {
-        Table {
-            rows: Vec::new(alloc),
-            total: 0,
-        }
+        Ok(Table {
+            root: self.root.with(names, None)?,
+            total: self.bytes_beside(names),
+            count: self.objects_with(names) - 1,
+            alloc: self.alloc,
+        })
     }
 
-    // Puts a row in its place, instead of the one that stands there.
-    fn put(&mut self, row: Row) -> Result<(), NoMemory>
-        requires { total_of (map.entries (map.insert self.old row.0 row.1)) ≤ bytes_limit }
-        ensures { OnOk result (self.new ≡ map.insert self.old row.0 row.1) }
+    /// The table after a rename, where the object takes the last name of the new place.
+    pub fn moved(&self, from: &[Name], to: &Place) -> Result<Table, NoMemory>
+        requires { MayMove (key_of from.now) (key_of to.now) self.now }
+        ensures { IfOk result (λ new. new ≡ rename_of self.now (key_of from.now) (key_of to.now) (last_name to.now)) }
     {
-        let total = self.bytes_beside(row.place().names()) + row.entry().bytes().len();
-        put_row(&mut self.rows, row)?;
-        self.total = total;
-        Ok(())
+        let Some(old) = self.root.at(from) else {
+            unreachable!();
+        };
+        let new = renamed(old, to)?;
+        let left = self.root.with(from, None)?;
+        Ok(Table {
+            root: left.with(to.names(), Some(new))?,
+            total: self.total,
+            count: self.count,
+            alloc: self.alloc,
+        })
     }
 
-    // Takes out what stands at a place.
-    fn take_out(&mut self, names: &[Name])
-        ensures { self.new ≡ map.remove self.old (key_of names.now) }
+    /// The same table, shared.
+    pub fn copy(&self) -> Result<Table, NoMemory>
+        ensures { IfOk result (λ new. new ≡ self.now) }
     {
-        let total = self.bytes_beside(names);
-        take_row(&mut self.rows, names);
-        self.total = total;
+        Ok(Table {
+            root: self.root.share()?,
+            total: self.total,
+            count: self.count,
+            alloc: self.alloc,
+        })
     }
-}
-
-// Puts a row in its place among others, instead of the one that stands there.
-fn put_row(rows: &mut Vec<Row>, row: Row) -> Result<(), NoMemory>
-    requires { IsTrue (map.is_sorted place_cmp rows.old.items) }
-    ensures ok { OnOk result (rows.new.items ≡ map.put place_cmp row.0 row.1 rows.old.items) }
-    ensures err { OnErr result (rows.new.items ≡ rows.old.items) }
-{
-    match position(rows, row.place().names()) {
-        Ok(at) => {
-            rows[at] = row;
-            Ok(())
-        }
-        Err(at) => {
-            rows.insert(at, row)?;
-            Ok(())
-        }
-    }
-}
-
-// Takes out the row of a place.
-fn take_row(rows: &mut Vec<Row>, names: &[Name])
-    requires { IsTrue (map.is_sorted place_cmp rows.old.items) }
-    ensures { rows.new.items ≡ rows_without (key_of names.now) rows.old.items }
-{
-    if let Ok(at) = position(rows, names) {
-        let _row = rows.remove(at);
-    }
-}
-
-// Where the row of a place is; else where it would be.
-fn position(rows: &[Row], names: &[Name]) -> Result<usize, usize>
-    requires { IsTrue (map.is_sorted place_cmp rows.now) }
-    ensures { IsPosition (key_of names.now) rows.now result }
-{
-    rows.binary_search_by(|row| row.order(names))
 }
 
 /// The bytes that stand at a place; none where no file is there.
@@ -203,45 +194,46 @@ pub fn bytes_at(entry: Option<&Entry>) -> &[u8]
     }
 }
 
-// The table of rows after a rename.
-fn moved(
-    alloc: Global,
-    rows: &[Row],
-    from: &[Name],
-    to: &Place,
-    name: &Name,
-) -> Result<Table, NoMemory>
-    requires { total_of rows.now ≤ bytes_limit }
-    ensures { IfOk result (λ new. new ≡ map.from_entries (moved_rows (key_of from.now) (key_of to.now) name.now rows.now)) }
+// What stands at a place with another entry, or a new object there.
+fn with_entry(alloc: Global, root: &Branch, place: &Place, entry: Entry) -> Result<Branch, NoMemory>
+    ensures name { IfOk result (λ b. b.0 ≡ last_name (key_of place.now)) }
+    ensures rows { IfOk result (λ b. IsEntryAt entry (rows_from (key_of place.now) root.now.1) b.1) }
 {
-    let Some((first, rest)) = rows.split_first() else {
-        return Ok(Table::empty(alloc));
-    };
-    let mut new = moved(alloc, rest, from, to, name)?;
-    new.put(first.moved(alloc, from, to, name)?)?;
-    Ok(new)
+    let name = place.last_name()?;
+    match root.at(place.names()) {
+        None => Branch::leaf(alloc, name, entry),
+        Some(there) => there.with_entry(name, entry),
+    }
 }
 
-// The rows at first.
-fn first_rows(alloc: Global) -> Result<Vec<Row>, NoMemory>
-    ensures { IfOk result (λ rows. rows.items ≡ first_rows) }
+// An object under the last name of a place, with the same in it.
+fn renamed(branch: &Branch, to: &Place) -> Result<Branch, NoMemory>
+    ensures name { IfOk result (λ b. b.0 ≡ last_name (key_of to.now)) }
+    ensures rows { IfOk result (λ b. IsRenamed (last_name to.now) branch.now.1 b.1) }
 {
-    let mut rows = Vec::new(alloc);
-    let root = Entry::directory(alloc, name(alloc, b"")?)?;
-    rows.push(Row::new(alloc, Place::root(alloc), root)?)?;
-    rows.push(directory_row(alloc, name(alloc, b"C")?)?)?;
-    rows.push(directory_row(alloc, name(alloc, b"Env")?)?)?;
-    rows.push(directory_row(alloc, name(alloc, b"S")?)?)?;
-    rows.push(directory_row(alloc, name(alloc, b"T")?)?)?;
-    Ok(rows)
+    let name = to.last_name()?;
+    let entry = branch.entry().renamed(&name)?;
+    branch.with_entry(name, entry)
 }
 
-// A row for a directory in the root.
-fn directory_row(alloc: Global, name: Name) -> Result<Row, NoMemory>
-    ensures { IfOk result (λ row. row ≡ directory_row name) }
+// The objects at first.
+fn first_kids(alloc: Global) -> Result<Vec<Branch>, NoMemory>
+    ensures { IfOk result (λ kids. kids.items ≡ first_kids) }
 {
-    let place = Place::root(alloc).with(name.copy()?)?;
-    Row::new(alloc, place, Entry::directory(alloc, name)?)
+    let mut kids = Vec::new(alloc);
+    kids.push(directory(alloc, name(alloc, b"C")?)?)?;
+    kids.push(directory(alloc, name(alloc, b"Env")?)?)?;
+    kids.push(directory(alloc, name(alloc, b"S")?)?)?;
+    kids.push(directory(alloc, name(alloc, b"T")?)?)?;
+    Ok(kids)
+}
+
+// A directory with nothing in it.
+fn directory(alloc: Global, name: Name) -> Result<Branch, NoMemory>
+    ensures { IfOk result (λ kid. kid ≡ first_kid name) }
+{
+    let entry = Entry::directory(alloc, name.copy()?)?;
+    Branch::leaf(alloc, name, entry)
 }
 
 // The bytes as a name.

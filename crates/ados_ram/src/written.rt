@@ -1,40 +1,10 @@
-// Places as they are written in the files.
+// Places as paths.
 ghost use Rattle.std.specs.Prelude.{◌≡◌, ◌++◌, IfOk, OnOk};
-ghost use Rattle.std.specs.Option.{option_copied};
-ghost use Rattle.ados_ram.specs.Written.{spelled, written_below, slash_before, slashed, spelled_path};
+ghost use Rattle.ados_ram.specs.Written.{slash_before, slashed, spelled_path};
 
-use crate::entries::Entry;
-use crate::files::Ram;
 use crate::places::Place;
 use ados_text::{Name, NoMemory, Text};
 use std::alloc::Global;
-
-/// A place with the names behind it that lead down from another, as they are written in the files.
-pub fn written_below(
-    ram: &Ram,
-    written: Place,
-    above: Place,
-    rest: &[Name],
-) -> Result<Place, NoMemory>
-    ensures { IfOk result (λ place. place ≡ written ++ written_below ram.now above rest.now) }
-{
-    let Some((name, rest)) = rest.split_first() else {
-        return Ok(written);
-    };
-    let place = above.with(name.copy()?)?;
-    let spelled = spelled(ram.look(&place), name)?;
-    written_below(ram, written.with(spelled)?, place, rest)
-}
-
-// The name of what stands at a place, or the name that is asked for where nothing is there.
-fn spelled(entry: Option<&Entry>, name: &Name) -> Result<Name, NoMemory>
-    ensures { IfOk result (λ found. found ≡ spelled (option_copied entry.entry) name.now) }
-{
-    match entry {
-        None => name.copy(),
-        Some(entry) => entry.name.copy(),
-    }
-}
 
 impl Place {
     /// The place as a path, as `RAM:a/b`, with its names as they are spelled.

@@ -7,8 +7,8 @@ use Rattle.ados_ram.specs.Files.{Files, AreFiles}
 use Rattle.ados_ram.proofs.FilesLemmas.{changed_files}
 use Rattle.ados_ram.proofs.files.Ram.comment.Goals as goal
 
-pub with-requires : goal.with-requires
-with-requires c =
+pub with-requires-clause-files : goal.with-requires-clause-files
+with-requires-clause-files c =
     let key = key_of c.args.place.now in
     let found : map.get c.self.inside.table key ≡ Some c.in-Ok.field-0.now = ap (λ (k : List (List ℕ)). map.get c.self.inside.table (key_of k)) (sym c.names.ensures) ∙ c.in-Ok.ensures.ok in
     let files : AreFiles (map.insert c.self.inside.table key c.in_ok-with_comment-in-Ok-2.field-0) =

@@ -5,13 +5,21 @@ use Rattle.ados_ram.specs.Place.{key_of}
 use Rattle.ados_ram.specs.Files.{Files, AreFiles}
 use Rattle.ados_ram.specs.FileOperations.{make_dir_fault}
 use Rattle.ados_ram.proofs.FilesLemmas.{made_files}
+use Rattle.ados_ram.proofs.InsideLemmas.{made-inside}
 use Rattle.ados_ram.proofs.files.Ram.make_dir.Goals as goal
 
-pub with-requires : goal.with-requires
-with-requires c =
+pub with-requires-clause-files : goal.with-requires-clause-files
+with-requires-clause-files c =
     let name = c.in_ok-last_name-in-None.field-0 in
     let free : make_dir_fault c.self.inside.table (key_of c.args.place.now) name ≡ None =
     ap (λ (k : List (List ℕ)). make_dir_fault c.self.inside.table (key_of k) name) (sym c.names.ensures) ∙ sym (c.make_dir_refusal.ensures name) ∙ c.in-None.is in
     let files : AreFiles (map.insert c.self.inside.table (key_of c.args.place.now) c.in_ok-entry-in-None.entry) =
     subst (λ (e : Entry). AreFiles (map.insert c.self.inside.table (key_of c.args.place.now) e)) (sym c.in_ok-entry-in-None.ensures) (made_files (key_of c.args.place.now) name c.self.invariant free) in
     subst (λ (m : Files). AreFiles (map.insert m (key_of c.args.place.now) c.in_ok-entry-in-None.entry)) c.self.view_is files
+
+pub with-requires-clause-root : goal.with-requires-clause-root
+with-requires-clause-root c =
+    let name = c.in_ok-last_name-in-None.field-0 in
+    let free : make_dir_fault c.self.inside.table (key_of c.args.place.now) name ≡ None =
+    ap (λ (k : List (List ℕ)). make_dir_fault c.self.inside.table (key_of k) name) (sym c.names.ensures) ∙ sym (c.make_dir_refusal.ensures name) ∙ c.in-None.is in
+    made-inside c.self.inside.table (key_of c.args.place.now) name c.self.invariant free

@@ -1,0 +1,113 @@
+-- What a change that is not refused tells: the place is not the root, and the directory above it is there.
+use Rattle.std.proofs.Common.{◌≡◌, ℕ, Bool, true, false, cond, List, [], ◌∷◌, ◌++◌, Option, Some, None, is_some, IsSome, IsTrue, refl, sym, ap, ◌∙◌, subst, append_assoc, length, length-append, arith}
+use Rattle.std.specs.Cmp.{eq_by_cmp_equiv}
+use Rattle.std.specs.FinMap as map
+use Rattle.std.specs.FinMap.{get-insert}
+use Rattle.ados_ram.specs.declared.entries.Entry.{Entry}
+use Rattle.ados_ram.specs.Place.{Key, place_cmp_total, is_same_key, is_root, behind, has_names, is_below, is_at_or_below}
+use Rattle.ados_ram.specs.InUse.{InUse}
+use Rattle.ados_ram.specs.Files.{Files, AreFiles, is_some_directory}
+use Rattle.ados_ram.specs.FileOperations.{way_fault, write_target_fault, write_fault, is_put, free_fault, make_dir_fault, any_below, delete_target_fault, delete_fault, rename_target_fault, rename_fault}
+use Rattle.ados_ram.specs.Tree.{above, MayMove}
+use Rattle.ados_ram.proofs.FilesLemmas.{same, clash, or_first, or_second, way_clear, behind-append, no_directory, a_file, CanDelete, can_delete}
+use Rattle.ados_ram.proofs.RenameLemmas.{IsAbove, CanMove, can_move, within_from, some_of, false_of, behind-exact, no_root_behind}
+
+above_of : (key : Key) → is_root key ≡ false → IsAbove (above key) key
+above_of [] h = clash (sym h)
+above_of (x ∷ []) h = record { name = x; rest = []; is = refl }
+above_of (x ∷ y ∷ ys) h = let a = above_of (y ∷ ys) refl in record { name = a.name; rest = a.rest; is = ap (λ (k : Key). x ∷ k) a.is }
+
+-- an object is in a directory that is there
+pub above_there : (m : Files) (key : Key) → AreFiles m → is_root key ≡ false → IsSome (map.get m key) → IsSome (map.get m (above key))
+above_there m key files root there =
+    let a = above_of key root in
+    some_of (map.get m (above key)) (files.above (above key) a.name a.rest (subst (λ (k : Key). IsSome (map.get m k)) a.is there))
+
+longer : (place : Key) (n : List ℕ) (rest : Key) → place ≡ place ++ n ∷ rest → ⊥
+longer place n rest e =
+    let lengths : length place ≡ length (place ++ n ∷ rest) = ap (λ (k : Key). length k) e in
+    omega (arith, lengths, length-append place (n ∷ rest))
+
+-- where an object may be put, the directory above is there
+pub inside : (m : Files) (key : Key) (new : Entry) → is_root key ≡ false → AreFiles (map.insert m key new) → IsSome (map.get m (above key))
+inside m key new root files =
+    let a = above_of key root in
+    let self : is_same_key key key ≡ true = (eq_by_cmp_equiv place_cmp_total).refl key in
+    let put : IsSome (map.get (map.insert m key new) key) = subst (λ (o : Option Entry). IsSome o) (sym (get-insert place_cmp_total m key new key ∙ ap (λ b. cond b (Some new) (map.get m key)) self)) refl in
+    let apart : is_same_key (above key) key ≡ false = false_of _ (λ h. longer (above key) a.name a.rest (same (above key) key h ∙ a.is)) in
+    subst (λ (o : Option Entry). IsSome o) (get-insert place_cmp_total m key new (above key) ∙ ap (λ b. cond b (Some new) (map.get m (above key))) apart)
+    (above_there (map.insert m key new) key files root put)
+
+by_root : (key : Key) → (key ≡ [] → ⊥) → is_root key ≡ false
+by_root [] h = absurd (h refl)
+by_root (n ∷ ns) h = refl
+
+root_is : (m : Files) (key : Key) → AreFiles m → key ≡ [] → IsTrue (is_some_directory (map.get m key))
+root_is m key files e = subst (λ (k : Key). IsTrue (is_some_directory (map.get m k))) (sym e) files.root
+
+pub written-inside : (m : Files) (is_open : Bool) (key : Key) (name bytes : List ℕ) → AreFiles m → write_fault is_open m key name bytes ≡ None → is_root key ≡ false
+written-inside m is_open key name bytes files e =
+    by_root key (λ t. no_directory is_open (map.get m key) (or_first (write_target_fault is_open (map.get m key)) _ (or_second (way_fault m [] key) _ e)) (root_is m key files t))
+
+pub put-inside : (m : Files) (key : Key) (bytes : List ℕ) → AreFiles m → is_put (map.get m key) bytes ≡ true → is_root key ≡ false
+put-inside m key bytes files e = by_root key (λ t. a_file (map.get m key) _ e (root_is m key files t))
+
+pub made-inside : (m : Files) (key : Key) (name : List ℕ) → AreFiles m → make_dir_fault m key name ≡ None → is_root key ≡ false
+made-inside m key name files e =
+    by_root key (λ t. taken (map.get m key) (or_first (free_fault (map.get m key)) _ (or_second (way_fault m [] key) _ e)) (root_is m key files t))
+  where
+    taken : (o : Option Entry) → free_fault o ≡ None → IsTrue (is_some_directory o) → ⊥
+    taken None f d = clash d
+    taken (Some e) f d = cc
+
+-- a delete that is not refused
+pub record MayGo (m : Files) (key : Key) : Type 0 where
+  pub root : is_root key ≡ false
+  pub inside : IsSome (map.get m (above key))
+  pub empty : any_below key (map.entries m) ≡ false
+
+pub may_go : (busy : InUse) (m : Files) (key : Key) → AreFiles m → delete_fault busy m key ≡ None → MayGo m key
+may_go busy m key files e =
+    let can : CanDelete key (map.entries m) = can_delete busy key (map.entries m) (map.get m key) e in
+    record { root = can.not_root; inside = above_there m key files can.not_root (there (map.get m key) e); empty = can.empty }
+  where
+    there : (o : Option Entry) → delete_target_fault busy (map.entries m) key o ≡ None → IsSome o
+    there None h = cc
+    there (Some e) h = refl
+
+-- a rename that is not refused
+pub may_move : (busy : InUse) (m : Files) (from to : Key) → AreFiles m → rename_fault busy m from to ≡ None → MayMove from to m
+may_move busy m from to files e =
+    let clear : way_fault m [] to ≡ None = or_first (way_fault m [] to) _ e in
+    let target : rename_target_fault busy from to (map.get m from) (map.get m to) ≡ None = or_second (way_fault m [] to) _ e in
+    let can : CanMove from to (map.get m to) = can_move busy from to (map.get m from) (map.get m to) target in
+    let root : is_root to ≡ false = by_root to (λ t. no_root from to can (some_of (map.get m to) (root_is m to files t)) t) in
+    let a = above_of to root in
+    let there : IsSome (map.get m from) = found (map.get m from) target in
+    record {
+      from_named = can.not_root;
+      to_named = root;
+      there = there;
+      above_from = above_there m from files can.not_root there;
+      above_to = some_of (map.get m (above to)) (way_clear m [] (above to) a.name a.rest (subst (λ (k : Key). way_fault m [] k ≡ None) a.is clear));
+      apart = false_of _ (λ h. not_in a h can.not_below);
+      within = within_from m from to files can.free;
+    }
+  where
+    no_root : (from to : Key) → CanMove from to (map.get m to) → IsSome (map.get m to) → to ≡ [] → ⊥
+    no_root from to can there t =
+        let e : from ≡ [] = same from to (can.free there) ∙ t in
+        clash (sym can.not_root ∙ ap is_root e)
+
+    found : (o : Option Entry) → rename_target_fault busy from to o (map.get m to) ≡ None → IsSome o
+    found None h = cc
+    found (Some e) h = refl
+
+    not_in : IsAbove (above to) to → is_at_or_below from (above to) ≡ true → is_below from to ≡ false → ⊥
+    not_in a h out =
+        elim (behind from (above to)) as (λ o. behind from (above to) ≡ o → ⊥) [
+          | None ↦ λ p. clash (sym (ap is_some p) ∙ h)
+          | Some w ↦ λ p.
+              let is : to ≡ from ++ (w ++ a.name ∷ a.rest) = a.is ∙ ap (λ (q : Key). q ++ a.name ∷ a.rest) (behind-exact from (above to) w p) ∙ append_assoc from w (a.name ∷ a.rest) in
+              clash (sym out ∙ ap has_names (ap (behind from) is ∙ behind-append from (w ++ a.name ∷ a.rest)) ∙ no_root_behind w a.name a.rest)
+        ] refl

@@ -1,0 +1,182 @@
+-- A walk down the tree gathers the rows below a place.
+use Rattle.std.proofs.Common.{◌≡◌, ℕ, ◌<◌, ◌≤◌, ◌==◌, suc, zero, Bool, true, false, T, cond, not, ◌&&◌, ◌||◌, ◌+◌, List, [], ◌∷◌, ◌++◌, Option, Some, None, IsSome, refl, sym, ap, ◌∙◌, subst, append_assoc, length, length-append, arith, slice_index_or, drop, drop-cons, add-one, nat_eq}
+use Rattle.std.proofs.lemmas.Bool.Decides.{nat_tests}
+use Rattle.std.specs.FinMap.{is_sorted, find}
+use Rattle.std.specs.FinMap.Entries.{below_all}
+use Rattle.ados_ram.specs.declared.entries.Entry.{Entry}
+use Rattle.ados_ram.specs.Place.{Key, place_cmp, is_child, is_below, behind, is_one_name, has_names}
+use Rattle.ados_ram.specs.Files.{Rows}
+use Rattle.ados_ram.specs.FileOperations.{any_below, names_in}
+use Rattle.ados_ram.specs.Entry.{is_directory}
+use Rattle.ados_ram.specs.Contents.{is_within, children, put_behind, contents, files_below}
+use Rattle.ados_ram.specs.Rows.{rows_within}
+use Rattle.ados_ram.specs.Tree.{Kid, Kids, IsSubtree, AllSubtrees, under, flatten, rows_of, rows_to, rows_from, with_way}
+use Rattle.ados_ram.proofs.RowsLemmas.{first, none_above}
+use Rattle.ados_ram.proofs.RenameLemmas.{behind-exact}
+use Rattle.ados_ram.proofs.TreeLemmas.{holds}
+
+-- what is within a directory, by the way from there
+abbrev way_within : Bool → Option Key → Bool
+way_within true way = has_names way
+way_within false way = is_one_name way
+
+within-way : (all : Bool) (directory place : Key) → is_within all directory place ≡ way_within all (behind directory place)
+within-way true directory place = refl
+within-way false directory place = refl
+
+none-within : (all : Bool) → way_within all None ≡ false
+none-within true = refl
+none-within false = refl
+
+-- what is within a directory is what is within the rows from there
+pub rows-below : (all : Bool) (key : Key) (es : Rows) → rows_within all key es ≡ rows_to key (rows_within all [] (rows_from key es))
+rows-below all key [] = refl
+rows-below all key (e ∷ es) =
+    let next = rows-below all key es in
+    ap (λ b. cond b (e ∷ rows_within all key es) (rows_within all key es)) (within-way all key e.0)
+    ∙ elim (behind key e.0) as (λ o. behind key e.0 ≡ o → cond (way_within all o) (e ∷ rows_within all key es) (rows_within all key es) ≡ rows_to key (rows_within all [] (with_way o e.1 (rows_from key es)))) [
+      | None ↦ λ p. ap (λ b. cond b (e ∷ rows_within all key es) (rows_within all key es)) (none-within all) ∙ next
+      | Some w ↦ λ p.
+          elim (way_within all (Some w)) as (λ b. cond b (e ∷ rows_within all key es) (rows_within all key es) ≡ rows_to key (cond b ((w, e.1) ∷ rows_within all [] (rows_from key es)) (rows_within all [] (rows_from key es)))) [
+            | true ↦ ap (λ (q : Key). (q, e.1) ∷ rows_within all key es) (behind-exact key e.0 w p) ∙ ap (λ (r : Rows). (key ++ w, e.1) ∷ r) next
+            | false ↦ next
+          ]
+          ∙ ap (λ b. rows_to key (cond b ((w, e.1) ∷ rows_within all [] (rows_from key es)) (rows_within all [] (rows_from key es)))) (sym (within-way all [] w))
+    ] refl
+
+pub any-below : (key : Key) (es : Rows) → any_below key es ≡ any_below [] (rows_from key es)
+any-below key [] = refl
+any-below key (e ∷ es) =
+    let next = any-below key es in
+    elim (behind key e.0) as (λ o. has_names o || any_below key es ≡ any_below [] (with_way o e.1 (rows_from key es))) [
+      | None ↦ next
+      | Some w ↦ ap (λ b. has_names (Some w) || b) next
+    ]
+
+-- the own row of an object comes first
+record IsTop (e : Entry) (rows : Rows) : Type 0 where
+  pub rest : Rows
+  pub is : rows ≡ ([], e) ∷ rest
+  pub low : T (below_all place_cmp [] rest)
+
+is_top : (e : Entry) (rows : Rows) → find place_cmp [] rows ≡ Some e → T (is_sorted place_cmp rows) → IsTop e rows
+is_top e [] f s = cc
+is_top e (([], v) ∷ es) f s = record { rest = es; is = ap (λ (o : Option Entry). elim o as (λ _. Rows) [ None ↦ ([], v) ∷ es | Some x ↦ ([], x) ∷ es ]) f; low = first _ _ s }
+is_top e ((n ∷ ns, v) ∷ es) f s = let none : find place_cmp [] es ≡ None = none_above [] (n ∷ ns) es refl (first _ _ s) in cc
+
+two : (n m : List ℕ) (ns : Key) → nat_eq (length (n ∷ m ∷ ns)) 1 ≡ false
+two n m ns = grind (arith, nat_tests)
+
+deep : (n : List ℕ) (es rest : Rows) → T (below_all place_cmp [] es) → rows_within true [] (under n es ++ rest) ≡ under n (rows_within true [] es) ++ rows_within true [] rest
+deep n [] rest h = refl
+deep n (([], v) ∷ es) rest h = absurd h
+deep n ((m ∷ ms, v) ∷ es) rest h = ap (λ (r : Rows). (n ∷ m ∷ ms, v) ∷ r) (deep n es rest h)
+
+shallow : (n : List ℕ) (es rest : Rows) → T (below_all place_cmp [] es) → rows_within false [] (under n es ++ rest) ≡ rows_within false [] rest
+shallow n [] rest h = refl
+shallow n (([], v) ∷ es) rest h = absurd h
+shallow n ((m ∷ ms, v) ∷ es) rest h =
+    ap (λ b. cond b ((n ∷ m ∷ ms, v) ∷ rows_within false [] (under n es ++ rest)) (rows_within false [] (under n es ++ rest))) (two n m ms) ∙ shallow n es rest h
+
+to-append : (p : Key) (a b : Rows) → rows_to p (a ++ b) ≡ rows_to p a ++ rows_to p b
+to-append p [] b = refl
+to-append p (e ∷ a) b = ap (λ (r : Rows). (p ++ e.0, e.1) ∷ r) (to-append p a b)
+
+to-under : (p : Key) (n : List ℕ) (es : Rows) → rows_to p (under n es) ≡ rows_to (p ++ n ∷ []) es
+to-under p n [] = refl
+to-under p n (e ∷ es) = ap (λ (k : Key). (k, e.1) ∷ rows_to p (under n es)) (sym (append_assoc p (n ∷ []) e.0)) ∙ ap (λ (r : Rows). ((p ++ n ∷ []) ++ e.0, e.1) ∷ r) (to-under p n es)
+
+-- the rows below an object that are asked for
+abbrev pub rows_in : Bool → Key → Rows → Rows
+rows_in true place rows = rows_to place (rows_within true [] rows)
+rows_in false place rows = []
+
+-- what is within a directory: each object in it, and what is below that
+pub kid-within : (all : Bool) (p : Key) (k : Kid) (e : Entry) (ks : Kids) → find place_cmp [] k.1 ≡ Some e → IsSubtree k.1
+    → rows_to p (rows_within all [] (flatten (k ∷ ks))) ≡ (p ++ k.0 ∷ [], e) ∷ (rows_in all (p ++ k.0 ∷ []) k.1 ++ rows_to p (rows_within all [] (flatten ks)))
+kid-within true p k e ks f s =
+    let t : IsTop e k.1 = is_top e k.1 f (holds _ s.sorted) in
+    ap (λ (r : Rows). rows_to p (rows_within true [] (under k.0 r ++ flatten ks))) t.is
+    ∙ ap (λ (r : Rows). (p ++ k.0 ∷ [], e) ∷ rows_to p r) (deep k.0 t.rest (flatten ks) t.low)
+    ∙ ap (λ (r : Rows). (p ++ k.0 ∷ [], e) ∷ r) (to-append p (under k.0 (rows_within true [] t.rest)) (rows_within true [] (flatten ks)))
+    ∙ ap (λ (r : Rows). (p ++ k.0 ∷ [], e) ∷ (r ++ rows_to p (rows_within true [] (flatten ks)))) (to-under p k.0 (rows_within true [] t.rest))
+    ∙ ap (λ (r : Rows). (p ++ k.0 ∷ [], e) ∷ (rows_to (p ++ k.0 ∷ []) (rows_within true [] r) ++ rows_to p (rows_within true [] (flatten ks)))) (sym t.is)
+kid-within false p k e ks f s =
+    let t : IsTop e k.1 = is_top e k.1 f (holds _ s.sorted) in
+    ap (λ (r : Rows). rows_to p (rows_within false [] (under k.0 r ++ flatten ks))) t.is
+    ∙ ap (λ (r : Rows). (p ++ k.0 ∷ [], e) ∷ rows_to p r) (shallow k.0 t.rest (flatten ks) t.low)
+
+-- something is in a directory that has objects
+pub any-in : (entry : Entry) (ks : Kids) → AllSubtrees ks → any_below [] (rows_of entry ks) ≡ not (length ks == 0)
+any-in entry [] a = refl
+any-in entry (k ∷ ks) a =
+    let some : (length (k ∷ ks) == 0) ≡ false = grind (arith, nat_tests) in
+    not_empty k.0 k.1 (flatten ks) a.0.top ∙ ap not (sym some)
+  where
+    not_empty : (n : List ℕ) (r rest : Rows) → IsSome (find place_cmp [] r) → any_below [] (under n r ++ rest) ≡ true
+    not_empty n [] rest h = cc
+    not_empty n (e ∷ r) rest h = refl
+
+-- an object in a directory has fewer rows
+pub fewer : (ks : Kids) (i : ℕ) (d : Kid) → i < length ks → length (slice_index_or ks i d).1 ≤ length (flatten ks)
+fewer [] i d h = absurd (omega arith)
+fewer (k ∷ ks) zero d h = omega (arith, length-append (under k.0 k.1) (flatten ks), length-under k.0 k.1)
+  where
+    length-under : (n : List ℕ) (es : Rows) → length (under n es) ≡ length es
+    length-under n [] = refl
+    length-under n (e ∷ es) = omega (arith, length-under n es)
+fewer (k ∷ ks) (suc i) d h = omega (arith, length-append (under k.0 k.1) (flatten ks), fewer ks i d (omega arith))
+
+pub subtree-at : (ks : Kids) (i : ℕ) (d : Kid) → AllSubtrees ks → i < length ks → IsSubtree (slice_index_or ks i d).1
+subtree-at [] i d a h = absurd (omega arith)
+subtree-at (k ∷ ks) zero d a h = a.0
+subtree-at (k ∷ ks) (suc i) d a h = subtree-at ks i d a.1 (omega arith)
+
+-- what is listed of a directory is listed of the rows within it
+pub names-within : (key : Key) (es : Rows) → names_in key (rows_within false key es) ≡ names_in key es
+names-within key [] = refl
+names-within key (e ∷ es) =
+    elim (is_child key e.0) as (λ b. is_child key e.0 ≡ b → names_in key (cond b (e ∷ rows_within false key es) (rows_within false key es)) ≡ cond b (e.1.name ∷ names_in key es) (names_in key es)) [
+      | true ↦ λ t. ap (λ b. cond b (e.1.name ∷ names_in key (rows_within false key es)) (names_in key (rows_within false key es))) t ∙ ap (λ (r : Key). e.1.name ∷ r) (names-within key es)
+      | false ↦ λ t. names-within key es
+    ] refl
+
+pub children-within : (key : Key) (es : Rows) → children key (rows_within false key es) ≡ children key es
+children-within key [] = refl
+children-within key (e ∷ es) =
+    elim (is_child key e.0) as (λ b. is_child key e.0 ≡ b → children key (cond b (e ∷ rows_within false key es) (rows_within false key es)) ≡ cond b (e.0 ∷ children key es) (children key es)) [
+      | true ↦ λ t. ap (λ b. cond b (e.0 ∷ children key (rows_within false key es)) (children key (rows_within false key es))) t ∙ ap (λ (r : List Key). e.0 ∷ r) (children-within key es)
+      | false ↦ λ t. children-within key es
+    ] refl
+
+pub contents-within : (key : Key) (es : Rows) → contents key (rows_within true key es) ≡ contents key es
+contents-within key [] = refl
+contents-within key (e ∷ es) =
+    elim (is_below key e.0) as (λ b. is_below key e.0 ≡ b → contents key (cond b (e ∷ rows_within true key es) (rows_within true key es)) ≡ cond b (put_behind e.0 (contents key es)) (contents key es)) [
+      | true ↦ λ t. ap (λ b. cond b (put_behind e.0 (contents key (rows_within true key es))) (contents key (rows_within true key es))) t ∙ ap (put_behind e.0) (contents-within key es)
+      | false ↦ λ t. contents-within key es
+    ] refl
+
+pub files-within : (all : Bool) (key : Key) (es : Rows) → files_below all key (rows_within all key es) ≡ files_below all key es
+files-within all key [] = refl
+files-within all key (e ∷ es) =
+    let rest = rows_within all key es in
+    elim (is_within all key e.0) as (λ b. is_within all key e.0 ≡ b → files_below all key (cond b (e ∷ rest) rest) ≡ cond (b && not (is_directory e.1)) (e.0 ∷ files_below all key es) (files_below all key es)) [
+      | true ↦ λ t. ap (λ b. cond (b && not (is_directory e.1)) (e.0 ∷ files_below all key rest) (files_below all key rest)) t ∙ ap (λ (r : List Key). cond (not (is_directory e.1)) (e.0 ∷ r) r) (files-within all key es)
+      | false ↦ λ t. files-within all key es
+    ] refl
+
+-- one object further in a directory
+pub gathered : (all : Bool) (key at : Key) (ks : Kids) (i : ℕ) (k : Kid) (e : Entry) (before pushed after : Rows) → i < length ks → k ≡ slice_index_or ks i k → AllSubtrees ks → find place_cmp [] k.1 ≡ Some e
+    → at ≡ key ++ k.0 ∷ [] → pushed ≡ before ++ (at, e) ∷ [] → after ≡ pushed ++ rows_in all at k.1
+    → after ++ rows_to key (rows_within all [] (flatten (drop (i + 1) ks))) ≡ before ++ rows_to key (rows_within all [] (flatten (drop i ks)))
+gathered all key at ks i k e before pushed after h is a f place push more =
+    let rest = rows_to key (rows_within all [] (flatten (drop (i + 1) ks))) in
+    let d : drop i ks ≡ k ∷ drop (i + 1) ks = rw add-one (drop-cons ks i k h) ∙ ap (λ (x : Kid). x ∷ drop (i + 1) ks) (sym is) in
+    let s : IsSubtree k.1 = subst (λ (x : Kid). IsSubtree x.1) (sym is) (subtree-at ks i k a h) in
+    let this : Rows = (at, e) ∷ [] in
+    ap (λ (r : Rows). r ++ rest) (more ∙ ap (λ (r : Rows). r ++ rows_in all at k.1) push)
+    ∙ append_assoc (before ++ this) (rows_in all at k.1) rest ∙ append_assoc before this (rows_in all at k.1 ++ rest)
+    ∙ ap (λ (p : Key). before ++ (p, e) ∷ (rows_in all p k.1 ++ rest)) place
+    ∙ ap (λ (r : Rows). before ++ r) (sym (kid-within all key k e (drop (i + 1) ks) f s))
+    ∙ ap (λ (x : Kids). before ++ rows_to key (rows_within all [] (flatten x))) (sym d)

@@ -1,0 +1,30 @@
+use Rattle.std.proofs.Common.{◌≡◌, ◌∙◌, sym, ap, Some, None, arith, refl}
+use Rattle.std.specs.Option.{option_copied}
+use Rattle.std.specs.FinMap.{find}
+use Rattle.ados_text.specs.Text.{folded}
+use Rattle.ados_text.specs.Name.{name_cmp}
+use Rattle.ados_ram.specs.Place.{key_of}
+use Rattle.ados_ram.specs.Tree.{Kid, rows_at, rows_from, rows_found}
+use Rattle.ados_ram.proofs.TreeLemmas.{from_none, from_kid}
+use Rattle.ados_ram.proofs.branches.Branch.+at.Goals as goal
+
+pub at-requires : goal.at-requires
+at-requires t c = (omega (arith, c.in-Some.ensures.cases.1, c.decreases), tt)
+
+pub returns-in_default : goal.returns-in_default
+returns-in_default t c = from_none c.args.names.now c.args.self.now.1 c.in_default.ensures.cases
+
+pub returns-in-None : goal.returns-in-None
+returns-in-None t c =
+    let kid : rows_at (option_copied c.kid_at.result) ≡ rows_found (find name_cmp (folded c.in-Some.name.now) c.self.inside.node.value.kids.items) = c.kid_at.ensures ∙ rw (c.deref-2.ensures.value, c.deref.ensures) refl in
+    let none : rows_at None ≡ rows_at (option_copied c.kid_at.result) = sym (ap (λ o. rows_at (option_copied o)) c.in-None.is) in
+    sym (from_kid c.self.inside.node.value.entry c.self.inside.node.value.kids.items c.args.self.now.1 (folded c.in-Some.name.now) (key_of c.in-Some.rest.now) (key_of c.args.names.now) (ap (λ (k : Kid). k.1) c.self.view_is) c.self.invariant.sorted (ap key_of c.in-Some.ensures.cases.0)
+    ∙ ap (rows_from (key_of c.in-Some.rest.now)) (sym (none ∙ kid)))
+
+pub returns-in-Some-kid_at : goal.returns-in-Some-kid_at
+returns-in-Some-kid_at t c =
+    let kid : rows_at (option_copied c.kid_at.result) ≡ rows_found (find name_cmp (folded c.in-Some.name.now) c.self.inside.node.value.kids.items) = c.kid_at.ensures ∙ rw (c.deref-2.ensures.value, c.deref.ensures) refl in
+    let some : rows_at (Some c.in-Some-kid_at.kid.now) ≡ rows_at (option_copied c.kid_at.result) = sym (ap (λ o. rows_at (option_copied o)) c.in-Some-kid_at.is) in
+    c.at.ensures
+    ∙ sym (from_kid c.self.inside.node.value.entry c.self.inside.node.value.kids.items c.args.self.now.1 (folded c.in-Some.name.now) (key_of c.in-Some.rest.now) (key_of c.args.names.now) (ap (λ (k : Kid). k.1) c.self.view_is) c.self.invariant.sorted (ap key_of c.in-Some.ensures.cases.0)
+    ∙ ap (rows_from (key_of c.in-Some.rest.now)) (sym (some ∙ kid)))

@@ -1,0 +1,223 @@
+// The tree: an object with all that is in it, shared between versions.
+ghost use Rattle.std.specs.Prelude.{◌≡◌, ◌++◌, IfOk, OnOk, Some, [], false};
+ghost use Rattle.std.specs.Option.{option_copied};
+ghost use Rattle.std.specs.FinMap as map;
+ghost use Rattle.ados_text.specs.Text.{folded};
+ghost use Rattle.ados_ram.specs.Place.{key_of, place_cmp, is_root};
+ghost use Rattle.ados_ram.specs.Tree.{AreKids, IsReplaced, MayStand, rows_at, rows_from, rows_of, rows_to, rows_way, rows_written, with_flat, IsEntryAt};
+ghost use Rattle.ados_ram.specs.Rows.{rows_within};
+ghost use Rattle.ados_ram.specs.FileOperations.{any_below};
+
+use crate::entries::Entry;
+use crate::kids::{changed, kid_at, position, shared};
+use crate::places::Place;
+use crate::rows::Row;
+use ados_text::{Name, NoMemory, Result2};
+use std::alloc::Global;
+use std::marker::Model;
+use std::rc::Rc;
+
+/// An object with all that is in it. A change makes new nodes along one path; all others are shared.
+#[cycle(tree)]
+#[derive(Drop)]
+pub struct Branch {
+    node: Rc<Node>,
+}
+
+#[cycle(tree)]
+#[derive(Drop)]
+pub struct Node {
+    name: Name,
+    entry: Entry,
+    kids: Vec<Branch>,
+}
+
+impl Model for Branch {
+    ghost use Rattle.ados_text.specs.Text.{folded};
+    ghost use Rattle.ados_ram.specs.Tree.{Kid, coded_kid, rows_of, AreKids};
+
+    ghost Value = { Kid };
+
+    ghost coded = { coded_kid };
+
+    ghost view = { λ b. (folded b.node.value.name, rows_of b.node.value.entry b.node.value.kids.items) };
+
+    ghost invariant = { λ b. AreKids b.node.value.kids.items };
+
+    ghost use Rattle.std.specs.Prelude.{length};
+
+    ghost size = { λ v. length v.1 };
+
+    ghost use Rattle.ados_ram.specs.Falls.{falls};
+
+    ghost size_decreases = { λ a h. falls a };
+}
+
+impl Branch {
+    /// An object with these in it.
+    pub fn new(name: Name, entry: Entry, kids: Vec<Branch>) -> Result<Branch, NoMemory>
+        requires { AreKids kids.items }
+        ensures { IfOk result (λ b. b ≡ (folded name, rows_of entry kids.items)) }
+    {
+        Ok(Branch {
+            node: Rc::new(*kids.allocator(), Node { name, entry, kids })?,
+        })
+    }
+
+    /// An object with nothing in it.
+    pub fn leaf(alloc: Global, name: Name, entry: Entry) -> Result<Branch, NoMemory>
+        ensures { IfOk result (λ b. b ≡ (folded name, rows_of entry [])) }
+    {
+        Branch::new(name, entry, Vec::new(alloc))
+    }
+
+    /// The same branch, shared.
+    pub fn share(&self) -> Result<Branch, NoMemory>
+        ensures { IfOk result (λ b. b ≡ self.now) }
+    {
+        Ok(Branch {
+            node: self.node.clone()?,
+        })
+    }
+
+    /// The name, in some spelling.
+    pub fn name(&self) -> &Name
+        ensures { folded result.now ≡ self.now.0 }
+    {
+        &self.node.name
+    }
+
+    /// What stands here.
+    pub fn entry(&self) -> &Entry
+        ensures { map.find place_cmp [] self.now.1 ≡ Some result.now }
+    {
+        &self.node.entry
+    }
+
+    /// The branch at a place.
+    pub fn at(&self, names: &[Name]) -> Option<&Branch>
+        ensures { rows_at (option_copied result) ≡ rows_from (key_of names.now) self.now.1 }
+    {
+        let Some((name, rest)) = names.split_first() else {
+            return Some(self);
+        };
+        match kid_at(&self.node.kids, name) {
+            None => None,
+            Some(kid) => kid.at(rest),
+        }
+    }
+
+    /// A place with names behind it that lead down from here, as they are written; what is not there stays as it is.
+    pub fn written(&self, written: Place, names: &[Name]) -> Result<Place, NoMemory>
+        ensures { IfOk result (λ place. place ≡ written ++ rows_written self.now.1 [] names.now) }
+    {
+        let Some((name, rest)) = names.split_first() else {
+            return Ok(written);
+        };
+        match kid_at(&self.node.kids, name) {
+            None => written.joined(names),
+            Some(kid) => kid.written(written.with(kid.entry().name.copy()?)?, rest),
+        }
+    }
+
+    /// The fault of the places above a place, each tested as it is passed.
+    pub fn way(&self, names: &[Name]) -> Option<Result2>
+        ensures { result ≡ rows_way self.now.1 [] (key_of names.now) }
+    {
+        let Some((name, rest)) = names.split_first() else {
+            return None;
+        };
+        if !self.node.entry.is_directory() {
+            return Some(Result2::WRONG_TYPE);
+        }
+        match kid_at(&self.node.kids, name) {
+            Some(kid) => kid.way(rest),
+            None if rest.is_empty() => None,
+            None => Some(Result2::DIRECTORY_NOT_FOUND),
+        }
+    }
+
+    /// What stands at a place.
+    pub fn find(&self, names: &[Name]) -> Option<&Entry>
+        ensures { option_copied result ≡ map.find place_cmp (key_of names.now) self.now.1 }
+    {
+        match self.at(names) {
+            None => None,
+            Some(branch) => Some(branch.entry()),
+        }
+    }
+
+    /// Something is in it.
+    pub fn is_parent(&self) -> bool
+        ensures { result ≡ any_below [] self.now.1 }
+    {
+        !self.node.kids.is_empty()
+    }
+
+    /// Adds the rows of what is directly in this directory, or of all that is below it; the directory is at the place.
+    pub fn add_rows(&self, place: &Place, all: bool, rows: &mut Vec<Row>) -> Result<(), NoMemory>
+        ensures { OnOk result (rows.new.items ≡ rows.old.items ++ rows_to (key_of place.now) (rows_within all [] self.now.1)) }
+    {
+        for kid in &self.node.kids {
+            let at = place.copy()?.with(kid.name().copy()?)?;
+            rows.push(Row::new(at.copy()?, kid.entry().copy()?))?;
+            if all {
+                kid.add_rows(&at, all, rows)?;
+            }
+        }
+        Ok(())
+    }
+
+    /// The tree with another branch, or none, at a place and below it. Nodes beside the way there are shared.
+    pub fn with(&self, names: &[Name], new: Option<Branch>) -> Result<Branch, NoMemory>
+        requires place { is_root (key_of names.now) ≡ false }
+        requires stands { MayStand (key_of names.now) new self.now.1 }
+        ensures name { IfOk result (λ b. b.0 ≡ self.now.0) }
+        ensures rows { IfOk result (λ b. IsReplaced (key_of names.now) (rows_at new) self.now.1 b.1) }
+    {
+        let Some((name, rest)) = names.split_first() else {
+            unreachable!();
+        };
+        let alloc = *self.node.kids.allocator();
+        let at = position(&self.node.kids, name);
+        if rest.is_empty() {
+            let kids = changed(alloc, &self.node.kids, name, at, new)?;
+            return self.with_kids(kids);
+        }
+        let Ok(place) = at else {
+            unreachable!();
+        };
+        let kid = self.node.kids[place].with(rest, new)?;
+        let kids = changed(alloc, &self.node.kids, name, at, Some(kid))?;
+        self.with_kids(kids)
+    }
+
+    // The same object, with these in it.
+    fn with_kids(&self, kids: Vec<Branch>) -> Result<Branch, NoMemory>
+        requires { AreKids kids.items }
+        ensures { IfOk result (λ b. b ≡ (self.now.0, with_flat self.now.1 kids.items)) }
+    {
+        let node = &self.node;
+        Ok(Branch {
+            node: Rc::new(
+                *kids.allocator(),
+                Node {
+                    name: node.name.copy()?,
+                    entry: node.entry.copy()?,
+                    kids,
+                },
+            )?,
+        })
+    }
+
+    /// The same object under other data, with the same in it.
+    pub fn with_entry(&self, name: Name, entry: Entry) -> Result<Branch, NoMemory>
+        ensures name { IfOk result (λ b. b.0 ≡ folded name) }
+        ensures rows { IfOk result (λ b. IsEntryAt entry self.now.1 b.1) }
+    {
+        let kids = shared(&self.node.kids, *self.node.kids.allocator())?;
+        Ok(Branch {
+            node: Rc::new(*self.node.kids.allocator(), Node { name, entry, kids })?,
+        })
+    }
+}
