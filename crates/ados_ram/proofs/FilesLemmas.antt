@@ -1,8 +1,7 @@
 -- What is put where the way is clear leaves files: a tree of directories within the limits.
-use Rattle.std.proofs.Common.{◌≡◌, ℕ, Bool, true, false, cond, not, T, List, [], ◌∷◌, ◌++◌, Option, Some, None, IsSome, IsTrue, refl, sym, ap, ◌∙◌, subst, append_assoc, ◌+◌, ◌≤◌, ◌&&◌, ◌||◌, nat_le, length, arith, ◌<◌, take, drop, get_or, drop-cons, add-one}
+use Rattle.std.proofs.Common.{◌≡◌, ℕ, Bool, true, false, cond, not, T, List, [], ◌∷◌, ◌++◌, Option, Some, None, IsSome, IsTrue, refl, sym, ap, ◌∙◌, subst, append_assoc, ◌+◌, ◌≤◌, ◌&&◌, ◌||◌, nat_le, length, arith}
 use Rattle.std.proofs.lemmas.Bool.{leb-true}
-use Rattle.std.proofs.lemmas.List.{append-nil, take_more, map-append}
-use Rattle.ados_text.specs.Text.{folded}
+use Rattle.std.proofs.lemmas.List.{append-nil}
 use Rattle.std.specs.Ordering.{is_eq}
 use Rattle.std.specs.declared.cmp.Ordering.{Ordering}
 use Rattle.std.specs.declared.cmp.Ordering.TheVariants.{Less, Equal, Greater}
@@ -14,7 +13,7 @@ use Rattle.ados_text.specs.declared.codes.Result2.{Result2}
 use Rattle.ados_text.specs.declared.codes.TheConstants.Result2.{OBJECT_IN_USE, WRONG_TYPE, DIRECTORY_NOT_EMPTY, DISK_FULL, DELETE_PROTECTED}
 use Rattle.ados_text.specs.Name.{name_cmp_total}
 use Rattle.ados_ram.specs.declared.entries.Entry.{Entry}
-use Rattle.ados_ram.specs.Place.{key_of, place_cmp, place_cmp_total, place_cmp_exact, is_same_key, is_root, behind, has_names, is_below}
+use Rattle.ados_ram.specs.Place.{place_cmp, place_cmp_total, place_cmp_exact, is_same_key, is_root, behind, has_names, is_below}
 use Rattle.ados_ram.specs.Entry.{is_directory, is_directory_body, bytes_of_body, fresh_bits, size_of, written, written_as, new_directory}
 use Rattle.ados_ram.specs.Files.{Files, Rows, AreFiles, is_some_directory, is_some_file, bytes_at, total_of, file_limit, bytes_limit, objects_limit}
 use Rattle.ados_ram.specs.FileOperations.{on_the_way, way_fault, write_target_fault, full_fault, limit_fault, write_of, write_fault, write_as_of, append_of, is_put, put_open_of, put_open_fault, free_fault, make_dir_of, make_dir_fault, any_below, delete_target_fault, delete_fault}
