@@ -1,43 +1,92 @@
--- a line is ASCII, and so is the text of an item of it: no byte of it becomes `?`
-use Rattle.std.proofs.Common.{ℕ, suc, ◌-◌, ◌<◌, ◌≡◌, List, [], ◌∷◌, Bool, true, false, ◌==◌, map, drop, refl, arith}
-use Rattle.std.proofs.lemmas.Bool.{cond_both}
-use Rattle.std.proofs.lemmas.Bool.Decides.{nat_tests}
-use Rattle.std.proofs.lemmas.List.Elements.{All-take, All-drop}
-use Rattle.ados_text.specs.Text.{to_ascii, IsText}
-use Rattle.ados_items.specs.Items.{escape_of, unescaped, bytes_between, value_of}
-use Rattle.ados_items.specs.declared.items.Item.TheVariants.{Word, Quoted}
+-- labels in the order of their texts: those of one text stand together
+use Rattle.std.proofs.Common.{ℕ, ◌+◌, ◌≤◌, ◌≡◌, ◌∙◌, List, true, false, not, ◌&&◌, length, take, drop, get_or, refl, ap, sym, arith}
+use Rattle.std.specs.declared.cmp.Ordering.{Ordering}
+use Rattle.std.specs.declared.cmp.Ordering.TheVariants.{Less, Equal, Greater}
+use Rattle.std.specs.Ordering.{is_eq, is_lt, ordering_index, ordering_reverse}
+use Rattle.std.specs.List.{filter, AllWithin}
+use Rattle.std.specs.List.Sorted.{IsNonDecreasingBy, IsPartitionedBy, IsPartitionPoint, IsSortedByKey, IsStableBy, ties}
+use Rattle.std.proofs.lemmas.Bool.{both_ways}
+use Rattle.std.proofs.lemmas.List.{get_or-drop, length-drop}
+use Rattle.std.proofs.lemmas.List.Sorted.{searchable_from_sorted, IsNonDecreasingBy-drop}
+use Rattle.std.proofs.lemmas.Map.Text.{is_eq-slice_cmp}
+use Rattle.ados_text.specs.Text.{Text, folded}
+use Rattle.ados_text.specs.Name.{name_cmp, name_cmp_total}
+use Rattle.ados_script.specs.declared.labels.Label.{Label}
+use Rattle.ados_script.specs.Tables.{has_text}
+use Rattle.ados_script.proofs.ListLemmas.{filter-alike, filter-behind, filter-front}
 
-rest-ascii : (c : ℕ) (cs : List ℕ) → IsText (c ∷ cs) → IsText cs
-rest-ascii c cs ascii = λ k d h. ascii (suc k) d (omega (arith, h))
+-- how the text of a label stands to another
+abbrev pub against : Text → Label → Ordering
+against text label = name_cmp (folded label.text) (folded text)
 
-kept : (c : ℕ) → c < 128 → to_ascii c ≡ c
-kept c h = grind (arith, nat_tests)
+abbrev pub AreSorted : List Label → Type 0
+AreSorted labels = IsSortedByKey (λ (label : Label). folded label.text) name_cmp labels
 
-escape-kept : (c : ℕ) → c < 128 → to_ascii (escape_of c) ≡ escape_of c
-escape-kept c h = grind (arith, nat_tests)
+rises : (text : Text) (labels : List Label) → AreSorted labels → IsNonDecreasingBy (λ label. ordering_index (against text label)) labels
+rises text labels sorted = searchable_from_sorted name_cmp_total (λ (label : Label). folded label.text) labels (folded text) sorted
 
-text-kept : (bytes : List ℕ) → IsText bytes → map to_ascii bytes ≡ bytes
-text-kept [] ascii = refl
-text-kept (c ∷ cs) ascii =
-    let first : to_ascii c ≡ c = kept c (ascii 0 c (omega arith)) in
-    let rest = text-kept cs (rest-ascii c cs ascii) in cc
+index-less : (o : Ordering) → is_lt o ≡ true → ordering_index o ≡ 0
+index-less Less h = refl
+index-less Equal h = absurd (both_ways false refl h)
+index-less Greater h = absurd (both_ways false refl h)
 
-unescaped-kept : (escaped : Bool) (bytes : List ℕ) → IsText bytes → map to_ascii (unescaped escaped bytes) ≡ unescaped escaped bytes
-unescaped-kept escaped [] ascii = refl
-unescaped-kept true (c ∷ cs) ascii =
-    let first : to_ascii (escape_of c) ≡ escape_of c = escape-kept c (ascii 0 c (omega arith)) in
-    let rest = unescaped-kept false cs (rest-ascii c cs ascii) in cc
-unescaped-kept false (c ∷ cs) ascii =
-    let first : to_ascii c ≡ c = kept c (ascii 0 c (omega arith)) in
-    let rest = unescaped-kept false cs (rest-ascii c cs ascii) in
-    let behind = unescaped-kept true cs (rest-ascii c cs ascii) in
-    cond_both (c == 42) (unescaped true cs) (c ∷ unescaped false cs) (λ bytes. map to_ascii bytes ≡ bytes) (λ _. behind) (λ _. cc)
+less-index : (o : Ordering) → ordering_index o ≤ 0 → is_lt o ≡ true
+less-index Less h = refl
+less-index Equal h = absurd (omega arith)
+less-index Greater h = absurd (omega arith)
 
-part-ascii : (line : List ℕ) (from to : ℕ) → IsText line → IsText (bytes_between line from to)
-part-ascii line from to ascii = All-take (λ c. c < 128) (to - from) (drop from line) (All-drop (λ c. c < 128) from line ascii)
+index-equal : (o : Ordering) → is_eq o ≡ true → ordering_index o ≡ 1
+index-equal Less h = absurd (both_ways false refl h)
+index-equal Equal h = refl
+index-equal Greater h = absurd (both_ways false refl h)
 
-pub word_value : (line : List ℕ) (from to : ℕ) → IsText line → value_of line (Word from to) ≡ bytes_between line from to
-word_value line from to ascii = text-kept (bytes_between line from to) (part-ascii line from to ascii)
+equal-index : (o : Ordering) → ordering_index o ≤ 1 → is_lt o ≡ false → is_eq o ≡ true
+equal-index Less h more = absurd (both_ways true more refl)
+equal-index Equal h more = refl
+equal-index Greater h more = absurd (omega arith)
 
-pub quoted_value : (line : List ℕ) (from to : ℕ) → IsText line → value_of line (Quoted from to) ≡ unescaped false (bytes_between line from to)
-quoted_value line from to ascii = unescaped-kept false (bytes_between line from to) (part-ascii line from to ascii)
+not-equal : (o : Ordering) → is_lt o ≡ true → is_eq o ≡ false
+not-equal Less h = refl
+not-equal Equal h = absurd (both_ways false refl h)
+not-equal Greater h = refl
+
+pub parted_less : (text : Text) (labels : List Label) → AreSorted labels → IsPartitionedBy (λ label. is_lt (against text label)) labels
+parted_less text labels sorted i j d a b h =
+    less-index _ (omega (arith, rises text labels sorted i j d a b, index-less _ h))
+
+-- behind those of lesser texts
+pub AreNoLess : Text → List Label → Type 0
+AreNoLess text labels = AllWithin (λ label. is_lt (against text label) ≡ false) labels 0 (length labels)
+
+pub parted_equal : (text : Text) (labels : List Label) (k : ℕ) → AreSorted labels → AllWithin (λ label. is_lt (against text label) ≡ false) labels k (length labels)
+    → IsPartitionedBy (λ label. is_eq (against text label)) (drop k labels)
+parted_equal text labels k sorted high i j d a b h =
+    let long = length-drop k labels in
+    let first : get_or (drop k labels) i d ≡ get_or labels (k + i) d = get_or-drop k labels i d in
+    equal-index _ (omega (arith, IsNonDecreasingBy-drop (λ (label : Label). ordering_index (against text label)) k labels (rises text labels sorted) i j d a b, index-equal _ h))
+    (ap (λ label. is_lt (against text label)) first ∙ high (k + i) d (omega arith) (omega arith))
+
+-- the labels of a text are what two searches by its order find
+pub found_all : (text : Text) (labels : List Label) (k n : ℕ)
+    → IsPartitionPoint (λ label. is_lt (against text label) ≡ true) (λ label. is_lt (against text label) ≡ false) labels k
+    → IsPartitionPoint (λ label. is_eq (against text label) ≡ true) (λ label. is_eq (against text label) ≡ false) (drop k labels) n
+    → take n (drop k labels) ≡ filter (has_text text) labels
+found_all text labels k n less equal =
+    filter-front (λ label. is_eq (against text label)) (drop k labels) n equal.0 equal.1
+    ∙ filter-behind (λ label. is_eq (against text label)) labels k (λ i d a b. not-equal _ (less.0 i d a b))
+    ∙ filter-alike _ (has_text text) (λ label. is_eq-slice_cmp (folded label.text) (folded text)) labels
+
+-- labels that tie with one of a text have it
+tie-equal : (o : Ordering) → (not (is_lt (ordering_reverse o)) && not (is_lt o)) ≡ is_eq o
+tie-equal Less = refl
+tie-equal Equal = refl
+tie-equal Greater = refl
+
+tied : (text : Text) (label : Label) → ties (λ (x y : Label). is_lt (name_cmp (folded x.text) (folded y.text))) (record { text = text; line = 0 }) label ≡ has_text text label
+tied text label =
+    rw (name_cmp_total.antisymm (folded text) (folded label.text)) (tie-equal (against text label)) ∙ is_eq-slice_cmp (folded label.text) (folded text)
+
+pub stays : (text : Text) (old new : List Label) → IsStableBy (λ (x y : Label). is_lt (name_cmp (folded x.text) (folded y.text))) old new
+    → filter (has_text text) new ≡ filter (has_text text) old
+stays text old new stable =
+    filter-alike (has_text text) _ (λ label. sym (tied text label)) new ∙ stable (record { text = text; line = 0 }) ∙ filter-alike _ (has_text text) (tied text) old

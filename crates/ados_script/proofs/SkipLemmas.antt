@@ -1,54 +1,194 @@
--- the search of a Skip, from line to line
-use Rattle.std.proofs.Common.{ℕ, ◌+◌, ◌<◌, ◌≡◌, ◌∙◌, List, Bool, true, false, Option, length, map, get_or, refl, ap, sym, arith, if◌then◌else◌}
-use Rattle.std.specs.List.{find}
-use Rattle.std.proofs.lemmas.List.{get_or-map}
+-- where a Skip goes on: at the first of two lines, each the first of a rising list
+use Rattle.std.proofs.Common.{ℕ, zero, suc, ◌+◌, ◌-◌, ◌<◌, ◌≤◌, ◌≡◌, ◌∙◌, ◌^◌, List, Bool, true, false, cond, ◌&&◌, ◌||◌, Option, Some, None, length, map, nat_lt, refl, ap, sym, arith}
+use Rattle.std.specs.List.{filter, find, range_with_len}
+use Rattle.std.specs.List.Sorted.{IsNonDecreasing, IsNonDecreasingBy}
+use Rattle.std.specs.Option.{IfSome, option_map}
+use Rattle.std.proofs.lemmas.Bool.{both_ways, cond_both}
+use Rattle.std.proofs.lemmas.Bool.Decides.{nat_tests}
+use Rattle.std.proofs.lemmas.List.{get_or-map, length-map}
+use Rattle.std.proofs.lemmas.List.FromFn.{get_or-range_with_len, length-range_with_len}
+use Rattle.std.proofs.lemmas.List.Kept.{IsNonDecreasingBy-filter}
+use Rattle.std.proofs.lemmas.Option.{IfSome_then}
 use Rattle.ados_text.specs.Text.{Text}
 use Rattle.ados_script.specs.declared.heads.Head.{Head}
 use Rattle.ados_script.specs.declared.heads.Head.TheVariants.{If, Else, EndIf, EndSkip, Lab, Other}
-use Rattle.ados_script.specs.declared.jumps.Jump.TheVariants.{To, EndSkip as BehindEndSkip}
-use Rattle.ados_script.specs.Heads.{head_of}
+use Rattle.ados_script.specs.declared.labels.Label.{Label}
+use Rattle.ados_script.specs.Blocks.{ends_block}
+use Rattle.ados_script.specs.Heads.{head_of, label_of}
+use Rattle.ados_script.specs.Jumps.{behind, LeadsWithin}
 use Rattle.ados_script.specs.Lines.{below, is_some_and, line_of}
-use Rattle.ados_script.specs.Skips.{is_end_skip, skip_below, stops, stops_at}
-use Rattle.ados_script.proofs.LineLemmas.{find-here, find-further, line_of-place}
+use Rattle.ados_script.specs.Skips.{behind_stop, is_end_skip, is_end_skip_at, is_sought, skip_below, stops, stops_at}
+use Rattle.ados_script.specs.Tables.{behind_first, first_below, has_text, is_lab, is_lab_at, label_at, labels_below, text_or, AreByText}
+use Rattle.ados_script.proofs.LineLemmas.{find-within, found_within}
+use Rattle.ados_script.proofs.ListLemmas.{find-alike, find-filter, find-map}
 
--- it stops at no line before a place
-abbrev pub HasPassed : Option Text → List Text → ℕ → ℕ → Type 0
-HasPassed label lines i place = find (stops_at label lines) (below lines i) ≡ find (stops_at label lines) (below lines place)
+and-true : (b : Bool) → (b && true) ≡ b
+and-true true = refl
+and-true false = refl
 
--- the search is at a place, with this line
-pub record IsAt (label : Option Text) (lines : List Text) (heads : List Head) (i place : ℕ) (line : Text) : Type 0 where
-  pub known : heads ≡ map head_of lines
-  pub passed : HasPassed label lines i place
-  pub within : place < length lines
-  pub read : line ≡ get_or lines place line
+and-false : (b : Bool) → (b && false) ≡ false
+and-false true = refl
+and-false false = refl
 
--- a test of this line, and of what it is
-tested : {label : Option Text} {lines : List Text} {heads : List Head} {i place : ℕ} {line : Text} (test : Text → Head → Bool) (d : Head)
-    → IsAt label lines heads i place line
-    → is_some_and (λ line. test line (head_of line)) (line_of lines (place + 1)) ≡ test line (get_or heads place d)
-tested {label} {lines} {heads} {i} {place} {line} test d at =
-    let head : get_or heads place d ≡ head_of line =
-    ap (λ hs. get_or hs place d) at.known ∙ get_or-map head_of lines place line d at.within ∙ ap head_of (sym at.read) in
-    rw (line_of-place lines place line at.within, ← at.read, head) refl
+or-false : (b : Bool) → b ≡ (b || false)
+or-false true = refl
+or-false false = refl
 
-pub passed-further : {label : Option Text} {lines : List Text} {heads : List Head} {i place : ℕ} {line : Text} (d : Head)
-    → IsAt label lines heads i place line → stops label line (get_or heads place d) ≡ false → HasPassed label lines i (place + 1)
-passed-further {label} {lines} {heads} {i} {place} {line} d at goes_on =
-    at.passed ∙ find-further (stops_at label lines) lines place at.within (tested (stops label) d at ∙ goes_on)
+and-both : (a b c : Bool) → (a && (b && c)) ≡ ((a && b) && c)
+and-both true b c = refl
+and-both false b c = refl
 
-pub stopped : {label : Option Text} {lines : List Text} {heads : List Head} {i place : ℕ} {line : Text} (d : Head)
-    → IsAt label lines heads i place line → stops label line (get_or heads place d) ≡ true
-    → skip_below label lines i ≡ (if is_end_skip (get_or heads place d) then BehindEndSkip (place + 2) else To (place + 2))
-stopped {label} {lines} {heads} {i} {place} {line} d at stops_here =
-    let found = find-here (stops_at label lines) lines place at.within (tested (stops label) d at ∙ stops_here) ∙ sym at.passed in
-    let behind : place + 1 + 1 ≡ place + 2 = omega arith in
-    rw (← found, tested (λ _ head. is_end_skip head) d at, behind) refl
+-- numbers above a limit
+above-all : (test : ℕ → Bool) (i a n : ℕ) → i < a → find (λ j. test j && nat_lt i j) (range_with_len a n) ≡ find test (range_with_len a n)
+above-all test i a zero h = refl
+above-all test i a (suc n) h =
+    let high : nat_lt i a ≡ true = grind (arith, nat_tests) in
+    rw (high, and-true (test a), above-all test i (a + 1) n (omega arith)) refl
 
--- a line that is no EndSkip
-pub others : (head : Head) → (head ≡ EndSkip → ⊥) → is_end_skip head ≡ false
-others If other = refl
-others Else other = refl
-others EndIf other = refl
-others EndSkip other = absurd (other refl)
-others Lab other = refl
-others Other other = refl
+-- the numbers up to the limit are passed
+low-passed : (test : ℕ → Bool) (i k a n : ℕ) → a + k ≤ i + 1
+    → find (λ j. test j && nat_lt i j) (range_with_len a n) ≡ find (λ j. test j && nat_lt i j) (range_with_len (a + k) (n - k))
+low-passed test i zero a n h =
+    let here : a + 0 ≡ a = omega arith in
+    let all : n - 0 ≡ n = omega arith in
+    rw (here, all) refl
+low-passed test i (suc k) a zero h = let none : 0 - suc k ≡ 0 = omega arith in rw none refl
+low-passed test i (suc k) a (suc n) h =
+    let low : nat_lt i a ≡ false = grind (arith, nat_tests) in
+    let from : a + suc k ≡ a + 1 + k = omega arith in
+    let left : suc n - suc k ≡ n - k = omega arith in
+    rw (low, and-false (test a), from, left) (low-passed test i k (a + 1) n (omega arith))
+
+above-is : (test : ℕ → Bool) (lines : List Text) (i : ℕ) → find (λ j. test j && nat_lt i j) (below lines 0) ≡ find test (below lines i)
+above-is test lines i =
+    let from : 1 + i ≡ i + 1 = omega arith in
+    let left : length lines - 0 - i ≡ length lines - i = omega arith in
+    low-passed test i i 1 (length lines - 0) (omega arith) ∙ rw (from, left) (above-all test i (i + 1) (length lines - i) (omega arith))
+
+-- the first of a list's numbers below a line is the first line there that passes the list's test
+pub first-is : (test : ℕ → Bool) (lines : List Text) (i : ℕ) → first_below (filter test (below lines 0)) i ≡ find test (below lines i)
+first-is test lines i = find-filter (λ j. nat_lt i j) test (below lines 0) ∙ above-is test lines i
+
+-- line j is a Lab with the label
+abbrev pub sought_at : Option Text → List Text → ℕ → Bool
+sought_at label lines j = is_lab_at lines j && is_sought label (label_at lines j).text
+
+numbered : (lines : List Text) (o : Option ℕ) → option_map (λ (label : Label). label.line) (option_map (label_at lines) o) ≡ o
+numbered lines None = refl
+numbered lines (Some j) = refl
+
+pub label-is : (text : Text) (lines : List Text) (labels : List Label) (i : ℕ) → AreByText lines labels
+    → option_map (λ (label : Label). label.line) (find (λ (label : Label). nat_lt i label.line) (filter (has_text text) labels)) ≡ find (sought_at (Some text) lines) (below lines i)
+label-is text lines labels i are =
+    ap (λ (ls : List Label). option_map (λ (label : Label). label.line) (find (λ (label : Label). nat_lt i label.line) ls)) (are.all text)
+    ∙ ap (option_map (λ (label : Label). label.line))
+    (find-filter (λ (label : Label). nat_lt i label.line) (has_text text) (labels_below lines 0)
+    ∙ find-map (λ (label : Label). has_text text label && nat_lt i label.line) (label_at lines) (filter (is_lab_at lines) (below lines 0))
+    ∙ ap (option_map (label_at lines)) (find-filter (λ j. has_text text (label_at lines j) && nat_lt i j) (is_lab_at lines) (below lines 0)))
+    ∙ numbered lines (find (λ j. is_lab_at lines j && (has_text text (label_at lines j) && nat_lt i j)) (below lines 0))
+    ∙ find-alike _ (λ j. sought_at (Some text) lines j && nat_lt i j) (λ j. and-both (is_lab_at lines j) (has_text text (label_at lines j)) (nat_lt i j)) (below lines 0)
+    ∙ above-is (sought_at (Some text) lines) lines i
+
+pub any-is : (lines : List Text) (i : ℕ) → find (is_lab_at lines) (below lines i) ≡ find (sought_at None lines) (below lines i)
+any-is lines i = find-alike (is_lab_at lines) (sought_at None lines) (λ j. sym (and-true (is_lab_at lines j))) (below lines i)
+
+-- lists of numbers that passed a test rise
+below-rises : (lines : List Text) → IsNonDecreasing (below lines 0)
+below-rises lines i j d a b =
+    let long = length-range_with_len 1 (length lines - 0) in
+    let first = get_or-range_with_len 1 (length lines - 0) i d (omega arith) in
+    let second = get_or-range_with_len 1 (length lines - 0) j d (omega arith) in
+    omega arith
+
+pub numbers_rise : (test : ℕ → Bool) (lines : List Text) → IsNonDecreasing (filter test (below lines 0))
+numbers_rise test lines = IsNonDecreasingBy-filter (λ j. j) test (below lines 0) (below-rises lines)
+
+labels-rise : (lines : List Text) (js : List ℕ) → IsNonDecreasing js → IsNonDecreasingBy (λ (label : Label). label.line) (map (label_at lines) js)
+labels-rise lines js up i j d a b =
+    let long = length-map js (label_at lines) in
+    let first = ap (λ (label : Label). label.line) (get_or-map (label_at lines) js i 0 d (omega arith)) in
+    let second = ap (λ (label : Label). label.line) (get_or-map (label_at lines) js j 0 d (omega arith)) in
+    rw (first, second) (up i j 0 a (omega arith))
+
+pub text_rises : (text : Text) (lines : List Text) (labels : List Label) → AreByText lines labels → IsNonDecreasingBy (λ (label : Label). label.line) (filter (has_text text) labels)
+text_rises text lines labels are =
+    rw (are.all text) (IsNonDecreasingBy-filter (λ (label : Label). label.line) (has_text text) (labels_below lines 0) (labels-rise lines (filter (is_lab_at lines) (below lines 0)) (numbers_rise (is_lab_at lines) lines)))
+
+-- a line stops a Skip where it is a Lab that is sought, or an EndSkip; no line is both
+record Stops (stops lab end : Bool) : Type 0 where
+  pub either : stops ≡ (lab || end)
+  pub apart : (lab && end) ≡ false
+
+head_stops : (label : Option Text) (line : Text) (head : Head) → Stops (stops label line head) (is_lab head && is_sought label (label_of line)) (is_end_skip head)
+head_stops label line If = record { either = refl; apart = refl }
+head_stops label line Else = record { either = refl; apart = refl }
+head_stops label line EndIf = record { either = refl; apart = refl }
+head_stops label line EndSkip = record { either = refl; apart = refl }
+head_stops label line Lab = record { either = or-false (is_sought label (label_of line)); apart = and-false (is_sought label (label_of line)) }
+head_stops label line Other = record { either = refl; apart = refl }
+
+line_stops : (label : Option Text) (line : Option Text)
+    → Stops (is_some_and (λ line. stops label line (head_of line)) line) (is_some_and (λ line. is_lab (head_of line)) line && is_sought label (label_of (text_or line))) (is_some_and (λ line. is_end_skip (head_of line)) line)
+line_stops label None = record { either = refl; apart = refl }
+line_stops label (Some line) = head_stops label line (head_of line)
+
+-- the first of the lines that stop it, by what is found further on
+nearer : (lines : List Text) (a : ℕ) (stop lab end : Bool) (stops labs ends : Option ℕ) → is_end_skip_at lines a ≡ end → stop ≡ (lab || end) → (lab && end) ≡ false
+    → IfSome labs (λ j. a < j) → IfSome ends (λ j. a < j) → behind_stop lines stops ≡ behind_first labs ends
+    → behind_stop lines (cond stop (Some a) stops) ≡ behind_first (cond lab (Some a) labs) (cond end (Some a) ends)
+nearer lines a stop false false stops labs ends at either apart lab_far end_far more = rw either more
+nearer lines a stop true false stops labs None at either apart lab_far end_far more = rw (either, at) refl
+nearer lines a stop true false stops labs (Some j) at either apart lab_far end_far more =
+    let far : nat_lt j a ≡ false = grind (arith, nat_tests) in
+    rw (either, at, far) refl
+nearer lines a stop false true stops None ends at either apart lab_far end_far more = rw (either, at) refl
+nearer lines a stop false true stops (Some j) ends at either apart lab_far end_far more =
+    let near : nat_lt a j ≡ true = grind (arith, nat_tests) in
+    rw (either, at, near) refl
+nearer lines a stop true true stops labs ends at either apart lab_far end_far more = absurd (both_ways true apart refl)
+
+first_stop : (label : Option Text) (lines : List Text) (a n : ℕ)
+    → behind_stop lines (find (stops_at label lines) (range_with_len a n)) ≡ behind_first (find (sought_at label lines) (range_with_len a n)) (find (is_end_skip_at lines) (range_with_len a n))
+first_stop label lines a zero = refl
+first_stop label lines a (suc n) =
+    let kind = line_stops label (line_of lines a) in
+    nearer lines a (stops_at label lines a) (sought_at label lines a) (is_end_skip_at lines a) _ _ _ refl kind.either kind.apart
+    (IfSome_then (find (sought_at label lines) (range_with_len (a + 1) n)) (find-within (sought_at label lines) (a + 1) n) (λ j h. omega arith))
+    (IfSome_then (find (is_end_skip_at lines) (range_with_len (a + 1) n)) (find-within (is_end_skip_at lines) (a + 1) n) (λ j h. omega arith))
+    (first_stop label lines (a + 1) n)
+
+-- what the tables find of a Skip
+pub record AreFound (label : Option Text) (lines : List Text) (i : ℕ) (lab end : Option ℕ) : Type 0 where
+  pub lab_is : lab ≡ find (sought_at label lines) (below lines i)
+  pub end_is : end ≡ find (is_end_skip_at lines) (below lines i)
+
+pub skip-is : {label : Option Text} {lines : List Text} {i : ℕ} {lab end : Option ℕ} → AreFound label lines i lab end → behind_first lab end ≡ skip_below label lines i
+skip-is {label} {lines} {i} are = rw (are.lab_is, are.end_is) (sym (first_stop label lines (i + 1) (length lines - i)))
+
+-- a line that was found stands among the lines
+abbrev pub IsWithin : List Text → Option ℕ → Type 0
+IsWithin lines o = IfSome o (λ j. (0 < j) × (j ≤ length lines))
+
+pub found-within : (test : ℕ → Bool) (lines : List Text) (i : ℕ) (o : Option ℕ) → o ≡ find test (below lines i) → IsWithin lines o
+found-within test lines i o e = rw e (IfSome_then (find test (below lines i)) (found_within test lines i) (λ j h. (omega arith, h.1)))
+
+pub leads : (lines : List Text) (o : Option ℕ) → IsWithin lines o → LeadsWithin lines (behind o)
+leads lines None h = tt
+leads lines (Some j) h = (omega arith, omega arith)
+
+pub leads_first : (lines : List Text) (lab end : Option ℕ) → IsWithin lines lab → IsWithin lines end → LeadsWithin lines (behind_first lab end)
+leads_first lines None None h k = tt
+leads_first lines (Some lab) None h k = (omega arith, omega arith)
+leads_first lines None (Some end) h k = (omega arith, omega arith)
+leads_first lines (Some lab) (Some end) h k = cond_both (nat_lt end lab) _ _ (LeadsWithin lines) (λ _. (omega arith, omega arith)) (λ _. (omega arith, omega arith))
+
+pub small : (lines : List Text) (o : Option ℕ) → length lines < 2 ^ 63 → IsWithin lines o → IfSome o (λ j. j + 1 < 2 ^ 64)
+small lines o few h = IfSome_then o h (λ j k. omega (arith, few))
+
+-- so does one at which a block ends
+pub block-within : (at_else : Bool) (lines : List Text) (i : ℕ) (o : Option ℕ) →
+    o ≡ find (ends_block at_else (map head_of lines) i) (below (map head_of lines) i) → IsWithin lines o
+block-within at_else lines i o e =
+    let long : length (map head_of lines) ≡ length lines = length-map lines head_of in
+    let test : ℕ → Bool = ends_block at_else (map head_of lines) i in
+    rw e (IfSome_then (find test (below (map head_of lines) i)) (found_within test (map head_of lines) i) (λ j h. (omega arith, omega (arith, h.1, long))))

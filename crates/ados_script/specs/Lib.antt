@@ -3,3 +3,4 @@ pub mod Heads
 pub mod Jumps
 pub mod Lines
 pub mod Skips
+pub mod Tables

@@ -1,38 +1,76 @@
-// The search for the end of a block, which takes no memory.
-ghost use Rattle.std.specs.Prelude.{◌≡◌, ◌≤◌, length, IfSome};
-ghost use Rattle.std.specs.List.{find};
-ghost use Rattle.ados_script.specs.Blocks.{ends, ends_block};
-ghost use Rattle.ados_script.specs.Lines.{below};
+// Where blocks end: a table of one row for each line, made from the last line up.
+ghost use Rattle.std.specs.Prelude.{◌≡◌, ◌≤◌, IfSome, OnOk};
+ghost use Rattle.ados_script.specs.Tables.{ends_above, is_nowhere, row_at, with_row};
 
 use crate::heads::Head;
+use ados_text::NoMemory;
 
-/// The first line below line `i` that ends its block; an Else does where `at_else` says so.
-pub fn block_end(heads: &[Head], i: usize, at_else: bool) -> Option<usize>
-    ensures line { result ≡ find (ends_block at_else heads.now i) (below heads.now i) }
-    ensures within { IfSome result (λ line. (1 ≤ line) × (line ≤ length heads.now)) }
-{
-    let mut depth: usize = 0;
-    for place in i..heads.len() {
-        let head = heads[place];
-        if depth == 0 && ends(head, at_else) {
-            return Some(place + 1);
-        }
-        match head {
-            Head::If => depth += 1,
-            Head::EndIf => depth -= 1,
-            _ => (),
-        }
-    }
-    None
+/// Where the block of a line ends.
+#[derive(Clone, Copy)]
+pub struct Ends {
+    /// At its EndIf.
+    pub end_if: Option<usize>,
+    /// At its Else, or its EndIf where that comes first.
+    pub branch: Option<usize>,
 }
 
-// An EndIf, or an Else where that counts too.
-fn ends(head: Head, at_else: bool) -> bool
-    ensures { result ≡ ends at_else head }
+impl Ends {
+    // Neither is there.
+    const NOWHERE: Ends = Ends {
+        end_if: None,
+        branch: None,
+    };
+
+    fn is_nowhere(&self) -> bool
+        ensures { result ≡ is_nowhere self.now }
+    {
+        self.end_if.is_none() && self.branch.is_none()
+    }
+}
+
+/// The row of the line that stands so many below the topmost that was read. Rows that are missing at the end say
+/// that no block ends there.
+pub fn row_at(rows: &[Ends], down: usize) -> Ends
+    ensures { result ≡ row_at rows.now down }
 {
+    match rows.len().checked_sub(down) {
+        None | Some(0) => Ends::NOWHERE,
+        Some(place) => rows[place - 1],
+    }
+}
+
+/// Puts the row of the line above this one on top.
+pub fn push_row(rows: &mut Vec<Ends>, line: usize, head: Head) -> Result<(), NoMemory>
+    requires { IfSome (row_at rows.old.items 0).end_if (λ end. line ≤ end) }
+    ensures { OnOk result (rows.new.items ≡ with_row rows.old.items (ends_above rows.old.items line head)) }
+{
+    let row = ends_above(rows, line, head);
+    if rows.is_empty() && row.is_nowhere() {
+        return Ok(());
+    }
+    rows.push(row)?;
+    Ok(())
+}
+
+// Where the block of a line ends that stands above this one. Behind an If it ends where that of the If's own end does.
+fn ends_above(rows: &[Ends], line: usize, head: Head) -> Ends
+    requires { IfSome (row_at rows.now 0).end_if (λ end. line ≤ end) }
+    ensures { result ≡ ends_above rows.now line head }
+{
+    let below = row_at(rows, 0);
     match head {
-        Head::EndIf => true,
-        Head::Else => at_else,
-        _ => false,
+        Head::EndIf => Ends {
+            end_if: Some(line),
+            branch: Some(line),
+        },
+        Head::Else => Ends {
+            end_if: below.end_if,
+            branch: Some(line),
+        },
+        Head::If => match below.end_if {
+            None => Ends::NOWHERE,
+            Some(end) => row_at(rows, end - line),
+        },
+        _ => below,
     }
 }

@@ -1,10 +1,8 @@
 // What the lines of a script are to a search.
-ghost use Rattle.std.specs.Prelude.{◌≡◌, map, IfOk};
+ghost use Rattle.std.specs.Prelude.{◌≡◌};
 ghost use Rattle.ados_script.specs.Heads.{head_of, head_of_word};
 
 use ados_items::{Item, next_item};
-use ados_text::{NoMemory, Text};
-use std::alloc::Global;
 
 /// What a line of a script is to a search.
 #[derive(Clone, Copy)]
@@ -23,20 +21,8 @@ pub enum Head {
     Other,
 }
 
-/// What each line is. `NoMemory` only where the room for them, one byte each, was refused.
-pub fn read_heads(alloc: Global, lines: &[Text]) -> Result<Vec<Head>, NoMemory>
-    ensures { IfOk result (λ heads. heads.items ≡ map head_of lines.now) }
-{
-    Ok(
-        lines
-            .iter()
-            .map(|line| read_head(line.as_bytes()))
-            .collect(alloc)?,
-    )
-}
-
-// What a line is by its first item, where that is an unquoted word.
-fn read_head(line: &[u8]) -> Head
+/// What a line is by its first item, where that is an unquoted word.
+pub fn read_head(line: &[u8]) -> Head
     ensures { result ≡ head_of line.now }
 {
     match next_item(line, 0) {

@@ -1,74 +1,86 @@
-// The labels of Lab lines. They are compared where they stand, so that a search takes no memory.
-ghost use Rattle.std.specs.Prelude.{◌≡◌, false};
-ghost use Rattle.ados_text.specs.Text.{is_same, IsText};
-ghost use Rattle.ados_items.specs.Items.{escape_of, unescaped, value_of, IsWithin};
+// The labels of Lab lines, in the order of their texts. A search compares bytes where they stand, and takes no memory.
+ghost use Rattle.std.specs.Prelude.{◌≡◌, ℕ, List, nat_lt, IfOk, OnOk};
+ghost use Rattle.std.specs.List.{filter, find};
+ghost use Rattle.std.specs.List.Sorted.{IsNonDecreasingBy, IsSortedByKey};
+ghost use Rattle.std.specs.Option.{option_copied, option_map};
+ghost use Rattle.ados_text.specs.Text.{folded};
+ghost use Rattle.ados_text.specs.Name.{name_cmp};
 ghost use Rattle.ados_script.specs.Heads.{label_of};
+ghost use Rattle.ados_script.specs.Tables.{has_text};
+ghost use Rattle.ados_script.specs.declared.labels.Label.{Label};
 
-use ados_items::{Item, next_item};
-use ados_text::Text;
+use ados_items::{Item, next_item, value};
+use ados_text::{Name, NoMemory, Text, fold};
+use std::alloc::Global;
+use std::cmp::Ordering;
 
-/// The label of a Lab line is this one, where case is ignored.
-pub fn has_label(line: &Text, label: &[u8]) -> bool
-    ensures { result ≡ is_same (label_of line.now) label.now }
-{
-    let line = line.as_bytes();
-    match next_item(line, 0) {
-        Item::Word { to, .. } => is_value(line, &next_item(line, to), label),
-        _ => label.is_empty(),
-    }
+/// The label of a Lab line.
+#[derive(Drop)]
+pub struct Label {
+    /// Its text, which is compared without regard to case.
+    pub text: Name,
+    /// The number of the line.
+    pub line: usize,
 }
 
-// The text of an item of a line is this one.
-#[tactic(auto, using(crate::proofs::LabelLemmas::word_value, crate::proofs::LabelLemmas::quoted_value))]
-fn is_value(line: &[u8], item: &Item, text: &[u8]) -> bool
-    requires ascii { IsText line.now }
-    requires within { IsWithin line.now item.now }
-    ensures { result ≡ is_same (value_of line.now item.now) text.now }
+/// The label of a Lab line: the text of its second item, empty where there is none and for an open quote.
+pub fn read_label(alloc: Global, line: &Text) -> Result<Name, NoMemory>
+    ensures { IfOk result (λ text. text ≡ label_of line.now) }
 {
-    match *item {
-        Item::Word { from, to } => is_same(&line[from..to], text),
-        Item::Quoted { from, to } => is_unescaped(&line[from..to], text),
-        Item::Equal(_) => is_same(b"=", text),
-        Item::End(_) => text.is_empty(),
-        Item::Unmatched(_) => text.is_empty(),
-    }
+    let bytes = line.as_bytes();
+    let text = match next_item(bytes, 0) {
+        Item::Word { to, .. } => value(alloc, bytes, &next_item(bytes, to))?,
+        _ => Text::new(alloc),
+    };
+    Ok(Name::new(text))
 }
 
-// The two are one name.
-fn is_same(a: &[u8], b: &[u8]) -> bool
-    ensures { result ≡ is_same a.now b.now }
+/// Puts labels in the order of their texts; those of one text stay in the order that they have.
+pub fn sort(labels: &mut Vec<Label>) -> Result<(), NoMemory>
+    ensures sorted { OnOk result (IsSortedByKey (λ (label : Label). folded label.text) name_cmp labels.new.items) }
+    ensures stable { OnOk result ((text : List ℕ) → filter (has_text text) labels.new.items ≡ filter (has_text text) labels.old.items) }
 {
-    a.eq_ignore_ascii_case(b)
+    labels.sort_by(|a, b| a.text.cmp(&b.text))?;
+    Ok(())
 }
 
-// The bytes between two quotes stand for this text.
-fn is_unescaped(bytes: &[u8], text: &[u8]) -> bool
-    ensures { result ≡ is_same (unescaped false bytes.now) text.now }
+/// The first line below line `i` that has this label.
+pub fn first_of(labels: &[Label], text: &[u8], i: usize) -> Option<usize>
+    requires sorted { IsSortedByKey (λ (label : Label). folded label.text) name_cmp labels.now }
+    requires rising { IsNonDecreasingBy (λ (label : Label). label.line) (filter (has_text text.now) labels.now) }
+    ensures { result ≡ option_map (λ (label : Label). label.line) (find (λ (label : Label). nat_lt i label.line) (filter (has_text text.now) labels.now)) }
 {
-    let mut place = 0;
-    let mut escaped = false;
-    for byte in bytes {
-        if *byte == b'*' && !escaped {
-            escaped = true;
-        } else {
-            let meant = if escaped { escape(*byte) } else { *byte };
-            if place == text.len() || !meant.eq_ignore_ascii_case(&text[place]) {
-                return false;
-            }
-            place += 1;
-            escaped = false;
-        }
-    }
-    place == text.len()
+    Some(first_behind(all_of(labels, text), i)?.line)
 }
 
-// What a star and the byte behind it stand for.
-fn escape(byte: u8) -> u8
-    ensures { result ≡ escape_of byte }
+// The first of these labels that stands below line `i`.
+fn first_behind(labels: &[Label], i: usize) -> Option<&Label>
+    requires { IsNonDecreasingBy (λ (label : Label). label.line) labels.now }
+    ensures { option_copied result ≡ find (λ (label : Label). nat_lt i label.line) labels.now }
 {
-    match byte {
-        b'N' | b'n' => b'\n',
-        b'E' | b'e' => 27,
-        other => other,
-    }
+    labels.get(labels.partition_point(|label| label.line <= i))
+}
+
+// The labels of this text.
+fn all_of<'a>(labels: &'a [Label], text: &[u8]) -> &'a [Label]
+    requires { IsSortedByKey (λ (label : Label). folded label.text) name_cmp labels.now }
+    ensures { result.now ≡ filter (has_text text.now) labels.now }
+{
+    let from = labels.partition_point(|label| order(label, text).is_lt());
+    let rest = &labels[from..];
+    &rest[..rest.partition_point(|label| order(label, text).is_eq())]
+}
+
+// How the text of a label stands to another.
+fn order(label: &Label, text: &[u8]) -> Ordering
+    ensures { result ≡ name_cmp (folded label.now.text) (folded text.now) }
+{
+    let theirs = text.iter().map(|byte| fold(*byte));
+    label
+        .text
+        .text()
+        .as_bytes()
+        .iter()
+        .map(|byte| fold(*byte))
+        .cmp(theirs)
 }

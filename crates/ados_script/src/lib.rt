@@ -7,6 +7,7 @@ mod jumps;
 mod labels;
 mod scripts;
 mod skips;
+mod tables;
 
 pub use jumps::Jump;
 pub use scripts::Script;

@@ -5,10 +5,11 @@ ghost use Rattle.ados_script.specs.Jumps.{LeadsWithin};
 ghost use Rattle.ados_script.specs.Lines.{line_of};
 ghost use Rattle.ados_script.specs.Skips.{skip};
 
-use crate::blocks::block_end;
-use crate::heads::{Head, read_heads};
+use crate::blocks::row_at;
 use crate::jumps::{Jump, behind};
-use crate::skips::skip_below;
+use crate::labels::first_of;
+use crate::skips::{behind_first, first_below};
+use crate::tables::{Tables, read_tables};
 use ados_text::{NoMemory, Text};
 use std::alloc::Global;
 use std::marker::Model;
@@ -16,33 +17,35 @@ use std::marker::Model;
 /// The lines of a script, numbered from 1.
 ///
 /// A jump goes by the lines as they stand, takes no memory, and leads to the line behind the one that it finds. Below
-/// line 0 stand all lines, and below the last or a number past it none.
+/// line 0 stand all lines, and below the last or a number past it none. Where each leads is found once, when the script
+/// is made, and looked up from then on.
 #[derive(Drop)]
 pub struct Script {
     lines: Vec<Text>,
-    // What each line is to a search.
-    heads: Vec<Head>,
+    // What its jumps find.
+    tables: Tables,
 }
 
 impl Model for Script {
-    ghost use Rattle.std.specs.Prelude.{List, ◌≡◌, map};
+    ghost use Rattle.std.specs.Prelude.{List};
     ghost use Rattle.ados_text.specs.Text.{Text};
-    ghost use Rattle.ados_script.specs.Heads.{head_of};
+    ghost use Rattle.ados_script.specs.Tables.{AreTables};
 
     ghost Value = { List Text };
 
     ghost view = { λ s. s.lines.items };
 
-    ghost invariant = { λ s. s.heads.items ≡ map head_of s.lines.items };
+    ghost invariant = { λ s. AreTables s.lines.items s.tables };
 }
 
 impl Script {
-    /// A script of these lines. At `NoMemory`, where the room of one byte for each line was refused, they are dropped.
+    /// A script of these lines. At `NoMemory`, where the room for what its jumps find was refused, they
+    /// are dropped.
     pub fn of(alloc: Global, lines: Vec<Text>) -> Result<Script, NoMemory>
         ensures { IfOk result (λ script. script ≡ lines.items) }
     {
-        let heads = read_heads(alloc, &lines)?;
-        Ok(Script { lines, heads })
+        let tables = read_tables(alloc, &lines)?;
+        Ok(Script { lines, tables })
     }
 
     /// All lines, in order.
@@ -65,7 +68,7 @@ impl Script {
         ensures jump { result ≡ after_if self.now i }
         ensures within { LeadsWithin self.now result }
     {
-        behind(block_end(&self.heads, i, true))
+        behind(row_at(&self.tables.ends, i).branch)
     }
 
     /// Where an Else goes on from line `i`: behind the first EndIf below it at depth 0. `None` where there is no such
@@ -74,7 +77,7 @@ impl Script {
         ensures jump { result ≡ after_else self.now i }
         ensures within { LeadsWithin self.now result }
     {
-        behind(block_end(&self.heads, i, false))
+        behind(row_at(&self.tables.ends, i).end_if)
     }
 
     /// Where a Skip goes on from line `i`: behind the first Lab below it that has the label, where case is ignored, or
@@ -85,6 +88,11 @@ impl Script {
         ensures jump { result ≡ skip self.now i (option_map (λ t. t.now) label.entry) back }
         ensures within { LeadsWithin self.now result }
     {
-        skip_below(&self.lines, &self.heads, if back { 0 } else { i }, label)
+        let start = if back { 0 } else { i };
+        let lab = match label {
+            None => first_below(&self.tables.labs, start),
+            Some(label) => first_of(&self.tables.labels, label, start),
+        };
+        behind_first(lab, first_below(&self.tables.end_skips, start))
     }
 }

@@ -1,50 +1,34 @@
-// The search of a Skip, which takes no memory.
-ghost use Rattle.std.specs.Prelude.{◌≡◌, map};
-ghost use Rattle.std.specs.Option.{option_map};
-ghost use Rattle.ados_script.specs.Heads.{head_of, label_of};
-ghost use Rattle.ados_script.specs.Jumps.{LeadsWithin};
-ghost use Rattle.ados_script.specs.Skips.{is_sought, skip_below, stops};
+// Where a Skip goes on: at the nearer of two lines, each the first of a rising list.
+ghost use Rattle.std.specs.Prelude.{◌≡◌, ◌+◌, ◌<◌, ◌^◌, IfSome};
+ghost use Rattle.std.specs.List.Sorted.{IsNonDecreasing};
+ghost use Rattle.ados_script.specs.Tables.{behind_first, first_below};
 
-use crate::heads::Head;
 use crate::jumps::Jump;
-use crate::labels::has_label;
-use ados_text::Text;
 
-/// Behind the first line below line `i` at which a Skip to a label stops; without a label it stops at any Lab.
-pub fn skip_below(lines: &[Text], heads: &[Head], i: usize, label: Option<&[u8]>) -> Jump
-    requires { heads.now ≡ map head_of lines.now }
-    ensures jump { result ≡ skip_below (option_map (λ t. t.now) label.entry) lines.now i }
-    ensures within { LeadsWithin lines.now result }
+/// The first of these lines that stands below line `i`.
+pub fn first_below(lines: &[usize], i: usize) -> Option<usize>
+    requires { IsNonDecreasing lines.now }
+    ensures { result ≡ first_below lines.now i }
 {
-    for place in i..lines.len() {
-        let head = heads[place];
-        if stops(head, &lines[place], label) {
-            return match head {
-                Head::EndSkip => Jump::EndSkip(place + 2),
-                _ => Jump::To(place + 2),
-            };
+    lines.get(lines.partition_point(|line| *line <= i)).copied()
+}
+
+/// To behind the Lab or the EndSkip that was found, whichever stands first.
+pub fn behind_first(lab: Option<usize>, end_skip: Option<usize>) -> Jump
+    requires lab { IfSome lab (λ line. line + 1 < 2 ^ 64) }
+    requires end_skip { IfSome end_skip (λ line. line + 1 < 2 ^ 64) }
+    ensures { result ≡ behind_first lab end_skip }
+{
+    match (lab, end_skip) {
+        (None, None) => Jump::None,
+        (Some(lab), None) => Jump::To(lab + 1),
+        (None, Some(end)) => Jump::EndSkip(end + 1),
+        (Some(lab), Some(end)) => {
+            if end < lab {
+                Jump::EndSkip(end + 1)
+            } else {
+                Jump::To(lab + 1)
+            }
         }
-    }
-    Jump::None
-}
-
-// It stops at such a line.
-fn stops(head: Head, line: &Text, label: Option<&[u8]>) -> bool
-    ensures { result ≡ stops (option_map (λ t. t.now) label.entry) line.now head }
-{
-    match head {
-        Head::EndSkip => true,
-        Head::Lab => is_sought(line, label),
-        _ => false,
-    }
-}
-
-// A Lab with the label.
-fn is_sought(line: &Text, label: Option<&[u8]>) -> bool
-    ensures { result ≡ is_sought (option_map (λ t. t.now) label.entry) (label_of line.now) }
-{
-    match label {
-        None => true,
-        Some(label) => has_label(line, label),
     }
 }

@@ -9,6 +9,8 @@ mod assign;
 #[cfg(test)]
 mod items;
 #[cfg(test)]
+mod jumps;
+#[cfg(test)]
 mod launch;
 #[cfg(test)]
 mod memory;
@@ -22,6 +24,8 @@ mod ram;
 mod readargs;
 #[cfg(test)]
 mod text;
+#[cfg(test)]
+mod tree;
 #[cfg(test)]
 mod world;
 #[cfg(test)]

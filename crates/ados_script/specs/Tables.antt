@@ -1,0 +1,100 @@
+-- The tables that a script keeps, each as the jumps define it.
+use Rattle.std.specs.Prelude.{◌≡◌, ℕ, ◌+◌, ◌-◌, ◌<◌, ◌^◌, length, List, [], ◌∷◌, ◌++◌, map, reverse, slice_get, Bool, true, false, ◌&&◌, nat_lt, Option, Some, None, is_none, if◌then◌else◌}
+use Rattle.std.specs.List.{filter, find}
+use Rattle.std.specs.List.Sorted.{IsSortedByKey}
+use Rattle.ados_text.specs.Text.{Text, folded, is_same}
+use Rattle.ados_text.specs.Name.{name_cmp}
+use Rattle.ados_script.specs.declared.heads.Head.{Head}
+use Rattle.ados_script.specs.declared.heads.Head.TheVariants.{If, Else, EndIf, Lab}
+use Rattle.ados_script.specs.declared.blocks.Ends.{Ends}
+use Rattle.ados_script.specs.declared.labels.Label.{Label}
+use Rattle.ados_script.specs.declared.tables.Tables.{Tables}
+use Rattle.ados_script.specs.declared.jumps.Jump.{Jump}
+use Rattle.ados_script.specs.declared.jumps.Jump.TheVariants.{To, EndSkip as BehindEndSkip, None as Nowhere}
+use Rattle.ados_script.specs.Heads.{head_of, label_of}
+use Rattle.ados_script.specs.Lines.{line_of, is_some_and, below}
+use Rattle.ados_script.specs.Blocks.{ends_block}
+use Rattle.ados_script.specs.Skips.{is_end_skip_at}
+
+-- where the block of a line ends: at its EndIf, and at its Else or EndIf
+abbrev pub ends_of : List Head → ℕ → Ends
+ends_of heads i = record { end_if = find (ends_block false heads i) (below heads i); branch = find (ends_block true heads i) (below heads i) }
+
+-- no block ends
+abbrev pub nowhere : Ends
+nowhere = record { end_if = None; branch = None }
+
+abbrev pub is_nowhere : Ends → Bool
+is_nowhere row = is_none row.end_if && is_none row.branch
+
+abbrev pub row_or : Option Ends → Ends
+row_or None = nowhere
+row_or (Some row) = row
+
+-- the row of the line that stands so many below the topmost, whose row comes last; where no row is kept, no block ends
+abbrev pub row_at : List Ends → ℕ → Ends
+row_at rows down = row_or (slice_get (reverse rows) down)
+
+-- what the rows from a line on say of the line where a block ends
+abbrev pub behind_end : List Ends → ℕ → Option ℕ → Ends
+behind_end rows line None = nowhere
+behind_end rows line (Some end) = row_at rows (end - line)
+
+-- the row of the line above one, by the rows from that one on: below an If a block ends where it does below the If's own EndIf
+abbrev pub ends_above : List Ends → ℕ → Head → Ends
+ends_above rows line EndIf = record { end_if = Some line; branch = Some line }
+ends_above rows line Else = record { end_if = (row_at rows 0).end_if; branch = Some line }
+ends_above rows line If = behind_end rows line (row_at rows 0).end_if
+ends_above rows line _ = row_at rows 0
+
+-- rows with one more on top; the first that are kept say that a block ends
+abbrev pub with_row : List Ends → Ends → List Ends
+with_row [] row = if is_nowhere row then [] else row ∷ []
+with_row (last ∷ rows) row = (last ∷ rows) ++ row ∷ []
+
+abbrev pub is_lab : Head → Bool
+is_lab Lab = true
+is_lab _ = false
+
+-- line j is a Lab
+abbrev pub is_lab_at : List Text → ℕ → Bool
+is_lab_at lines j = is_some_and (λ line. is_lab (head_of line)) (line_of lines j)
+
+-- the first of some lines that stands below line i
+abbrev pub first_below : List ℕ → ℕ → Option ℕ
+first_below numbers i = find (λ line. nat_lt i line) numbers
+
+abbrev pub text_or : Option Text → Text
+text_or None = []
+text_or (Some line) = line
+
+-- the label of line j, with its number
+abbrev pub label_at : List Text → ℕ → Label
+label_at lines j = record { text = label_of (text_or (line_of lines j)); line = j }
+
+-- the labels of the Lab lines below line i, in the order of the lines
+abbrev pub labels_below : List Text → ℕ → List Label
+labels_below lines i = map (label_at lines) (filter (is_lab_at lines) (below lines i))
+
+abbrev pub has_text : Text → Label → Bool
+has_text text label = is_same label.text text
+
+-- the labels stand in the order of their texts, where case is ignored, and those of one text in the order of their lines
+pub record AreByText (lines : List Text) (labels : List Label) : Type 0 where
+  pub sorted : IsSortedByKey (λ (label : Label). folded label.text) name_cmp labels
+  pub all : (text : Text) → filter (has_text text) labels ≡ filter (has_text text) (labels_below lines 0)
+
+-- the tables are those of these lines, which are so few that the one behind the last has a number too
+pub record AreTables (lines : List Text) (tables : Tables) : Type 0 where
+  pub few : length lines < 2 ^ 63
+  pub ends : (i : ℕ) → row_at tables.ends.items i ≡ ends_of (map head_of lines) i
+  pub end_skips : tables.end_skips.items ≡ filter (is_end_skip_at lines) (below lines 0)
+  pub labs : tables.labs.items ≡ filter (is_lab_at lines) (below lines 0)
+  pub labels : AreByText lines tables.labels.items
+
+-- the jump to behind the Lab or the EndSkip that was found, whichever stands first
+abbrev pub behind_first : Option ℕ → Option ℕ → Jump
+behind_first None None = Nowhere
+behind_first (Some lab) None = To (lab + 1)
+behind_first None (Some end) = BehindEndSkip (end + 1)
+behind_first (Some lab) (Some end) = if nat_lt end lab then BehindEndSkip (end + 1) else To (lab + 1)

@@ -1,0 +1,59 @@
+// What the jumps of a script would find, read from its lines once.
+ghost use Rattle.std.specs.Prelude.{IfOk};
+ghost use Rattle.ados_script.specs.Tables.{AreTables};
+
+use crate::blocks::{Ends, push_row};
+use crate::heads::{Head, read_head};
+use crate::labels::{Label, read_label, sort};
+use ados_text::{NoMemory, Text};
+use std::alloc::Global;
+
+/// What the jumps of a script find.
+#[derive(Drop)]
+pub struct Tables {
+    /// For each line where its block ends, from the last line that has such an end up to line 0, above the first.
+    pub ends: Vec<Ends>,
+    /// The EndSkip lines, rising.
+    pub end_skips: Vec<usize>,
+    /// The Lab lines, rising.
+    pub labs: Vec<usize>,
+    /// The labels of the Lab lines, in the order of their texts; those of one text stand in the order of their lines.
+    pub labels: Vec<Label>,
+}
+
+/// The tables of these lines, made in one pass from the last line up. `NoMemory` only where room was refused; lines
+/// that no jump finds take none.
+pub fn read_tables(alloc: Global, lines: &[Text]) -> Result<Tables, NoMemory>
+    ensures { IfOk result (λ tables. AreTables lines.now tables) }
+{
+    let mut ends = Vec::new(alloc);
+    let mut end_skips = Vec::new(alloc);
+    let mut labs = Vec::new(alloc);
+    let mut labels = Vec::new(alloc);
+    for place in (0..lines.len()).rev() {
+        let line = &lines[place];
+        let head = read_head(line.as_bytes());
+        push_row(&mut ends, place + 1, head)?;
+        match head {
+            Head::EndSkip => end_skips.push(place + 1)?,
+            Head::Lab => {
+                labs.push(place + 1)?;
+                labels.push(Label {
+                    text: read_label(alloc, line)?,
+                    line: place + 1,
+                })?;
+            }
+            _ => (),
+        }
+    }
+    end_skips.reverse();
+    labs.reverse();
+    labels.reverse();
+    sort(&mut labels)?;
+    Ok(Tables {
+        ends,
+        end_skips,
+        labs,
+        labels,
+    })
+}

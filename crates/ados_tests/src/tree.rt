@@ -1,0 +1,113 @@
+// Versions that are kept, and the files at their limit: wide and deep.
+use ados_ram::{Bits, Busy, FsFault, Place, Ram};
+use ados_text::{Name, NoMemory, Text};
+use std::alloc::Global;
+
+// The place of the names, one of each text.
+fn at(alloc: Global, names: &[&[u8]]) -> Result<Place, NoMemory> {
+    let mut place = Place::root(alloc);
+    for name in names {
+        place = place.with(Name::new(Text::from_bytes(alloc, name)?))?;
+    }
+    Ok(place)
+}
+
+fn written(alloc: Global, ram: &Ram, names: &[&[u8]], bytes: &[u8]) -> Result<Ram, FsFault> {
+    ram.write(&Busy::none(alloc), &at(alloc, names)?, bytes)
+}
+
+fn renamed(alloc: Global, ram: &Ram, from: &[&[u8]], to: &[&[u8]]) -> Result<Ram, FsFault> {
+    ram.rename(&Busy::none(alloc), &at(alloc, from)?, &at(alloc, to)?)
+}
+
+// A file of the directory S holds these bytes.
+fn holds(alloc: Global, ram: &Ram, bytes: &[u8]) -> Result<bool, NoMemory> {
+    let place = at(alloc, &[b"s", b"kept"])?;
+    Ok(ram.look(&place).is_some_and(|entry| entry.bytes() == bytes))
+}
+
+// A hundred changes: files of the directory S, a new one each time, and one that is written again.
+fn changed(alloc: Global, old: &Ram) -> Result<Ram, FsFault> {
+    let mut ram = old.copy()?;
+    for letter in 0..50_u8 {
+        ram = written(alloc, &ram, &[b"s", &[b'!' + letter]], b"new")?;
+        ram = written(alloc, &ram, &[b"S", b"Kept"], &[letter])?;
+    }
+    Ok(ram)
+}
+
+// The files with as many objects as there may be, all but four in the root.
+fn wide(alloc: Global) -> Result<Ram, FsFault> {
+    let mut ram = Ram::new(alloc)?;
+    for first in 0..32_u8 {
+        for second in 0..32_u8 {
+            match written(alloc, &ram, &[&[b'A' + first, b'A' + second]], b"x") {
+                Ok(more) => ram = more,
+                Err(FsFault::Refused(_)) => {}
+                Err(FsFault::NoMemory) => return Err(FsFault::NoMemory),
+            }
+        }
+    }
+    Ok(ram)
+}
+
+// The same files with what is at A one directory deeper.
+fn deeper(alloc: Global, ram: &Ram) -> Result<Ram, FsFault> {
+    let with = ram.make_dir(&at(alloc, &[b"P"])?)?;
+    let inside = renamed(alloc, &with, &[b"A"], &[b"P", b"D"])?;
+    renamed(alloc, &inside, &[b"P"], &[b"A"])
+}
+
+// The files with a thousand directories, each in the one before.
+fn deep(alloc: Global) -> Result<Ram, FsFault> {
+    let mut ram = Ram::new(alloc)?.make_dir(&at(alloc, &[b"A"])?)?;
+    for _ in 0..999 {
+        ram = deeper(alloc, &ram)?;
+    }
+    Ok(ram)
+}
+
+// The place of the last of the thousand directories.
+fn bottom(alloc: Global) -> Result<Place, NoMemory> {
+    let mut place = at(alloc, &[b"a"])?;
+    for _ in 0..999 {
+        place = place.with(Name::new(Text::from_bytes(alloc, b"d")?))?;
+    }
+    Ok(place)
+}
+
+#[test]
+fn a_version_stands_through_a_hundred_changes(rt: HostRuntime) -> Result<(), FsFault> {
+    let old = written(rt.alloc(), &Ram::new(rt.alloc())?, &[b"S", b"Kept"], b"old")?;
+    let new = changed(rt.alloc(), &old)?;
+    let names = old.list(&at(rt.alloc(), &[b"S"])?)?.len();
+    let more = new.list(&at(rt.alloc(), &[b"S"])?)?.len();
+    assert!(rt; names == 1 && more == 51);
+    assert!(rt; holds(rt.alloc(), &old, b"old")? && holds(rt.alloc(), &new, &[49])?);
+    Ok(())
+}
+
+#[test]
+fn a_directory_holds_all_objects(rt: HostRuntime) -> Result<(), FsFault> {
+    let ram = wide(rt.alloc())?;
+    let count = ram.children(&Place::root(rt.alloc()))?.len();
+    assert!(rt; count == 1_024);
+    Ok(())
+}
+
+#[test]
+fn directories_stand_a_thousand_deep(rt: HostRuntime) -> Result<(), FsFault> {
+    let ram = deep(rt.alloc())?;
+    let place = bottom(rt.alloc())?;
+    assert!(rt; ram.look(&place).is_some());
+    let new = ram.protect(
+        &place,
+        Bits {
+            pure: true,
+            ..Bits::FRESH
+        },
+    )?;
+    let without = new.delete(&Busy::none(rt.alloc()), &place)?;
+    assert!(rt; without.look(&place).is_none() && new.look(&place).is_some());
+    Ok(())
+}
