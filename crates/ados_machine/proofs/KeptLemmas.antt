@@ -129,9 +129,11 @@ took-codes w k shell queue t all is goes = λ j.
           ∙ own-codes w k shell t all is goes)
       | inr differ ↦ rw (own-of_shell_other j k t.log (λ e. differ (sym e)))
           (let pos = runs_pos w.shells k shell is in
-          rw (ap (λ o. shell_codes o (stays_at (ended_with (is_done k t.frames) k t.course.parts.codes w.ended) j))
-            (found-set_other (with_begun t.course.begun number carried) k (left k moved t) j differ pos),
-            with-other (is_done k t.frames) w.ended k t.course.parts.codes j differ pos)
+          rw (
+            ap (λ o. shell_codes o (stays_at (ended_with (is_done k t.frames) k t.course.parts.codes w.ended) j))
+                (found-set_other (with_begun t.course.begun number carried) k (left k moved t) j differ pos),
+            with-other (is_done k t.frames) w.ended k t.course.parts.codes j differ pos,
+          )
           (begun-codes carried t.course.begun number j (stays_at w.ended j) free
           ∙ ap (λ codes. codes_behind codes (own j (begun_items t.course.begun number)))
           (ap (λ o. shell_codes o (stays_at w.ended j)) (found-carried moved w.shells j) ∙ carried-codes moved (found w.shells j) (stays_at w.ended j))))
