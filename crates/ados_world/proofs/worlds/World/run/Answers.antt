@@ -1,6 +1,7 @@
-use Rattle.std.proofs.Common.{◌≡◌, ◌∙◌, ◌+◌, ◌++◌, ◌∷◌, [], take, ap, sym, arith}
+use Rattle.std.proofs.Common.{◌≡◌, ◌∙◌, ◌+◌, ◌++◌, ◌∷◌, [], take, ap, sym, arith, rules}
 use Rattle.std.proofs.lemmas.Grind.{common_steps}
 use Rattle.std.proofs.lemmas.List.{take_more}
+use Rattle.ados_machine.specs.Kept.{HasAllCodes}
 use Rattle.ados_machine.specs.Runs.{Runs}
 use Rattle.ados_machine.proofs.GivenLemmas.{lines-in-order}
 use Rattle.ados_machine.proofs.KeptLemmas.{last-codes-stay}
@@ -72,4 +73,5 @@ pub returns-clause-codes : goal.returns-clause-codes
 returns-clause-codes c =
     let all : take c.loop-event.event-index c.args.events.now ≡ c.args.events.now = grind (arith, common_steps) in
     let run : Runs c.args.self c.args.events.now c.loop-event.outs.items c.loop-event.self = rw all at c.loop-event.invariant.run in
-    rw c.from_vec.ensures (last-codes-stay c.args.self c.args.events.now c.loop-event.outs.items c.loop-event.self run (rw c.self.view_is at c.self.invariant) refl)
+    let all_codes : HasAllCodes c.args.self = rw (← c.self.view_is) (search rules) in
+    rw c.from_vec.ensures (last-codes-stay c.args.self c.args.events.now c.loop-event.outs.items c.loop-event.self run (rw c.self.view_is at c.self.invariant) all_codes)

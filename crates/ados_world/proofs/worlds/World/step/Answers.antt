@@ -7,7 +7,7 @@ returns-clause-failed_start c =
 
 pub returns-clause-request : goal.returns-clause-request
 returns-clause-request c =
-    rw c.in_ok-step_into.ensures.world (step-gives c.args.self.now c.args.event.now _ (rw c.self.view_is at c.self.invariant) c.in_ok-step_into.ensures.answer)
+    rw (c.into_out.ensures, c.in_ok-step_into.ensures.world) (step-gives c.args.self.now c.args.event.now _ (rw c.self.view_is at c.self.invariant) c.in_ok-step_into.ensures.answer)
 
 pub returns-clause-entries : goal.returns-clause-entries
 returns-clause-entries c =
