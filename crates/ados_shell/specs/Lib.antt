@@ -8,3 +8,4 @@ pub mod Inputs
 pub mod Turnings
 pub mod Views
 pub mod Answerings
+pub mod Asking

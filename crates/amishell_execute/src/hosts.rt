@@ -1,0 +1,140 @@
+//! The commands that are programs of the host.
+
+use crate::bringing::{bytes_of, not_read};
+use crate::faults::{Fault, named};
+use crate::lines::BRING;
+use crate::paths::{ascii, last_piece, step_into};
+use crate::request::Options;
+use ados_session::{FileFault, read_hosts};
+use ados_text::Text;
+use ados_world::{HostEntry, hosts_fault};
+use std::alloc::Global;
+use std::env;
+use std::rt::{Env, Files};
+
+// How many bytes a file of hosts may have.
+const HOSTS_BYTES: usize = 65_536;
+
+// The variable of the environment that names a file of hosts.
+const VARIABLE: &str = "AMISHELL_HOSTS";
+
+// The file of the stand-ins, in the folder of the program's folder.
+const COMMON: &str = "share/amishell/common";
+
+/// The commands that the options name: the one that brings in, those of the file of hosts, those of `--host`, and those
+/// stand-ins whose names are free.
+pub fn hosts_for<R: AllocGlobal + Files + Env>(
+    rt: &R,
+    options: &Options<'_>,
+) -> Result<Vec<HostEntry>, Fault> {
+    let mut hosts = Vec::new(rt.alloc());
+    add_file(rt, options.hosts, &mut hosts)?;
+    for words in &options.host {
+        add_words(rt.alloc(), words, &mut hosts)?;
+    }
+    let bring = HostEntry {
+        name: Text::from_bytes(rt.alloc(), BRING)?,
+        program: Text::from_bytes(rt.alloc(), BRING)?,
+    };
+    if !add(&mut hosts, bring)? {
+        return Err(named(rt.alloc(), "amishell-bring", Fault::BadHostWords));
+    }
+    if options.common {
+        add_common(rt, &mut hosts)?;
+    }
+    Ok(hosts)
+}
+
+// Adds a command; `false` where a world can't be made with it, and then it is left out.
+fn add(hosts: &mut Vec<HostEntry>, host: HostEntry) -> Result<bool, Fault> {
+    hosts.push(host)?;
+    if hosts_fault(hosts.as_slice()).is_some() {
+        hosts.pop();
+        return Ok(false);
+    }
+    Ok(true)
+}
+
+// Adds the commands of the file of hosts, which the options or the environment name.
+fn add_file<R: AllocGlobal + Files + Env>(
+    rt: &R,
+    file: Option<&str>,
+    hosts: &mut Vec<HostEntry>,
+) -> Result<(), Fault> {
+    if let Some(file) = file {
+        return add_lines(rt, file, hosts);
+    }
+    match env::var(rt, VARIABLE) {
+        Ok(file) if !file.is_empty() => add_lines(rt, file.as_str(), hosts),
+        _ => Ok(()),
+    }
+}
+
+fn add_lines<R: AllocGlobal + Files>(
+    rt: &R,
+    file: &str,
+    hosts: &mut Vec<HostEntry>,
+) -> Result<(), Fault> {
+    for host in read_file(rt, file)? {
+        let _ = add(hosts, host)?;
+    }
+    Ok(())
+}
+
+// The commands that a file names.
+fn read_file<R: AllocGlobal + Files>(rt: &R, file: &str) -> Result<Vec<HostEntry>, Fault> {
+    let bytes = match bytes_of(rt, file, HOSTS_BYTES) {
+        Ok(bytes) if bytes.len() <= HOSTS_BYTES => bytes,
+        Ok(_) => return Err(named(rt.alloc(), file, Fault::CannotRead)),
+        Err(error) => return Err(not_read(rt.alloc(), file, &error)),
+    };
+    match read_hosts(rt.alloc(), bytes.as_slice()) {
+        Ok(hosts) => Ok(hosts),
+        Err(FileFault::BadLine(line)) => Err(Fault::BadHost(line)),
+        Err(FileFault::NoMemory) => Err(Fault::Memory),
+    }
+}
+
+// Adds the command of words of `--host`, which are `NAME` or `NAME=PROGRAM`.
+fn add_words(alloc: Global, words: &str, hosts: &mut Vec<HostEntry>) -> Result<(), Fault> {
+    let (name, program) = words.split_once('=').unwrap_or((words, words));
+    let host = HostEntry {
+        name: ascii(alloc, name)?,
+        program: ascii(alloc, program)?,
+    };
+    if program.is_empty() || !add(hosts, host)? {
+        return Err(named(alloc, words, Fault::BadHostWords));
+    }
+    Ok(())
+}
+
+// Adds the stand-ins. Their programs are in the folder of their file.
+fn add_common<R: AllocGlobal + Files>(
+    rt: &R,
+    hosts: &mut Vec<HostEntry>,
+) -> Result<(), Fault> {
+    let file = common_file(rt)?;
+    let folder = file.as_str().strip_suffix(last_piece(file.as_str())).unwrap_or("");
+    for host in read_file(rt, file.as_str())? {
+        let program = match std::str::from_utf8(host.program.as_bytes()) {
+            Ok(program) => step_into(rt.alloc(), folder, program)?,
+            Err(_) => return Err(Fault::Memory),
+        };
+        let stand_in = HostEntry {
+            name: host.name,
+            program: ascii(rt.alloc(), program.as_str())?,
+        };
+        let _ = add(hosts, stand_in)?;
+    }
+    Ok(())
+}
+
+// The file of the stand-ins: `share/amishell/common` in the folder above that of this program.
+fn common_file<R: AllocGlobal + Files>(rt: &R) -> Result<String, Fault> {
+    let Ok(program) = env::current_exe(rt) else {
+        return Err(named(rt.alloc(), COMMON, Fault::CannotRead));
+    };
+    let path = program.as_path().as_str();
+    let folder = path.strip_suffix(last_piece(path)).unwrap_or("");
+    step_into(rt.alloc(), step_into(rt.alloc(), folder, "..")?.as_str(), COMMON)
+}
