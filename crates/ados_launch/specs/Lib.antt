@@ -4,6 +4,7 @@ pub mod Asked
 pub mod Faults
 pub mod Laws
 pub mod Lines
+pub mod Rounds
 pub mod Schedule
 pub mod Session
 pub mod Taken

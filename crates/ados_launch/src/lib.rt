@@ -15,6 +15,7 @@ mod faults;
 mod laws;
 mod lines;
 mod read_ahead;
+mod rounds;
 mod schedule;
 mod written;
 
