@@ -1,6 +1,6 @@
 -- The order in which events come: the breaks of a list, each before the event whose number it names, and else what is due in
 -- the rounds.
-use Rattle.std.specs.Prelude.{◌≡◌, ℕ, ◌+◌, List, [], ◌∷◌, drop, Option, Some, None, option_map, is_some, Bool, not, ◌&&◌, nat_le, if◌then◌else◌}
+use Rattle.std.specs.Prelude.{◌≡◌, ℕ, ◌+◌, ◌<◌, List, [], ◌∷◌, drop, Option, Some, None, option_map, is_some, Bool, true, not, ◌&&◌, nat_le, if◌then◌else◌}
 use Rattle.std.specs.List.{prefix_len}
 use Rattle.ados_machine.specs.declared.answers.Answer.{Answer as Reply}
 use Rattle.ados_machine.specs.declared.events.BreakAt.{BreakAt}
@@ -12,7 +12,7 @@ use Rattle.ados_machine.specs.World.{WorldState, shell_at}
 use Rattle.ados_launch.specs.declared.rounds.Round.{Round}
 use Rattle.ados_launch.specs.declared.schedule.Next as found
 use Rattle.ados_launch.specs.declared.schedule.Next.TheVariants.{Break as BreakFound, Due as DueFound}
-use Rattle.ados_launch.specs.Rounds.{due, first_round, passed_round, round_behind}
+use Rattle.ados_launch.specs.Rounds.{comes, due, first_round, passed_round, round_behind}
 use Rattle.ados_launch.specs.Taken.{Taken, Given, LongLine, world_behind}
 
 -- Where a schedule stands: the round; the breaks of its list that were neither given nor passed over; and how many events and
@@ -53,6 +53,11 @@ next_by (Some at) place = AtBreak at.shell at.kind
 abbrev pub next_in : Standing → WorldState → Option Next
 next_in s w = option_map (next_by (first_before (s.taken + 1) (breaks_left s w))) (due s.round w)
 
+-- it may come: a break of a shell that runs, or what may come at a place
+abbrev pub MayCome : WorldState → Next → Type 0
+MayCome w (AtBreak shell kind) = is_some (shell_at w shell) ≡ true
+MayCome w (AtPlace place) = (place < 61) × (comes w place ≡ true)
+
 -- where the schedule stands behind what came; a break leaves the round as it is
 abbrev pub standing_behind : Standing → WorldState → Next → Standing
 standing_behind s w (AtBreak shell kind) = record { round = s.round; breaks = drop 1 (breaks_left s w); taken = s.taken + 1 }
@@ -66,6 +71,11 @@ next_as (DueFound place) = AtPlace place.place
 abbrev pub passed : Standing → found.Next → Standing
 passed s (BreakFound at) = record s { breaks = drop 1 s.breaks; taken = s.taken + 1 }
 passed s (DueFound place) = record s { round = passed_round s.round place; taken = s.taken + 1 }
+
+-- what was found to be due has a place
+abbrev pub IsFound : found.Next → Type 0
+IsFound (BreakFound at) = Unit {0}
+IsFound (DueFound place) = place.place < 61
 
 -- the place of a launcher's answer in a round
 abbrev pub place_of_answer : ℕ → Reply → ℕ

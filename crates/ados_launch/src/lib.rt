@@ -22,6 +22,7 @@ mod written;
 pub use ados_launcher::{Call, Host, Launcher, Listed};
 pub use alone::{SystemEnd, SystemFault, system};
 pub use counted::{Counted, Sink, Source};
-pub use driver::{End, drive};
+pub use ados_machine::BreakAt;
+pub use driver::{Drive, End};
 pub use faults::DriveFault;
 pub use laws::sessions_obey_the_laws;

@@ -28,7 +28,7 @@ pub enum Next {
 }
 
 /// Where a schedule stands.
-#[derive(Clone, Copy)]
+#[derive(Drop)]
 pub struct Schedule<'a> {
     round: Round,
     // Those that were neither given nor passed over.
@@ -37,7 +37,7 @@ pub struct Schedule<'a> {
     taken: u64,
 }
 
-impl Model for Schedule<'_> {
+impl<'a> Model for Schedule<'a> {
     ghost use Rattle.ados_launch.specs.Schedule.{Standing};
 
     ghost Value = { Standing };
