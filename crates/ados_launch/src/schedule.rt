@@ -1,5 +1,5 @@
 // The order in which events come.
-ghost use Rattle.std.specs.Prelude.{◌≡◌, ◌<◌, ◌≤◌, ◌+◌, ◌-◌, ◌^◌, true, option_map, IfSome, is_none};
+ghost use Rattle.std.specs.Prelude.{◌≡◌, ◌<◌, ◌≤◌, ◌+◌, ◌-◌, ◌^◌, drop, option_map, IfSome, is_none};
 ghost use Rattle.ados_launch.specs.Rounds.{due};
 ghost use Rattle.ados_launch.specs.Schedule.{
   breaks_left,
