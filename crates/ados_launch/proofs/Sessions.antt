@@ -14,7 +14,7 @@ use Rattle.ados_launch.specs.Agreement.{Agrees}
 use Rattle.ados_launch.specs.Drives.{ComesTo, TakesSession}
 use Rattle.ados_launch.specs.Lines.{ahead, BeginsOverlong, Known}
 use Rattle.ados_launch.specs.Taken.{Taken, bytes_of, written_for, left_after, world_behind}
-use Rattle.ados_launch.specs.Schedule.{Next, AtPlace, Standing, first_standing, next_behind, next_in, next_of, standing_after, standing_behind, IsReading}
+use Rattle.ados_launch.specs.Schedule.{Next, Standing, first_standing, next_behind, next_in, next_of, standing_after, standing_behind}
 use Rattle.ados_launch.specs.Session.{AreDropped, LeavesOverlong, Moment, Session, Stands, StandsCut, TakesAt}
 use Rattle.ados_launch.proofs.Taken.{run-more, order-more, standing-more, along-full, along-more, asked-more, asked-full, lines-more, left-more, written-more, count-more}
 

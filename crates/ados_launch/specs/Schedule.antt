@@ -1,8 +1,7 @@
 -- The order in which events come: the breaks of a list, each before the event whose number it names, and else what is due in
 -- the rounds.
-use Rattle.std.specs.Prelude.{◌≡◌, ℕ, ◌+◌, ◌<◌, List, [], ◌∷◌, drop, Option, Some, None, option_map, is_some, Bool, true, not, ◌&&◌, nat_le, if◌then◌else◌}
+use Rattle.std.specs.Prelude.{◌≡◌, ℕ, ◌+◌, ◌-◌, ◌<◌, List, [], ◌∷◌, drop, Option, Some, None, option_map, is_some, Bool, true, not, ◌&&◌, nat_le, nat_lt, if◌then◌else◌}
 use Rattle.std.specs.List.{prefix_len}
-use Rattle.ados_machine.specs.declared.answers.Answer.{Answer as Reply}
 use Rattle.ados_machine.specs.declared.events.BreakAt.{BreakAt}
 use Rattle.ados_machine.specs.declared.events.Event.{Event}
 use Rattle.ados_machine.specs.declared.events.Event.TheVariants.{Typed, EndOfInput, Turn, Answer, Break}
@@ -26,10 +25,27 @@ pub record Standing : Type 0 where
 abbrev pub first_standing : List BreakAt → Standing
 first_standing breaks = record { round = first_round; breaks = breaks; taken = 0 }
 
--- what comes next: a break of a shell, or what is due at a place of the round
+-- what comes next: a break of a shell; a line; a shell's turn, the answer to its start, or to its read or wait
 pub data Next : Type 0 where
   AtBreak : (shell : ℕ) (kind : Kind) → Next
-  AtPlace : (place : ℕ) → Next
+  AtLine : Next
+  AtTurn : (shell : ℕ) → Next
+  AtStart : (shell : ℕ) → Next
+  AtFurther : (shell : ℕ) → Next
+
+-- what is due at a place of a round, and the place of that
+abbrev pub next_at : ℕ → Next
+next_at place =
+    if nat_lt place 1 then AtLine else
+    (if nat_lt place 21 then AtTurn place else
+    (if nat_lt place 41 then AtStart (place - 20) else AtFurther (place - 40)))
+
+abbrev pub place_of : Next → ℕ
+place_of (AtBreak shell kind) = 0
+place_of AtLine = 0
+place_of (AtTurn shell) = shell
+place_of (AtStart shell) = shell + 20
+place_of (AtFurther shell) = shell + 40
 
 -- a break whose shell is not there is passed over before the event of its number, for good
 abbrev pub is_passed : ℕ → WorldState → BreakAt → Bool
@@ -46,53 +62,55 @@ first_before number (at ∷ breaks) = if nat_le at.event number then Some at els
 
 -- such a break comes before what is due
 abbrev pub next_by : Option BreakAt → ℕ → Next
-next_by None place = AtPlace place
+next_by None place = next_at place
 next_by (Some at) place = AtBreak at.shell at.kind
 
 -- what comes next: where nothing is due no break comes either
 abbrev pub next_in : Standing → WorldState → Option Next
 next_in s w = option_map (next_by (first_before (s.taken + 1) (breaks_left s w))) (due s.round w)
 
--- it may come: a break of a shell that runs, or what may come at a place
-abbrev pub MayCome : WorldState → Next → Type 0
-MayCome w (AtBreak shell kind) = is_some (shell_at w shell) ≡ true
-MayCome w (AtPlace place) = (place < 61) × (comes w place ≡ true)
+-- where the schedule stands behind what came: a break leaves the round as it is
+abbrev pub behind_place : Standing → WorldState → ℕ → Standing
+behind_place s w place = record { round = round_behind s.round w place; breaks = breaks_left s w; taken = s.taken + 1 }
 
--- where the schedule stands behind what came; a break leaves the round as it is
 abbrev pub standing_behind : Standing → WorldState → Next → Standing
 standing_behind s w (AtBreak shell kind) = record { round = s.round; breaks = drop 1 (breaks_left s w); taken = s.taken + 1 }
-standing_behind s w (AtPlace place) = record { round = round_behind s.round w place; breaks = breaks_left s w; taken = s.taken + 1 }
+standing_behind s w AtLine = behind_place s w (place_of AtLine)
+standing_behind s w (AtTurn shell) = behind_place s w (place_of (AtTurn shell))
+standing_behind s w (AtStart shell) = behind_place s w (place_of (AtStart shell))
+standing_behind s w (AtFurther shell) = behind_place s w (place_of (AtFurther shell))
 
 -- what was found to come next, and where the schedule stands behind it once the breaks before it were passed over
 abbrev pub next_as : found.Next → Next
 next_as (BreakFound at) = AtBreak at.shell at.kind
-next_as (DueFound place) = AtPlace place.place
+next_as (DueFound due_at) = next_at due_at.place
 
 abbrev pub passed : Standing → found.Next → Standing
 passed s (BreakFound at) = record s { breaks = drop 1 s.breaks; taken = s.taken + 1 }
-passed s (DueFound place) = record s { round = passed_round s.round place; taken = s.taken + 1 }
+passed s (DueFound due_at) = record s { round = passed_round s.round due_at; taken = s.taken + 1 }
 
--- what was found to be due has a place
-abbrev pub IsFound : found.Next → Type 0
-IsFound (BreakFound at) = Unit {0}
-IsFound (DueFound place) = place.place < 61
+-- it may come: a break of a shell that runs, or what may come at a place
+abbrev pub MayCome : WorldState → found.Next → Type 0
+MayCome w (BreakFound at) = is_some (shell_at w at.shell) ≡ true
+MayCome w (DueFound due_at) = (due_at.place < 61) × (comes w due_at.place ≡ true)
 
--- the place of a launcher's answer in a round
-abbrev pub place_of_answer : ℕ → Reply → ℕ
-place_of_answer k reply = if answers_start reply then k + 20 else k + 40
+-- what is due has a place in the round
+abbrev pub IsInRound : found.Next → Type 0
+IsInRound (BreakFound at) = Unit {0}
+IsInRound (DueFound due_at) = due_at.place < 61
 
 -- what an event is in a schedule
 abbrev pub next_of_event : Event → Next
-next_of_event (Typed line) = AtPlace 0
-next_of_event EndOfInput = AtPlace 0
-next_of_event (Turn k) = AtPlace k
-next_of_event (Answer k reply) = AtPlace (place_of_answer k reply)
+next_of_event (Typed line) = AtLine
+next_of_event EndOfInput = AtLine
+next_of_event (Turn k) = AtTurn k
+next_of_event (Answer k reply) = if answers_start reply then AtStart k else AtFurther k
 next_of_event (Break k kind) = AtBreak k kind
 
 -- what was taken is this: long lines are read where lines are
 abbrev pub next_of : Taken → Next
 next_of (Given event out) = next_of_event event
-next_of LongLine = AtPlace 0
+next_of LongLine = AtLine
 
 -- from here on, in this world, each was the next that came
 abbrev pub InOrder : Standing → WorldState → List Taken → Type 0
@@ -110,7 +128,7 @@ next_behind breaks w taken now = next_in (standing_after (first_standing breaks)
 
 -- a line comes next
 abbrev pub IsReading : List BreakAt → WorldState → List Taken → WorldState → Type 0
-IsReading breaks w taken now = next_behind breaks w taken now ≡ Some (AtPlace 0)
+IsReading breaks w taken now = next_behind breaks w taken now ≡ Some AtLine
 
 -- shell 1 runs, and its input has not ended
 abbrev pub takes_input : WorldState → Bool

@@ -3,6 +3,7 @@ use Rattle.std.specs.Prelude.{◌≡◌, ℕ, ◌+◌, ◌<◌, List, [], ◌∷
 use Rattle.std.specs.Io.KnownBytes.{Appends}
 use Rattle.ados_machine.specs.declared.answers.Answer.{Answer as Reply}
 use Rattle.ados_machine.specs.declared.events.BreakAt.{BreakAt}
+use Rattle.ados_machine.specs.declared.events.Event.TheVariants.{Answer}
 use Rattle.ados_machine.specs.declared.requests.Request.{Request}
 use Rattle.ados_machine.specs.Children.{fits}
 use Rattle.ados_machine.specs.World.{WorldState, pending_of}
@@ -13,7 +14,7 @@ use Rattle.ados_launch.specs.Agreement.{Agrees}
 use Rattle.ados_launch.specs.Lines.{Known, ahead, behind_overlong, kind_of}
 use Rattle.ados_launch.specs.Taken.{Taken, events_in, outs_in, bytes_of, written_for, world_behind, IsAccepted, IsNext, IsOfReader, left_behind, AreRead}
 use Rattle.ados_launch.specs.Asked.{IsAsked, AreAsked, call_of}
-use Rattle.ados_launch.specs.Schedule.{InOrder, Next, AtPlace, first_standing, next_of, place_of_answer}
+use Rattle.ados_launch.specs.Schedule.{InOrder, Next, first_standing, next_of, next_of_event}
 
 -- What stands at a moment of a drive: the world; what the reader has left, and how many of its reads have failed; what the
 -- writer holds, how many of its writes have failed, and how many took nothing; and the launcher's calls, and whether it is full.
@@ -53,7 +54,7 @@ pub record IsForNext (w : WorldState) (next : Option Next) (call : Call) : Type 
   pub number : ℕ
   pub request : Request
   pub reply : Reply
-  pub next_is : next ≡ Some (AtPlace (place_of_answer number reply))
+  pub next_is : next ≡ Some (next_of_event (Answer number reply))
   pub pending_is : pending_of w number ≡ Some request
   pub fit : fits request reply ≡ true
   pub call_is : call ≡ call_of request reply

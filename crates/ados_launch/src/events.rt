@@ -8,7 +8,7 @@ ghost use Rattle.ados_launcher.specs.declared.calls.Call.{Call};
 ghost use Rattle.ados_launch.specs.Agreement.{Agrees, AreWhole, IsOpenTable};
 ghost use Rattle.ados_launch.specs.Lines.{ahead, BeginsOverlong, Known};
 ghost use Rattle.ados_launch.specs.Rounds.{comes};
-ghost use Rattle.ados_launch.specs.Schedule.{AtPlace, next_as, MayCome};
+ghost use Rattle.ados_launch.specs.Schedule.{AtLine, next_as, next_at, MayCome};
 ghost use Rattle.ados_launch.specs.Session.{AreDropped, TakesAt, TakesLineAt};
 
 use crate::Source;
@@ -37,7 +37,7 @@ pub fn take_next<L: Launcher, S: Source>(
     draft: &mut Draft,
 ) -> Result<(), DriveFault>
     requires reader { S.faults reader.old < 2 ^ 64 - 1 }
-    requires may_come { MayCome world.old (next_as next) }
+    requires may_come { MayCome world.old next }
     requires agrees { Agrees world.old (L.calls launcher.old) }
     requires children { IsOpenTable children.old (L.calls launcher.old) }
     ensures took { OnOk result (TakesAt world.old (ahead held.old (S.left reader.old)) (L.is_full launcher.new) (L.calls launcher.old) (next_as next)
@@ -55,7 +55,7 @@ pub fn take_next<L: Launcher, S: Source>(
     ensures read { IsErrOf result DriveFault.Read → (S.faults reader.new ≡ S.faults reader.old + 1)
         ⊎ ((S.faults reader.new ≡ S.faults reader.old) × Known (ahead held.old (S.left reader.old))
         (λ bytes. BeginsOverlong bytes (ahead held.new (S.left reader.new)))) }
-    ensures reading { IsErrOf result DriveFault.Read → next_as next ≡ AtPlace 0 }
+    ensures reading { IsErrOf result DriveFault.Read → next_as next ≡ AtLine }
     ensures memory_honest { IsErrOf result DriveFault.Memory → S.faults reader.new ≡ S.faults reader.old }
     ensures no_write { IsErrOf result DriveFault.Write → ⊥ }
     ensures no_turns { IsErrOf result DriveFault.Turns → ⊥ }
@@ -94,7 +94,7 @@ fn take_event<L: Launcher, S: Source>(
     requires due { comes world.old place ≡ true }
     requires agrees { Agrees world.old (L.calls launcher.old) }
     requires children { IsOpenTable children.old (L.calls launcher.old) }
-    ensures took { OnOk result (TakesAt world.old (ahead held.old (S.left reader.old)) (L.is_full launcher.new) (L.calls launcher.old) (AtPlace place)
+    ensures took { OnOk result (TakesAt world.old (ahead held.old (S.left reader.old)) (L.is_full launcher.new) (L.calls launcher.old) (next_at place)
         world.new (ahead held.new (S.left reader.new)) (L.calls launcher.new) draft.new.printed.items) }
     ensures agrees { OnOk result (Agrees world.new (L.calls launcher.new)) }
     ensures children { IsOpenTable children.new (L.calls launcher.new) }
@@ -103,7 +103,7 @@ fn take_event<L: Launcher, S: Source>(
     ensures few { length held.old < 4096 → length held.new < 4096 }
     ensures honest { OnOk result (S.faults reader.new ≡ S.faults reader.old) }
     ensures err { OnErr result (world.new ≡ world.old) }
-    ensures dropped { OnErr result ((dropped : List Call) × AreDropped world.old (Some (AtPlace place)) dropped
+    ensures dropped { OnErr result ((dropped : List Call) × AreDropped world.old (Some (next_at place)) dropped
         × (L.calls launcher.new ≡ L.calls launcher.old ++ dropped)) }
     ensures unasked { IsErrOf result DriveFault.Read → L.calls launcher.new ≡ L.calls launcher.old }
     ensures read { IsErrOf result DriveFault.Read → (S.faults reader.new ≡ S.faults reader.old + 1)

@@ -19,7 +19,7 @@ mod rounds;
 mod schedule;
 mod written;
 
-pub use ados_launcher::{Call, Host, Launcher, Listed};
+pub use ados_launcher::{Call, Host, Launcher, Listed, calls_are_rows_of_lives};
 pub use alone::{SystemEnd, SystemFault, system};
 pub use counted::{Counted, Sink, Source};
 pub use ados_machine::BreakAt;

@@ -1,5 +1,5 @@
 // The rounds in which events come.
-ghost use Rattle.std.specs.Prelude.{◌≡◌, ◌<◌, ◌≤◌, get_or, false, option_map, IfSome, if◌then◌else◌};
+ghost use Rattle.std.specs.Prelude.{◌≡◌, ◌<◌, ◌≤◌, get_or, false, true, option_map, IfSome, if◌then◌else◌};
 ghost use Rattle.ados_machine.specs.World.{pending_of};
 ghost use Rattle.ados_launch.specs.Rounds.{
   asks_start,
@@ -7,6 +7,7 @@ ghost use Rattle.ados_launch.specs.Rounds.{
   comes,
   is_due,
   due,
+  in_next_round,
   in_this_round,
   answered_by,
   first_round,
@@ -63,13 +64,7 @@ impl Round {
                 place,
                 begins: false,
             }),
-            None => {
-                let place = Round::first().next_here(world)?;
-                Some(Due {
-                    place,
-                    begins: true,
-                })
-            }
+            None => first_due(world),
         }
     }
 
@@ -122,6 +117,20 @@ impl Round {
         } else {
             self.answered[usize::from(place - 40)] = true;
         }
+    }
+}
+
+// What is due first in a round that begins.
+fn first_due(world: &World) -> Option<Due>
+    ensures place { option_map (λ found. found.place) result ≡ in_next_round world.now }
+    ensures begins { IfSome result (λ found. found.begins ≡ true) }
+{
+    match Round::first().next_here(world) {
+        Some(place) => Some(Due {
+            place,
+            begins: true,
+        }),
+        None => None,
     }
 }
 

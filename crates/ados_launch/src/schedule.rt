@@ -1,5 +1,6 @@
 // The order in which events come.
-ghost use Rattle.std.specs.Prelude.{◌≡◌, ◌<◌, ◌≤◌, ◌+◌, ◌-◌, ◌^◌, drop, option_map, IfSome, is_none};
+ghost use Rattle.std.specs.Prelude.{◌≡◌, ◌<◌, ◌≤◌, ◌+◌, ◌-◌, ◌^◌, drop, length, option_map, IfSome, is_none};
+ghost use Rattle.std.specs.List.{prefix_len};
 ghost use Rattle.ados_launch.specs.Rounds.{due};
 ghost use Rattle.ados_launch.specs.Schedule.{
   breaks_left,
@@ -10,7 +11,8 @@ ghost use Rattle.ados_launch.specs.Schedule.{
   next_in,
   passed,
   standing_behind,
-  IsFound,
+  IsInRound,
+  MayCome,
 };
 
 use crate::rounds::{Due, Round};
@@ -63,6 +65,7 @@ impl<'a> Schedule<'a> {
         requires round { self.old.round.place ≤ 61 }
         requires count { self.old.taken < 2 ^ 64 - 1 }
         ensures next { option_map next_as result ≡ next_in self.old world.now }
+        ensures may_come { IfSome result (λ next. MayCome world.now next) }
         ensures passed { IfSome result (λ next. passed self.new next ≡ standing_behind self.old world.now (next_as next)) }
     {
         let found = self.round.next(world)?;
@@ -75,7 +78,7 @@ impl<'a> Schedule<'a> {
 
     // The schedule goes on behind what came.
     pub fn pass(&mut self, next: Next)
-        requires place { IsFound next }
+        requires place { IsInRound next }
         requires count { self.old.taken < 2 ^ 64 - 1 }
         ensures { self.new ≡ passed self.old next }
     {
@@ -99,12 +102,7 @@ impl<'a> Schedule<'a> {
         requires { self.old.taken < 2 ^ 64 - 1 }
         ensures { self.new ≡ record self.old { breaks = breaks_left self.old world.now } }
     {
-        let number = self.taken + 1;
-        let count = self
-            .breaks
-            .iter()
-            .take_while(|at| is_passed(at, number, world))
-            .count();
+        let count = count_passed(self.breaks, self.taken + 1, world);
         self.breaks = &self.breaks[count..];
     }
 
@@ -127,6 +125,17 @@ impl<'a> Schedule<'a> {
             self.breaks = later;
         }
     }
+}
+
+// How many breaks are passed over before the event of this number.
+fn count_passed(breaks: &[BreakAt], number: u64, world: &World) -> usize
+    ensures value { result ≡ prefix_len (is_passed number world.now) breaks.now }
+    ensures within { result ≤ length breaks.now }
+{
+    breaks
+        .iter()
+        .take_while(|at| is_passed(at, number, world))
+        .count()
 }
 
 // A break that comes before the event of this number is passed over.
