@@ -5,3 +5,4 @@ pub mod TurnLemmas
 pub mod RunLemmas
 pub mod NumberLemmas
 pub mod UseLemmas
+pub mod BreakLemmas

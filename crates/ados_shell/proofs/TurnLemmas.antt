@@ -25,7 +25,7 @@ use Rattle.ados_shell.specs.Reports.{report_of}
 use Rattle.ados_shell.specs.Stacks.{frames_in}
 use Rattle.ados_shell.specs.Drafts.{GoesOn, IsReported, IsTicked, IsRuled, Settles, course_by, course_of, frames_of, held_of, here, phase_in}
 
-goes-on : (scene : Scene) (before mid after : Draft) (t t' : Turned) (rs : List EndReport)
+pub goes-on : (scene : Scene) (before mid after : Draft) (t t' : Turned) (rs : List EndReport)
     → mid.reports.items ≡ before.reports.items ++ rs
     → t'.frames ≡ t.frames → t'.phase ≡ t.phase → t'.course ≡ t.course
     → reports_of scene.number t'.log ≡ rs ++ reports_of scene.number t.log
@@ -80,7 +80,7 @@ told-course scene before mid word codes t =
     ∙ ap (λ p. course_by scene (held_of before) before.shell.limit codes p) t.printed
 
 -- what the code rule has to work on
-abbrev said_in : Scene → Draft → Said
+abbrev pub said_in : Scene → Draft → Said
 said_in scene draft = said_of (course_of scene draft)
 
 -- the code rule ends here
@@ -132,7 +132,7 @@ abbrev pub led : FrameState → List FrameState → Codes → Said → Settled
 led last frames codes said = behind (end_of (suc (length frames)) last ∷ []) (leads last frames codes said)
 
 -- the code rule goes on from a middle, before which it gave these items
-step-ruled : (scene : Scene) (before mid after : Draft) (rs : List EndReport) (items : List Item) (settled settled' : Settled)
+pub step-ruled : (scene : Scene) (before mid after : Draft) (rs : List EndReport) (items : List Item) (settled settled' : Settled)
     → settled' ≡ behind items settled
     → ((log : List Item) → reports_of scene.number (items ++ log) ≡ rs ++ reports_of scene.number log)
     → held_of mid ≡ held_of before → mid.reports.items ≡ before.reports.items ++ rs
@@ -147,7 +147,7 @@ step-ruled scene before mid after rs items settled settled' e reported held r g 
 -- the report of a script's end
 end-script : (shell depth line : ℕ) (kind : Kind) (codes : Codes) (early : Bool) (name command : Text) (log : List Item) → kind ≡ Script name command
     → reports_of shell (Ended depth kind line codes early ∷ log)
-    ≡ record { shell = shell; name = name; last_line = line; code = codes.code; early = early } ∷ reports_of shell log
+    ≡ record { shell = shell; name = name; last_line = line; code = codes.code; early = early; broken = false } ∷ reports_of shell log
 end-script shell depth line kind codes early name command log e = ap (λ k. reports_of shell (Ended depth k line codes early ∷ log)) e
 
 -- what is said behind the end of a script

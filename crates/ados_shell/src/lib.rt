@@ -5,6 +5,7 @@
 mod answers;
 mod arrivals;
 mod begun;
+mod breaks;
 mod calls;
 mod carrying;
 mod code_rule;
@@ -21,6 +22,7 @@ mod rows;
 mod runs;
 mod scenes;
 mod seen;
+mod shell_drafts;
 mod shells;
 mod stacks;
 mod ticks;
