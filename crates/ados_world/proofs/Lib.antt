@@ -1,3 +1,4 @@
+mod BreakLemmas
 mod CarryingLemmas
 mod FillLemmas
 mod LawLemmas
@@ -5,3 +6,4 @@ mod MemoryLemmas
 mod NewShellLemmas
 mod OpenedLemmas
 mod StepLemmas
+mod TakenLemmas
