@@ -1,4 +1,5 @@
 mod BreakLemmas
+mod BrokenLemmas
 mod CarryingLemmas
 mod FillLemmas
 mod LawLemmas

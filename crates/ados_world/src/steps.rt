@@ -2,13 +2,14 @@
 ghost use Rattle.std.specs.Prelude.{◌≡◌, ℕ, [], drop, false, Err, IfErr, IfOk, OnErr, OnOk, is_some, true};
 ghost use Rattle.ados_machine.specs.Given.{asked_in};
 ghost use Rattle.ados_machine.specs.InUse.{asks, entry_of};
+ghost use Rattle.ados_machine.specs.Laws.{finds_flag};
 ghost use Rattle.ados_machine.specs.Limits.{IsSane};
 ghost use Rattle.ados_machine.specs.World.{is_over, shell_at};
 ghost use Rattle.ados_machine.specs.Step.{step_of, turned, answered, broken, giving, queue_behind};
 ghost use Rattle.ados_machine.specs.Runs.{IsAnswer, world_after};
 ghost use Rattle.ados_machine.specs.declared.refusals.Refusal.TheVariants.{NoMemory as WantOfMemory};
 ghost use Rattle.ados_shell.specs.Drafts.{out_of};
-ghost use Rattle.ados_world.specs.Laws.{FailedStart};
+ghost use Rattle.ados_world.specs.Laws.{FailedStart, tells_break};
 ghost use Rattle.ados_world.specs.Shells.{IsShellNumber};
 ghost use Rattle.ados_world.specs.Steps.{answering, asked_by, ended_world, taken};
 
@@ -29,13 +30,15 @@ impl World {
     /// Refusals come in the order of their enum; the first six, an accepted end of input, a break and the end of a shell take
     /// no memory. A break is refused by `Over` and `NoSuchShell` alone. An answer that a start has failed changes the codes of the shell that asked, and what these change:
     /// what all shells share, the other shells and the input stay. What is given as request is what the event's shell waits
-    /// for then, and none behind a typed line or the end of input. A resident entry stays in use from the start of its program
+    /// for then, and none behind a typed line, the end of input or a break. A report tells of a break exactly where the event is a
+    /// turn that finds the flag of its shell, in which a script runs. A resident entry stays in use from the start of its program
     /// to the answer that ends it.
     pub fn step(&mut self, event: &Event) -> Result<Out, Refusal>
         ensures answer { IsAnswer event.now result (step_of self.old event.now) }
         ensures world { self.new ≡ world_after self.old result (step_of self.old event.now) }
         ensures failed_start { OnOk result (FailedStart self.old event.now self.new) }
         ensures request { IfOk result (λ out. out.request ≡ asked_in self.new event.now) }
+        ensures breaks { IfOk result (λ out. tells_break out.reports ≡ finds_flag self.old event.now) }
         ensures entries { OnOk result ((k : ℕ) → asks self.old k ≡ true → asks self.new k ≡ true → entry_of self.new k ≡ entry_of self.old k) }
     {
         let mut draft = Draft::new(self.alloc);
