@@ -1,5 +1,6 @@
 -- Breaks: scripts that end, and the turn in which they do.
-use Rattle.std.proofs.Common.{◌≡◌, ◌∙◌, ◌++◌, ◌∷◌, [], List, ℕ, zero, suc, Bool, true, false, ◌||◌, Option, Some, None, is_some, length, nat_lt, ap, sym, refl}
+use Rattle.std.proofs.Common.{◌≡◌, ◌<◌, ◌∙◌, ◌++◌, ◌∷◌, [], List, ℕ, zero, suc, Bool, true, false, ◌||◌, Option, Some, None, is_some, length, nat_lt, ap, sym, refl}
+use Rattle.std.proofs.Math.Nat.{lt-suc_self}
 use Rattle.ados_text.specs.Text.{Text}
 use Rattle.ados_text.specs.declared.codes.Code.{Code}
 use Rattle.ados_flow.specs.declared.kinds.Kind.{Kind}
@@ -97,6 +98,15 @@ ends-is : (scripts : ℕ) (kind : Kind) (limit : Code) (further : Settled) (fram
     → after_break scripts kind limit further frames said ≡ finish (maker kind) broken_codes false frames (with_limit (limit_behind frames limit) said)
 ends-is zero kind limit further frames said e = refl
 ends-is (suc scripts) kind limit further frames said e = absurd cc
+
+-- a frame fewer is left
+pub frames-fewer : (scene : Scene) (before popped reported mid : Draft) (frame : FrameState) (frames : List FrameState)
+    → frames_of scene before ≡ frame ∷ frames → frames_of scene popped ≡ frames
+    → ReportsBreak scene popped reported frame → GivesUp scene reported mid frame
+    → length (frames_of scene mid) < length (frames_of scene before)
+frames-fewer scene before popped reported mid frame frames there f r u =
+    let below : frames_of scene mid ≡ frames = ap (frames_in scene.shell.now) u.frames ∙ ap (frames_of scene) r.same ∙ f in
+    rw there (rw below (lt-suc_self (length frames)))
 
 -- a frame ended at a break, above others of which one is a script: these end in turn
 pub break-deeper : (scene : Scene) (before popped reported mid after : Draft) (frame : FrameState) (frames : List FrameState)
