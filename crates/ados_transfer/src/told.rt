@@ -2,7 +2,7 @@
 ghost use Rattle.std.specs.Prelude.{◌≡◌};
 ghost use Rattle.std.specs.List.{list_all};
 ghost use Rattle.std.specs.Option.{option_copied};
-ghost use Rattle.amishell_execute.specs.Told.{is_as_told, holds, holds_file};
+ghost use Rattle.ados_transfer.specs.Told.{is_as_told, holds, holds_file};
 
 use ados_ram::{Entry, Place, Ram};
 use ados_text::Octets;

@@ -1,6 +1,6 @@
 //! What is to be brought in: files and directories, within the limits of the Shell's files.
 
-use crate::faults::{Fault, named};
+use crate::faults::{TransferFault, named};
 use crate::told::{Content, Told};
 use ados_ram::{Place, Ram};
 use ados_text::Octets;
@@ -29,7 +29,7 @@ pub struct Plan {
 
 impl Plan {
     /// Nothing to be brought in yet, beside the files that are there.
-    pub fn new(alloc: Global, files: &Ram) -> Result<Plan, Fault> {
+    pub fn new(alloc: Global, files: &Ram) -> Result<Plan, TransferFault> {
         let places = files.contents(&Place::root(alloc))?;
         let mut bytes = 0usize;
         for place in &places {
@@ -51,7 +51,7 @@ impl Plan {
     }
 
     /// Adds a directory, if it is not there; `path` is what a fault names.
-    pub fn add_directory(&mut self, files: &Ram, place: Place, path: &str) -> Result<(), Fault> {
+    pub fn add_directory(&mut self, files: &Ram, place: Place, path: &str) -> Result<(), TransferFault> {
         for depth in 1..place.names().len() {
             let above = Place::root(self.alloc).joined(&place.names()[..depth])?;
             self.add_one(files, above, path)?;
@@ -66,21 +66,21 @@ impl Plan {
         place: Place,
         content: Content,
         path: &str,
-    ) -> Result<(), Fault> {
+    ) -> Result<(), TransferFault> {
         if let Some(above) = place.copy()?.parent() {
             self.add_directory(files, above, path)?;
         }
         if self.kind(files, &place).is_some() {
-            return Err(named(self.alloc, path, Fault::Twice));
+            return Err(named(self.alloc, path, TransferFault::Twice));
         }
         self.add(place, content, path)
     }
 
     // Adds a directory in one that is there.
-    fn add_one(&mut self, files: &Ram, place: Place, path: &str) -> Result<(), Fault> {
+    fn add_one(&mut self, files: &Ram, place: Place, path: &str) -> Result<(), TransferFault> {
         match self.kind(files, &place) {
             Some(true) => Ok(()),
-            Some(false) => Err(named(self.alloc, path, Fault::Twice)),
+            Some(false) => Err(named(self.alloc, path, TransferFault::Twice)),
             None => self.add(place, Content::Directory, path),
         }
     }
@@ -94,19 +94,19 @@ impl Plan {
         Some(matches!(told.content, Content::Directory))
     }
 
-    fn add(&mut self, place: Place, content: Content, path: &str) -> Result<(), Fault> {
+    fn add(&mut self, place: Place, content: Content, path: &str) -> Result<(), TransferFault> {
         let size = size_of(&content);
         if place.path(self.alloc)?.as_bytes().len() > PATH_BYTES {
-            return Err(named(self.alloc, path, Fault::BadName));
+            return Err(named(self.alloc, path, TransferFault::BadName));
         }
         if size > FILE_BYTES {
-            return Err(named(self.alloc, path, Fault::LargeFile));
+            return Err(named(self.alloc, path, TransferFault::LargeFile));
         }
         if size > ALL_BYTES.saturating_sub(self.bytes) {
-            return Err(named(self.alloc, path, Fault::ManyBytes));
+            return Err(named(self.alloc, path, TransferFault::ManyBytes));
         }
         if self.objects >= OBJECTS {
-            return Err(named(self.alloc, path, Fault::ManyObjects));
+            return Err(named(self.alloc, path, TransferFault::ManyObjects));
         }
         self.bytes = self.bytes.saturating_add(size);
         self.objects += 1;

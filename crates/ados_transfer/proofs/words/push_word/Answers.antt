@@ -1,5 +1,5 @@
-use Rattle.amishell_execute.proofs.WordLemmas.{line_reads, line_item}
-use Rattle.amishell_execute.proofs.words.push_word.Goals as goal
+use Rattle.ados_transfer.proofs.WordLemmas.{line_reads, line_item}
+use Rattle.ados_transfer.proofs.words.push_word.Goals as goal
 
 pub returns-clause-reads : goal.returns-clause-reads
 returns-clause-reads c =

@@ -1,8 +1,9 @@
 //! The files and folders of this machine that are brought in.
 
-use crate::faults::{Fault, named};
+use crate::faults::{TransferFault, named};
 use crate::paths::{base_name, name_of, place_in, step_into};
 use crate::plan::{FILE_BYTES, Plan, file_of};
+use crate::script::shell_script;
 use ados_ram::{Place, Ram};
 use std::alloc::Global;
 use std::fs;
@@ -20,14 +21,30 @@ pub fn bring<R: AllocGlobal + Files + Clone + Drop>(
     files: &Ram,
     words: &str,
     plan: &mut Plan,
-) -> Result<(), Fault> {
+) -> Result<(), TransferFault> {
     let (path, name) = parted(rt, words);
     let Ok(found) = fs::metadata(rt, path) else {
-        return Err(named(rt.alloc(), path, Fault::CannotRead));
+        return Err(named(rt.alloc(), path, TransferFault::CannotRead));
     };
     let place = target(rt, path, name, found.is_dir())?;
     let path = String::from_str(rt.alloc(), path)?;
     walk(rt, files, path, place, plan)
+}
+
+/// Adds a script of this machine to what is brought in, as a file in S:, and gives its place.
+pub fn bring_script<R: AllocGlobal + Files>(
+    rt: &R,
+    files: &Ram,
+    path: &str,
+    plan: &mut Plan,
+) -> Result<Place, TransferFault> {
+    let alloc = rt.alloc();
+    let own = base_name(rt, path)?;
+    let place = place_in(alloc, "S:")?.with(name_of(alloc, own.as_str(), path)?)?;
+    let bytes = read_file(rt, path)?;
+    let script = shell_script(alloc, bytes.as_slice())?;
+    plan.add_file(files, place.copy()?, file_of(script, false), path)?;
+    Ok(place)
 }
 
 // The path and the name of `PATH=NAME`. A path that is there is a path as a whole.
@@ -47,7 +64,7 @@ fn target<R: AllocGlobal + Files>(
     path: &str,
     name: Option<&str>,
     is_folder: bool,
-) -> Result<Place, Fault> {
+) -> Result<Place, TransferFault> {
     let alloc = rt.alloc();
     let own = base_name(rt, path)?;
     let Some(name) = name else {
@@ -67,7 +84,7 @@ fn walk<R: AllocGlobal + Files + Clone + Drop>(
     path: String,
     place: Place,
     plan: &mut Plan,
-) -> Result<(), Fault> {
+) -> Result<(), TransferFault> {
     let mut left = Vec::new(rt.alloc());
     left.push((path, place))?;
     for _ in 0..WALK {
@@ -75,7 +92,7 @@ fn walk<R: AllocGlobal + Files + Clone + Drop>(
             return Ok(());
         };
         let Ok(found) = fs::metadata(rt, path.as_str()) else {
-            return Err(Fault::CannotRead(path));
+            return Err(TransferFault::CannotRead(path));
         };
         if found.is_dir() {
             push_children(rt, path.as_str(), &place, &mut left)?;
@@ -86,7 +103,7 @@ fn walk<R: AllocGlobal + Files + Clone + Drop>(
             plan.add_file(files, place, file_of(bytes, is_script), path.as_str())?;
         }
     }
-    Err(Fault::Memory)
+    Err(TransferFault::NoMemory)
 }
 
 // Adds what is in a folder to what is left of a walk, the last by its name first.
@@ -95,11 +112,11 @@ fn push_children<R: AllocGlobal + Files + Clone + Drop>(
     path: &str,
     place: &Place,
     left: &mut Vec<(String, Place)>,
-) -> Result<(), Fault> {
+) -> Result<(), TransferFault> {
     let alloc = rt.alloc();
     let mut names = match names_in(rt, path) {
         Ok(names) => names,
-        Err(_) => return Err(named(alloc, path, Fault::CannotRead)),
+        Err(_) => return Err(named(alloc, path, TransferFault::CannotRead)),
     };
     names.sort()?;
     for name in names.iter().rev() {
@@ -119,11 +136,11 @@ fn names_in<R: AllocGlobal + Files + Clone + Drop>(rt: &R, path: &str) -> io::Re
     Ok(names)
 }
 
-/// The bytes of a file that the Shell can hold.
-pub fn read_file<R: AllocGlobal + Files>(rt: &R, path: &str) -> Result<Vec<u8>, Fault> {
+// The bytes of a file that the Shell can hold.
+fn read_file<R: AllocGlobal + Files>(rt: &R, path: &str) -> Result<Vec<u8>, TransferFault> {
     match bytes_of(rt, path, FILE_BYTES) {
         Ok(bytes) if bytes.len() <= FILE_BYTES => Ok(bytes),
-        Ok(_) => Err(named(rt.alloc(), path, Fault::LargeFile)),
+        Ok(_) => Err(named(rt.alloc(), path, TransferFault::LargeFile)),
         Err(error) => Err(not_read(rt.alloc(), path, &error)),
     }
 }
@@ -136,10 +153,10 @@ pub fn bytes_of<R: AllocGlobal + Files>(rt: &R, path: &str, limit: usize) -> io:
     Ok(bytes)
 }
 
-/// The fault of a file that is not read.
-pub fn not_read(alloc: Global, path: &str, error: &io::Error) -> Fault {
+// The fault of a file that is not read.
+fn not_read(alloc: Global, path: &str, error: &io::Error) -> TransferFault {
     if error.kind() == io::ErrorKind::OutOfMemory {
-        return Fault::Memory;
+        return TransferFault::NoMemory;
     }
-    named(alloc, path, Fault::CannotRead)
+    named(alloc, path, TransferFault::CannotRead)
 }

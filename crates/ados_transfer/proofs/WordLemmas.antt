@@ -8,7 +8,7 @@ use Rattle.ados_text.specs.Text.{to_ascii, IsText, Bytes, Text}
 use Rattle.ados_items.specs.declared.items.Item.{Item}
 use Rattle.ados_items.specs.declared.items.Item.TheVariants.{Word, Quoted, Equal, End, Unmatched}
 use Rattle.ados_items.specs.Items.{is_blank, is_word_byte, closing_from, quoted_of, item_by_first, item_at, escape_of, unescaped, bytes_between, value_of}
-use Rattle.amishell_execute.specs.Words.{equal_signs, escaped, has_plain_ends, inside, is_bare, is_plain, is_starred, quoted, word_of, IsApart, ReadsAs, end_of}
+use Rattle.ados_transfer.specs.Words.{equal_signs, escaped, has_plain_ends, inside, is_bare, is_plain, is_starred, quoted, word_of, IsApart, ReadsAs, end_of}
 
 -- the quote that closes is the one after the text
 closing-inside : (t : Bytes) (place : ℕ) (after : Bytes) → closing_from place false (inside t ++ 34 ∷ after) ≡ Some (place + length (inside t))

@@ -1,11 +1,11 @@
 //! What is written out at the end: files and directories of the Shell, as files and folders of this machine.
 
-use crate::faults::{Fault, named};
+use crate::faults::{TransferFault, named};
 use crate::paths::{ascii, last_piece, step_into};
+use ados_assign::Assigns;
 use ados_names::Path;
 use ados_ram::{Entry, Place, Ram};
 use ados_text::Name;
-use ados_world::World;
 use std::alloc::Global;
 use std::fs;
 use std::fs::{File, Metadata, OpenOptions};
@@ -19,39 +19,45 @@ const TRIES: u32 = 100;
 /// Writes what words of `--take` name, as `NAME` or `NAME=PATH`.
 ///
 /// A file is written whole or not at all. Nothing is written outside the folder that is given.
-pub fn take<R: AllocGlobal + Files>(rt: &R, world: &World, words: &str) -> Result<(), Fault> {
-    let (name, path) = parted(rt.alloc(), world, words)?;
-    let Some(place) = place_of(rt.alloc(), world, name)? else {
+pub fn take<R: AllocGlobal + Files>(
+    rt: &R,
+    files: &Ram,
+    assigns: &Assigns,
+    words: &str,
+) -> Result<(), TransferFault> {
+    let (name, path) = parted(rt.alloc(), files, assigns, words)?;
+    let Some(place) = place_of(rt.alloc(), files, assigns, name)? else {
         return Err(not_taken(rt.alloc(), words));
     };
-    let Some(entry) = world.files().look(&place) else {
+    let Some(entry) = files.look(&place) else {
         return Err(not_taken(rt.alloc(), words));
     };
     let own = own_name(rt.alloc(), entry)?;
     let taken = if entry.is_directory() {
-        take_directory(rt, world.files(), &place, path.unwrap_or(own.as_str()))
+        take_directory(rt, files, &place, path.unwrap_or(own.as_str()))
     } else {
         take_file(rt, entry, path, own.as_str())
     };
     match taken {
         Ok(()) => Ok(()),
-        Err(error) if error.kind() == ErrorKind::OutOfMemory => Err(Fault::Memory),
+        Err(error) if error.kind() == ErrorKind::OutOfMemory => Err(TransferFault::NoMemory),
         Err(_) => Err(not_taken(rt.alloc(), words)),
     }
 }
 
-fn not_taken(alloc: Global, words: &str) -> Fault {
-    named(alloc, words, Fault::CannotTake)
+fn not_taken(alloc: Global, words: &str) -> TransferFault {
+    named(alloc, words, TransferFault::CannotTake)
 }
 
 // The name and the path of `NAME=PATH`. A name that is there is a name as a whole.
 fn parted<'a>(
     alloc: Global,
-    world: &World,
+    files: &Ram,
+    assigns: &Assigns,
     words: &'a str,
-) -> Result<(&'a str, Option<&'a str>), Fault> {
-    if let Some(place) = place_of(alloc, world, words)? {
-        if world.files().look(&place).is_some() {
+) -> Result<(&'a str, Option<&'a str>), TransferFault> {
+    if let Some(place) = place_of(alloc, files, assigns, words)? {
+        if files.look(&place).is_some() {
             return Ok((words, None));
         }
     }
@@ -62,20 +68,25 @@ fn parted<'a>(
 }
 
 // The place to which a name leads from the root.
-fn place_of(alloc: Global, world: &World, name: &str) -> Result<Option<Place>, Fault> {
+fn place_of(
+    alloc: Global,
+    files: &Ram,
+    assigns: &Assigns,
+    name: &str,
+) -> Result<Option<Place>, TransferFault> {
     let text = ascii(alloc, name)?;
     let Ok(path) = Path::parse(alloc, &text) else {
         return Ok(None);
     };
     let root = Place::root(alloc);
-    match world.assigns().resolve(&path, &root, world.files()) {
+    match assigns.resolve(&path, &root, files) {
         Ok(place) => Ok(Some(place)),
         Err(_) => Ok(None),
     }
 }
 
 // The name under which an object is written out: its own, and `.` for the root.
-fn own_name(alloc: Global, entry: &Entry) -> Result<String, Fault> {
+fn own_name(alloc: Global, entry: &Entry) -> Result<String, TransferFault> {
     match std::str::from_utf8(entry.name.text().as_bytes()) {
         Ok(name) if !name.is_empty() => Ok(String::from_str(alloc, name)?),
         _ => Ok(String::from_str(alloc, ".")?),

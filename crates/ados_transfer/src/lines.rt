@@ -1,6 +1,6 @@
 //! The lines that are typed: those that bring the files in, those of `--type`, and the call of the script.
 
-use crate::faults::{Fault, named};
+use crate::faults::{TransferFault, named};
 use crate::paths::ascii;
 use crate::told::{Content, Told};
 use crate::words::push_word;
@@ -22,8 +22,14 @@ pub struct Lines {
     pub events: u64,
 }
 
-/// The lines that bring these in, and hide the command that did it.
-pub fn bringing_lines(alloc: Global, told: &[Told]) -> Result<Lines, Fault> {
+impl Lines {
+    /// The lines that bring these in, and hide the command that did it.
+    pub fn bringing(alloc: Global, told: &[Told]) -> Result<Lines, TransferFault> {
+        bringing_lines(alloc, told)
+    }
+}
+
+fn bringing_lines(alloc: Global, told: &[Told]) -> Result<Lines, TransferFault> {
     let mut lines = Lines {
         all: Vec::new(alloc),
         bringing: 0,
@@ -58,7 +64,7 @@ fn pieces(bytes: &[u8]) -> u64 {
 
 impl Lines {
     // Adds a line that is typed for this.
-    fn add(&mut self, alloc: Global, line: Text, name: &Text) -> Result<(), Fault> {
+    fn add(&mut self, alloc: Global, line: Text, name: &Text) -> Result<(), TransferFault> {
         if line.as_bytes().len() > LINE_BYTES {
             return Err(too_long(alloc, name));
         }
@@ -68,10 +74,10 @@ impl Lines {
     }
 
     /// Adds a line of `--type`.
-    pub fn add_typed(&mut self, alloc: Global, line: &str) -> Result<(), Fault> {
+    pub fn add_typed(&mut self, alloc: Global, line: &str) -> Result<(), TransferFault> {
         let text = ascii(alloc, line)?;
         if text.as_bytes().contains(&b'\n') {
-            return Err(named(alloc, line, Fault::ManyLines));
+            return Err(named(alloc, line, TransferFault::ManyLines));
         }
         self.keep(alloc, text, line)
     }
@@ -83,7 +89,7 @@ impl Lines {
         place: &Place,
         args: &[&str],
         quotes: bool,
-    ) -> Result<(), Fault> {
+    ) -> Result<(), TransferFault> {
         let mut line = command(alloc, b"\"Execute\"", &place.path(alloc)?)?;
         for arg in args {
             push_word(&mut line, &ascii(alloc, arg)?, quotes)?;
@@ -92,9 +98,9 @@ impl Lines {
     }
 
     // Adds a line that is typed after the files were brought in.
-    fn keep(&mut self, alloc: Global, line: Text, name: &str) -> Result<(), Fault> {
+    fn keep(&mut self, alloc: Global, line: Text, name: &str) -> Result<(), TransferFault> {
         if line.as_bytes().len() > LINE_BYTES {
-            return Err(named(alloc, name, Fault::LongLine));
+            return Err(named(alloc, name, TransferFault::LongLine));
         }
         self.all.push(line)?;
         Ok(())
@@ -137,9 +143,9 @@ fn literal(alloc: Global, place: &Place) -> Result<Text, NoMemory> {
 }
 
 // The fault of a line that is too long for an object.
-fn too_long(alloc: Global, name: &Text) -> Fault {
+fn too_long(alloc: Global, name: &Text) -> TransferFault {
     match std::str::from_utf8(name.as_bytes()) {
-        Ok(path) => named(alloc, path, Fault::LongLine),
-        Err(_) => Fault::Memory,
+        Ok(path) => named(alloc, path, TransferFault::LongLine),
+        Err(_) => TransferFault::NoMemory,
     }
 }

@@ -2,7 +2,7 @@
 ghost use Rattle.std.specs.Prelude.{◌≡◌, ◌<◌, ◌++◌, ◌∷◌, [], List, ℕ, Bool, length, map, true, false, IfOk, OnOk, if◌then◌else◌};
 ghost use Rattle.std.specs.List.{list_all};
 ghost use Rattle.ados_text.specs.Text.{IsText};
-ghost use Rattle.amishell_execute.specs.Words.{equal_signs, escaped, has_plain_ends, inside, is_bare, is_first_sign, is_plain, is_starred, quoted, word_of, IsApart, ReadsAs};
+ghost use Rattle.ados_transfer.specs.Words.{equal_signs, escaped, has_plain_ends, inside, is_bare, is_first_sign, is_plain, is_starred, quoted, word_of, IsApart, ReadsAs};
 
 use ados_text::{NoMemory, Text};
 
