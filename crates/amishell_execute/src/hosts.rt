@@ -8,6 +8,7 @@ use ados_transfer::{BRING, ascii, bytes_of, last_piece, step_into};
 use ados_world::{HostEntry, hosts_fault};
 use std::alloc::Global;
 use std::env;
+use std::fs;
 use std::io::ErrorKind;
 use std::rt::{Env, Files};
 
@@ -17,8 +18,11 @@ const HOSTS_BYTES: usize = 65_536;
 // The variable of the environment that names a file of hosts.
 const VARIABLE: &str = "AMISHELL_HOSTS";
 
-// The file of the stand-ins, in the folder of the program's folder.
+// The file of the stand-ins, in a folder above the program's folder.
 const COMMON: &str = "share/amishell/common";
+
+// So many folders above the program's are looked at.
+const FOLDERS_ABOVE: usize = 4;
 
 /// The commands that the options name: the one that brings in, those of the file of hosts, those of `--host`, and those
 /// stand-ins whose names are free.
@@ -131,13 +135,20 @@ fn add_common<R: AllocGlobal + Files>(
     Ok(())
 }
 
-// The file of the stand-ins: `share/amishell/common` in the folder above that of this program.
+// The file of the stand-ins, in the nearest folder above this program that has it.
 fn common_file<R: AllocGlobal + Files>(rt: &R) -> Result<String, Fault> {
     let Ok(program) = env::current_exe(rt) else {
         return Err(cannot_read(rt.alloc(), COMMON));
     };
     let path = program.as_path().as_str();
-    let folder = path.strip_suffix(last_piece(path)).unwrap_or("");
-    let above = step_into(rt.alloc(), folder, "..")?;
-    Ok(step_into(rt.alloc(), above.as_str(), COMMON)?)
+    let mut folder =
+        String::from_str(rt.alloc(), path.strip_suffix(last_piece(path)).unwrap_or(""))?;
+    for _ in 0..FOLDERS_ABOVE {
+        folder = step_into(rt.alloc(), folder.as_str(), "..")?;
+        let file = step_into(rt.alloc(), folder.as_str(), COMMON)?;
+        if fs::metadata(rt, file.as_str()).is_ok() {
+            return Ok(file);
+        }
+    }
+    Err(cannot_read(rt.alloc(), COMMON))
 }
