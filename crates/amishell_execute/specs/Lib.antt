@@ -1,4 +1,2 @@
-pub mod Words
-pub mod Told
 pub mod Prompting
 pub mod Status

@@ -2,8 +2,8 @@
 use Rattle.std.specs.Prelude.{◌≡◌, ℕ, Bool, true, false, List}
 use Rattle.std.specs.List.{list_all}
 use Rattle.ados_machine.specs.World.{WorldState}
-use Rattle.amishell_execute.specs.declared.told.Told.{Told}
-use Rattle.amishell_execute.specs.Told.{is_as_told}
+use Rattle.ados_transfer.specs.declared.told.Told.{Told}
+use Rattle.ados_transfer.specs.Told.{is_as_told}
 
 -- what is to be brought in; how many lines bring it in, and how many lines were given; the files were looked at, and are as they
 -- were told; how many reads failed

@@ -2,6 +2,7 @@
 
 use ados_launch::DriveFault;
 use ados_text::NoMemory;
+use ados_transfer::TransferFault;
 use std::alloc::{AllocError, AllocFailed, Global};
 use thiserror::Error;
 
@@ -11,7 +12,7 @@ pub enum Fault {
     /// The words are no command line of the program.
     #[error("bad command line")]
     BadLine,
-    /// The file or folder of this name cannot be read.
+    /// The file of this name cannot be read.
     #[error("cannot read {0}")]
     CannotRead(String),
     /// The line of this number, from 1, is the first at fault in the file of hosts.
@@ -20,36 +21,12 @@ pub enum Fault {
     /// These are words of `--host` that name no program, or a command that is there already; or there are too many.
     #[error("bad host {0}")]
     BadHostWords(String),
-    /// The words have a byte past ASCII.
-    #[error("not ASCII: {0}")]
-    NotAscii(String),
-    /// The words of `--type` hold a newline.
-    #[error("more than one line: {0}")]
-    ManyLines(String),
-    /// The name is none of the Shell's files.
-    #[error("bad name for the Shell: {0}")]
-    BadName(String),
-    /// Two files or folders would have this one's name, or names that differ in case alone.
-    #[error("name is taken twice: {0}")]
-    Twice(String),
-    /// The file has more bytes than one may have.
-    #[error("more than 65536 bytes: {0}")]
-    LargeFile(String),
-    /// With this file there are more bytes than all may have.
-    #[error("more than 1048576 bytes in all, with {0}")]
-    ManyBytes(String),
-    /// With this one there are more files and folders than there may be.
-    #[error("more than 1024 files and folders, with {0}")]
-    ManyObjects(String),
-    /// The line that is typed for this would have more bytes than one may have.
-    #[error("more than 512 bytes in the line for {0}")]
-    LongLine(String),
+    /// A file is not brought in or not taken, or a line is not typed.
+    #[error("{0}")]
+    Transfer(#[from] TransferFault),
     /// The files do not stand in the Shell's world as they were brought.
     #[error("the files cannot be brought in")]
     NotBrought,
-    /// The object of this name cannot be taken.
-    #[error("cannot take {0}")]
-    CannotTake(String),
     /// There was no memory.
     #[error("out of memory")]
     Memory,
@@ -74,19 +51,23 @@ impl From<AllocError> for Fault {
 }
 
 impl<T: Drop> From<AllocFailed<T>> for Fault {
-    fn from(_refused: AllocFailed<T>) -> Fault {
+    fn from(_e: AllocFailed<T>) -> Fault {
         Fault::Memory
     }
 }
 
-/// A fault that names something.
-pub fn named<F: Fn(String) -> Fault>(
-    alloc: Global,
-    name: &str,
-    fault: F,
-) -> Fault {
-    match String::from_str(alloc, name) {
-        Ok(name) => fault(name),
+/// The fault of a file that cannot be read.
+pub fn cannot_read(alloc: Global, path: &str) -> Fault {
+    match String::from_str(alloc, path) {
+        Ok(path) => Fault::CannotRead(path),
+        Err(_) => Fault::Memory,
+    }
+}
+
+/// The fault of words that name no program of the host.
+pub fn bad_host(alloc: Global, words: &str) -> Fault {
+    match String::from_str(alloc, words) {
+        Ok(words) => Fault::BadHostWords(words),
         Err(_) => Fault::Memory,
     }
 }

@@ -1,15 +1,15 @@
 //! The commands that are programs of the host.
 
-use crate::bringing::{bytes_of, not_read};
-use crate::faults::{Fault, named};
-use crate::lines::BRING;
-use crate::paths::{ascii, last_piece, step_into};
+use crate::faults::{Fault, bad_host, cannot_read};
 use crate::request::Options;
 use ados_session::{FileFault, read_hosts};
 use ados_text::Text;
+use ados_transfer::{BRING, ascii, bytes_of, last_piece, step_into};
 use ados_world::{HostEntry, hosts_fault};
 use std::alloc::Global;
 use std::env;
+use std::fs;
+use std::io::ErrorKind;
 use std::rt::{Env, Files};
 
 // How many bytes a file of hosts may have.
@@ -18,8 +18,11 @@ const HOSTS_BYTES: usize = 65_536;
 // The variable of the environment that names a file of hosts.
 const VARIABLE: &str = "AMISHELL_HOSTS";
 
-// The file of the stand-ins, in the folder of the program's folder.
+// The file of the stand-ins, in a folder above the program's folder.
 const COMMON: &str = "share/amishell/common";
+
+// So many folders above the program's are looked at.
+const FOLDERS_ABOVE: usize = 4;
 
 /// The commands that the options name: the one that brings in, those of the file of hosts, those of `--host`, and those
 /// stand-ins whose names are free.
@@ -37,7 +40,7 @@ pub fn hosts_for<R: AllocGlobal + Files + Env>(
         program: Text::from_bytes(rt.alloc(), BRING)?,
     };
     if !add(&mut hosts, bring)? {
-        return Err(named(rt.alloc(), "amishell-bring", Fault::BadHostWords));
+        return Err(bad_host(rt.alloc(), "amishell-bring"));
     }
     if options.common {
         add_common(rt, &mut hosts)?;
@@ -84,10 +87,13 @@ fn add_lines<R: AllocGlobal + Files>(
 // The commands that a file names.
 fn read_file<R: AllocGlobal + Files>(rt: &R, file: &str) -> Result<Vec<HostEntry>, Fault> {
     let bytes = match bytes_of(rt, file, HOSTS_BYTES) {
-        Ok(bytes) if bytes.len() <= HOSTS_BYTES => bytes,
-        Ok(_) => return Err(named(rt.alloc(), file, Fault::CannotRead)),
-        Err(error) => return Err(not_read(rt.alloc(), file, &error)),
+        Ok(bytes) => bytes,
+        Err(error) if error.kind() == ErrorKind::OutOfMemory => return Err(Fault::Memory),
+        Err(_) => return Err(cannot_read(rt.alloc(), file)),
     };
+    if bytes.len() > HOSTS_BYTES {
+        return Err(cannot_read(rt.alloc(), file));
+    }
     match read_hosts(rt.alloc(), bytes.as_slice()) {
         Ok(hosts) => Ok(hosts),
         Err(FileFault::BadLine(line)) => Err(Fault::BadHost(line)),
@@ -103,7 +109,7 @@ fn add_words(alloc: Global, words: &str, hosts: &mut Vec<HostEntry>) -> Result<(
         program: ascii(alloc, program)?,
     };
     if program.is_empty() || !add(hosts, host)? {
-        return Err(named(alloc, words, Fault::BadHostWords));
+        return Err(bad_host(alloc, words));
     }
     Ok(())
 }
@@ -129,12 +135,20 @@ fn add_common<R: AllocGlobal + Files>(
     Ok(())
 }
 
-// The file of the stand-ins: `share/amishell/common` in the folder above that of this program.
+// The file of the stand-ins, in the nearest folder above this program that has it.
 fn common_file<R: AllocGlobal + Files>(rt: &R) -> Result<String, Fault> {
     let Ok(program) = env::current_exe(rt) else {
-        return Err(named(rt.alloc(), COMMON, Fault::CannotRead));
+        return Err(cannot_read(rt.alloc(), COMMON));
     };
     let path = program.as_path().as_str();
-    let folder = path.strip_suffix(last_piece(path)).unwrap_or("");
-    step_into(rt.alloc(), step_into(rt.alloc(), folder, "..")?.as_str(), COMMON)
+    let mut folder =
+        String::from_str(rt.alloc(), path.strip_suffix(last_piece(path)).unwrap_or(""))?;
+    for _ in 0..FOLDERS_ABOVE {
+        folder = step_into(rt.alloc(), folder.as_str(), "..")?;
+        let file = step_into(rt.alloc(), folder.as_str(), COMMON)?;
+        if fs::metadata(rt, file.as_str()).is_ok() {
+            return Ok(file);
+        }
+    }
+    Err(cannot_read(rt.alloc(), COMMON))
 }

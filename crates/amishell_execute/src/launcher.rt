@@ -1,13 +1,12 @@
 //! The launcher: it hands the files out that are brought in, and starts programs of this machine.
-ghost use Rattle.std.specs.Prelude.{◌≡◌, [], true, false, IfOk};
+ghost use Rattle.std.specs.Prelude.{◌≡◌, ◌≤◌, [], length, true, false, IfOk};
 ghost use Rattle.ados_machine.specs.Children.{answers_start, answers_read, answers_wait};
 
-use crate::lines::BRING;
-use crate::told::{Content, Told};
 use ados_launch::Launcher;
 use ados_launcher::{Log, Programs};
 use ados_machine::{Answer, Job};
 use ados_text::{NoMemory, Octets};
+use ados_transfer::{BRING, Content, Told};
 use std::alloc::Global;
 use std::marker::Model;
 use std::process::Processes;

@@ -4,41 +4,28 @@
 ghost use Rattle.std.specs.Prelude.{◌≡◌, pos};
 ghost use Rattle.amishell_execute.specs.Status.{status_of};
 
-mod bringing;
 mod command;
 mod faults;
 mod hosts;
 mod launcher;
-mod lines;
-mod paths;
-mod plan;
 mod reader;
 mod reading;
 mod request;
-mod script;
-mod taking;
-mod told;
-mod words;
 
 use ados_launch::{Counted, End, drive};
 use ados_ram::Place;
 use ados_text::{Code, Text};
+use ados_transfer::{Lines, Plan, bring, bring_script, take};
 use ados_world::{NewFault, World};
-use bringing::{bring, read_file};
-use faults::{Fault, named};
+use faults::{Fault, bad_host};
 use hosts::hosts_for;
 use launcher::Bringer;
-use lines::{Lines, bringing_lines};
-use paths::{base_name, name_of, place_in};
-use plan::{Plan, file_of};
 use reader::Prompter;
 use request::{Options, Refused};
-use script::shell_script;
 use std::io;
 use std::io::{Eprint, Write};
 use std::process::{ExitCode, Processes};
 use std::rt::{Env, Files};
-use taking::take;
 
 // The status after a fault, and after a code that is no status.
 const FAILED: u8 = 20;
@@ -101,40 +88,24 @@ fn execute<R: Env + AllocGlobal + Files + Input + Print + Eprint + Processes + C
     let mut world = match World::new(rt.alloc(), hosts.as_slice()) {
         Ok(world) => world,
         Err(NewFault::NoMemory) => return Err(Fault::Memory),
-        Err(_) => return Err(named(rt.alloc(), "amishell-bring", Fault::BadHostWords)),
+        Err(_) => return Err(bad_host(rt.alloc(), "amishell-bring")),
     };
     let mut plan = Plan::new(rt.alloc(), world.files())?;
     for words in &options.bring {
         bring(rt, world.files(), words, &mut plan)?;
     }
-    let script = add_script(rt, &world, options.script, &mut plan)?;
+    let script = bring_script(rt, world.files(), options.script, &mut plan)?;
     let lines = lines_for(rt, options, &plan, &script)?;
     let ended = play(rt, &mut world, &plan, &lines, options.turns);
     let mut is_taken = true;
     for words in &options.take {
-        if let Err(fault) = take(rt, &world, words) {
-            tell(rt, fault);
+        if let Err(fault) = take(rt, world.files(), world.assigns(), words) {
+            tell(rt, Fault::from(fault));
             is_taken = false;
         }
     }
     let end = ended?;
     Ok(if is_taken { status(end.code) } else { FAILED })
-}
-
-// Adds the script to what is brought in, as a file in S:, and gives its place.
-fn add_script<R: AllocGlobal + Files>(
-    rt: &R,
-    world: &World,
-    path: &str,
-    plan: &mut Plan,
-) -> Result<Place, Fault> {
-    let alloc = rt.alloc();
-    let own = base_name(rt, path)?;
-    let place = place_in(alloc, "S:")?.with(name_of(alloc, own.as_str(), path)?)?;
-    let bytes = read_file(rt, path)?;
-    let script = shell_script(alloc, bytes.as_slice())?;
-    plan.add_file(world.files(), place.copy()?, file_of(script, false), path)?;
-    Ok(place)
 }
 
 // The lines of the run.
@@ -144,7 +115,7 @@ fn lines_for<R: AllocGlobal>(
     plan: &Plan,
     script: &Place,
 ) -> Result<Lines, Fault> {
-    let mut lines = bringing_lines(rt.alloc(), plan.told())?;
+    let mut lines = Lines::bringing(rt.alloc(), plan.told())?;
     for line in &options.typed {
         lines.add_typed(rt.alloc(), line)?;
     }

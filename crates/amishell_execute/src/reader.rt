@@ -5,9 +5,9 @@ ghost use Rattle.std.specs.Io.KnownBytes.{ReadConsumes};
 ghost use Rattle.ados_launch.specs.Faults.{CountsFault};
 ghost use Rattle.amishell_execute.specs.Prompting.{IsBrought};
 
-use crate::told::{Told, are_as_told};
 use ados_launch::Source;
 use ados_text::Text;
+use ados_transfer::{Told, are_as_told};
 use ados_world::World;
 use std::io;
 use std::io::{Error, ErrorKind, Read};
