@@ -1,5 +1,5 @@
 -- Breaks: scripts that end, and the turn in which they do.
-use Rattle.std.proofs.Common.{◌≡◌, ◌<◌, ◌∙◌, ◌++◌, ◌∷◌, [], List, ℕ, zero, suc, Bool, true, false, ◌||◌, Option, Some, None, is_some, length, nat_lt, ap, sym, refl}
+use Rattle.std.proofs.Common.{◌≡◌, ◌<◌, ◌∙◌, ◌++◌, ◌∷◌, [], List, ℕ, zero, suc, Bool, true, false, ◌||◌, length, nat_lt, ap, sym, refl}
 use Rattle.std.proofs.Math.Nat.{lt-suc_self}
 use Rattle.ados_text.specs.Text.{Text}
 use Rattle.ados_text.specs.declared.codes.Code.{Code}
@@ -18,13 +18,12 @@ use Rattle.ados_machine.specs.Requests.{request_of}
 use Rattle.ados_machine.specs.Settle.{Turned, by_rule, said_of}
 use Rattle.ados_machine.specs.Settled.{Said, Settled, after_break, behind, broken_off, finish, with_limit}
 use Rattle.ados_machine.specs.Turning.{Input, Refuses, Takes, broken_turned, in_place_of, input_turning, turning}
-use Rattle.ados_machine.specs.World.{can_take, has_input}
+use Rattle.ados_machine.specs.World.{can_take}
 use Rattle.ados_shell.specs.declared.scenes.Scene.{Scene}
 use Rattle.ados_shell.specs.declared.drafts.Draft.{Draft}
 use Rattle.ados_shell.specs.Breaks.{GivesUp, ReportsBreak}
 use Rattle.ados_shell.specs.Drafts.{IsRuled, course_by, course_of, frames_of, held_of}
 use Rattle.ados_shell.specs.Stacks.{frames_in}
-use Rattle.ados_shell.specs.Turnings.{IsFirst}
 use Rattle.ados_shell.proofs.TurnLemmas.{IsStill, goes-on, said_in, step-ruled, still-course}
 
 -- a mark changes nothing of what is asked for
@@ -36,11 +35,6 @@ marked_request number (Waiting (ForLines gathering)) = refl
 marked_request number (Waiting (ForStart starting)) = refl
 marked_request number (Waiting (ForPiece child)) = refl
 marked_request number (Waiting (ForEnd child)) = refl
-
--- a line waits where there is a first one
-pub first-waits : (line : Option (List ℕ)) (queue : List (List ℕ)) → IsFirst line queue → nat_lt 0 (length queue) ≡ is_some line
-first-waits None queue e = ap (λ q. nat_lt 0 (length q)) e
-first-waits (Some line) queue e = ap (λ q. nat_lt 0 (length q)) e
 
 -- a turn that takes a line of its input, or the end of that, where one is there
 input-taken : (queue : List (List ℕ)) (is_ended : Bool) (input : Input) (frames : List FrameState) (course : Course) (by_line : List ℕ → Deed) (by_end : Deed)

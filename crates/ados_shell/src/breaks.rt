@@ -49,8 +49,7 @@ impl Draft {
         ensures turn { IfOk result (λ turn. GivesBroken scene.now input.now turn self.new) }
         ensures memory { OnErr result (TakesBroken scene.now input.now) }
     {
-        let has_lines = input.line.is_some() || input.is_ended;
-        if scene.shell.can_take(has_lines) {
+        if scene.shell.can_take(input.has_lines()) {
             self.break_off(scene)?;
             Ok(Turning::Goes)
         } else {
