@@ -24,6 +24,7 @@ use Rattle.ados_shell.specs.declared.drafts.Draft.{Draft}
 use Rattle.ados_shell.specs.Breaks.{GivesUp, ReportsBreak}
 use Rattle.ados_shell.specs.Drafts.{IsRuled, course_by, course_of, frames_of, held_of}
 use Rattle.ados_shell.specs.Stacks.{frames_in}
+use Rattle.ados_shell.proofs.StackLemmas.{some-run}
 use Rattle.ados_shell.proofs.TurnLemmas.{IsStill, goes-on, said_in, step-ruled, still-course}
 
 -- a mark changes nothing of what is asked for
@@ -35,6 +36,9 @@ marked_request number (Waiting (ForLines gathering)) = refl
 marked_request number (Waiting (ForStart starting)) = refl
 marked_request number (Waiting (ForPiece child)) = refl
 marked_request number (Waiting (ForEnd child)) = refl
+
+never : true ≡ false → ⊥
+never e = cc
 
 -- a turn that takes a line of its input, or the end of that, where one is there
 input-taken : (queue : List (List ℕ)) (is_ended : Bool) (input : Input) (frames : List FrameState) (course : Course) (by_line : List ℕ → Deed) (by_end : Deed)
@@ -50,7 +54,7 @@ input-refused : (queue : List (List ℕ)) (is_ended : Bool) (input : Input) (fra
     → in_place_of (input_turning queue is_ended frames by_line by_end) input frames course ≡ Refuses NotReady
 input-refused [] true input frames course by_line by_end e = absurd cc
 input-refused [] false input frames course by_line by_end e = refl
-input-refused (line ∷ rest) is_ended input frames course by_line by_end e = absurd cc
+input-refused (line ∷ rest) is_ended input frames course by_line by_end e = absurd (never (ap (λ b. b || is_ended) (sym (some-run (length rest))) ∙ e))
 
 -- the turn of a shell in which a script runs, where it can take one
 pub script-taken : (input : Input) (frames : List FrameState) (course : Course) (phase : Phase) → has_script frames ≡ true → can_take input frames phase ≡ true
@@ -91,7 +95,7 @@ deeper-is (suc scripts) kind limit further frames said e = refl
 ends-is : (scripts : ℕ) (kind : Kind) (limit : Code) (further : Settled) (frames : List FrameState) (said : Said) → nat_lt 0 scripts ≡ false
     → after_break scripts kind limit further frames said ≡ finish (maker kind) broken_codes false frames (with_limit (limit_behind frames limit) said)
 ends-is zero kind limit further frames said e = refl
-ends-is (suc scripts) kind limit further frames said e = absurd cc
+ends-is (suc scripts) kind limit further frames said e = absurd (never (sym (some-run scripts) ∙ e))
 
 -- a frame fewer is left
 pub frames-fewer : (scene : Scene) (before popped reported mid : Draft) (frame : FrameState) (frames : List FrameState)
@@ -111,13 +115,14 @@ pub break-deeper : (scene : Scene) (before popped reported mid after : Draft) (f
     → IsRuled scene before after (broken_off (frames_of scene before) (said_in scene before))
 break-deeper scene before popped reported mid after frame frames there s f r scripts u g =
     let course = course_of scene before in
-    let given : Course = record course { kept = kept_without frame.kind course.kept } in
+    let giving : Course → Course = λ c. record c { kept = kept_without frame.kind c.kept } in
+    let given : Course = giving course in
     let further : Settled = broken_off frames (said_of given) in
     let item = break_of (suc (length frames)) frame in
     let left : frames_of scene reported ≡ frames = ap (frames_of scene) r.same ∙ f in
     let below : frames_of scene mid ≡ frames = ap (frames_in scene.shell.now) u.frames ∙ left in
     let same : course_of scene reported ≡ course = ap (course_of scene) r.same ∙ still-course scene before popped s in
-    let handed : course_of scene mid ≡ given = u.course ∙ ap (λ c. record c { kept = kept_without frame.kind c.kept }) same in
+    let handed : course_of scene mid ≡ given = u.course ∙ ap giving same in
     let now : by_rule (course_of scene mid) (broken_off (frames_of scene mid) (said_in scene mid)) ≡ by_rule given further =
     ap (λ fs. by_rule (course_of scene mid) (broken_off fs (said_in scene mid))) below
     ∙ ap (λ c. by_rule c (broken_off frames (said_of c))) handed in
