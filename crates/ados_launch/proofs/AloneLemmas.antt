@@ -79,6 +79,7 @@ turn-takes w now k is_full calls out asks answer world = record {
   accepted = answer;
   world_is = world;
   asked = refl;
+  when_full = λ full. tt;
   calls_are = sym (append-nil calls);
 }
 
@@ -93,6 +94,7 @@ answer-takes w now k was_full is_full calls calls_now request reply out asked as
   accepted = answer;
   world_is = world;
   asked = rw asked asks.lists;
+  when_full = asks.when_full;
   calls_are = asks.calls_are;
 }
 
@@ -223,7 +225,7 @@ going-more k w line turns n was_full is_full world next before mid last calls mi
   run = rw t.world_is (run-more (opened w k (line ∷ [])) g.taken world (Given t.event out) g.run t.accepted);
   events_are = are-more k g.taken g.answers t.event out (pending_of world k) g.events_are t.is_next;
   asked = asked-more is_full (opened w k (line ∷ [])) g.taken g.listed world (Given t.event out) t.listed
-      (asked-full was_full is_full (opened w k (line ∷ [])) g.taken g.listed stays g.asked) g.run t.asked;
+      (asked-full was_full is_full (opened w k (line ∷ [])) g.taken g.listed stays g.asked) g.run t.asked t.when_full;
   calls_are = calls-more calls mid_calls calls_now g.listed t.listed g.calls_are t.calls_are;
   count = events-more g.taken t.event out ∙ ap (λ m. m + 1) g.count;
   printed = printed-more before mid last (bytes_in (outs_in g.taken)) out.bytes _ g.printed grown (bytes-more g.taken t.event out);

@@ -21,7 +21,7 @@ use Rattle.ados_launch.specs.declared.alone.SystemEnd.{SystemEnd}
 use Rattle.ados_launch.specs.declared.alone.SystemEnd.TheVariants.{Ended, NoShell, StillRunning}
 use Rattle.ados_launch.specs.declared.alone.SystemFault.{SystemFault}
 use Rattle.ados_launch.specs.Agreement.{Agrees}
-use Rattle.ados_launch.specs.Asked.{AreAsked, IsAsked, ListsOf}
+use Rattle.ados_launch.specs.Asked.{AreAsked, AreNoStarts, IsAsked, ListsOf}
 use Rattle.ados_launch.specs.Taken.{Taken, Given, events_in, outs_in}
 
 -- the next event of a shell: an answer where it waits for one, and else a turn
@@ -38,6 +38,7 @@ pub record TakesNext (k : ℕ) (w : WorldState) (is_full : Bool) (calls : List C
   pub accepted : IsAnswer event (Ok out) (step_of w event)
   pub world_is : now ≡ world_after w (Ok out) (step_of w event)
   pub asked : IsAsked is_full w (Given event out) listed
+  pub when_full : is_full ≡ true → AreNoStarts listed
   pub calls_are : calls_now ≡ calls ++ listed
 
 -- An answer was asked for what a shell waits for and not taken, and this was listed for it; or none was asked.
