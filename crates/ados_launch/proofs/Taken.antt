@@ -34,7 +34,7 @@ standing-more s w (Given event out ∷ taken) last item run =
     standing-more (standing_behind s w (next_of (Given event out))) (world_behind w (Given event out)) taken last item run.1
 standing-more s w (LongLine ∷ taken) last item run = standing-more (standing_behind s w (next_of LongLine)) w taken last item run
 
-starts-more : (later more : List Call) → AreNoStarts later → AreNoStarts more → AreNoStarts (later ++ more)
+pub starts-more : (later more : List Call) → AreNoStarts later → AreNoStarts more → AreNoStarts (later ++ more)
 starts-more [] more none others = others
 starts-more (Starts job reply ∷ later) more none others = none
 starts-more (Reads n reply ∷ later) more none others = starts-more later more none others
@@ -117,6 +117,7 @@ parted-calls calls now later more listed is = rw (is, append_assoc now later mor
 -- the world and the list agree along it, whether the launcher is full or not
 pub along-full : (was_full is_full : Bool) (w : WorldState) (calls : List Call) (taken : List Taken) (listed : List Call) (stays : was_full ≡ true → is_full ≡ true) (asked : AreAsked was_full w taken listed)
     → AgreesAlong was_full w calls taken listed asked → AgreesAlong is_full w calls taken listed (asked-full was_full is_full w taken listed stays asked)
+unfolding asked-full
 along-full was_full is_full w calls [] listed stays asked along = along
 along-full was_full is_full w calls (item ∷ taken) listed stays asked along =
     (along.0, along-full was_full is_full (world_behind w item) (calls ++ asked.0) taken asked.1 stays asked.5 along.1)
@@ -125,6 +126,7 @@ along-full was_full is_full w calls (item ∷ taken) listed stays asked along =
 pub along-more : (is_full : Bool) (w : WorldState) (calls : List Call) (taken : List Taken) (listed : List Call) (last : WorldState) (item : Taken) (more calls_now : List Call) (asked : AreAsked is_full w taken listed)
     (run : Runs w (events_in taken) (outs_in taken) last) (next : IsAsked is_full last item more) (full : is_full ≡ true → AreNoStarts more) → AgreesAlong is_full w calls taken listed asked → calls_now ≡ calls ++ (listed ++ more)
     → Agrees (world_behind last item) calls_now → AgreesAlong is_full w calls (taken ++ item ∷ []) (listed ++ more) (asked-more is_full w taken listed last item more asked run next full)
+unfolding asked-more
 along-more is_full w calls [] listed last item more calls_now asked run next full along is agrees = (along, rw (is, asked, run) at agrees)
 along-more is_full w calls (Given event out ∷ taken) listed last item more calls_now asked run next full along is agrees = (
   along.0,

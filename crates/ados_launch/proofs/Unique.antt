@@ -34,10 +34,10 @@ same-out w event out other a b = ap (Given event) (same-given event out other (s
 head-is : (call other : Call) (calls others : List Call) → call ∷ calls ≡ other ∷ others → call ≡ other
 head-is call other calls others e = cc
 
-reply-of : (request : Request) (reply other : Reply) → call_of request reply ≡ call_of request other → reply ≡ other
-reply-of (Start job) reply other e = cc
-reply-of (Read n) reply other e = cc
-reply-of (Wait n) reply other e = cc
+reply-of : (request : Request) (reply reply' : Reply) → call_of request reply ≡ call_of request reply' → reply ≡ reply'
+reply-of (Start job) reply reply' e = cc
+reply-of (Read n) reply reply' e = cc
+reply-of (Wait n) reply reply' e = cc
 
 -- a start is none of these calls
 no-start : (request : Request) (reply : Reply) (calls all : List Call) → is_start request ≡ true → AreNoStarts all → all ≡ call_of request reply ∷ calls → ⊥
@@ -55,26 +55,26 @@ has-behind k reply out [] later has = has
 has-behind k reply out (call ∷ calls) later has = tt
 
 -- the answer to a request is one, by the list of calls
-same-reply : (request : Request) (reply other : Reply) (full full' : Bool) (now later now' later' more : List Call) → Lists full request reply now → Lists full' request other now' → Behind now later → Behind now' later'
-    → now' ++ later' ≡ (now ++ later) ++ more → (full ≡ true → AreNoStarts more) → reply ≡ other
-same-reply request reply other full full' now later now' later' more (fit, inl is) (fit', inl is') behind behind' e none =
-    let one : call_of request other ∷ later' ≡ call_of request reply ∷ (later ++ more) = ap (λ xs. xs ++ later') (sym is') ∙ (e ∙ ap (λ xs. (xs ++ later) ++ more) is) in
-    sym (reply-of request other reply (head-is (call_of request other) (call_of request reply) later' (later ++ more) one))
-same-reply request reply other full full' now later now' later' more (fit, inl is) (fit', inr unlisted) behind behind' e none =
+same-reply : (request : Request) (reply reply' : Reply) (full full' : Bool) (now later now' later' more : List Call) → Lists full request reply now → Lists full' request reply' now' → Behind now later → Behind now' later'
+    → now' ++ later' ≡ (now ++ later) ++ more → (full ≡ true → AreNoStarts more) → reply ≡ reply'
+same-reply request reply reply' full full' now later now' later' more (fit, inl is) (fit', inl is') behind behind' e none =
+    let one : call_of request reply' ∷ later' ≡ call_of request reply ∷ (later ++ more) = ap (λ xs. xs ++ later') (sym is') ∙ (e ∙ ap (λ xs. (xs ++ later) ++ more) is) in
+    sym (reply-of request reply' reply (head-is (call_of request reply') (call_of request reply) later' (later ++ more) one))
+same-reply request reply reply' full full' now later now' later' more (fit, inl is) (fit', inr unlisted) behind behind' e none =
     let clear : AreNoStarts later' = subst (λ xs. Behind xs later') unlisted.0 behind' in
     let one : later' ≡ call_of request reply ∷ (later ++ more) = ap (λ xs. xs ++ later') (sym unlisted.0) ∙ (e ∙ ap (λ xs. (xs ++ later) ++ more) is) in
     absurd (no-start request reply (later ++ more) later' unlisted.1 clear one)
-same-reply request reply other full full' now later now' later' more (fit, inr unlisted) (fit', inl is') behind behind' e none =
+same-reply request reply reply' full full' now later now' later' more (fit, inr unlisted) (fit', inl is') behind behind' e none =
     let clear : AreNoStarts (later ++ more) = starts-more later more (subst (λ xs. Behind xs later) unlisted.0 behind) (none unlisted.3) in
-    let one : later ++ more ≡ call_of request other ∷ later' = ap (λ xs. (xs ++ later) ++ more) (sym unlisted.0) ∙ (sym e ∙ ap (λ xs. xs ++ later') is') in
-    absurd (no-start request other later' (later ++ more) unlisted.1 clear one)
-same-reply request reply other full full' now later now' later' more (fit, inr unlisted) (fit', inr unlisted') behind behind' e none = unlisted.2 ∙ sym unlisted'.2
+    let one : later ++ more ≡ call_of request reply' ∷ later' = ap (λ xs. (xs ++ later) ++ more) (sym unlisted.0) ∙ (sym e ∙ ap (λ xs. xs ++ later') is') in
+    absurd (no-start request reply' later' (later ++ more) unlisted.1 clear one)
+same-reply request reply reply' full full' now later now' later' more (fit, inr unlisted) (fit', inr unlisted') behind behind' e none = unlisted.2 ∙ sym unlisted'.2
 
-same-answer : (pending : Option Request) (reply other : Reply) (full full' : Bool) (now later now' later' more : List Call) → ListsOf full pending reply now → ListsOf full' pending other now' → Behind now later → Behind now' later'
-    → now' ++ later' ≡ (now ++ later) ++ more → (full ≡ true → AreNoStarts more) → reply ≡ other
-same-answer None reply other full full' now later now' later' more lists lists' behind behind' e none = absurd lists
-same-answer (Some request) reply other full full' now later now' later' more lists lists' behind behind' e none =
-    same-reply request reply other full full' now later now' later' more lists lists' behind behind' e none
+same-answer : (pending : Option Request) (reply reply' : Reply) (full full' : Bool) (now later now' later' more : List Call) → ListsOf full pending reply now → ListsOf full' pending reply' now' → Behind now later → Behind now' later'
+    → now' ++ later' ≡ (now ++ later) ++ more → (full ≡ true → AreNoStarts more) → reply ≡ reply'
+same-answer None reply reply' full full' now later now' later' more lists lists' behind behind' e none = absurd lists
+same-answer (Some request) reply reply' full full' now later now' later' more lists lists' behind behind' e none =
+    same-reply request reply reply' full full' now later now' later' more lists lists' behind behind' e none
 
 -- the next thing by its place
 answer-next : (b c : Bool) (k j : ℕ) → (if b then AtStart k else AtFurther k) ≡ (if c then AtStart j else AtFurther j) → k ≡ j
@@ -111,9 +111,9 @@ record Step (w : WorldState) (bytes : List ℕ) (full : Bool) (item : Taken) (no
 
 same-break : (w : WorldState) (bytes : List ℕ) (full full' : Bool) (item other : Taken) (now later now' later' : List Call) → Step w bytes full item now later → Step w bytes full' other now' later'
     → is_break (next_of item) ≡ true → next_of item ≡ next_of other → item ≡ other
-same-break w bytes full full' (Given (Break k kind) out) (Given (Break j other) out') now later now' later' s t is e =
-    let same : Break k kind ≡ Break j other = cc in
-    rw (← same) (same-out w (Break k kind) out out' s.accepted (rw (← same) at t.accepted))
+same-break w bytes full full' (Given (Break k kind) out) (Given (Break j kind') out') now later now' later' s t is e =
+    let same : Break k kind ≡ Break j kind' = cc in
+    subst (λ event. Given (Break k kind) out ≡ Given event out') same (same-out w (Break k kind) out out' s.accepted (subst (λ event. IsAccepted w (Given event out')) (sym same) t.accepted))
 same-break w bytes full full' (Given (Break k kind) out) (Given (Typed line) out') now later now' later' s t is e = cc
 same-break w bytes full full' (Given (Break k kind) out) (Given EndOfInput out') now later now' later' s t is e = cc
 same-break w bytes full full' (Given (Break k kind) out) (Given (Turn j) out') now later now' later' s t is e = cc
