@@ -1,15 +1,11 @@
 -- What is due is accepted.
-use Rattle.std.proofs.Common.{◌≡◌, ◌∙◌, ℕ, zero, suc, ◌≤◌, ◌∷◌, List, [], Option, Some, None, Err, true, false, not, ◌||◌, refl, ap, is_some, length, slice_get, nat_lt, arith, Bool}
+use Rattle.std.proofs.Common.{◌≡◌, ◌∙◌, ℕ, zero, suc, ◌≤◌, ◌∷◌, List, [], Option, Some, None, true, false, not, ◌||◌, refl, ap, is_some, length, slice_get, nat_lt, arith, Bool}
 use Rattle.std.proofs.lemmas.Bool.{and_parts}
 use Rattle.std.proofs.lemmas.Grind.{common_steps}
 use Rattle.std.specs.List.{list_any}
 use Rattle.ados_machine.specs.World.{WorldState, shell_at, is_ready, wants_input, wants_line, is_over, has_input, input_of, flatten}
 use Rattle.ados_machine.specs.Shells.{ShellState}
-use Rattle.ados_machine.specs.Step.{Response, Accepted, Refused, broken, is_accepted, step_of}
-use Rattle.ados_machine.specs.Runs.{IsAnswer}
-use Rattle.ados_machine.specs.declared.refusals.Refusal.{Refusal}
-use Rattle.ados_machine.specs.declared.refusals.Refusal.TheVariants.{Over, NoSuchShell, NotReady, WrongAnswer, QueueFull, LineTooLong, NoMemory}
-use Rattle.ados_machine.specs.declared.events.Event.{Event}
+use Rattle.ados_machine.specs.Step.{broken, is_accepted, step_of}
 use Rattle.ados_machine.specs.declared.events.Event.TheVariants.{Typed, EndOfInput, Turn, Break}
 use Rattle.ados_machine.specs.declared.events.Kind.{Kind}
 use Rattle.ados_machine.proofs.GivenLemmas.{ready-turned}
@@ -67,14 +63,3 @@ pub break-accepted : (w : WorldState) (k : ℕ) (kind : Kind) → is_some (shell
 break-accepted w k kind e =
     let left : is_over w ≡ false = runs-on w k e in
     rw left (broken-accepted w k kind (shell_at w k) e)
-
--- an event that is accepted is refused for want of memory alone
-pub memory-alone : (event : Event) (why : Refusal) (response : Response) → IsAnswer event (Err why) response → is_accepted response ≡ true → why ≡ NoMemory
-memory-alone event why (Refused other) answer accepted = cc
-memory-alone event NoMemory (Accepted world out items) answer accepted = refl
-memory-alone event Over (Accepted world out items) answer accepted = absurd answer
-memory-alone event NoSuchShell (Accepted world out items) answer accepted = absurd answer
-memory-alone event NotReady (Accepted world out items) answer accepted = absurd answer
-memory-alone event QueueFull (Accepted world out items) answer accepted = absurd answer
-memory-alone event LineTooLong (Accepted world out items) answer accepted = absurd answer
-memory-alone event WrongAnswer (Accepted world out items) answer accepted = absurd answer

@@ -1,5 +1,5 @@
 -- How far a line that runs alone has come.
-use Rattle.std.proofs.Common.{◌≡◌, ℕ, suc, ◌+◌, ◌≤◌, ◌<◌, List, [], ◌∷◌, ◌++◌, Bool, true, Option, Some, None, Ok, is_some, length, arith, refl, ap, sym, ◌∙◌, inl, inr, append_assoc, append-nil}
+use Rattle.std.proofs.Common.{◌≡◌, ◌≢◌, ℕ, suc, ◌+◌, ◌≤◌, ◌<◌, List, [], ◌∷◌, ◌++◌, Bool, true, Option, Some, None, Ok, is_some, length, arith, refl, ap, sym, ◌∙◌, inl, inr, append_assoc, append-nil}
 use Rattle.std.proofs.lemmas.Bool.{cases_eq}
 use Rattle.ados_text.specs.Text.{Bytes, Text}
 use Rattle.ados_find.specs.declared.codes.Codes.{Codes}
@@ -79,6 +79,7 @@ turn-takes w now k is_full calls out asks answer world = record {
   accepted = answer;
   world_is = world;
   asked = refl;
+  when_full = λ full. tt;
   calls_are = sym (append-nil calls);
 }
 
@@ -93,6 +94,7 @@ answer-takes w now k was_full is_full calls calls_now request reply out asked as
   accepted = answer;
   world_is = world;
   asked = rw asked asks.lists;
+  when_full = asks.when_full;
   calls_are = asks.calls_are;
 }
 
@@ -223,7 +225,7 @@ going-more k w line turns n was_full is_full world next before mid last calls mi
   run = rw t.world_is (run-more (opened w k (line ∷ [])) g.taken world (Given t.event out) g.run t.accepted);
   events_are = are-more k g.taken g.answers t.event out (pending_of world k) g.events_are t.is_next;
   asked = asked-more is_full (opened w k (line ∷ [])) g.taken g.listed world (Given t.event out) t.listed
-      (asked-full was_full is_full (opened w k (line ∷ [])) g.taken g.listed stays g.asked) g.run t.asked;
+      (asked-full was_full is_full (opened w k (line ∷ [])) g.taken g.listed stays g.asked) g.run t.asked t.when_full;
   calls_are = calls-more calls mid_calls calls_now g.listed t.listed g.calls_are t.calls_are;
   count = events-more g.taken t.event out ∙ ap (λ m. m + 1) g.count;
   printed = printed-more before mid last (bytes_in (outs_in g.taken)) out.bytes _ g.printed grown (bytes-more g.taken t.event out);
@@ -300,9 +302,9 @@ stands-untaken k w line turns n was_full is_full world before now calls mid_call
 pub stands-unwritten : (k : ℕ) (w : WorldState) (line : Text) (turns n : ℕ) (was_full is_full : Bool) (world next : WorldState) (before mid : Bytes)
     (calls mid_calls calls_now : List Call) (out : Out) (fault : SystemFault) →
     Going k w line turns n was_full world before mid calls mid_calls → opening_fault w line ≡ None → free_number w.shells ≡ Some k → (was_full ≡ true → is_full ≡ true) → is_some (shell_at world k) ≡ true → n < turns →
-    TakesNext k world is_full mid_calls next calls_now out → fault.refusal ≡ NoMemory → fault.events ≡ n + 1 → fault.answer ≡ None → fault.unwritten ≡ out.bytes →
+    TakesNext k world is_full mid_calls next calls_now out → fault.refusal ≡ NoMemory → fault.events ≡ n + 1 → fault.answer ≡ None → fault.unwritten ≡ out.bytes → fault.unwritten ≢ [] →
     StandsAt w line turns is_full fault next before mid calls calls_now k
-stands-unwritten k w line turns n was_full is_full world next before mid calls mid_calls calls_now out fault g good free stays runs within t why count none bytes =
+stands-unwritten k w line turns n was_full is_full world next before mid calls mid_calls calls_now out fault g good free stays runs within t why count none bytes some =
     let more = going-more k w line turns n was_full is_full world next before mid (mid ++ out.bytes) calls mid_calls calls_now out g stays runs t refl in
     record {
       taken = more.taken;
@@ -311,6 +313,6 @@ stands-unwritten k w line turns n was_full is_full world next before mid calls m
       runs = runs-line k w line turns (n + 1) is_full is_full next before (mid ++ out.bytes) calls calls_now calls_now [] good free (λ is. is) (sym (append-nil calls_now)) more;
       count = more.count ∙ sym count;
       refusal_is = why;
-      stops = inr (omega (arith, count, within), (g.taken, t.event, out, refl, bytes), none, refl);
+      stops = inr (omega (arith, count, within), (g.taken, t.event, out, refl, bytes), some, none, refl);
       written = rw bytes more.printed;
     }

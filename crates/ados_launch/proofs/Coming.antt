@@ -1,5 +1,5 @@
 -- What comes next.
-use Rattle.std.proofs.Common.{◌≡◌, ℕ, ◌∷◌, ◌+◌, ◌<◌, ◌≤◌, List, [], Option, Some, None, Bool, true, false, not, is_some, nat_le, drop, refl, sym, ap, ◌∙◌, inl, inr, arith}
+use Rattle.std.proofs.Common.{◌≡◌, ℕ, suc, subst, ◌∷◌, ◌+◌, ◌<◌, ◌≤◌, List, [], Option, Some, None, Bool, true, false, not, is_some, nat_le, drop, refl, sym, ap, ◌∙◌, inl, inr, arith}
 use Rattle.std.specs.Prelude.{option_map}
 use Rattle.std.specs.List.{prefix_len}
 use Rattle.std.proofs.lemmas.Bool.{cases_Bool}
@@ -47,7 +47,9 @@ pub first_runs : (number : ℕ) (w : WorldState) (breaks : List BreakAt) (at : B
 first_runs number w [] at e = cc
 first_runs number w (first ∷ breaks) at e =
     elim (cases_Bool (is_passed number w first)) [
-      | inl over ↦ first_runs number w breaks at (rw over at e)
+      | inl over ↦
+          let one : 1 + prefix_len (is_passed number w) breaks ≡ suc (prefix_len (is_passed number w) breaks) = omega arith in
+          first_runs number w breaks at (subst (λ n. first_before number (drop n (first ∷ breaks)) ≡ Some at) one (rw over at e))
       | inr stays ↦
           let is = first-is number first at breaks (rw stays at e) in
           rw (← is.0) (stays-runs number w first stays is.1)

@@ -6,10 +6,12 @@ pub mod Coming
 pub mod Taken
 pub mod Taking
 pub mod Sessions
+pub mod Unique
 pub mod Inputs
 pub mod Accepts
 pub mod ReaderEnd
 pub mod Over
+pub mod Outcomes
 pub mod Rows
 pub mod Agreeing
 pub mod Waits

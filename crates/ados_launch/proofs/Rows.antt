@@ -1,10 +1,11 @@
 -- One call more: what it does to each row of lives.
-use Rattle.std.proofs.Common.{◌≡◌, ◌≢◌, ℕ, List, [], ◌∷◌, ◌++◌, Bool, true, false, Some, refl, sym, ◌∙◌, inl, inr, arith, fold, ◌==◌}
-use Rattle.std.specs.Prelude.{if◌then◌else◌}
+use Rattle.std.proofs.Common.{◌≡◌, ◌≢◌, ℕ, List, [], ◌∷◌, ◌++◌, Bool, true, false, Some, refl, sym, ◌∙◌, inl, inr, arith, fold, append-nil, ◌==◌}
+use Rattle.std.specs.Prelude.{if◌then◌else◌, MatchBool}
 use Rattle.std.proofs.lemmas.Bool.{cases_Bool}
 use Rattle.std.proofs.lemmas.Grind.{common_steps}
 use Rattle.std.proofs.lemmas.List.Sums.{fold-append}
 use Rattle.ados_machine.specs.declared.answers.Answer.{Answer}
+use Rattle.ados_machine.specs.declared.answers.Answer.TheVariants.{Memory}
 use Rattle.ados_machine.specs.declared.children.ChildState.{ChildState}
 use Rattle.ados_machine.specs.declared.children.ChildState.TheVariants.{Closed, Reading, Waiting, Cut}
 use Rattle.ados_machine.specs.declared.requests.Job.{Job}
@@ -14,7 +15,7 @@ use Rattle.ados_machine.specs.Children.{answers_start, answers_read, answers_wai
 use Rattle.ados_launcher.specs.declared.calls.Call.{Call}
 use Rattle.ados_launcher.specs.declared.calls.Call.TheVariants.{Start as Starts, Read as Reads, Wait as Waits}
 use Rattle.ados_launcher.specs.Lives.{Life, Between, InReads, BehindReads, Broken, life_of, life_in, life_behind, life_started, life_read, life_waited, state_of, state_behind, is_open}
-use Rattle.ados_launch.specs.Asked.{MayAsk, call_of}
+use Rattle.ados_launch.specs.Asked.{Asks, MayAsk, call_of}
 
 pub life-more : (k : ℕ) (calls : List Call) (call : Call) → life_of k (calls ++ call ∷ []) ≡ life_behind k (life_of k calls) call
 life-more k calls call = fold-append (λ life c. life_behind k life c) Between calls (call ∷ [])
@@ -145,3 +146,31 @@ open-not-closed Broken state h o e = cc
 -- an open child may be waited for
 pub open-state : (k : ℕ) (calls : List Call) → is_open (life_of k calls) ≡ true → state_of k calls ≢ Closed
 open-state k calls o e = open-not-closed (life_of k calls) (state_of k calls) (all-state k Between Closed calls refl) o e
+
+-- what a launcher lists of a start, a read and a wait
+pub asks-start : (job : Job) (reply : Answer) (was_full is_full : Bool) (calls calls_now : List Call) → answers_start reply ≡ true
+    → MatchBool is_full ((calls_now ≡ calls) × (reply ≡ Memory)) (calls_now ≡ calls ++ Starts job reply ∷ []) → (was_full ≡ true → is_full ≡ true) → Asks (Start job) reply was_full is_full calls calls_now
+asks-start job reply was_full true calls calls_now fit listed stays = record {
+  listed = [];
+  calls_are = listed.0 ∙ sym (append-nil calls);
+  lists = (fit, inr (refl, refl, listed.1, refl));
+  when_full = λ full. tt;
+  stays = stays;
+}
+asks-start job reply was_full false calls calls_now fit listed stays = record {
+  listed = Starts job reply ∷ [];
+  calls_are = listed;
+  lists = (fit, inl refl);
+  when_full = λ full. cc;
+  stays = stays;
+}
+
+pub asks-read : (n : ℕ) (reply : Answer) (was_full is_full : Bool) (calls calls_now : List Call) → answers_read reply ≡ true → calls_now ≡ calls ++ Reads n reply ∷ [] → is_full ≡ was_full
+    → Asks (Read n) reply was_full is_full calls calls_now
+asks-read n reply was_full is_full calls calls_now fit listed same =
+    record { listed = Reads n reply ∷ []; calls_are = listed; lists = (fit, inl refl); when_full = λ full. tt; stays = λ full. same ∙ full }
+
+pub asks-wait : (n : ℕ) (reply : Answer) (was_full is_full : Bool) (calls calls_now : List Call) → answers_wait reply ≡ true → calls_now ≡ calls ++ Waits n reply ∷ [] → is_full ≡ was_full
+    → Asks (Wait n) reply was_full is_full calls calls_now
+asks-wait n reply was_full is_full calls calls_now fit listed same =
+    record { listed = Waits n reply ∷ []; calls_are = listed; lists = (fit, inl refl); when_full = λ full. tt; stays = λ full. same ∙ full }

@@ -54,8 +54,8 @@ session-more before mid now breaks n standing rest later next out d here stays t
   run = rw t.takes.world_is (run-more before.world d.taken mid.world t.item d.session.run t.takes.accepted);
   ordered = order-more (first_standing breaks) before.world d.taken mid.world t.item d.session.ordered d.session.run (rw (← d.standing_is, t.next_is) here);
   lines = λ bytes e. lines-more bytes d.taken t.item (d.session.lines bytes e) (t.takes.lines (left_after bytes d.taken) (d.left_is bytes e)).0;
-  asked = asked-more now.is_full before.world d.taken d.listed mid.world t.item t.listed (asked-full mid.is_full now.is_full before.world d.taken d.listed stays d.session.asked) d.session.run t.asked;
-  agreed = along-more now.is_full before.world before.calls d.taken d.listed mid.world t.item t.listed now.calls (asked-full mid.is_full now.is_full before.world d.taken d.listed stays d.session.asked) d.session.run t.asked
+  asked = asked-more now.is_full before.world d.taken d.listed mid.world t.item t.listed (asked-full mid.is_full now.is_full before.world d.taken d.listed stays d.session.asked) d.session.run t.asked t.when_full;
+  agreed = along-more now.is_full before.world before.calls d.taken d.listed mid.world t.item t.listed now.calls (asked-full mid.is_full now.is_full before.world d.taken d.listed stays d.session.asked) d.session.run t.asked t.when_full
       (along-full mid.is_full now.is_full before.world before.calls d.taken d.listed stays d.session.asked d.session.agreed)
       (calls-more before.calls mid.calls now.calls d.listed t.listed d.calls_are t.calls_are)
       (subst (λ world. Agrees world now.calls) t.takes.world_is agrees);

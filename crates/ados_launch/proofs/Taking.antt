@@ -60,6 +60,7 @@ took-at-lines w now left rest is_full calls place bytes (Ok done) at t = record 
   takes = t.2;
   calls_are = sym (append-nil calls);
   asked = read-asks is_full w t.0 t.1;
+  when_full = λ full. tt;
 }
 took-at-lines w now left rest is_full calls place bytes (Err fault) at t = tt
 
@@ -77,6 +78,7 @@ took-at-turn w now left is_full calls place out (Ok done) low high answer world 
   takes = record { accepted = answer; world_is = world; lines = λ bytes e. (tt, e); bytes_are = refl };
   calls_are = sym (append-nil calls);
   asked = refl;
+  when_full = λ full. tt;
 }
 took-at-turn w now left is_full calls place out (Err fault) low high answer world = tt
 
@@ -91,6 +93,7 @@ took-at-break w now left is_full calls k kind out (Ok done) answer world = recor
   takes = record { accepted = answer; world_is = world; lines = λ bytes e. (tt, e); bytes_are = refl };
   calls_are = sym (append-nil calls);
   asked = refl;
+  when_full = λ full. tt;
 }
 took-at-break w now left is_full calls k kind out (Err fault) answer world = tt
 
@@ -160,6 +163,7 @@ took-at-answer w now left was_full is_full calls calls_now place out (Ok done) l
   takes = record { accepted = a.led_to.0; world_is = a.led_to.1; lines = λ bytes e. (tt, e); bytes_are = refl };
   calls_are = a.asks.calls_are;
   asked = rw a.pending_is a.asks.lists;
+  when_full = a.asks.when_full;
 }
 took-at-answer w now left was_full is_full calls calls_now place out (Err fault) late due a = tt
 

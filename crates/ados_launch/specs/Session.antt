@@ -13,7 +13,7 @@ use Rattle.ados_launch.specs.declared.lines.LineKind.TheVariants.{Overlong}
 use Rattle.ados_launch.specs.Agreement.{Agrees}
 use Rattle.ados_launch.specs.Lines.{Known, ahead, behind_overlong, kind_of}
 use Rattle.ados_launch.specs.Taken.{Taken, events_in, outs_in, bytes_of, written_for, world_behind, IsAccepted, IsNext, IsOfReader, left_behind, AreRead}
-use Rattle.ados_launch.specs.Asked.{IsAsked, AreAsked, call_of}
+use Rattle.ados_launch.specs.Asked.{IsAsked, AreAsked, AreNoStarts, call_of}
 use Rattle.ados_launch.specs.Schedule.{InOrder, Next, first_standing, next_of, next_of_event}
 
 -- What stands at a moment of a drive: the world; what the reader has left, and how many of its reads have failed; what the
@@ -33,7 +33,7 @@ pub record Moment : Type 0 where
 abbrev pub AgreesAlong : (is_full : Bool) (w : WorldState) (calls : List Call) (taken : List Taken) (listed : List Call) → AreAsked is_full w taken listed → Type 0
 AgreesAlong is_full w calls [] listed asked = Agrees w calls
 AgreesAlong is_full w calls (item ∷ taken) listed asked =
-    Agrees w calls × AgreesAlong is_full (world_behind w item) (calls ++ asked.0) taken asked.1 asked.4
+    Agrees w calls × AgreesAlong is_full (world_behind w item) (calls ++ asked.0) taken asked.1 asked.5
 
 -- From a world, with a reader that had this left, these breaks, and a launcher that had these calls, is full in the end or not
 -- and then listed those, this was taken, and the last world stands behind it.
@@ -115,3 +115,4 @@ pub record TakesAt (w : WorldState) (left : Option (List ℕ)) (is_full : Bool) 
   pub takes : Takes w left item now rest bytes
   pub calls_are : calls_now ≡ calls ++ listed
   pub asked : IsAsked is_full w item listed
+  pub when_full : is_full ≡ true → AreNoStarts listed

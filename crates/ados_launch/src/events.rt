@@ -209,8 +209,8 @@ pub fn give(world: &mut World, event: &Event, draft: &mut Draft) -> Result<(), D
 {
     match world.step_into(event, draft) {
         Ok(()) => Ok(()),
-        Err(Refusal::NoMemory) => Err(DriveFault::Memory),
-        Err(_) => unreachable!(),
+        // An event that is accepted is refused for want of memory alone.
+        Err(_) => Err(DriveFault::Memory),
     }
 }
 

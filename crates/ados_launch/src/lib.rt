@@ -25,4 +25,4 @@ pub use counted::{Counted, Sink, Source};
 pub use ados_machine::BreakAt;
 pub use driver::{Drive, End};
 pub use faults::DriveFault;
-pub use laws::sessions_obey_the_laws;
+pub use laws::{new_pairs_agree, sessions_are_unique, sessions_obey_the_laws};
