@@ -60,7 +60,6 @@ fn command<'a>(alloc: Global) -> Result<Command<'a>, AllocError> {
         .num_args(1..)
         .required(true)
         .trailing_var_arg(true)
-        .allow_hyphen_values(true)
         .action(ArgAction::Append);
     Command::new(alloc, "amishell-execute")
         .about(ABOUT)

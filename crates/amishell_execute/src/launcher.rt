@@ -55,27 +55,13 @@ impl<'a, R: Processes> Bringer<'a, R> {
         ensures same { self.new ≡ self.old }
     {
         if job.program.as_bytes() == BRING {
-            if let Some(bytes) = self.next_file() {
+            if let Some((bytes, left)) = next_file(self.left) {
+                self.left = left;
                 self.open = Some((job.shell, bytes));
                 return Answer::Started;
             }
         }
         self.programs.start(job)
-    }
-
-    // The bytes of the next file to be brought in.
-    fn next_file(&mut self) -> Option<&'a [u8]>
-        ensures { self.new ≡ self.old }
-    {
-        let told = self.left;
-        for (place, one) in told.iter().enumerate() {
-            if let Content::File { bytes, .. } = &one.content {
-                self.left = &told[place + 1..];
-                return Some(bytes.as_bytes());
-            }
-        }
-        self.left = &[];
-        None
     }
 
     // A piece of the output of the program of a number.
@@ -106,6 +92,16 @@ impl<'a, R: Processes> Bringer<'a, R> {
             _ => self.programs.wait(child),
         }
     }
+}
+
+// The bytes of the first file, and what comes after it.
+fn next_file(told: &[Told]) -> Option<(&[u8], &[Told])> {
+    for place in 0..told.len() {
+        if let Content::File { bytes, .. } = &told[place].content {
+            return Some((bytes.as_bytes(), &told[place + 1..]));
+        }
+    }
+    None
 }
 
 // The answer with these bytes of an output, or its end where there are none.

@@ -78,6 +78,26 @@ impl<'a, I: Read> Prompter<'a, I> {
         matches!(self.next, Next::Refused)
     }
 
+    /// Chooses by the world that is about to take a line what comes next: a line of standard input where the Shell asks, or
+    /// the next prepared line, or the end.
+    pub fn choose(&mut self, world: &World)
+        // The first line after those that bring in is given only once each file and directory is there as it was told.
+        ensures begins { self.old.is_ready ≡ false → self.new.is_ready ≡ true → IsBrought world.now self.old.told }
+        ensures waits { self.new.is_ready ≡ false → self.new.given ≤ self.new.bringing }
+        ensures told { self.new.told ≡ self.old.told }
+        ensures bringing { self.new.bringing ≡ self.old.bringing }
+        ensures faults { self.new.faults ≡ self.old.faults }
+    {
+        if asks_for_line(world) {
+            self.next = Next::Input;
+            return;
+        }
+        if self.given >= self.bringing {
+            self.look(world);
+        }
+        self.take_line();
+    }
+
     // Looks whether the files are as they were told, unless they were looked at.
     fn look(&mut self, world: &World)
         ensures begins { self.old.is_ready ≡ false → self.new.is_ready ≡ true → IsBrought world.now self.old.told }
@@ -193,23 +213,8 @@ impl<I: Read> Source for Prompter<'_, I> {
 
     ghost faults = { λ p. p.faults };
 
-    fn heed(&mut self, world: &World)
-        ensures left { None ≡ None }
-        ensures faults { self.new.faults ≡ self.old.faults }
-        // The first line after those that bring in is given only once each file and directory is there as it was told.
-        ensures begins { self.old.is_ready ≡ false → self.new.is_ready ≡ true → IsBrought world.now self.old.told }
-        ensures waits { self.new.is_ready ≡ false → self.new.given ≤ self.new.bringing }
-        ensures told { self.new.told ≡ self.old.told }
-        ensures bringing { self.new.bringing ≡ self.old.bringing }
-    {
-        if asks_for_line(world) {
-            self.next = Next::Input;
-            return;
-        }
-        if self.given >= self.bringing {
-            self.look(world);
-        }
-        self.take_line();
+    fn heed(&mut self, world: &World) {
+        self.choose(world);
     }
 
     fn read(&mut self, buffer: &mut [u8]) -> io::Result<usize> {
