@@ -6,11 +6,10 @@ use crate::plan::{FILE_BYTES, Plan, file_of};
 use crate::script::shell_script;
 use ados_ram::{Place, Ram};
 use std::alloc::Global;
-use std::fs;
-use std::io;
 use std::io::Read;
 use std::os::unix::fs::PermissionsExt;
 use std::rt::Files;
+use std::{fs, io};
 
 // A walk looks at no more files and folders than this: the Shell holds 1,024 at most.
 const WALK: usize = 4096;
@@ -121,7 +120,9 @@ fn push_children<R: AllocGlobal + Files + Clone + Drop>(
     names.sort()?;
     for name in names.iter().rev() {
         let below = step_into(alloc, path, name.as_str())?;
-        let place = place.copy()?.with(name_of(alloc, name.as_str(), below.as_str())?)?;
+        let place = place
+            .copy()?
+            .with(name_of(alloc, name.as_str(), below.as_str())?)?;
         left.push((below, place))?;
     }
     Ok(())

@@ -7,11 +7,10 @@ use ados_names::Path;
 use ados_ram::{Entry, Place, Ram};
 use ados_text::Name;
 use std::alloc::Global;
-use std::fs;
 use std::fs::{File, Metadata, OpenOptions};
-use std::io;
 use std::io::{ErrorKind, Write};
 use std::rt::Files;
+use std::{fs, io};
 
 // So many names are tried for the file that is written beside.
 const TRIES: u32 = 100;
@@ -166,9 +165,7 @@ fn take_one<R: AllocGlobal + Files>(
     folder: &str,
 ) -> io::Result<()> {
     match (files.look(place), files.written(place)) {
-        (Some(entry), Ok(place)) => {
-            take_below(rt, folder, place.names_behind(directory), entry)
-        }
+        (Some(entry), Ok(place)) => { take_below(rt, folder, place.names_behind(directory), entry) }
         (None, _) => Ok(()),
         (_, Err(_)) => Err(no_memory()),
     }

@@ -36,7 +36,11 @@ impl<'a, R: Processes> Model for Bringer<'a, R> {
 
 impl<'a, R: Processes> Bringer<'a, R> {
     /// A launcher without a child, with these files to be brought in.
-    pub fn new(alloc: Global, processes: &'a R, told: &'a [Told]) -> Result<Bringer<'a, R>, NoMemory>
+    pub fn new(
+        alloc: Global,
+        processes: &'a R,
+        told: &'a [Told],
+    ) -> Result<Bringer<'a, R>, NoMemory>
         ensures calls { IfOk result (λ bringer. bringer.calls ≡ []) }
         ensures full { IfOk result (λ bringer. bringer.is_full ≡ false) }
     {

@@ -132,10 +132,22 @@ fn play<R: AllocGlobal + Input + Print + Processes>(
     turns: u64,
 ) -> Result<End, Fault> {
     let mut launcher = Bringer::new(rt.alloc(), rt, plan.told())?;
-    let mut reader = Prompter::new(plan.told(), lines.all.as_slice(), lines.bringing, rt.reader());
+    let mut reader = Prompter::new(
+        plan.told(),
+        lines.all.as_slice(),
+        lines.bringing,
+        rt.reader(),
+    );
     let mut writer = Counted::new(io::writer(rt));
     let turns = turns.saturating_add(lines.events);
-    let ended = drive(rt.alloc(), world, &mut launcher, &mut reader, &mut writer, turns);
+    let ended = drive(
+        rt.alloc(),
+        world,
+        &mut launcher,
+        &mut reader,
+        &mut writer,
+        turns,
+    );
     if reader.is_refused() {
         return Err(Fault::NotBrought);
     }
