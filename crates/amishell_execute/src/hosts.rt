@@ -5,7 +5,7 @@ use crate::request::Options;
 use ados_session::{FileFault, read_hosts};
 use ados_text::Text;
 use ados_transfer::{BRING, ascii, bytes_of, last_piece, step_into};
-use ados_world::{HostEntry, hosts_fault};
+use ados_world::{HostEntry, NewFault, hosts_fault};
 use std::alloc::Global;
 use std::io::ErrorKind;
 use std::rt::{Env, Files};
@@ -38,8 +38,11 @@ pub fn hosts_for<R: AllocGlobal + Files + Env>(
         name: Text::from_bytes(rt.alloc(), BRING)?,
         program: Text::from_bytes(rt.alloc(), BRING)?,
     };
-    if !add(&mut hosts, bring)? {
-        return Err(bad_host(rt.alloc(), "amishell-bring"));
+    hosts.push(bring)?;
+    match hosts_fault(hosts.as_slice()) {
+        None => {}
+        Some(NewFault::TooMany) => return Err(Fault::ManyHosts),
+        Some(_) => return Err(Fault::OwnName),
     }
     if options.common {
         add_common(rt, &mut hosts)?;

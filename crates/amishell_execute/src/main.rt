@@ -17,7 +17,7 @@ use ados_ram::Place;
 use ados_text::{Code, Text};
 use ados_transfer::{Lines, Plan, bring, bring_script, take};
 use ados_world::{NewFault, World};
-use faults::{Fault, bad_host};
+use faults::Fault;
 use hosts::hosts_for;
 use launcher::Bringer;
 use reader::Prompter;
@@ -88,7 +88,7 @@ fn execute<R: Env + AllocGlobal + Files + Input + Print + Eprint + Processes + C
     let mut world = match World::new(rt.alloc(), hosts.as_slice()) {
         Ok(world) => world,
         Err(NewFault::NoMemory) => return Err(Fault::Memory),
-        Err(_) => return Err(bad_host(rt.alloc(), "amishell-bring")),
+        Err(_) => return Err(Fault::ManyHosts),
     };
     let mut plan = Plan::new(rt.alloc(), world.files())?;
     for words in &options.bring {
