@@ -30,6 +30,8 @@ pub struct Shell {
     pub(crate) settings: Settings,
     // What its ticks put out so far; that of the newest is the last.
     pub(crate) kept: Vec<Octets>,
+    // Its scripts end at its next turn.
+    pub(crate) flagged: bool,
 }
 
 // Written out, so that for whoever drops a shell it is one step, and not one for each of its parts.
@@ -45,6 +47,7 @@ impl Drop for Shell {
             codes: _codes,
             settings: _settings,
             kept: _kept,
+            flagged: _flagged,
         } = self;
     }
 }
@@ -63,6 +66,7 @@ impl Model for Shell {
       phase = phase_of (option_map (λ p. p.value) s.phase);
       parts = record { number = s.number; directory = s.directory; limit = s.limit; codes = s.codes; settings = s.settings };
       kept = reverse s.kept.items;
+      flagged = s.flagged;
     } };
 
     // What it asked for is what its phase asks for.
@@ -89,6 +93,7 @@ impl Shell {
             codes: Codes::NONE,
             settings: Settings::first(alloc, number)?,
             kept: Vec::new(alloc),
+            flagged: false,
         })
     }
 
@@ -112,6 +117,7 @@ impl Shell {
             codes: Codes::NONE,
             settings,
             kept: Vec::new(alloc),
+            flagged: false,
         })
     }
 
