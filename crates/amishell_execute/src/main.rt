@@ -1,7 +1,8 @@
 //! The program: one command script of this machine, run by the Shell of AmigaDOS Release 2 in one command.
 #![tactic(auto)]
 
-ghost use Rattle.std.specs.Prelude.{◌≡◌, pos};
+ghost use Rattle.std.specs.Prelude.{◌≡◌, [], pos};
+ghost use Rattle.ados_launch.specs.Agreement.{Agrees};
 ghost use Rattle.amishell_execute.specs.Status.{status_of};
 
 mod command;
@@ -12,7 +13,7 @@ mod reader;
 mod reading;
 mod request;
 
-use ados_launch::{Counted, End, drive};
+use ados_launch::{Counted, Drive, End};
 use ados_ram::Place;
 use ados_text::{Code, Text};
 use ados_transfer::{Lines, Plan, bring, bring_script, take};
@@ -80,6 +81,7 @@ fn given_words<R: Env + AllocGlobal>(rt: &R) -> Result<Vec<String>, Fault> {
 }
 
 // Runs the script, takes what is asked for, and gives the exit status.
+#[tactic(auto, using(crate::proofs::NewPair::new_pair))]
 fn execute<R: Env + AllocGlobal + Files + Input + Print + Eprint + Processes + Clone + Drop>(
     rt: &R,
     options: &Options<'_>,
@@ -123,14 +125,17 @@ fn lines_for<R: AllocGlobal>(
     Ok(lines)
 }
 
-// Runs the lines in a world, with standard input for what asks.
+// Runs the lines in a new world, with standard input for what asks.
+#[tactic(auto, using(crate::proofs::NewPair::kept_pair))]
 fn play<R: AllocGlobal + Input + Print + Processes>(
     rt: &R,
     world: &mut World,
     plan: &Plan,
     lines: &Lines,
     turns: u64,
-) -> Result<End, Fault> {
+) -> Result<End, Fault>
+    requires { Agrees world.old [] }
+{
     let mut launcher = Bringer::new(rt.alloc(), rt, plan.told())?;
     let mut reader = Prompter::new(
         plan.told(),
@@ -140,14 +145,12 @@ fn play<R: AllocGlobal + Input + Print + Processes>(
     );
     let mut writer = Counted::new(io::writer(rt));
     let turns = turns.saturating_add(lines.events);
-    let ended = drive(
-        rt.alloc(),
-        world,
-        &mut launcher,
-        &mut reader,
-        &mut writer,
+    let drive = Drive {
+        alloc: rt.alloc(),
         turns,
-    );
+        breaks: &[],
+    };
+    let ended = drive.run(world, &mut launcher, &mut reader, &mut writer);
     if reader.is_refused() {
         return Err(Fault::NotBrought);
     }
