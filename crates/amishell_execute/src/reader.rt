@@ -92,13 +92,11 @@ impl<'a, I: Read> Prompter<'a, I> {
             self.next = Next::Input;
             return;
         }
-        if self.given >= self.bringing {
-            self.look(world);
-        }
+        self.look(world);
         self.take_line();
     }
 
-    // Looks whether the files are as they were told, unless they were looked at.
+    // Looks whether the files are as they were told, once all lines were given that bring them in.
     fn look(&mut self, world: &World)
         ensures begins { self.old.is_ready ≡ false → self.new.is_ready ≡ true → IsBrought world.now self.old.told }
         ensures stays { self.old.is_ready ≡ true → self.new.is_ready ≡ true }
@@ -107,9 +105,10 @@ impl<'a, I: Read> Prompter<'a, I> {
         ensures given { self.new.given ≡ self.old.given }
         ensures faults { self.new.faults ≡ self.old.faults }
     {
-        if !self.is_ready {
-            self.is_ready = are_as_told(world.files(), self.told);
+        if self.is_ready || self.given < self.bringing {
+            return;
         }
+        self.is_ready = are_as_told(world.files(), self.told);
     }
 
     // The next prepared line, or the end. A line after those that bring in needs the files.
