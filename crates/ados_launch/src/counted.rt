@@ -21,8 +21,7 @@ pub trait Source {
     fn heed(&mut self, _world: &World)
         ensures left { left self.new ≡ left self.old }
         ensures faults { faults self.new ≡ faults self.old }
-    {
-    }
+    {}
 
     /// Reads some bytes into the front of the buffer, and gives their number.
     ///

@@ -152,8 +152,8 @@ fn take_next_line<S: Source>(
         ⊎ ((S.faults reader.new ≡ S.faults reader.old) × Known (ahead held.old (S.left reader.old))
         (λ bytes. BeginsOverlong bytes (ahead held.new (S.left reader.new)))) }
     ensures memory_honest { IsErrOf result DriveFault.Memory → S.faults reader.new ≡ S.faults reader.old }
-    ensures never_write { IsErrOf result DriveFault.Write → ⊥ }
-    ensures never_turns { IsErrOf result DriveFault.Turns → ⊥ }
+    ensures not_write { IsErrOf result DriveFault.Write → ⊥ }
+    ensures not_turns { IsErrOf result DriveFault.Turns → ⊥ }
 {
     reader.heed(world);
     take_line(alloc, world, held, reader, line, draft)

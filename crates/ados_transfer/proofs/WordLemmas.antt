@@ -80,7 +80,7 @@ quoted-reads apart before t after text =
     let item = quoted-item apart before t after line parts in
     record {
       value = ap (value_of line) item ∙ quoted-value before t after line parts text;
-      end = ap end_of item ∙ omega (arith, length-append before (32 ∷ quoted t), length-append (inside t) (34 ∷ []))
+      end = ap end_of item ∙ omega (arith, length-append before (32 ∷ quoted t), length-append (inside t) (34 ∷ []));
     }
 
 both-left : (a b : Bool) → (a && b) ≡ true → a ≡ true
@@ -148,7 +148,7 @@ bare-reads before (c ∷ cs) after text bare apart =
     ap (λ k. take k (drop (length before + 1) line)) many ∙ ap (take (length (c ∷ cs))) dropped ∙ take-append_seam (c ∷ cs) after in
     record {
       value = ap (value_of line) item ∙ ap (map to_ascii) between ∙ ascii (c ∷ cs) text;
-      end = ap end_of item ∙ omega (arith, length-append before (32 ∷ (c ∷ cs)))
+      end = ap end_of item ∙ omega (arith, length-append before (32 ∷ (c ∷ cs)));
     }
 
 word-reads : (quotes : Bool) (before t after : Bytes) → IsText t → IsApart after

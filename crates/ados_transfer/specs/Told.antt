@@ -1,6 +1,6 @@
 -- Files and directories that are to stand in the Shell's world when the script begins.
 use Rattle.std.specs.Prelude.{Bool, true, false, ◌&&◌, not, Option, Some, None, List}
-use Rattle.std.specs.Prelude.{beq}
+use Rattle.std.specs.Bool.{beq}
 use Rattle.std.specs.FinMap as map
 use Rattle.std.specs.Str.{bytes_eq}
 use Rattle.ados_text.specs.Text.{Bytes}

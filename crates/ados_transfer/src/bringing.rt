@@ -6,11 +6,10 @@ use crate::plan::{FILE_BYTES, Plan, file_of};
 use crate::script::shell_script;
 use ados_ram::{Place, Ram};
 use std::alloc::Global;
-use std::fs;
-use std::io;
 use std::io::Read;
 use std::os::unix::fs::PermissionsExt;
 use std::rt::Files;
+use std::{fs, io};
 
 // A walk looks at no more files and folders than this: the Shell holds 1,024 at most.
 const WALK: usize = 4096;
@@ -27,7 +26,6 @@ pub fn bring<R: AllocGlobal + Files + Clone + Drop>(
         return Err(named(rt.alloc(), path, TransferFault::CannotRead));
     };
     let place = target(rt, path, name, found.is_dir())?;
-    let path = String::from_str(rt.alloc(), path)?;
     walk(rt, files, path, place, plan)
 }
 
@@ -81,29 +79,40 @@ fn target<R: AllocGlobal + Files>(
 fn walk<R: AllocGlobal + Files + Clone + Drop>(
     rt: &R,
     files: &Ram,
-    path: String,
+    path: &str,
     place: Place,
     plan: &mut Plan,
 ) -> Result<(), TransferFault> {
     let mut left = Vec::new(rt.alloc());
-    left.push((path, place))?;
+    left.push((String::from_str(rt.alloc(), path)?, place))?;
     for _ in 0..WALK {
-        let Some((path, place)) = left.pop() else {
+        let Some((below, place)) = left.pop() else {
             return Ok(());
         };
-        let Ok(found) = fs::metadata(rt, path.as_str()) else {
-            return Err(TransferFault::CannotRead(path));
-        };
-        if found.is_dir() {
-            push_children(rt, path.as_str(), &place, &mut left)?;
-            plan.add_directory(files, place, path.as_str())?;
-        } else {
-            let is_script = found.permissions().mode() & 0o111 != 0;
-            let bytes = read_file(rt, path.as_str())?;
-            plan.add_file(files, place, file_of(bytes, is_script), path.as_str())?;
-        }
+        add_one(rt, files, below, place, plan, &mut left)?;
     }
-    Err(TransferFault::NoMemory)
+    Err(named(rt.alloc(), path, TransferFault::ManyObjects))
+}
+
+// Adds a file, or a folder, of which what is in it is left then.
+fn add_one<R: AllocGlobal + Files + Clone + Drop>(
+    rt: &R,
+    files: &Ram,
+    path: String,
+    place: Place,
+    plan: &mut Plan,
+    left: &mut Vec<(String, Place)>,
+) -> Result<(), TransferFault> {
+    let Ok(found) = fs::metadata(rt, path.as_str()) else {
+        return Err(TransferFault::CannotRead(path));
+    };
+    if found.is_dir() {
+        push_children(rt, path.as_str(), &place, left)?;
+        return plan.add_directory(files, place, path.as_str());
+    }
+    let is_script = found.permissions().mode() & 0o111 != 0;
+    let bytes = read_file(rt, path.as_str())?;
+    plan.add_file(files, place, file_of(bytes, is_script), path.as_str())
 }
 
 // Adds what is in a folder to what is left of a walk, the last by its name first.
@@ -121,7 +130,9 @@ fn push_children<R: AllocGlobal + Files + Clone + Drop>(
     names.sort()?;
     for name in names.iter().rev() {
         let below = step_into(alloc, path, name.as_str())?;
-        let place = place.copy()?.with(name_of(alloc, name.as_str(), below.as_str())?)?;
+        let place = place
+            .copy()?
+            .with(name_of(alloc, name.as_str(), below.as_str())?)?;
         left.push((below, place))?;
     }
     Ok(())

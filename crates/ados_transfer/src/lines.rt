@@ -131,7 +131,9 @@ fn protection(alloc: Global, place: &Place) -> Result<Text, NoMemory> {
 fn literal(alloc: Global, place: &Place) -> Result<Text, NoMemory> {
     let path = place.path(alloc)?;
     let bytes = path.as_bytes();
-    let last = bytes.len().saturating_sub(place.last_name()?.text().as_bytes().len());
+    let last = bytes
+        .len()
+        .saturating_sub(place.last_name()?.text().as_bytes().len());
     let mut text = Text::new(alloc);
     for (at, byte) in bytes.iter().enumerate() {
         if at >= last && b"'[]?%#~|()".contains(byte) {

@@ -51,7 +51,12 @@ impl Plan {
     }
 
     /// Adds a directory, if it is not there; `path` is what a fault names.
-    pub fn add_directory(&mut self, files: &Ram, place: Place, path: &str) -> Result<(), TransferFault> {
+    pub fn add_directory(
+        &mut self,
+        files: &Ram,
+        place: Place,
+        path: &str,
+    ) -> Result<(), TransferFault> {
         for depth in 1..place.names().len() {
             let above = Place::root(self.alloc).joined(&place.names()[..depth])?;
             self.add_one(files, above, path)?;

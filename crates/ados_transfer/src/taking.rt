@@ -7,11 +7,10 @@ use ados_names::Path;
 use ados_ram::{Entry, Place, Ram};
 use ados_text::Name;
 use std::alloc::Global;
-use std::fs;
 use std::fs::{File, Metadata, OpenOptions};
-use std::io;
 use std::io::{ErrorKind, Write};
 use std::rt::Files;
+use std::{fs, io};
 
 // So many names are tried for the file that is written beside.
 const TRIES: u32 = 100;
@@ -100,7 +99,6 @@ fn take_file<R: AllocGlobal + Files>(
     path: Option<&str>,
     own: &str,
 ) -> io::Result<()> {
-    let alloc = rt.alloc();
     let Some(path) = path else {
         checked(own)?;
         return write_whole(rt, ".", own, entry.bytes());
@@ -112,12 +110,12 @@ fn take_file<R: AllocGlobal + Files>(
     }
     let name = last_piece(path);
     checked(name)?;
-    let folder = match path.len().checked_sub(name.len()) {
-        None | Some(0) => String::from_str(alloc, ".")?,
-        Some(length) => String::from_str(alloc, &path[..length])?,
+    let folder = match path.strip_suffix(name) {
+        None | Some("") => ".",
+        Some(folder) => folder,
     };
-    fs::create_dir_all(rt, folder.as_str())?;
-    write_whole(rt, folder.as_str(), name, entry.bytes())
+    fs::create_dir_all(rt, folder)?;
+    write_whole(rt, folder, name, entry.bytes())
 }
 
 fn is_folder<R: Files>(rt: &R, path: &str) -> bool {
@@ -135,7 +133,7 @@ fn checked(name: &str) -> io::Result<()> {
     Ok(())
 }
 
-// Writes what is in a directory into a folder.
+// Writes what is in a directory into a folder. What cannot be written is left out, and the last fault is told.
 fn take_directory<R: AllocGlobal + Files>(
     rt: &R,
     files: &Ram,
@@ -149,14 +147,28 @@ fn take_directory<R: AllocGlobal + Files>(
     let Ok(places) = files.contents(directory) else {
         return Err(no_memory());
     };
+    let mut taken = Ok(());
     for place in &places {
-        if let (Some(entry), Ok(place)) = (files.look(place), files.written(place)) {
-            take_below(rt, folder, place.names_behind(directory), entry)?;
-        } else {
-            return Err(no_memory());
+        if let Err(error) = take_one(rt, files, directory, place, folder) {
+            taken = Err(error);
         }
     }
-    Ok(())
+    taken
+}
+
+// Writes an object that is below a directory into the directory's folder.
+fn take_one<R: AllocGlobal + Files>(
+    rt: &R,
+    files: &Ram,
+    directory: &Place,
+    place: &Place,
+    folder: &str,
+) -> io::Result<()> {
+    match (files.look(place), files.written(place)) {
+        (Some(entry), Ok(place)) => { take_below(rt, folder, place.names_behind(directory), entry) }
+        (None, _) => Ok(()),
+        (_, Err(_)) => Err(no_memory()),
+    }
 }
 
 // Writes an object that is below a directory, by the names that lead down to it.

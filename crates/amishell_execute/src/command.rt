@@ -6,7 +6,10 @@ use std::convert::AsStr;
 
 const VERSION: &str = "1.0";
 
-const ABOUT: &str = "Runs an Amiga command script of this machine by the Shell of the Amiga (AmigaDOS Release 2)";
+const ABOUT: &str =
+    "Runs an Amiga command script of this machine by the Shell of the Amiga (AmigaDOS Release 2)";
+
+const USAGE: &str = "amishell-execute [OPTIONS] [--] SCRIPT [ARGS]..";
 
 const MORE: &str =
     "SCRIPT stands as a file in S: and is called by Execute with ARGS. What it asks for is read from standard
@@ -24,7 +27,7 @@ May be given again";
 
 const COMMON: &str =
     "Adds stand-ins for commands of Release 2 that the Shell leaves out, as Date, Wait and Sort: those of
-the folder share/amishell beside the folder of this program";
+the nearest folder share/amishell above that of this program";
 
 const BRING: &str =
     "Brings a file or a folder of this machine into the files: into RAM: under its own name, or to NAME. A
@@ -60,7 +63,6 @@ fn command<'a>(alloc: Global) -> Result<Command<'a>, AllocError> {
         .num_args(1..)
         .required(true)
         .trailing_var_arg(true)
-        .allow_hyphen_values(true)
         .action(ArgAction::Append);
     Command::new(alloc, "amishell-execute")
         .about(ABOUT)
@@ -68,6 +70,7 @@ fn command<'a>(alloc: Global) -> Result<Command<'a>, AllocError> {
         .after_help(MORE)
         .no_binary_name(true)
         .bin_name("amishell-execute")?
+        .override_usage(USAGE)
         .arg(text_option(alloc, "hosts", "FILE", HOSTS))?
         .arg(list_option(alloc, "host", "NAME=PROGRAM", HOST))?
         .arg(flag(alloc, "common", COMMON))?

@@ -21,6 +21,12 @@ pub enum Fault {
     /// These are words of `--host` that name no program, or a command that is there already; or there are too many.
     #[error("bad host {0}")]
     BadHostWords(String),
+    /// There are more commands that are programs of the host than there may be beside the one that brings files in.
+    #[error("more than 63 hosts")]
+    ManyHosts,
+    /// A command has the name of the one that brings files in.
+    #[error("amishell-bring is a name of the program's own")]
+    OwnName,
     /// A file is not brought in or not taken, or a line is not typed.
     #[error("{0}")]
     Transfer(#[from] TransferFault),

@@ -5,12 +5,11 @@ use crate::request::Options;
 use ados_session::{FileFault, read_hosts};
 use ados_text::Text;
 use ados_transfer::{BRING, ascii, bytes_of, last_piece, step_into};
-use ados_world::{HostEntry, hosts_fault};
+use ados_world::{HostEntry, NewFault, hosts_fault};
 use std::alloc::Global;
-use std::env;
-use std::fs;
 use std::io::ErrorKind;
 use std::rt::{Env, Files};
+use std::{env, fs};
 
 // How many bytes a file of hosts may have.
 const HOSTS_BYTES: usize = 65_536;
@@ -39,8 +38,11 @@ pub fn hosts_for<R: AllocGlobal + Files + Env>(
         name: Text::from_bytes(rt.alloc(), BRING)?,
         program: Text::from_bytes(rt.alloc(), BRING)?,
     };
-    if !add(&mut hosts, bring)? {
-        return Err(bad_host(rt.alloc(), "amishell-bring"));
+    hosts.push(bring)?;
+    match hosts_fault(hosts.as_slice()) {
+        None => {}
+        Some(NewFault::TooMany) => return Err(Fault::ManyHosts),
+        Some(_) => return Err(Fault::OwnName),
     }
     if options.common {
         add_common(rt, &mut hosts)?;
@@ -115,12 +117,12 @@ fn add_words(alloc: Global, words: &str, hosts: &mut Vec<HostEntry>) -> Result<(
 }
 
 // Adds the stand-ins. Their programs are in the folder of their file.
-fn add_common<R: AllocGlobal + Files>(
-    rt: &R,
-    hosts: &mut Vec<HostEntry>,
-) -> Result<(), Fault> {
+fn add_common<R: AllocGlobal + Files>(rt: &R, hosts: &mut Vec<HostEntry>) -> Result<(), Fault> {
     let file = common_file(rt)?;
-    let folder = file.as_str().strip_suffix(last_piece(file.as_str())).unwrap_or("");
+    let folder = file
+        .as_str()
+        .strip_suffix(last_piece(file.as_str()))
+        .unwrap_or("");
     for host in read_file(rt, file.as_str())? {
         let program = match std::str::from_utf8(host.program.as_bytes()) {
             Ok(program) => step_into(rt.alloc(), folder, program)?,
@@ -141,8 +143,10 @@ fn common_file<R: AllocGlobal + Files>(rt: &R) -> Result<String, Fault> {
         return Err(cannot_read(rt.alloc(), COMMON));
     };
     let path = program.as_path().as_str();
-    let mut folder =
-        String::from_str(rt.alloc(), path.strip_suffix(last_piece(path)).unwrap_or(""))?;
+    let mut folder = String::from_str(
+        rt.alloc(),
+        path.strip_suffix(last_piece(path)).unwrap_or(""),
+    )?;
     for _ in 0..FOLDERS_ABOVE {
         folder = step_into(rt.alloc(), folder.as_str(), "..")?;
         let file = step_into(rt.alloc(), folder.as_str(), COMMON)?;

@@ -36,7 +36,11 @@ impl<'a, R: Processes> Model for Bringer<'a, R> {
 
 impl<'a, R: Processes> Bringer<'a, R> {
     /// A launcher without a child, with these files to be brought in.
-    pub fn new(alloc: Global, processes: &'a R, told: &'a [Told]) -> Result<Bringer<'a, R>, NoMemory>
+    pub fn new(
+        alloc: Global,
+        processes: &'a R,
+        told: &'a [Told],
+    ) -> Result<Bringer<'a, R>, NoMemory>
         ensures calls { IfOk result (λ bringer. bringer.calls ≡ []) }
         ensures full { IfOk result (λ bringer. bringer.is_full ≡ false) }
     {
@@ -55,27 +59,13 @@ impl<'a, R: Processes> Bringer<'a, R> {
         ensures same { self.new ≡ self.old }
     {
         if job.program.as_bytes() == BRING {
-            if let Some(bytes) = self.next_file() {
+            if let Some((bytes, left)) = next_file(self.left) {
+                self.left = left;
                 self.open = Some((job.shell, bytes));
                 return Answer::Started;
             }
         }
         self.programs.start(job)
-    }
-
-    // The bytes of the next file to be brought in.
-    fn next_file(&mut self) -> Option<&'a [u8]>
-        ensures { self.new ≡ self.old }
-    {
-        let told = self.left;
-        for (place, one) in told.iter().enumerate() {
-            if let Content::File { bytes, .. } = &one.content {
-                self.left = &told[place + 1..];
-                return Some(bytes.as_bytes());
-            }
-        }
-        self.left = &[];
-        None
     }
 
     // A piece of the output of the program of a number.
@@ -106,6 +96,16 @@ impl<'a, R: Processes> Bringer<'a, R> {
             _ => self.programs.wait(child),
         }
     }
+}
+
+// The bytes of the first file, and what comes after it.
+fn next_file(told: &[Told]) -> Option<(&[u8], &[Told])> {
+    for place in 0..told.len() {
+        if let Content::File { bytes, .. } = &told[place].content {
+            return Some((bytes.as_bytes(), &told[place + 1..]));
+        }
+    }
+    None
 }
 
 // The answer with these bytes of an output, or its end where there are none.

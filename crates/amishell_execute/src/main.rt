@@ -1,7 +1,8 @@
 //! The program: one command script of this machine, run by the Shell of AmigaDOS Release 2 in one command.
 #![tactic(auto)]
 
-ghost use Rattle.std.specs.Prelude.{◌≡◌, pos};
+ghost use Rattle.std.specs.Prelude.{◌≡◌, [], pos};
+ghost use Rattle.ados_launch.specs.Agreement.{Agrees};
 ghost use Rattle.amishell_execute.specs.Status.{status_of};
 
 mod command;
@@ -12,12 +13,12 @@ mod reader;
 mod reading;
 mod request;
 
-use ados_launch::{Counted, End, drive};
+use ados_launch::{Counted, Drive, End};
 use ados_ram::Place;
 use ados_text::{Code, Text};
 use ados_transfer::{Lines, Plan, bring, bring_script, take};
 use ados_world::{NewFault, World};
-use faults::{Fault, bad_host};
+use faults::Fault;
 use hosts::hosts_for;
 use launcher::Bringer;
 use reader::Prompter;
@@ -80,6 +81,7 @@ fn given_words<R: Env + AllocGlobal>(rt: &R) -> Result<Vec<String>, Fault> {
 }
 
 // Runs the script, takes what is asked for, and gives the exit status.
+#[tactic(auto, using(crate::proofs::NewPair::new_pair))]
 fn execute<R: Env + AllocGlobal + Files + Input + Print + Eprint + Processes + Clone + Drop>(
     rt: &R,
     options: &Options<'_>,
@@ -88,7 +90,7 @@ fn execute<R: Env + AllocGlobal + Files + Input + Print + Eprint + Processes + C
     let mut world = match World::new(rt.alloc(), hosts.as_slice()) {
         Ok(world) => world,
         Err(NewFault::NoMemory) => return Err(Fault::Memory),
-        Err(_) => return Err(bad_host(rt.alloc(), "amishell-bring")),
+        Err(_) => return Err(Fault::ManyHosts),
     };
     let mut plan = Plan::new(rt.alloc(), world.files())?;
     for words in &options.bring {
@@ -123,19 +125,32 @@ fn lines_for<R: AllocGlobal>(
     Ok(lines)
 }
 
-// Runs the lines in a world, with standard input for what asks.
+// Runs the lines in a new world, with standard input for what asks.
+#[tactic(auto, using(crate::proofs::NewPair::kept_pair))]
 fn play<R: AllocGlobal + Input + Print + Processes>(
     rt: &R,
     world: &mut World,
     plan: &Plan,
     lines: &Lines,
     turns: u64,
-) -> Result<End, Fault> {
+) -> Result<End, Fault>
+    requires { Agrees world.old [] }
+{
     let mut launcher = Bringer::new(rt.alloc(), rt, plan.told())?;
-    let mut reader = Prompter::new(plan.told(), lines.all.as_slice(), lines.bringing, rt.reader());
+    let mut reader = Prompter::new(
+        plan.told(),
+        lines.all.as_slice(),
+        lines.bringing,
+        rt.reader(),
+    );
     let mut writer = Counted::new(io::writer(rt));
     let turns = turns.saturating_add(lines.events);
-    let ended = drive(rt.alloc(), world, &mut launcher, &mut reader, &mut writer, turns);
+    let drive = Drive {
+        alloc: rt.alloc(),
+        turns,
+        breaks: &[],
+    };
+    let ended = drive.run(world, &mut launcher, &mut reader, &mut writer);
     if reader.is_refused() {
         return Err(Fault::NotBrought);
     }

@@ -78,7 +78,25 @@ impl<'a, I: Read> Prompter<'a, I> {
         matches!(self.next, Next::Refused)
     }
 
-    // Looks whether the files are as they were told, unless they were looked at.
+    /// Chooses by the world that is about to take a line what comes next: a line of standard input where the Shell asks, or
+    /// the next prepared line, or the end.
+    pub fn choose(&mut self, world: &World)
+        // The first line after those that bring in is given only once each file and directory is there as it was told.
+        ensures begins { self.old.is_ready ≡ false → self.new.is_ready ≡ true → IsBrought world.now self.old.told }
+        ensures waits { self.new.is_ready ≡ false → self.new.given ≤ self.new.bringing }
+        ensures told { self.new.told ≡ self.old.told }
+        ensures bringing { self.new.bringing ≡ self.old.bringing }
+        ensures faults { self.new.faults ≡ self.old.faults }
+    {
+        if asks_for_line(world) {
+            self.next = Next::Input;
+            return;
+        }
+        self.look(world);
+        self.take_line();
+    }
+
+    // Looks whether the files are as they were told, once all lines were given that bring them in.
     fn look(&mut self, world: &World)
         ensures begins { self.old.is_ready ≡ false → self.new.is_ready ≡ true → IsBrought world.now self.old.told }
         ensures stays { self.old.is_ready ≡ true → self.new.is_ready ≡ true }
@@ -87,9 +105,10 @@ impl<'a, I: Read> Prompter<'a, I> {
         ensures given { self.new.given ≡ self.old.given }
         ensures faults { self.new.faults ≡ self.old.faults }
     {
-        if !self.is_ready {
-            self.is_ready = are_as_told(world.files(), self.told);
+        if self.is_ready || self.given < self.bringing {
+            return;
         }
+        self.is_ready = are_as_told(world.files(), self.told);
     }
 
     // The next prepared line, or the end. A line after those that bring in needs the files.
@@ -193,23 +212,8 @@ impl<I: Read> Source for Prompter<'_, I> {
 
     ghost faults = { λ p. p.faults };
 
-    fn heed(&mut self, world: &World)
-        ensures left { None ≡ None }
-        ensures faults { self.new.faults ≡ self.old.faults }
-        // The first line after those that bring in is given only once each file and directory is there as it was told.
-        ensures begins { self.old.is_ready ≡ false → self.new.is_ready ≡ true → IsBrought world.now self.old.told }
-        ensures waits { self.new.is_ready ≡ false → self.new.given ≤ self.new.bringing }
-        ensures told { self.new.told ≡ self.old.told }
-        ensures bringing { self.new.bringing ≡ self.old.bringing }
-    {
-        if asks_for_line(world) {
-            self.next = Next::Input;
-            return;
-        }
-        if self.given >= self.bringing {
-            self.look(world);
-        }
-        self.take_line();
+    fn heed(&mut self, world: &World) {
+        self.choose(world);
     }
 
     fn read(&mut self, buffer: &mut [u8]) -> io::Result<usize> {
