@@ -1,6 +1,8 @@
 // Breaks of shells.
-ghost use Rattle.std.specs.Prelude.{◌≡◌};
-ghost use Rattle.ados_machine.specs.Breaks.{breaks_by, broken_number};
+ghost use Rattle.std.specs.Prelude.{◌≡◌, ◌<◌};
+ghost use Rattle.std.specs.List.{slice_get, slice_set};
+ghost use Rattle.ados_machine.specs.Breaks.{breaks_by, broken_number, broken_place};
+ghost use Rattle.ados_machine.specs.World.{flatten};
 ghost use Rattle.ados_world.specs.Breaks.{others_broken};
 
 use ados_find::{Breaking, Breaks};
@@ -21,10 +23,20 @@ pub fn breaks_by(kind: Kind) -> Breaks
 pub fn break_number(shells: &mut [Option<Shell>; 20], number: usize, breaks: Breaks)
     ensures { shells.new ≡ broken_number breaks number shells.old }
 {
-    if let 1..=20 = number {
-        if let Some(shell) = &mut shells[number - 1] {
-            shell.break_by(breaks);
-        }
+    match number {
+        1..=20 => break_place(shells, number - 1, breaks),
+        _ => {}
+    }
+}
+
+/// The shell at a place is broken, where one runs.
+fn break_place(shells: &mut [Option<Shell>; 20], place: usize, breaks: Breaks)
+    requires { place < 20 }
+    ensures { shells.new ≡ slice_set shells.old place (broken_place breaks (flatten (slice_get shells.old place))) }
+{
+    match &mut shells[place] {
+        None => {}
+        Some(shell) => shell.break_by(breaks),
     }
 }
 
