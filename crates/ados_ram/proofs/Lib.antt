@@ -12,6 +12,7 @@ pub mod ChangeLemmas
 pub mod WayLemmas
 pub mod TableLemmas
 pub mod WalkLemmas
+pub mod BelowLemmas
 pub mod TotalLemmas
 pub mod InsideLemmas
 pub mod WrittenLemmas

@@ -4,13 +4,14 @@ ghost use Rattle.std.specs.Option.{option_copied};
 ghost use Rattle.std.specs.FinMap as map;
 ghost use Rattle.ados_text.specs.Text.{folded};
 ghost use Rattle.ados_ram.specs.Place.{key_of, place_cmp, is_root};
-ghost use Rattle.ados_ram.specs.Tree.{AreKids, IsReplaced, MayStand, rows_at, rows_from, rows_of, rows_to, rows_way, rows_written, with_flat, IsEntryAt};
+ghost use Rattle.ados_ram.specs.Tree.{AreKids, IsReplaced, MayStand, rows_at, rows_from, rows_of, rows_to, rows_way, rows_written, ways_to, with_flat, IsEntryAt};
+ghost use Rattle.ados_ram.specs.Contents.{contents};
 ghost use Rattle.ados_ram.specs.Rows.{rows_within};
 ghost use Rattle.ados_ram.specs.FileOperations.{any_below};
 
-use crate::entries::Entry;
 use crate::children::Children;
-use crate::places::Place;
+use crate::entries::Entry;
+use crate::places::{Place, folded};
 use crate::rows::Row;
 use ados_text::{Name, NoMemory, Result2};
 use std::alloc::Global;
@@ -172,6 +173,19 @@ impl Branch {
             if all {
                 kid.add_rows(&at, all, rows)?;
             }
+        }
+        Ok(())
+    }
+
+    /// Adds the places of all that is below this directory, which is at the place, each directory behind what is in it.
+    pub fn add_contents(&self, place: &Place, places: &mut Vec<Place>) -> Result<(), NoMemory>
+        ensures { OnOk result (places.new.items ≡ places.old.items ++ ways_to place.now (contents [] self.now.1)) }
+    {
+        for kid in &self.node.kids.each()? {
+            let name = folded(self.node.kids.allocator(), kid.name())?;
+            let at = place.copy()?.with(name)?;
+            kid.add_contents(&at, places)?;
+            places.push(at)?;
         }
         Ok(())
     }

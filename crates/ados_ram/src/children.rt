@@ -170,7 +170,10 @@ impl Children {
             push_block(&mut blocks, changed(self.allocator(), &[], name, new)?)?;
             return Ok(Children { blocks });
         };
-        push_block(&mut blocks, changed(self.allocator(), block.kids(), name, new)?)?;
+        push_block(
+            &mut blocks,
+            changed(self.allocator(), block.kids(), name, new)?,
+        )?;
         share_blocks(&mut blocks, after)?;
         Ok(Children { blocks })
     }

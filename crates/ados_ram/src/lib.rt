@@ -4,6 +4,7 @@
 mod branches;
 mod children;
 mod contents;
+mod cursors;
 mod entries;
 mod faults;
 mod file_bytes;
@@ -17,6 +18,7 @@ mod rows;
 mod table;
 mod written;
 
+pub use cursors::Cursor;
 pub use entries::{Bits, Body, Entry};
 pub use faults::FsFault;
 pub use file_bytes::FileBytes;

@@ -1,4 +1,4 @@
-use Rattle.std.proofs.Common.{rules, sym, subst, ◌-◌, ℕ}
+use Rattle.std.proofs.Common.{rules, sym, subst, ℕ}
 use Rattle.std.proofs.lemmas.List.Sorted.{IsPartitionPoint-from_clause}
 use Rattle.ados_text.specs.Text.{folded}
 use Rattle.ados_ram.specs.Blocks.{begins_by, IsBlockOf}

@@ -1,4 +1,4 @@
-use Rattle.std.proofs.Common.{suc, ◌≡◌, ◌+◌, ◌∙◌, ◌++◌, ◌∷◌, [], ℕ, List, length, slice_index_or, sym, ap, subst, refl, true, Bool, arith}
+use Rattle.std.proofs.Common.{suc, ◌≡◌, ◌∙◌, ◌++◌, ◌∷◌, [], ℕ, List, length, slice_index_or, sym, ap, subst, refl, true, Bool, arith}
 use Rattle.std.proofs.lemmas.List.{append-nil, map-append}
 use Rattle.ados_text.specs.Text.{folded}
 use Rattle.ados_ram.specs.declared.entries.Entry.{Entry}

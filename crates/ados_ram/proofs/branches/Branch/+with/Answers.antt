@@ -1,11 +1,11 @@
-use Rattle.std.proofs.Common.{rules, ◌≡◌, ◌∙◌, ◌∷◌, [], sym, ap, subst, refl, Option, Some, None, IsSome, arith, false, slice_index_or}
+use Rattle.std.proofs.Common.{rules, ◌≡◌, ◌∙◌, ◌∷◌, [], sym, ap, subst, refl, Some, IsSome, arith, false}
 use Rattle.std.specs.Option.{option_copied}
 use Rattle.std.specs.FinMap.{find}
 use Rattle.ados_text.specs.Text.{folded}
 use Rattle.ados_text.specs.Name.{name_cmp}
 use Rattle.ados_ram.specs.Place.{Key, key_of, place_cmp, behind, is_root}
 use Rattle.ados_ram.specs.Files.{Rows}
-use Rattle.ados_ram.specs.Tree.{Kid, Kids, IsKid, IsKidGap, IsNamed, kids_with, rows_at, rows_found, replaced_at, above}
+use Rattle.ados_ram.specs.Tree.{Kid, IsNamed, kids_with, rows_at, rows_found, replaced_at, above}
 use Rattle.ados_ram.proofs.FilesLemmas.{clash}
 use Rattle.ados_ram.proofs.ChangeLemmas.{if_ok, kids-are, replaced, leaf, in_order, deeper, stands, is_nil, not_nil}
 use Rattle.ados_ram.proofs.branches.Branch.+with.Goals as goal

@@ -1,4 +1,4 @@
-use Rattle.std.proofs.Common.{rules, ℕ, ◌≡◌, ◌==◌, ◌∙◌, [], not, sym, ap, length, refl}
+use Rattle.std.proofs.Common.{◌≡◌, ◌==◌, ◌∙◌, [], not, sym, ap, length, refl}
 use Rattle.ados_ram.specs.FileOperations.{any_below}
 use Rattle.ados_ram.specs.Tree.{Kid}
 use Rattle.ados_ram.proofs.WalkLemmas.{any-in}

@@ -1,5 +1,4 @@
-use Rattle.std.proofs.Common.{◌≡◌, ◌∙◌, ◌++◌, ◌∷◌, [], List, ap, sym, subst, take, drop, IsTrue}
-use Rattle.std.proofs.lemmas.List.{take-append-drop}
+use Rattle.std.proofs.Common.{◌≡◌, ◌∙◌, ◌++◌, ◌∷◌, List, ap, sym, subst, take, drop, IsTrue}
 use Rattle.std.specs.FinMap as map
 use Rattle.ados_text.specs.Text.{folded}
 use Rattle.ados_text.specs.Name.{name_cmp}
