@@ -17,7 +17,7 @@ use crate::endings::{end, end_done};
 use crate::new_shells::{join, new_shell};
 use crate::shells::change_shell;
 use crate::worlds::World;
-use ados_find::Codes;
+use ados_find::{Codes, Question};
 use ados_machine::{Answer, Event, Out, Refusal};
 use ados_shell::{Answering, Draft, Turning};
 use ados_text::{NoMemory, Text};
@@ -164,10 +164,20 @@ impl World {
         join(&mut self.shells, begun);
         end_done(&mut self.shells, &mut self.ended, number);
         match draft.shared.take() {
-            None => {}
+            None => self.learn(draft.asked.take()),
             Some(new) => self.shared = new,
         }
         Ok(())
+    }
+
+    /// The cache of the shared parts, which the event left as they were, learns what it was asked for.
+    fn learn(&mut self, asked: Option<Box<Question>>)
+        ensures { self.new ≡ self.old }
+    {
+        if let Some(asked) = asked {
+            self.shared
+                .learn(self.alloc, &asked.path, &asked.directory);
+        }
     }
 
     /// The launcher is asked for what the shell of this number waits for behind the event.
