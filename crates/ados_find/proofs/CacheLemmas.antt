@@ -12,10 +12,12 @@ use Rattle.ados_text.specs.declared.codes.Result2.{Result2}
 use Rattle.ados_names.specs.Path.{PathParts, path_of}
 use Rattle.ados_ram.specs.Place.{Place}
 use Rattle.ados_find.specs.declared.cache.Known.{Known}
-use Rattle.ados_find.specs.Cache.{IsKept, text_resolved}
+use Rattle.ados_find.specs.Cache.{AreResolved, IsKept, IsResolved, text_resolved}
 use Rattle.ados_find.specs.Paths.{or_erred, place_by, place_of}
 use Rattle.ados_find.specs.Shared.{SharedState}
+use Rattle.ados_assign.specs.Assigns.{AssignMap}
 use Rattle.ados_assign.specs.Resolve.{by_path, resolved}
+use Rattle.ados_ram.specs.Files.{Files}
 
 pair_there : (old : List Known) (pair : Known) → Contains (pair ∷ old) pair
 pair_there old pair = Contains-append_left (pair ∷ []) old pair (Contains-push [] pair)
@@ -34,11 +36,13 @@ pub kept_none : (old : List Known) (pair : Known) → IsKept old pair []
 unfolding IsKept
 kept_none old pair = All-nil (Contains (pair ∷ old))
 
--- what holds of all that was known, and of the pair, holds of all that is kept
-pub kept_all : (P : Known → Type 0) (old new : List Known) (pair : Known) → All P old → P pair → IsKept old pair new → All P new
+-- each pair is what resolving gives, also once a pair came of which that holds
+pub all_resolved : (assigns : AssignMap) (files : Files) (old new : List Known) (pair : Known) →
+    AreResolved assigns files old → IsResolved assigns files pair → IsKept old pair new → AreResolved assigns files new
 unfolding IsKept
-kept_all P old new pair all is kept =
-    All-weaker (Contains (pair ∷ old)) P (λ x there. All-contains P (pair ∷ old) x (All-cons P pair old is all) there) new kept
+all_resolved assigns files old new pair all is kept =
+    All-weaker (Contains (pair ∷ old)) (IsResolved assigns files)
+    (λ x there. All-contains (IsResolved assigns files) (pair ∷ old) x (All-cons (IsResolved assigns files) pair old is all) there) new kept
 
 place_resolved : (s : SharedState) (directory : Place) (path : Result PathParts Result2) →
     place_by s directory path ≡ or_erred (by_path (resolved s.assigns s.files directory) path)

@@ -19,6 +19,20 @@ pub struct Known {
 }
 
 impl Known {
+    /// What is known of a path, written like this one; there is none if there is no memory for it.
+    pub fn of(directory: &Place, path: &Text, place: Place) -> Option<Known>
+        ensures { IfSome result (λ known. known ≡ record { directory = directory.now; path = path.now; place = place }) }
+    {
+        match (directory.copy(), path.copy()) {
+            (Ok(directory), Ok(path)) => Some(Known {
+                directory,
+                path,
+                place,
+            }),
+            _ => None,
+        }
+    }
+
     /// The path is a word behind these bytes, from this directory, all spelled alike.
     pub fn is(&self, directory: &Place, front: &[u8], word: &Text) -> bool
         ensures directory { IsTrue result → self.now.directory ≡ directory.now }

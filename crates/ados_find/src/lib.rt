@@ -24,7 +24,7 @@ mod work;
 pub use ados_resident::{DiskCommand, InternalCommand};
 pub use changes::Change;
 pub use codes::Codes;
-pub use outcomes::{Outcome, Renamed};
+pub use outcomes::{Breaking, Breaks, Outcome, Renamed};
 pub use paths::{bases_of, place_of};
 pub use questions::Question;
 pub use refusals::Refusal;

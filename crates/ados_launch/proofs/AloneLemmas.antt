@@ -5,12 +5,13 @@ use Rattle.ados_text.specs.Text.{Bytes, Text}
 use Rattle.ados_find.specs.declared.codes.Codes.{Codes}
 use Rattle.ados_machine.specs.declared.answers.Answer.{Answer as Reply}
 use Rattle.ados_machine.specs.declared.events.Event.{Event}
-use Rattle.ados_machine.specs.declared.events.Event.TheVariants.{Typed, EndOfInput, Turn, Answer}
+use Rattle.ados_machine.specs.declared.events.Event.TheVariants.{Typed, EndOfInput, Turn, Answer, Break}
+use Rattle.ados_machine.specs.declared.events.Kind.{Kind}
 use Rattle.ados_machine.specs.declared.outs.Out.{Out}
 use Rattle.ados_machine.specs.declared.refusals.Refusal.TheVariants.{NoMemory}
 use Rattle.ados_machine.specs.declared.requests.Request.{Request}
 use Rattle.ados_machine.specs.Alone.{AreOf, alone, bytes_in}
-use Rattle.ados_machine.specs.Children.{child_asked}
+use Rattle.ados_machine.specs.Children.{child_by, child_in}
 use Rattle.ados_machine.specs.Numbers.{free_number}
 use Rattle.ados_machine.specs.Requests.{request_of}
 use Rattle.ados_machine.specs.Runs.{IsAnswer, Runs, world_after}
@@ -35,18 +36,18 @@ use Rattle.ados_launch.proofs.Taken.{run-more, asked-more, asked-full}
 none-at : (shells : List (Option ShellState)) (k : ℕ) → IsFree shells (Some k) → found shells k ≡ None
 none-at shells k free = rw (free.1, free.2) refl
 
--- a shell that was just opened asks for nothing, and before it none stood at its number
-opened-asks : (w : WorldState) (k : ℕ) (commands : List Text) (j : ℕ) → free_number w.shells ≡ Some k → pending_of (opened w k commands) j ≡ pending_of w j
-opened-asks w k commands j free =
+-- a shell that was just opened has no child, and before it none stood at its number
+opened-child : (w : WorldState) (k : ℕ) (commands : List Text) (j : ℕ) → free_number w.shells ≡ Some k → child_in (opened w k commands) j ≡ child_in w j
+opened-child w k commands j free =
     let is : IsFree w.shells (Some k) = rw free at (free-number w.shells) in
     elim (cases_eq j k) [
-      | inl same ↦ rw same (ap pending_by (opened-stands w k commands free) ∙ sym (ap pending_by (none-at w.shells k is)))
-      | inr apart ↦ ap pending_by (found-set_other w.shells k (Some (opened_shell k commands)) j apart (omega (arith, is.1)))
+      | inl same ↦ rw same (ap child_by (opened-stands w k commands free) ∙ sym (ap child_by (none-at w.shells k is)))
+      | inr apart ↦ ap child_by (found-set_other w.shells k (Some (opened_shell k commands)) j apart (omega (arith, is.1)))
     ]
 
 -- so the launcher's list agrees with the world as before
 pub opened-agrees : (w : WorldState) (k : ℕ) (commands : List Text) (calls : List Call) → free_number w.shells ≡ Some k → Agrees w calls → Agrees (opened w k commands) calls
-opened-agrees w k commands calls free agrees j = agrees j ∙ ap (λ p. life_in (child_asked p)) (sym (opened-asks w k commands j free))
+opened-agrees w k commands calls free agrees j = agrees j ∙ ap life_in (sym (opened-child w k commands j free))
 
 -- the answers among an event
 abbrev pub replies_in : Event → List Reply
@@ -54,6 +55,7 @@ replies_in (Answer k reply) = reply ∷ []
 replies_in (Turn k) = []
 replies_in (Typed line) = []
 replies_in EndOfInput = []
+replies_in (Break k kind) = []
 
 accepted-of : (response : Response) → IsTaken response → is_accepted response ≡ true
 accepted-of (Refused why) taken = absurd taken
@@ -143,6 +145,10 @@ end-next : (pending : Option Request) (k : ℕ) → IsNextOf k pending EndOfInpu
 end-next None k is = is
 end-next (Some request) k is = is
 
+break-next : (pending : Option Request) (k j : ℕ) (kind : Kind) → IsNextOf k pending (Break j kind) → ⊥
+break-next None k j kind is = is
+break-next (Some request) k j kind is = is
+
 turn-next : (pending : Option Request) (k j : ℕ) → IsNextOf k pending (Turn j) → (pending ≡ None) × (j ≡ k)
 turn-next None k j is = (refl, is)
 turn-next (Some request) k j is = absurd is
@@ -165,6 +171,7 @@ steps-by k n w (Answer j reply) out printed shell runs is accepted rest =
     (sym (pending-hosted shell.parts.number shell.phase) ∙ next.0) (rw next.1 at accepted))
 steps-by k n w (Typed line) out printed shell runs is accepted rest = absurd (typed-next (request_of shell.parts.number shell.phase) k line is)
 steps-by k n w EndOfInput out printed shell runs is accepted rest = absurd (end-next (request_of shell.parts.number shell.phase) k is)
+steps-by k n w (Break j kind) out printed shell runs is accepted rest = absurd (break-next (request_of shell.parts.number shell.phase) k j kind is)
 
 pub steps-on : (k n : ℕ) (w : WorldState) (event : Event) (out : Out) (printed : Bytes) (o : Option ShellState) → shell_at w k ≡ o → is_some o ≡ true →
     IsNextOf k (pending_by o) event → IsAnswer event (Ok out) (step_of w event) → (rest : List Reply) →
@@ -177,6 +184,7 @@ last-are k (Turn j) pending is = ((turn-next pending k j is).1, refl)
 last-are k (Answer j reply) pending is = ((answer-next pending k j reply is).1, refl, refl)
 last-are k (Typed line) pending is = absurd (typed-next pending k line is)
 last-are k EndOfInput pending is = absurd (end-next pending k is)
+last-are k (Break j kind) pending is = absurd (break-next pending k j kind is)
 
 pub are-more : (k : ℕ) (taken : List Taken) (answers : List Reply) (event : Event) (out : Out) (pending : Option Request) → AreOf k (events_in taken) answers [] →
     IsNextOf k pending event → AreOf k (events_in (taken ++ Given event out ∷ [])) (answers ++ replies_in event) []
@@ -187,6 +195,7 @@ are-more k (Given (Answer j reply) given ∷ taken) (first ∷ answers) event ou
     (are.0, are.1, are-more k taken answers event out pending are.2 is)
 are-more k (Given (Typed line) given ∷ taken) answers event out pending are is = absurd are
 are-more k (Given EndOfInput given ∷ taken) answers event out pending are is = absurd are
+are-more k (Given (Break j kind) given ∷ taken) answers event out pending are is = absurd are
 are-more k (LongLine ∷ taken) answers event out pending are is = are-more k taken answers event out pending are is
 
 pub events-more : (taken : List Taken) (event : Event) (out : Out) → length (events_in (taken ++ Given event out ∷ [])) ≡ length (events_in taken) + 1

@@ -6,6 +6,7 @@ pub mod RenameLemmas
 pub mod ContentsLemmas
 pub mod StayLemmas
 pub mod KidLemmas
+pub mod BlockLemmas
 pub mod TreeLemmas
 pub mod ChangeLemmas
 pub mod WayLemmas

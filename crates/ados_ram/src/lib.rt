@@ -2,6 +2,7 @@
 //! The files of the RAM disk: places, entries, and a filing system of which each change is a new version.
 
 mod branches;
+mod children;
 mod contents;
 mod entries;
 mod faults;

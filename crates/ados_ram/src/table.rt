@@ -13,6 +13,7 @@ ghost use Rattle.ados_ram.specs.Written.{written_place};
 ghost use Rattle.ados_ram.specs.Tree.{above, first_kid, first_kids, rows_from, IsEntryAt, IsRenamed, MayMove};
 
 use crate::branches::Branch;
+use crate::children::Children;
 use crate::entries::Entry;
 use crate::places::Place;
 use crate::rows::Row;
@@ -50,7 +51,7 @@ impl Table {
     pub fn first(alloc: Global) -> Result<Table, NoMemory>
         ensures { IfOk result (λ table. table ≡ first_files) }
     {
-        let kids = first_kids(alloc)?;
+        let kids = Children::of(first_kids(alloc)?)?;
         let root = Entry::directory(alloc, name(alloc, b"")?)?;
         Ok(Table {
             root: Branch::new(name(alloc, b"")?, root, kids)?,

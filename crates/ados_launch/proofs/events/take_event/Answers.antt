@@ -12,7 +12,7 @@ give-requires g c = turn-accepted c.args.world.now c.args.place (sym (comes-turn
 
 pub returns-then-place-lt21-clause-took : goal.returns-then-place-lt21-clause-took
 returns-then-place-lt21-clause-took g c =
-    took-at-turn c.args.world.now _ _ (g.L.Launcher.is_full c.args.launcher.now) (g.L.Launcher.calls c.args.launcher.now) c.args.place (out_of c.give.new.draft) c.give.result c.give.ensures.answer c.give.ensures.world
+    took-at-turn c.args.world.now _ _ (g.L.Launcher.is_full c.args.launcher.now) (g.L.Launcher.calls c.args.launcher.now) c.args.place (out_of c.give.new.draft) c.give.result (omega arith) (omega arith) c.give.ensures.answer c.give.ensures.world
 
 pub returns-then-place-lt21-clause-agrees : goal.returns-then-place-lt21-clause-agrees
 returns-then-place-lt21-clause-agrees g c =
