@@ -67,7 +67,7 @@ kept_anew old new pair kept =
 -- bytes cut at a place are its two parts
 pub joined : (bytes front word start end : List ℕ) → IsSplitAt bytes (length front) start end → bytes_eq start front ≡ true → bytes_eq end word ≡ true →
     bytes ≡ front ++ word
-joined bytes front word start end (within, start-is, end-is, lengths) front-is word-is =
+joined bytes front word start end (within, start-is, end-is, front-length, lengths) front-is word-is =
     sym (take-append-drop (length front) bytes)
     ∙ ap (λ xs. xs ++ drop (length front) bytes) (sym start-is ∙ (bytes_eq-Decides start front).0 front-is)
     ∙ ap (λ xs. front ++ xs) (sym end-is ∙ (bytes_eq-Decides end word).0 word-is)

@@ -62,10 +62,12 @@ fn learned(alloc: Global, path: &str) -> Result<Shared, Wrong> {
 
 fn is_known_as_written(alloc: Global) -> Result<bool, Wrong> {
     let shared = learned(alloc, "C:Eval")?;
-    Ok(leads(alloc, &shared, "C:Eval", "C/Eval")?
-        && leads(alloc, &shared, "c:eval", "C/Eval")?
-        && !knows(alloc, &shared, "c:eval")?
-        && !shared.knows(&text(alloc, "C:Eval")?, &at(alloc, "T")?))
+    Ok(
+        leads(alloc, &shared, "C:Eval", "C/Eval")?
+            && leads(alloc, &shared, "c:eval", "C/Eval")?
+            && !knows(alloc, &shared, "c:eval")?
+            && !shared.knows(&text(alloc, "C:Eval")?, &at(alloc, "T")?),
+    )
 }
 
 #[test]
@@ -115,7 +117,10 @@ fn residents_begin_anew(alloc: Global) -> Result<bool, Wrong> {
 
 #[test]
 fn other_residents_begin_anew(rt: HostRuntime) -> Result<(), Wrong> {
-    expect(residents_begin_anew(rt.alloc())?, "X:y behind other residents")
+    expect(
+        residents_begin_anew(rt.alloc())?,
+        "X:y behind other residents",
+    )
 }
 
 // What may not be learned: a path that leads nowhere, and one behind several directories or a text.
