@@ -19,10 +19,11 @@ use crate::endings::{end, end_done};
 use crate::new_shells::{join, new_shell};
 use crate::shells::change_shell;
 use crate::worlds::World;
-use ados_find::Codes;
+use ados_find::{Codes, Question, Shared};
 use ados_machine::{Answer, Event, Kind, Out, Refusal};
 use ados_shell::{Answering, Draft, Turning};
 use ados_text::{NoMemory, Text};
+use std::alloc::Global;
 
 impl World {
     /// Takes one event, or refuses it and stays as it was.
@@ -187,7 +188,7 @@ impl World {
         break_other(&mut self.shells, number, draft.breaking);
         end_done(&mut self.shells, &mut self.ended, number);
         match draft.shared.take() {
-            None => {}
+            None => learn(self.alloc, &mut self.shared, draft.asked.take()),
             Some(new) => self.shared = new,
         }
         Ok(())
@@ -211,5 +212,14 @@ impl World {
         ensures { self.new ≡ ended_world number codes self.old }
     {
         end(&mut self.shells, &mut self.ended, number, codes);
+    }
+}
+
+/// The cache of the shared parts, which the event left as they were, learns what it was asked for.
+fn learn(alloc: Global, shared: &mut Shared, asked: Option<Box<Question>>)
+    ensures { shared.new ≡ shared.old }
+{
+    if let Some(asked) = asked {
+        shared.learn(alloc, &asked.path, &asked.directory);
     }
 }
