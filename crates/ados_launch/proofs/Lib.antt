@@ -16,3 +16,4 @@ pub mod Agreeing
 pub mod Waits
 pub mod Outcomes
 pub mod AloneLemmas
+pub mod NewPair
