@@ -76,9 +76,14 @@ next-running s w next in_round e =
     (d.place, omega (arith, low), due_comes s.round d.place w d.due_is)
 
 -- the schedule stays in its places
-pub passed-in_round : (s : Standing) (next : found.Next) → s.round.place ≤ 61 → IsInRound next → (passed s next).round.place ≤ 61
-passed-in_round s (BreakFound at) in_round is = in_round
-passed-in_round s (DueFound due_at) in_round is = behind_in_round due_at.place is
+pub standing-in_round : (s : Standing) (w : WorldState) (next : found.Next) → s.round.place ≤ 61 → IsInRound next → (standing_behind s w (next_as next)).round.place ≤ 61
+standing-in_round s w (BreakFound at) in_round is = in_round
+standing-in_round s w (DueFound due_at) in_round is = rw (behind_next s w due_at.place) (behind_in_round due_at.place is)
+
+-- and counts what came
+pub passed-taken : (s : Standing) (next : found.Next) → (passed s next).taken ≡ s.taken + 1
+passed-taken s (BreakFound at) = refl
+passed-taken s (DueFound due_at) = refl
 
 none-due : (f : ℕ → Next) (place : Option ℕ) → option_map f place ≡ None → place ≡ None
 none-due f None e = refl

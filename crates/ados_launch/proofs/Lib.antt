@@ -11,8 +11,9 @@ pub mod Inputs
 pub mod Accepts
 pub mod ReaderEnd
 pub mod Over
-pub mod Outcomes
 pub mod Rows
 pub mod Agreeing
 pub mod Waits
+pub mod Outcomes
 pub mod AloneLemmas
+pub mod NewPair

@@ -1,21 +1,25 @@
 -- What a schedule came to, at each way to end.
-use Rattle.std.proofs.Common.{◌≡◌, ℕ, ◌+◌, ◌<◌, ◌≤◌, List, [], ◌∷◌, ◌++◌, Bool, true, length, take, Option, Some, arith, refl, sym, subst, ◌∙◌, ◌⊎◌, append-nil}
+use Rattle.std.proofs.Common.{◌≡◌, ℕ, ◌+◌, ◌<◌, ◌≤◌, List, [], ◌∷◌, ◌++◌, Bool, true, length, take, Option, Some, Result, Ok, Err, arith, refl, sym, subst, ◌∙◌, ◌⊎◌, append-nil}
+use Rattle.std.specs.Prelude.{IsErrAnd}
 use Rattle.std.specs.Io.KnownBytes.{Appends}
 use Rattle.ados_machine.specs.declared.events.BreakAt.{BreakAt}
 use Rattle.ados_machine.specs.World.{WorldState, codes_at}
 use Rattle.ados_launcher.specs.declared.calls.Call.{Call}
 use Rattle.ados_launch.specs.declared.driver.End.{End}
-use Rattle.ados_launch.specs.Agreement.{Agrees}
-use Rattle.ados_launch.specs.Drives.{ComesToEnd, ReadsWell, StopsAtMemory, StopsAtRead, StopsAtTurns, StopsAtWrite, WritesWell}
+use Rattle.ados_launch.specs.declared.faults.DriveFault.{DriveFault}
+use Rattle.ados_launch.specs.declared.faults.DriveFault.TheVariants.{Read, Write, Turns, Memory}
+use Rattle.ados_launch.specs.Agreement.{Agrees, AreOver, WaitsForOpen}
+use Rattle.ados_launch.specs.Drives.{ComesTo, ComesToEnd, Drives, ReadsWell, StopsAtMemory, StopsAtRead, StopsAtTurns, StopsAtWrite, WritesWell}
 use Rattle.ados_launch.specs.Faults.{one_more}
 use Rattle.ados_launch.specs.Lines.{ahead, BeginsOverlong, Known}
 use Rattle.ados_launch.specs.Rounds.{IsIdle, IsRunning}
 use Rattle.ados_launch.specs.Schedule.{Next, AtLine, Standing, next_in}
 use Rattle.ados_launch.specs.Session.{AreDropped, Moment, Stands, TakesAt}
 use Rattle.ados_launch.proofs.Coming.{next-running}
-use Rattle.ados_launch.proofs.Over.{over}
+use Rattle.ados_launch.proofs.Over.{calls-over, over}
 use Rattle.ados_launch.proofs.ReaderEnd.{reader-ended}
-use Rattle.ados_launch.proofs.Sessions.{Driven, driven-cut, next-dropped, next-is, stands, stands-behind, why-read}
+use Rattle.ados_launch.proofs.Sessions.{Driven, driven-cut, next-dropped, next-is, stands, stands-behind, takes-session, why-read}
+use Rattle.ados_launch.proofs.Waits.{none-open}
 
 pub ends : (turns n : ℕ) (breaks : List BreakAt) (before now : Moment) (standing : Standing) (held : List ℕ) (end : End) → Driven before now breaks n standing (ahead held now.left) → n ≤ turns
     → end.events ≡ n → end.code ≡ (codes_at now.world 1).code → end.result2 ≡ (codes_at now.world 1).result2 → length now.world.shells ≡ 20 → IsIdle now.world → ReadsWell before now → WritesWell before now
@@ -81,3 +85,30 @@ stops-write turns n m breaks before mid now standing rest later next out d few h
   cause = cause;
   reads_well = reads;
 }
+
+-- by its fault
+pub comes-by : (turns : ℕ) (breaks : List BreakAt) (before now : Moment) (result : Result End DriveFault) (P : DriveFault → Type 0) → IsErrAnd result P → (P Memory → StopsAtMemory turns breaks before now)
+    → (P Read → StopsAtRead turns breaks before now) → (P Write → StopsAtWrite turns breaks before now) → (P Turns → StopsAtTurns turns breaks before now) → ComesTo turns breaks before now result
+comes-by turns breaks before now (Ok end) P is memory read write out = absurd is
+comes-by turns breaks before now (Err Memory) P is memory read write out = memory is
+comes-by turns breaks before now (Err Read) P is memory read write out = read is
+comes-by turns breaks before now (Err Write) P is memory read write out = write is
+comes-by turns breaks before now (Err Turns) P is memory read write out = out is
+
+-- a drive that came to its end, behind which no child is open
+pub drives-end : (turns : ℕ) (breaks : List BreakAt) (before now : Moment) (end : End) → ComesToEnd turns breaks before now end → Agrees now.world now.calls → Drives turns breaks before now (Ok end)
+drives-end turns breaks before now end c agrees =
+    let over : AreOver now.calls = calls-over now.world now.calls agrees c.no_shell in
+    record {
+      called = now.calls;
+      takes = takes-session turns breaks before now (Ok end) c;
+      comes_to = c;
+      waits = record { waits = []; calls_are = sym (append-nil now.calls); are_for_open = none-open now.calls over };
+      over = over;
+    }
+
+-- a drive that stopped, behind which the open children were waited for
+pub drives-fault : (turns : ℕ) (breaks : List BreakAt) (before mid : Moment) (calls : List Call) (is_full : Bool) (fault : DriveFault) → is_full ≡ mid.is_full → ComesTo turns breaks before mid (Err fault)
+    → WaitsForOpen mid.calls calls → AreOver calls → Drives turns breaks before (record mid { calls = calls; is_full = is_full }) (Err fault)
+drives-fault turns breaks before mid calls is_full fault full c waits over =
+    rw full (record { called = mid.calls; takes = takes-session turns breaks before mid (Err fault) c; comes_to = c; waits = waits; over = over })

@@ -88,9 +88,23 @@ none-any (Some shell ∷ shells) none = let found = none 0 in cc
 pub over : (w : WorldState) → length w.shells ≡ 20 → IsIdle w → is_over w ≡ true
 over w size idle = ap not (none-any w.shells (λ i. none-there w (suc i) size idle))
 
+none-in : (shells : List (Option ShellState)) (i : ℕ) → list_any is_some shells ≡ false → flatten (slice_get shells i) ≡ None
+none-in [] i none = refl
+none-in (None ∷ shells) zero none = refl
+none-in (None ∷ shells) (suc i) none = none-in shells i none
+none-in (Some shell ∷ shells) i none = cc
+
+over-none : (w : WorldState) (k : ℕ) → is_over w ≡ true → shell_at w k ≡ None
+over-none w zero over = refl
+over-none w (suc i) over = none-in w.shells i (unset (list_any is_some w.shells) over)
+  where
+    unset : (b : Bool) → not b ≡ true → b ≡ false
+    unset true e = cc
+    unset false e = refl
+
 -- and then each row of lives has come to its end
-pub idle-over : (w : WorldState) (calls : List Call) → Agrees w calls → length w.shells ≡ 20 → IsIdle w → AreOver calls
-idle-over w calls agrees size idle k = agrees k ∙ ap (λ o. life_in (child_by o)) (none-there w k size idle)
+pub calls-over : (w : WorldState) (calls : List Call) → Agrees w calls → is_over w ≡ true → AreOver calls
+calls-over w calls agrees over k = agrees k ∙ ap (λ o. life_in (child_by o)) (over-none w k over)
 
 -- a view of which numbers have a shell has a place for each
 pub size-of : (w : WorldState) (table : List Bool) → table ≡ running w → length table ≡ 20 → length w.shells ≡ 20

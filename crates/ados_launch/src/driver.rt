@@ -106,11 +106,13 @@ impl Drive<'_> {
         ensures untouched { self.now.turns ≡ 0 → (reader.new ≡ reader.old) × (writer.new ≡ writer.old) }
     {
         let mut children = open_children(world);
-        let result = self.run_schedule(world, launcher, &mut children, reader, writer);
-        if result.is_err() {
-            wait_for_open(launcher, &children);
+        match self.run_schedule(world, launcher, &mut children, reader, writer) {
+            Ok(end) => Ok(end),
+            Err(fault) => {
+                wait_for_open(launcher, &children);
+                Err(fault)
+            }
         }
-        result
     }
 
     // Runs the schedule. The table holds the open children by their numbers.

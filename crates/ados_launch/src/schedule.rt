@@ -65,6 +65,8 @@ impl<'a> Schedule<'a> {
         requires round { self.old.round.place ≤ 61 }
         requires count { self.old.taken < 2 ^ 64 - 1 }
         ensures next { option_map next_as result ≡ next_in self.old world.now }
+        ensures round { self.new.round ≡ self.old.round }
+        ensures taken { self.new.taken ≡ self.old.taken }
         ensures may_come { IfSome result (λ next. MayCome world.now next) }
         ensures passed { IfSome result (λ next. passed self.new next ≡ standing_behind self.old world.now (next_as next)) }
     {

@@ -24,7 +24,7 @@ const NONE_FAILS: Failing = Failing {
 
 // A fresh world driven by these bytes, read three at a time and written one at a time. Want of memory for the world is
 // handed on.
-#[tactic(auto, using(crate::proofs::NewPair::new_pair))]
+#[tactic(auto, using(ados_launch::proofs::NewPair::new_pair))]
 fn drive(
     alloc: Global,
     input: &[u8],

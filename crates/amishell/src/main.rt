@@ -111,7 +111,7 @@ fn replay<R: AllocGlobal + Files + Print>(rt: &R, file: &str) -> Result<u8, Faul
 
 // Runs a reader's lines in a world with these programs of the host, which a new launcher starts, and gives the exit status
 // that they leave.
-#[tactic(auto, using(crate::proofs::NewPair::new_pair))]
+#[tactic(auto, using(ados_launch::proofs::NewPair::new_pair))]
 fn play<R: AllocGlobal + Print, L: Launcher, S: Source>(
     rt: &R,
     hosts: &[HostEntry],
