@@ -1,5 +1,5 @@
 -- The reports of a shell that runs alone are those of the direct meaning.
-use Rattle.std.proofs.Common.{◌≡◌, ℕ, zero, suc, ◌-◌, List, [], ◌∷◌, ◌&&◌, inl, inr, Option, Some, None, refl, arith}
+use Rattle.std.proofs.Common.{◌≡◌, ℕ, zero, suc, ◌-◌, List, [], ◌∷◌, true, false, ◌&&◌, inl, inr, Option, Some, None, refl, arith}
 use Rattle.std.specs.List.{slice_get}
 use Rattle.ados_text.specs.Text.{Bytes, Text}
 use Rattle.ados_flow.specs.Frames.{FrameState, moved}
