@@ -92,7 +92,8 @@ impl Draft {
         ensures { OnOk result (ReportsBreak scene.now self.old self.new frame.now) }
     {
         if let Kind::Script { name, .. } = frame.kind() {
-            self.reports.push(broken_report(scene.number, name, frame)?)?;
+            self.reports
+                .push(broken_report(scene.number, name, frame)?)?;
         }
         Ok(())
     }
