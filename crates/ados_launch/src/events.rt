@@ -115,7 +115,7 @@ fn take_event<L: Launcher, S: Source>(
     ensures no_turns { IsErrOf result DriveFault.Turns → ⊥ }
 {
     if place < 1 {
-        take_line(alloc, world, held, reader, line, draft)
+        take_next_line(alloc, world, held, reader, line, draft)
     } else if place < 21 {
         give(world, &Event::Turn(place), draft)
     } else {
@@ -130,6 +130,33 @@ fn shell_answered(place: u8) -> u8
     ensures { result ≡ (if nat_lt place 41 then place - 20 else place - 40) }
 {
     if place < 41 { place - 20 } else { place - 40 }
+}
+
+// Shows the reader the world, and has it take the next line.
+fn take_next_line<S: Source>(
+    alloc: Global,
+    world: &mut World,
+    held: &mut ReadAhead,
+    reader: &mut S,
+    line: &mut Vec<u8>,
+    draft: &mut Draft,
+) -> Result<(), DriveFault>
+    requires reader { S.faults reader.old < 2 ^ 64 - 1 }
+    requires due { wants_line world.old ≡ true }
+    ensures took { OnOk result
+        (TakesLineAt world.old (ahead held.old (S.left reader.old)) world.new (ahead held.new (S.left reader.new)) draft.new.printed.items) }
+    ensures few { length held.old < 4096 → length held.new < 4096 }
+    ensures honest { OnOk result (S.faults reader.new ≡ S.faults reader.old) }
+    ensures err { OnErr result (world.new ≡ world.old) }
+    ensures read { IsErrOf result DriveFault.Read → (S.faults reader.new ≡ S.faults reader.old + 1)
+        ⊎ ((S.faults reader.new ≡ S.faults reader.old) × Known (ahead held.old (S.left reader.old))
+        (λ bytes. BeginsOverlong bytes (ahead held.new (S.left reader.new)))) }
+    ensures memory_honest { IsErrOf result DriveFault.Memory → S.faults reader.new ≡ S.faults reader.old }
+    ensures not_write { IsErrOf result DriveFault.Write → ⊥ }
+    ensures not_turns { IsErrOf result DriveFault.Turns → ⊥ }
+{
+    reader.heed(world);
+    take_line(alloc, world, held, reader, line, draft)
 }
 
 // Reads a line and gives it to the world, or the end of the input. A long one is not given, and a

@@ -35,7 +35,7 @@ use Rattle.ados_machine.specs.Kept.{codes_behind, HasAllCodes, FreshWorldsHaveAl
 use Rattle.ados_machine.proofs.Follows.{back, Follows}
 use Rattle.ados_machine.proofs.Turns.{Goes}
 use Rattle.ados_machine.proofs.Turnings.{TurningGoes, flagged-goes, answering-goes}
-use Rattle.ados_machine.proofs.Shells.{shells_behind, broken_maybe, broken_one, broken_for, broken-there, found-broken, found, IsFree, free-number, carried-free, carried_found, found-carried, carried-runs, found-set_same, found-set_other, found-left, own-append, own-of_shell_same, own-of_shell_other, place_before, place_within, not_before, runs_pos, slice_get-set_other, slice_get-set_same}
+use Rattle.ados_machine.proofs.Shells.{shells_behind, broken_maybe, broken_for, found-broken, found, IsFree, free-number, carried-free, carried_found, found-carried, carried-runs, found-set_same, found-set_other, found-left, own-append, own-of_shell_same, own-of_shell_other, place_before, place_within, not_before, runs_pos, slice_get-set_other, slice_get-set_same}
 use Rattle.ados_machine.proofs.Moves.{placed-at, begun-silent}
 use Rattle.ados_machine.proofs.Sane.{sane-after}
 

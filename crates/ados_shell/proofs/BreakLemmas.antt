@@ -1,5 +1,6 @@
 -- Breaks: scripts that end, and the turn in which they do.
-use Rattle.std.proofs.Common.{◌≡◌, ◌∙◌, ◌++◌, ◌∷◌, [], List, ℕ, zero, suc, Bool, true, false, ◌||◌, Option, Some, None, is_some, length, nat_lt, ap, sym, refl}
+use Rattle.std.proofs.Common.{◌≡◌, ◌<◌, ◌∙◌, ◌++◌, ◌∷◌, [], List, ℕ, zero, suc, Bool, true, false, ◌||◌, length, nat_lt, ap, sym, refl}
+use Rattle.std.proofs.Math.Nat.{lt-suc_self}
 use Rattle.ados_text.specs.Text.{Text}
 use Rattle.ados_text.specs.declared.codes.Code.{Code}
 use Rattle.ados_flow.specs.declared.kinds.Kind.{Kind}
@@ -17,13 +18,13 @@ use Rattle.ados_machine.specs.Requests.{request_of}
 use Rattle.ados_machine.specs.Settle.{Turned, by_rule, said_of}
 use Rattle.ados_machine.specs.Settled.{Said, Settled, after_break, behind, broken_off, finish, with_limit}
 use Rattle.ados_machine.specs.Turning.{Input, Refuses, Takes, broken_turned, in_place_of, input_turning, turning}
-use Rattle.ados_machine.specs.World.{can_take, has_input}
+use Rattle.ados_machine.specs.World.{can_take}
 use Rattle.ados_shell.specs.declared.scenes.Scene.{Scene}
 use Rattle.ados_shell.specs.declared.drafts.Draft.{Draft}
 use Rattle.ados_shell.specs.Breaks.{GivesUp, ReportsBreak}
 use Rattle.ados_shell.specs.Drafts.{IsRuled, course_by, course_of, frames_of, held_of}
 use Rattle.ados_shell.specs.Stacks.{frames_in}
-use Rattle.ados_shell.specs.Turnings.{IsFirst}
+use Rattle.ados_shell.proofs.StackLemmas.{some-run}
 use Rattle.ados_shell.proofs.TurnLemmas.{IsStill, goes-on, said_in, step-ruled, still-course}
 
 -- a mark changes nothing of what is asked for
@@ -36,10 +37,8 @@ marked_request number (Waiting (ForStart starting)) = refl
 marked_request number (Waiting (ForPiece child)) = refl
 marked_request number (Waiting (ForEnd child)) = refl
 
--- a line waits where there is a first one
-pub first-waits : (line : Option (List ℕ)) (queue : List (List ℕ)) → IsFirst line queue → nat_lt 0 (length queue) ≡ is_some line
-first-waits None queue e = ap (λ q. nat_lt 0 (length q)) e
-first-waits (Some line) queue e = ap (λ q. nat_lt 0 (length q)) e
+never : true ≡ false → ⊥
+never e = cc
 
 -- a turn that takes a line of its input, or the end of that, where one is there
 input-taken : (queue : List (List ℕ)) (is_ended : Bool) (input : Input) (frames : List FrameState) (course : Course) (by_line : List ℕ → Deed) (by_end : Deed)
@@ -55,7 +54,7 @@ input-refused : (queue : List (List ℕ)) (is_ended : Bool) (input : Input) (fra
     → in_place_of (input_turning queue is_ended frames by_line by_end) input frames course ≡ Refuses NotReady
 input-refused [] true input frames course by_line by_end e = absurd cc
 input-refused [] false input frames course by_line by_end e = refl
-input-refused (line ∷ rest) is_ended input frames course by_line by_end e = absurd cc
+input-refused (line ∷ rest) is_ended input frames course by_line by_end e = absurd (never (ap (λ b. b || is_ended) (sym (some-run (length rest))) ∙ e))
 
 -- the turn of a shell in which a script runs, where it can take one
 pub script-taken : (input : Input) (frames : List FrameState) (course : Course) (phase : Phase) → has_script frames ≡ true → can_take input frames phase ≡ true
@@ -96,7 +95,16 @@ deeper-is (suc scripts) kind limit further frames said e = refl
 ends-is : (scripts : ℕ) (kind : Kind) (limit : Code) (further : Settled) (frames : List FrameState) (said : Said) → nat_lt 0 scripts ≡ false
     → after_break scripts kind limit further frames said ≡ finish (maker kind) broken_codes false frames (with_limit (limit_behind frames limit) said)
 ends-is zero kind limit further frames said e = refl
-ends-is (suc scripts) kind limit further frames said e = absurd cc
+ends-is (suc scripts) kind limit further frames said e = absurd (never (sym (some-run scripts) ∙ e))
+
+-- a frame fewer is left
+pub frames-fewer : (scene : Scene) (before popped reported mid : Draft) (frame : FrameState) (frames : List FrameState)
+    → frames_of scene before ≡ frame ∷ frames → frames_of scene popped ≡ frames
+    → ReportsBreak scene popped reported frame → GivesUp scene reported mid frame
+    → length (frames_of scene mid) < length (frames_of scene before)
+frames-fewer scene before popped reported mid frame frames there f r u =
+    let below : frames_of scene mid ≡ frames = ap (frames_in scene.shell.now) u.frames ∙ ap (frames_of scene) r.same ∙ f in
+    rw there (rw below (lt-suc_self (length frames)))
 
 -- a frame ended at a break, above others of which one is a script: these end in turn
 pub break-deeper : (scene : Scene) (before popped reported mid after : Draft) (frame : FrameState) (frames : List FrameState)
@@ -107,13 +115,14 @@ pub break-deeper : (scene : Scene) (before popped reported mid after : Draft) (f
     → IsRuled scene before after (broken_off (frames_of scene before) (said_in scene before))
 break-deeper scene before popped reported mid after frame frames there s f r scripts u g =
     let course = course_of scene before in
-    let given : Course = record course { kept = kept_without frame.kind course.kept } in
+    let giving : Course → Course = λ c. record c { kept = kept_without frame.kind c.kept } in
+    let given : Course = giving course in
     let further : Settled = broken_off frames (said_of given) in
     let item = break_of (suc (length frames)) frame in
     let left : frames_of scene reported ≡ frames = ap (frames_of scene) r.same ∙ f in
     let below : frames_of scene mid ≡ frames = ap (frames_in scene.shell.now) u.frames ∙ left in
     let same : course_of scene reported ≡ course = ap (course_of scene) r.same ∙ still-course scene before popped s in
-    let handed : course_of scene mid ≡ given = u.course ∙ ap (λ c. record c { kept = kept_without frame.kind c.kept }) same in
+    let handed : course_of scene mid ≡ given = u.course ∙ ap giving same in
     let now : by_rule (course_of scene mid) (broken_off (frames_of scene mid) (said_in scene mid)) ≡ by_rule given further =
     ap (λ fs. by_rule (course_of scene mid) (broken_off fs (said_in scene mid))) below
     ∙ ap (λ c. by_rule c (broken_off frames (said_of c))) handed in

@@ -9,3 +9,4 @@ pub mod Turnings
 pub mod Breaks
 pub mod Views
 pub mod Answerings
+pub mod Asking

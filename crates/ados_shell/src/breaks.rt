@@ -49,8 +49,7 @@ impl Draft {
         ensures turn { IfOk result (λ turn. GivesBroken scene.now input.now turn self.new) }
         ensures memory { OnErr result (TakesBroken scene.now input.now) }
     {
-        let has_lines = input.line.is_some() || input.is_ended;
-        if scene.shell.can_take(has_lines) {
+        if scene.shell.can_take(input.has_lines()) {
             self.break_off(scene)?;
             Ok(Turning::Goes)
         } else {
@@ -93,7 +92,8 @@ impl Draft {
         ensures { OnOk result (ReportsBreak scene.now self.old self.new frame.now) }
     {
         if let Kind::Script { name, .. } = frame.kind() {
-            self.reports.push(broken_report(scene.number, name, frame)?)?;
+            self.reports
+                .push(broken_report(scene.number, name, frame)?)?;
         }
         Ok(())
     }

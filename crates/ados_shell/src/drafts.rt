@@ -8,7 +8,7 @@ use crate::breaks::flags_own;
 use crate::scenes::Scene;
 use crate::shells::Shell;
 use crate::stacks::Stack;
-use ados_find::{Breaking, Change, Codes, Renamed, Setting, Shared};
+use ados_find::{Breaking, Change, Codes, Question, Renamed, Setting, Shared};
 use ados_flow::FIRST_LIMIT;
 use ados_machine::{EndReport, Out, Phase, Request};
 use ados_ram::Place;
@@ -39,6 +39,9 @@ pub struct Draft {
     pub args: Args,
     /// The devices that the event used so far, with those to which they lead; it takes no memory where none was used.
     pub used: Vec<Name>,
+    /// What the cache of the shared parts may learn, if this is the event to ask it. It is a hint, and no definition
+    /// speaks of it.
+    pub asked: Option<Box<Question>>,
 }
 
 /// What a turn makes of its shell. What it did not change it does not hold.
@@ -75,6 +78,7 @@ impl Drop for Draft {
             reports: _reports,
             args: _args,
             used: _used,
+            asked: _asked,
         } = self;
     }
 }
@@ -122,6 +126,7 @@ impl Draft {
             reports: Vec::new(alloc),
             args: Args::new(alloc),
             used: Vec::new(alloc),
+            asked: None,
         }
     }
 
@@ -179,6 +184,7 @@ impl Draft {
             reports,
             args: _,
             used: _,
+            asked: _,
         } = self;
         Out::giving(printed, request, reports)
     }

@@ -8,6 +8,7 @@ mod begun;
 mod breaks;
 mod calls;
 mod carrying;
+mod children;
 mod code_rule;
 mod commands;
 mod console;

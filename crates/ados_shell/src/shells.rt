@@ -77,6 +77,7 @@ impl Shell {
     ghost use Rattle.ados_machine.specs.Turning.{Input};
     ghost use Rattle.ados_machine.specs.Requests.{request_of};
     ghost use Rattle.ados_machine.specs.World.{can_take, has_frame, has_input, takes_input};
+    ghost use Rattle.ados_shell.specs.Asking.{asks_for_line};
 
     /// The shell of a number in which nothing has answered yet, in the root.
     pub fn new(alloc: Global, number: u8) -> Result<Shell, NoMemory>
@@ -189,6 +190,16 @@ impl Shell {
             None | Some(Phase::Ready) => self.frames.is_empty(),
             Some(Phase::GoingOn(_)) => false,
             Some(Phase::Waiting(wait)) => wait.is_for_input(),
+        }
+    }
+
+    /// It waits for a line of its input: an answer to a prompt, or a further line of a Run.
+    pub fn asks_for_line(&self) -> bool
+        ensures { result ≡ asks_for_line self.now.phase }
+    {
+        match self.phase.as_deref() {
+            Some(Phase::Waiting(wait)) => wait.is_for_input(),
+            _ => false,
         }
     }
 
