@@ -1,5 +1,5 @@
 -- How far a line that runs alone has come.
-use Rattle.std.proofs.Common.{◌≡◌, ◌≢◌, ℕ, suc, ◌+◌, ◌≤◌, ◌<◌, List, [], ◌∷◌, ◌++◌, Bool, true, Option, Some, None, Ok, is_some, length, arith, refl, ap, sym, ◌∙◌, inl, inr, append_assoc, append-nil}
+use Rattle.std.proofs.Common.{◌≡◌, ℕ, suc, ◌+◌, ◌≤◌, ◌<◌, List, [], ◌∷◌, ◌++◌, Bool, true, Option, Some, None, Ok, is_some, length, arith, refl, ap, sym, ◌∙◌, inl, inr, append_assoc, append-nil}
 use Rattle.std.proofs.lemmas.Bool.{cases_eq}
 use Rattle.ados_text.specs.Text.{Bytes, Text}
 use Rattle.ados_find.specs.declared.codes.Codes.{Codes}
@@ -302,7 +302,7 @@ stands-untaken k w line turns n was_full is_full world before now calls mid_call
 pub stands-unwritten : (k : ℕ) (w : WorldState) (line : Text) (turns n : ℕ) (was_full is_full : Bool) (world next : WorldState) (before mid : Bytes)
     (calls mid_calls calls_now : List Call) (out : Out) (fault : SystemFault) →
     Going k w line turns n was_full world before mid calls mid_calls → opening_fault w line ≡ None → free_number w.shells ≡ Some k → (was_full ≡ true → is_full ≡ true) → is_some (shell_at world k) ≡ true → n < turns →
-    TakesNext k world is_full mid_calls next calls_now out → fault.refusal ≡ NoMemory → fault.events ≡ n + 1 → fault.answer ≡ None → fault.unwritten ≡ out.bytes → fault.unwritten ≢ [] →
+    TakesNext k world is_full mid_calls next calls_now out → fault.refusal ≡ NoMemory → fault.events ≡ n + 1 → fault.answer ≡ None → fault.unwritten ≡ out.bytes → 0 < length fault.unwritten →
     StandsAt w line turns is_full fault next before mid calls calls_now k
 stands-unwritten k w line turns n was_full is_full world next before mid calls mid_calls calls_now out fault g good free stays runs within t why count none bytes some =
     let more = going-more k w line turns n was_full is_full world next before mid (mid ++ out.bytes) calls mid_calls calls_now out g stays runs t refl in

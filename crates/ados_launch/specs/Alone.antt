@@ -1,5 +1,5 @@
 -- Lines that run alone: what a shell that was opened for a line took, and what a launcher was asked for it.
-use Rattle.std.specs.Prelude.{◌≡◌, ◌≢◌, ◌⊎◌, ℕ, ◌+◌, ◌<◌, ◌≤◌, List, [], ◌∷◌, ◌++◌, length, Bool, true, Option, Some, None, is_some, IfNone, Result, Ok, Err}
+use Rattle.std.specs.Prelude.{◌≡◌, ◌⊎◌, ℕ, ◌+◌, ◌<◌, ◌≤◌, List, [], ◌∷◌, ◌++◌, length, Bool, true, Option, Some, None, is_some, IfNone, Result, Ok, Err}
 use Rattle.ados_text.specs.Text.{Bytes, Text}
 use Rattle.ados_find.specs.declared.codes.Codes.{Codes}
 use Rattle.ados_machine.specs.declared.answers.Answer.{Answer as Reply}
@@ -103,7 +103,7 @@ StopsAtEvent is_full turns fault w k others =
 -- There was no room for what the last event printed, which is handed back; nothing was asked for a further one.
 abbrev pub StopsAtBytes : ℕ → SystemFault → List Taken → List Call → Type 0
 StopsAtBytes turns fault taken others =
-    (fault.events ≤ turns) × AreOfLast fault.unwritten taken × (fault.unwritten ≢ []) × (fault.answer ≡ None) × (others ≡ [])
+    (fault.events ≤ turns) × AreOfLast fault.unwritten taken × (0 < length fault.unwritten) × (fault.answer ≡ None) × (others ≡ [])
 
 -- The shell stands after the events that the fault counts, and may have ended with the last of them.
 pub record StandsAt (w : WorldState) (line : Text) (turns : ℕ) (is_full : Bool) (fault : SystemFault) (last : WorldState) (before now : Bytes) (calls calls_now : List Call) (k : ℕ) : Type 0 where

@@ -1,5 +1,5 @@
 // A line that runs alone, in a shell that is opened for it.
-ghost use Rattle.std.specs.Prelude.{◌≡◌, ◌≢◌, ◌<◌, ◌≤◌, ◌++◌, List, [], Ok, None, true, is_some, IfErr, IfSome, OnOk, OnErr};
+ghost use Rattle.std.specs.Prelude.{◌≡◌, ◌<◌, ◌≤◌, ◌++◌, List, length, Ok, None, true, is_some, IfErr, IfSome, OnOk, OnErr};
 ghost use Rattle.ados_machine.specs.Numbers.{free_number};
 ghost use Rattle.ados_machine.specs.World.{shell_at};
 ghost use Rattle.ados_world.specs.Opened.{opening_fault};
@@ -147,7 +147,7 @@ pub fn system<L: Launcher>(
 fn append(out: &mut Vec<u8>, printed: &[u8]) -> Result<(), AllocError>
     ensures grown { OnOk result (out.new.items ≡ out.old.items ++ printed.now) }
     ensures kept { OnErr result (out.new ≡ out.old) }
-    ensures some { OnErr result (printed.now ≢ []) }
+    ensures some { OnErr result (0 < length printed.now) }
 {
     if printed.is_empty() {
         return Ok(());

@@ -1,4 +1,4 @@
-use Rattle.std.proofs.Common.{rules, arith, ◌≡◌, ◌≢◌, ◌≤◌, ◌-◌, ◌++◌, ◌∷◌, [], length, Some, None, true, is_some, refl}
+use Rattle.std.proofs.Common.{rules, arith, ◌≡◌, ◌<◌, ◌≤◌, ◌-◌, ◌++◌, ◌∷◌, [], length, Some, None, true, is_some, refl}
 use Rattle.ados_machine.specs.Numbers.{free_number}
 use Rattle.ados_machine.specs.Whole.{opened}
 use Rattle.ados_machine.specs.World.{codes_at, shell_at}
@@ -86,7 +86,7 @@ returns-then-is_err-clause-fault g c =
     let runs : is_some (shell_at c.loop-events.world c.in-Ok-Some.number) ≡ true = search rules in
     let kept : c.append.new.out.items ≡ c.loop-events.out.items = search rules in
     let bytes : c.into_out.result.bytes ≡ (out_of c.next_event.new.draft).bytes = search rules in
-    let some : c.into_out.result.bytes ≢ [] = search rules in
+    let some : 0 < length c.into_out.result.bytes = search rules in
     rw kept
     (stands-unwritten c.in-Ok-Some.number c.args.world.now c.args.line.now c.args.turns c.loop-events.events (g.L.Launcher.is_full c.loop-events.launcher) (g.L.Launcher.is_full c.next_event.new.launcher)
     c.loop-events.world c.next_event.new.world c.args.out.now.items c.loop-events.out.items

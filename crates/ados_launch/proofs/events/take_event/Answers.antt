@@ -12,7 +12,7 @@ give-requires g c = turn-accepted c.args.world.now c.args.place (sym (comes-turn
 
 pub returns-then-place-lt1-clause-took : goal.returns-then-place-lt1-clause-took
 returns-then-place-lt1-clause-took g c =
-    took-at-lines c.args.world.now _ _ _ (g.L.Launcher.is_full c.args.launcher.now) (g.L.Launcher.calls c.args.launcher.now) c.args.place c.take_line.new.draft.printed.items c.take_line.result (omega arith) c.take_line.ensures.took
+    took-at-lines c.args.world.now _ _ _ (g.L.Launcher.is_full c.args.launcher.now) (g.L.Launcher.calls c.args.launcher.now) c.args.place c.take_next_line.new.draft.printed.items c.take_next_line.result (omega arith) c.take_next_line.ensures.took
 
 pub returns-then-place-lt21-clause-took : goal.returns-then-place-lt21-clause-took
 returns-then-place-lt21-clause-took g c =
