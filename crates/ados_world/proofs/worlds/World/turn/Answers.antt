@@ -3,7 +3,8 @@ use Rattle.ados_machine.specs.World.{input_of}
 use Rattle.ados_machine.specs.declared.events.Event.TheVariants as event
 use Rattle.ados_shell.specs.declared.turnings.Turning.{Turning}
 use Rattle.ados_shell.specs.Turnings.{GivesTurning}
-use Rattle.ados_world.proofs.StepLemmas.{Shows, answered, answers, goes-wants, sane-behind, sane-taken, takes-wants, turn-ends, turn-goes, turn-takes, turn-wants}
+use Rattle.ados_world.proofs.TakenLemmas.{Shows}
+use Rattle.ados_world.proofs.StepLemmas.{answered, answers, goes-wants, sane-behind, sane-taken, takes-wants, turn-ends, turn-goes, turn-takes, turn-wants}
 use Rattle.ados_world.proofs.worlds.World.turn.Goals as goal
 
 pub end_shell-requires-clause-sane : goal.end_shell-requires-clause-sane
