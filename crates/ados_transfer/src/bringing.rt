@@ -86,10 +86,10 @@ fn walk<R: AllocGlobal + Files + Clone + Drop>(
     let mut left = Vec::new(rt.alloc());
     left.push((String::from_str(rt.alloc(), path)?, place))?;
     for _ in 0..WALK {
-        let Some((below, place)) = left.pop() else {
+        let Some(below) = left.pop() else {
             return Ok(());
         };
-        add_one(rt, files, below, place, plan, &mut left)?;
+        add_one(rt, files, below, plan, &mut left)?;
     }
     Err(named(rt.alloc(), path, TransferFault::ManyObjects))
 }
@@ -98,11 +98,11 @@ fn walk<R: AllocGlobal + Files + Clone + Drop>(
 fn add_one<R: AllocGlobal + Files + Clone + Drop>(
     rt: &R,
     files: &Ram,
-    path: String,
-    place: Place,
+    below: (String, Place),
     plan: &mut Plan,
     left: &mut Vec<(String, Place)>,
 ) -> Result<(), TransferFault> {
+    let (path, place) = below;
     let Ok(found) = fs::metadata(rt, path.as_str()) else {
         return Err(TransferFault::CannotRead(path));
     };
