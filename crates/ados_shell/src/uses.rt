@@ -65,18 +65,18 @@ impl Draft {
         match route {
             Route::Listed => Ok(()),
             Route::ByPath => {
-                self.ask(scene, &[], word);
+                self.note_question(scene, &[], word);
                 self.use_path(scene, word)
             }
             Route::ToC => {
-                self.ask(scene, b"C:", word);
+                self.note_question(scene, b"C:", word);
                 self.use_c(scene)
             }
         }
     }
 
     /// The cache may learn what the search of a word did not find in it.
-    fn ask(&mut self, scene: &Scene, front: &[u8], word: &Text)
+    fn note_question(&mut self, scene: &Scene, front: &[u8], word: &Text)
         ensures { self.new ≡ record self.old { asked = self.new.asked } }
     {
         let directory = self.directory(scene);

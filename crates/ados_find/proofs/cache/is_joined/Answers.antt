@@ -1,4 +1,4 @@
-use Rattle.std.proofs.Common.{◌≡◌, ◌∙◌, sym}
+use Rattle.std.proofs.Common.{◌∙◌, sym}
 use Rattle.ados_find.proofs.CacheLemmas.{joined}
 use Rattle.ados_find.proofs.cache.is_joined.Goals as goal
 
