@@ -219,6 +219,7 @@ impl Draft {
         requires { IsUnset self.old }
         ensures { HoldsEffect number self.old self.new (option_map (λ c. c.value) change) shared (option_map (λ r. r.value) renamed) breaking }
     {
+        self.shell.flagged |= flags_own(number, breaking);
         if let Some(change) = change {
             self.shell.change(Box::into_inner(change));
         }
@@ -227,6 +228,5 @@ impl Draft {
         }
         self.renamed = renamed;
         self.breaking = breaking;
-        self.shell.flagged |= flags_own(number, breaking);
     }
 }
