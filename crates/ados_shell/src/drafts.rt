@@ -39,8 +39,8 @@ pub struct Draft {
     pub args: Args,
     /// The devices that the event used so far, with those to which they lead; it takes no memory where none was used.
     pub used: Vec<Name>,
-    /// What the cache of the shared parts may learn, if this is the event to ask it. It is a hint, and no definition
-    /// speaks of it.
+    /// What the cache of the shared parts may learn: what this turn, or one before it, asked for and did not find. It is
+    /// a hint, and no definition speaks of it.
     pub asked: Option<Box<Question>>,
 }
 
