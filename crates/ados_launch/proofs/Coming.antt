@@ -1,5 +1,5 @@
 -- What comes next.
-use Rattle.std.proofs.Common.{◌≡◌, ℕ, suc, subst, ◌∷◌, ◌+◌, ◌<◌, ◌≤◌, List, [], Option, Some, None, Bool, true, false, not, is_some, nat_le, drop, refl, sym, ap, ◌∙◌, inl, inr, arith}
+use Rattle.std.proofs.Common.{◌≡◌, ℕ, suc, subst, ◌∷◌, ◌+◌, ◌<◌, ◌≤◌, List, [], Option, Some, None, Bool, true, false, not, is_some, is_none, nat_le, drop, refl, sym, ap, ◌∙◌, inl, inr, arith}
 use Rattle.std.specs.Prelude.{option_map}
 use Rattle.std.specs.List.{prefix_len}
 use Rattle.std.proofs.lemmas.Bool.{cases_Bool}
@@ -92,3 +92,12 @@ none-due f (Some k) e = cc
 -- where nothing comes next, nothing is due
 pub next-none : (s : Standing) (w : WorldState) → next_in s w ≡ None → None ≡ due s.round w
 next-none s w e = sym (none-due (next_by (first_before (s.taken + 1) (breaks_left s w))) (due s.round w) e)
+
+-- by the test whether something is due
+pub due-none : (place : Option ℕ) (over : Bool) → over ≡ is_none place → over ≡ true → None ≡ place
+due-none None over is yes = refl
+due-none (Some k) over is yes = cc
+
+pub due-some : (place : Option ℕ) (over : Bool) → over ≡ is_none place → over ≡ false → (k : ℕ) × (Some k ≡ place)
+due-some None over is no = cc
+due-some (Some k) over is no = (k, refl)

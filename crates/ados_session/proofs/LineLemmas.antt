@@ -1,5 +1,5 @@
 -- one line more
-use Rattle.std.proofs.Common.{◌≡◌, ℕ, ◌+◌, ◌-◌, ◌<◌, arith, nat_le, Bool, true, false, ◌&&◌, List, [], ◌∷◌, ◌++◌, take, length, get_or, refl, sym, ◌∙◌, ap}
+use Rattle.std.proofs.Common.{◌≡◌, ℕ, suc, ◌+◌, ◌-◌, ◌<◌, arith, nat_le, Bool, true, false, ◌&&◌, List, [], ◌∷◌, ◌++◌, take, length, get_or, refl, sym, ◌∙◌, ap}
 use Rattle.std.specs.List.{list_all}
 use Rattle.std.proofs.lemmas.List.{take_more}
 use Rattle.std.proofs.lemmas.List.Elements.{filter_map-append}
@@ -97,4 +97,9 @@ rise_more least (first ∷ breaks) at = ap (λ b. nat_le least first.event && b)
 pub last_at : (least : ℕ) (breaks : List BreakAt) (other : BreakAt) → 0 < length breaks → last_event least breaks ≡ (get_or breaks (length breaks - 1) other).event
 last_at least [] other some = absurd (omega (arith, some))
 last_at least (first ∷ []) other some = refl
-last_at least (first ∷ second ∷ breaks) other some = last_at first.event (second ∷ breaks) other (omega arith)
+last_at least (first ∷ second ∷ breaks) other some =
+    let one : suc (length (second ∷ breaks) - 1) ≡ length (first ∷ second ∷ breaks) - 1 = omega arith in
+    last_at first.event (second ∷ breaks) other (omega arith) ∙ ap (λ m. (get_or (first ∷ second ∷ breaks) m other).event) one
+
+pub rising_more : (breaks : List BreakAt) (at : BreakAt) (is_rising : Bool) → are_rising breaks ≡ true → is_rising ≡ nat_le (last_event 0 breaks) at.event → is_rising ≡ are_rising (breaks ++ at ∷ [])
+rising_more breaks at is_rising rising is = is ∙ (ap (λ b. b && nat_le (last_event 0 breaks) at.event) (sym rising) ∙ sym (rise_more 0 breaks at))

@@ -1,6 +1,6 @@
 use Rattle.std.proofs.Common.{rules, IsErrOf, ◌≡◌, ◌+◌, [], Some, refl, sym, ◌∙◌, ap, arith, absurd}
 use Rattle.ados_launch.proofs.Agreeing.{agrees-whole}
-use Rattle.ados_launch.proofs.Coming.{in-round, next-none, next-running, passed-taken, standing-in_round}
+use Rattle.ados_launch.proofs.Coming.{due-none, due-some, in-round, next-none, passed-taken, standing-in_round}
 use Rattle.ados_launch.proofs.Outcomes.{comes-by, ends, stops-memory, stops-read, stops-turns, stops-write}
 use Rattle.ados_launch.proofs.Places.{idle, running}
 use Rattle.ados_launch.proofs.Sessions.{driven-more, driven-none}
@@ -262,3 +262,58 @@ returns-in_default-clause-comes_to g c =
 
 pub returns-in_default-clause-whole : goal.returns-in_default-clause-whole
 returns-in_default-clause-whole g c = agrees-whole c.loop-events.world (g.L.Launcher.calls c.loop-events.launcher) c.loop-events.invariant.agrees
+
+pub returns-then-is_over-clause-comes_to : goal.returns-then-is_over-clause-comes_to
+returns-then-is_over-clause-comes_to g c =
+    let i = c.loop-events.invariant in
+    let none : IsIdle c.loop-events.world = idle c.loop-events.schedule.round c.loop-events.world (due-none (due c.loop-events.schedule.round c.loop-events.world) c.is_over.result c.is_over.ensures c.if-is_over.true) in
+    ends c.args.self.now.turns c.loop-events.events c.args.self.now.breaks.now (record {
+      world = c.args.world.now;
+      left = g.S.Source.left c.args.reader.now;
+      read_faults = g.S.Source.faults c.args.reader.now;
+      contents = g.K.Sink.contents c.args.writer.now;
+      write_faults = g.K.Sink.faults c.args.writer.now;
+      stalls = g.K.Sink.stalls c.args.writer.now;
+      calls = g.L.Launcher.calls c.args.launcher.now;
+      is_full = g.L.Launcher.is_full c.args.launcher.now;
+    }) (record {
+      world = c.loop-events.world;
+      left = g.S.Source.left c.loop-events.reader;
+      read_faults = g.S.Source.faults c.loop-events.reader;
+      contents = g.K.Sink.contents c.loop-events.writer;
+      write_faults = g.K.Sink.faults c.loop-events.writer;
+      stalls = g.K.Sink.stalls c.loop-events.writer;
+      calls = g.L.Launcher.calls c.loop-events.launcher;
+      is_full = g.L.Launcher.is_full c.loop-events.launcher;
+    }) c.loop-events.schedule c.loop-events.held _ i.driven (omega arith) (search rules) (search rules) (search rules) (search rules) none i.reader (i.writer, i.stalls)
+
+pub returns-then-is_over-clause-whole : goal.returns-then-is_over-clause-whole
+returns-then-is_over-clause-whole g c = agrees-whole c.loop-events.world (g.L.Launcher.calls c.loop-events.launcher) c.loop-events.invariant.agrees
+
+pub returns-else-is_over-clause-comes_to : goal.returns-else-is_over-clause-comes_to
+returns-else-is_over-clause-comes_to g c =
+    let i = c.loop-events.invariant in
+    let some = due-some (due c.loop-events.schedule.round c.loop-events.world) c.is_over.result c.is_over.ensures c.if-is_over.false in
+    stops-turns c.args.self.now.turns c.loop-events.events c.args.self.now.breaks.now (record {
+      world = c.args.world.now;
+      left = g.S.Source.left c.args.reader.now;
+      read_faults = g.S.Source.faults c.args.reader.now;
+      contents = g.K.Sink.contents c.args.writer.now;
+      write_faults = g.K.Sink.faults c.args.writer.now;
+      stalls = g.K.Sink.stalls c.args.writer.now;
+      calls = g.L.Launcher.calls c.args.launcher.now;
+      is_full = g.L.Launcher.is_full c.args.launcher.now;
+    }) (record {
+      world = c.loop-events.world;
+      left = g.S.Source.left c.loop-events.reader;
+      read_faults = g.S.Source.faults c.loop-events.reader;
+      contents = g.K.Sink.contents c.loop-events.writer;
+      write_faults = g.K.Sink.faults c.loop-events.writer;
+      stalls = g.K.Sink.stalls c.loop-events.writer;
+      calls = g.L.Launcher.calls c.loop-events.launcher;
+      is_full = g.L.Launcher.is_full c.loop-events.launcher;
+    }) c.loop-events.schedule c.loop-events.held i.driven (omega arith) i.few
+    (running c.loop-events.schedule.round some.0 c.loop-events.world i.in_round some.1) i.reader (i.writer, i.stalls)
+
+pub returns-else-is_over-clause-whole : goal.returns-else-is_over-clause-whole
+returns-else-is_over-clause-whole g c = agrees-whole c.loop-events.world (g.L.Launcher.calls c.loop-events.launcher) c.loop-events.invariant.agrees
