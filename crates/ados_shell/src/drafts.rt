@@ -39,8 +39,8 @@ pub struct Draft {
     pub args: Args,
     /// The devices that the event used so far, with those to which they lead; it takes no memory where none was used.
     pub used: Vec<Name>,
-    /// What the cache of the shared parts may learn, if this is the event to ask it. It is a hint, and no definition
-    /// speaks of it.
+    /// What the cache of the shared parts may learn: what this turn, or one before it, asked for and did not find. It is
+    /// a hint, and no definition speaks of it.
     pub asked: Option<Box<Question>>,
 }
 
@@ -219,6 +219,7 @@ impl Draft {
         requires { IsUnset self.old }
         ensures { HoldsEffect number self.old self.new (option_map (λ c. c.value) change) shared (option_map (λ r. r.value) renamed) breaking }
     {
+        self.shell.flagged |= flags_own(number, breaking);
         if let Some(change) = change {
             self.shell.change(Box::into_inner(change));
         }
@@ -227,6 +228,5 @@ impl Draft {
         }
         self.renamed = renamed;
         self.breaking = breaking;
-        self.shell.flagged |= flags_own(number, breaking);
     }
 }
