@@ -1,6 +1,8 @@
 -- Breaks: scripts that end, and the turn in which they do.
 use Rattle.std.proofs.Common.{◌≡◌, ◌<◌, ◌∙◌, ◌++◌, ◌∷◌, [], List, ℕ, zero, suc, Bool, true, false, ◌||◌, length, nat_lt, ap, sym, refl}
 use Rattle.std.proofs.Math.Nat.{lt-suc_self}
+use Rattle.std.specs.Prelude.{Result, Ok, Err}
+use Rattle.std.specs.Result.{OnErr}
 use Rattle.ados_text.specs.Text.{Text}
 use Rattle.ados_text.specs.declared.codes.Code.{Code}
 use Rattle.ados_flow.specs.declared.kinds.Kind.{Kind}
@@ -36,6 +38,11 @@ marked_request number (Waiting (ForLines gathering)) = refl
 marked_request number (Waiting (ForStart starting)) = refl
 marked_request number (Waiting (ForPiece child)) = refl
 marked_request number (Waiting (ForEnd child)) = refl
+
+-- what holds of an error
+pub on_err : {T E P : Type 0} (result : Result T E) → P → OnErr result P
+on_err (Ok value) p = tt
+on_err (Err fault) p = p
 
 never : true ≡ false → ⊥
 never e = cc

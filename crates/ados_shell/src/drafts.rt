@@ -219,10 +219,7 @@ impl Draft {
         requires { IsUnset self.old }
         ensures { HoldsEffect number self.old self.new (option_map (λ c. c.value) change) shared (option_map (λ r. r.value) renamed) breaking }
     {
-        self.shell.flagged |= flags_own(number, breaking);
-        if let Some(change) = change {
-            self.shell.change(Box::into_inner(change));
-        }
+        self.shell.affect(change, flags_own(number, breaking));
         if let Some(shared) = shared {
             self.shared = Some(shared);
         }

@@ -1,5 +1,5 @@
 // What a turn makes of its shell, ready to be moved in.
-ghost use Rattle.std.specs.Prelude.{◌≡◌, None, false, IfOk, OnErr, OnOk};
+ghost use Rattle.std.specs.Prelude.{◌≡◌, ◌||◌, None, false, option_map, IfOk, OnErr, OnOk};
 
 use crate::drafts::ShellDraft;
 use crate::seen::Others;
@@ -11,7 +11,7 @@ use ados_ram::Place;
 use ados_text::NoMemory;
 
 impl ShellDraft {
-    ghost use Rattle.ados_find.specs.Changes.{changed_by};
+    ghost use Rattle.ados_find.specs.Changes.{changed, changed_by};
     ghost use Rattle.ados_machine.specs.Shells.{ShellState};
     ghost use Rattle.ados_shell.specs.Drafts.{IsUnchanged, behind, phase_in};
     ghost use Rattle.ados_machine.specs.Requests.{request_of};
@@ -68,6 +68,20 @@ impl ShellDraft {
             None => shell.directory(),
             Some(directory) => directory,
         }
+    }
+
+    /// A command changed one of the shell's parts, or none, and may have flagged the shell.
+    pub(crate) fn affect(&mut self, change: Option<Box<Change>>, flags: bool)
+        requires { self.old.setting ≡ None }
+        ensures parts { (shell : ShellState) → (behind self.new shell).parts ≡ changed (option_map (λ c. c.value) change) (behind self.old shell).parts }
+        ensures frames { self.new.frames ≡ self.old.frames }
+        ensures kept { self.new.kept ≡ self.old.kept }
+        ensures flag { self.new.flagged ≡ (self.old.flagged || flags) }
+    {
+        if let Some(change) = change {
+            self.change(Box::into_inner(change));
+        }
+        self.flagged |= flags;
     }
 
     /// A command changed one of the shell's parts.
