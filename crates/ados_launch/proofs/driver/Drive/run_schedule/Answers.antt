@@ -1,4 +1,4 @@
-use Rattle.std.proofs.Common.{rules, IsErrOf, ◌≡◌, ◌+◌, [], Some, refl, sym, ◌∙◌, ap, arith, absurd}
+use Rattle.std.proofs.Common.{rules, IsErrOf, ◌≡◌, ◌+◌, [], Some, refl, sym, ◌∙◌, ap, arith}
 use Rattle.ados_launch.proofs.Agreeing.{agrees-whole}
 use Rattle.ados_launch.proofs.Coming.{due-none, due-some, in-round, next-none, passed-taken, standing-in_round}
 use Rattle.ados_launch.proofs.Outcomes.{comes-by, ends, stops-memory, stops-read, stops-turns, stops-write}
@@ -290,8 +290,8 @@ returns-then-is_over-clause-comes_to g c =
 pub returns-then-is_over-clause-whole : goal.returns-then-is_over-clause-whole
 returns-then-is_over-clause-whole g c = agrees-whole c.loop-events.world (g.L.Launcher.calls c.loop-events.launcher) c.loop-events.invariant.agrees
 
-pub returns-else-is_over-clause-comes_to : goal.returns-else-is_over-clause-comes_to
-returns-else-is_over-clause-comes_to g c =
+pub returns-clause-comes_to : goal.returns-clause-comes_to
+returns-clause-comes_to g c =
     let i = c.loop-events.invariant in
     let some = due-some (due c.loop-events.schedule.round c.loop-events.world) c.is_over.result c.is_over.ensures c.if-is_over.false in
     stops-turns c.args.self.now.turns c.loop-events.events c.args.self.now.breaks.now (record {
@@ -315,5 +315,5 @@ returns-else-is_over-clause-comes_to g c =
     }) c.loop-events.schedule c.loop-events.held i.driven (omega arith) i.few
     (running c.loop-events.schedule.round some.0 c.loop-events.world i.in_round some.1) i.reader (i.writer, i.stalls)
 
-pub returns-else-is_over-clause-whole : goal.returns-else-is_over-clause-whole
-returns-else-is_over-clause-whole g c = agrees-whole c.loop-events.world (g.L.Launcher.calls c.loop-events.launcher) c.loop-events.invariant.agrees
+pub returns-clause-whole : goal.returns-clause-whole
+returns-clause-whole g c = agrees-whole c.loop-events.world (g.L.Launcher.calls c.loop-events.launcher) c.loop-events.invariant.agrees
