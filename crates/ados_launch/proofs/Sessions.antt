@@ -94,7 +94,7 @@ driven-cut before mid now breaks n m standing rest later next out d here stays t
   calls_are = calls-more before.calls mid.calls now.calls d.listed t.listed d.calls_are t.calls_are;
 }
 
-full-session : (was_full is_full : Bool) (before : Moment) (breaks : List BreakAt) (listed : List Call) (taken : List Taken) (last : WorldState) → (was_full ≡ true → is_full ≡ true)
+pub full-session : (was_full is_full : Bool) (before : Moment) (breaks : List BreakAt) (listed : List Call) (taken : List Taken) (last : WorldState) → (was_full ≡ true → is_full ≡ true)
     → Session before.world before.left breaks before.calls was_full listed taken last → Session before.world before.left breaks before.calls is_full listed taken last
 full-session was_full is_full before breaks listed taken last stays s = record {
   run = s.run;

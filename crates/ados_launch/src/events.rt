@@ -112,7 +112,7 @@ fn take_event<L: Launcher, S: Source>(
     ensures reading { IsErrOf result DriveFault.Read → place ≡ 0 }
     ensures memory_honest { IsErrOf result DriveFault.Memory → S.faults reader.new ≡ S.faults reader.old }
     ensures no_write { IsErrOf result DriveFault.Write → ⊥ }
-    ensures no_turns { IsErrOf result DriveFault.Turns → ⊥ }
+    ensures none_turns { IsErrOf result DriveFault.Turns → ⊥ }
 {
     if place < 1 {
         take_next_line(alloc, world, held, reader, line, draft)

@@ -1,4 +1,4 @@
-use Rattle.std.proofs.Common.{rules, IsErrOf, ◌≡◌, ◌+◌, [], Some, refl, sym, ◌∙◌, ap, arith, absurd}
+use Rattle.std.proofs.Common.{rules, IsErrOf, ◌≡◌, ◌+◌, [], Some, refl, sym, ◌∙◌, ap, arith}
 use Rattle.ados_launch.proofs.Agreeing.{agrees-whole}
 use Rattle.ados_launch.proofs.Coming.{due-none, due-some, in-round, next-none, passed-taken, standing-in_round}
 use Rattle.ados_launch.proofs.Outcomes.{comes-by, ends, stops-memory, stops-read, stops-turns, stops-write}
@@ -25,15 +25,15 @@ loop-events-init g c = record {
   agrees = c.requires.agrees;
   children = c.requires.children;
   driven = driven-none (record {
-      world = c.args.world.now;
-      left = g.S.Source.left c.args.reader.now;
-      read_faults = g.S.Source.faults c.args.reader.now;
-      contents = g.K.Sink.contents c.args.writer.now;
-      write_faults = g.K.Sink.faults c.args.writer.now;
-      stalls = g.K.Sink.stalls c.args.writer.now;
-      calls = g.L.Launcher.calls c.args.launcher.now;
-      is_full = g.L.Launcher.is_full c.args.launcher.now;
-    }) c.args.self.now.breaks.now c.new-schedule.result _ (rw c.new-held.ensures (search rules)) c.new-schedule.ensures c.requires.agrees;
+    world = c.args.world.now;
+    left = g.S.Source.left c.args.reader.now;
+    read_faults = g.S.Source.faults c.args.reader.now;
+    contents = g.K.Sink.contents c.args.writer.now;
+    write_faults = g.K.Sink.faults c.args.writer.now;
+    stalls = g.K.Sink.stalls c.args.writer.now;
+    calls = g.L.Launcher.calls c.args.launcher.now;
+    is_full = g.L.Launcher.is_full c.args.launcher.now;
+  }) c.args.self.now.breaks.now c.new-schedule.result _ (rw c.new-held.ensures (search rules)) c.new-schedule.ensures c.requires.agrees;
 }
 
 pub loop-events-preserved : goal.loop-events-preserved
@@ -54,33 +54,33 @@ loop-events-preserved g c =
       agrees = c.in_ok-take_next.ensures.agrees;
       children = c.take_next.ensures.children;
       driven = driven-more (record {
-      world = c.args.world.now;
-      left = g.S.Source.left c.args.reader.now;
-      read_faults = g.S.Source.faults c.args.reader.now;
-      contents = g.K.Sink.contents c.args.writer.now;
-      write_faults = g.K.Sink.faults c.args.writer.now;
-      stalls = g.K.Sink.stalls c.args.writer.now;
-      calls = g.L.Launcher.calls c.args.launcher.now;
-      is_full = g.L.Launcher.is_full c.args.launcher.now;
-    }) (record {
-      world = c.loop-events.world;
-      left = g.S.Source.left c.loop-events.reader;
-      read_faults = g.S.Source.faults c.loop-events.reader;
-      contents = g.K.Sink.contents c.loop-events.writer;
-      write_faults = g.K.Sink.faults c.loop-events.writer;
-      stalls = g.K.Sink.stalls c.loop-events.writer;
-      calls = g.L.Launcher.calls c.loop-events.launcher;
-      is_full = g.L.Launcher.is_full c.loop-events.launcher;
-    }) (record {
-      world = c.take_next.new.world;
-      left = g.S.Source.left c.take_next.new.reader;
-      read_faults = g.S.Source.faults c.take_next.new.reader;
-      contents = g.K.Sink.contents c.write_whole.new.writer;
-      write_faults = g.K.Sink.faults c.write_whole.new.writer;
-      stalls = g.K.Sink.stalls c.write_whole.new.writer;
-      calls = g.L.Launcher.calls c.take_next.new.launcher;
-      is_full = g.L.Launcher.is_full c.take_next.new.launcher;
-    }) c.args.self.now.breaks.now c.loop-events.events c.loop-events.schedule c.pass.new.self _ _ (next_as c.in-Some.next) c.take_next.new.draft.printed.items
+        world = c.args.world.now;
+        left = g.S.Source.left c.args.reader.now;
+        read_faults = g.S.Source.faults c.args.reader.now;
+        contents = g.K.Sink.contents c.args.writer.now;
+        write_faults = g.K.Sink.faults c.args.writer.now;
+        stalls = g.K.Sink.stalls c.args.writer.now;
+        calls = g.L.Launcher.calls c.args.launcher.now;
+        is_full = g.L.Launcher.is_full c.args.launcher.now;
+      }) (record {
+        world = c.loop-events.world;
+        left = g.S.Source.left c.loop-events.reader;
+        read_faults = g.S.Source.faults c.loop-events.reader;
+        contents = g.K.Sink.contents c.loop-events.writer;
+        write_faults = g.K.Sink.faults c.loop-events.writer;
+        stalls = g.K.Sink.stalls c.loop-events.writer;
+        calls = g.L.Launcher.calls c.loop-events.launcher;
+        is_full = g.L.Launcher.is_full c.loop-events.launcher;
+      }) (record {
+        world = c.take_next.new.world;
+        left = g.S.Source.left c.take_next.new.reader;
+        read_faults = g.S.Source.faults c.take_next.new.reader;
+        contents = g.K.Sink.contents c.write_whole.new.writer;
+        write_faults = g.K.Sink.faults c.write_whole.new.writer;
+        stalls = g.K.Sink.stalls c.write_whole.new.writer;
+        calls = g.L.Launcher.calls c.take_next.new.launcher;
+        is_full = g.L.Launcher.is_full c.take_next.new.launcher;
+      }) c.args.self.now.breaks.now c.loop-events.events c.loop-events.schedule c.pass.new.self _ _ (next_as c.in-Some.next) c.take_next.new.draft.printed.items
           i.driven here c.take_next.ensures.stays c.in_ok-take_next.ensures.took c.in_ok-take_next.ensures.agrees (rw c.as_slice.ensures.value at c.in_ok-write_whole.ensures.whole) behind;
     }
 
@@ -290,8 +290,8 @@ returns-then-is_over-clause-comes_to g c =
 pub returns-then-is_over-clause-whole : goal.returns-then-is_over-clause-whole
 returns-then-is_over-clause-whole g c = agrees-whole c.loop-events.world (g.L.Launcher.calls c.loop-events.launcher) c.loop-events.invariant.agrees
 
-pub returns-else-is_over-clause-comes_to : goal.returns-else-is_over-clause-comes_to
-returns-else-is_over-clause-comes_to g c =
+pub returns-clause-comes_to : goal.returns-clause-comes_to
+returns-clause-comes_to g c =
     let i = c.loop-events.invariant in
     let some = due-some (due c.loop-events.schedule.round c.loop-events.world) c.is_over.result c.is_over.ensures c.if-is_over.false in
     stops-turns c.args.self.now.turns c.loop-events.events c.args.self.now.breaks.now (record {
@@ -315,5 +315,5 @@ returns-else-is_over-clause-comes_to g c =
     }) c.loop-events.schedule c.loop-events.held i.driven (omega arith) i.few
     (running c.loop-events.schedule.round some.0 c.loop-events.world i.in_round some.1) i.reader (i.writer, i.stalls)
 
-pub returns-else-is_over-clause-whole : goal.returns-else-is_over-clause-whole
-returns-else-is_over-clause-whole g c = agrees-whole c.loop-events.world (g.L.Launcher.calls c.loop-events.launcher) c.loop-events.invariant.agrees
+pub returns-clause-whole : goal.returns-clause-whole
+returns-clause-whole g c = agrees-whole c.loop-events.world (g.L.Launcher.calls c.loop-events.launcher) c.loop-events.invariant.agrees
