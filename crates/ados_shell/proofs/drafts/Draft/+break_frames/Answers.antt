@@ -1,4 +1,4 @@
-use Rattle.std.proofs.Common.{◌≡◌, ◌∙◌, ◌∷◌, List, ℕ, length, None, refl, sym, ap, subst, true, false}
+use Rattle.std.proofs.Common.{◌≡◌, ◌∙◌, ◌∷◌, List, ℕ, length, None, refl, sym, ap, subst, arith, true, false}
 use Rattle.std.proofs.lemmas.Result.{on_ok_weaker}
 use Rattle.std.specs.Prelude.{Option}
 use Rattle.ados_find.specs.declared.codes.Codes.{Codes}
@@ -19,8 +19,9 @@ break_frames-requires t c =
     let before = c.args.self.now in
     let P : Option FrameState → Type 0 = IsPopped scene.shell.now before.shell.frames c.pop.new.self in
     let mid : Draft = record before { shell = record before.shell { phase = None; frames = c.pop.new.self } } in
-    (frames-fewer scene before mid c.report_break.new.self c.give_up.new.self c.in-Some.frame (frames_in scene.shell.now c.pop.new.self)
-    (subst P c.in-Some.is c.in_ok-frame.ensures) refl c.in_ok-report_break.ensures c.in_ok-give_up.ensures, tt)
+    let fewer = frames-fewer scene before mid c.report_break.new.self c.give_up.new.self c.in-Some.frame (frames_in scene.shell.now c.pop.new.self)
+    (subst P c.in-Some.is c.in_ok-frame.ensures) refl c.in_ok-report_break.ensures c.in_ok-give_up.ensures in
+    (omega (arith, fewer, c.decreases), tt)
 
 pub returns-then-has_script : goal.returns-then-has_script
 returns-then-has_script t c =
