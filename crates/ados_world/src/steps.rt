@@ -8,6 +8,7 @@ ghost use Rattle.ados_machine.specs.World.{is_over, shell_at};
 ghost use Rattle.ados_machine.specs.Step.{step_of, turned, answered, broken, giving, queue_behind};
 ghost use Rattle.ados_machine.specs.Runs.{IsAnswer, world_after};
 ghost use Rattle.ados_machine.specs.declared.refusals.Refusal.TheVariants.{NoMemory as WantOfMemory};
+ghost use Rattle.ados_find.specs.Shared.{version};
 ghost use Rattle.ados_shell.specs.Drafts.{out_of};
 ghost use Rattle.ados_world.specs.Laws.{FailedStart, tells_break};
 ghost use Rattle.ados_world.specs.Shells.{IsShellNumber};
@@ -187,10 +188,7 @@ impl World {
         join(&mut self.shells, begun);
         break_other(&mut self.shells, number, draft.breaking);
         end_done(&mut self.shells, &mut self.ended, number);
-        match draft.shared.take() {
-            None => learn(self.alloc, &mut self.shared, draft.asked.take()),
-            Some(new) => self.shared = new,
-        }
+        renew(self.alloc, &mut self.shared, draft.shared.take(), draft.asked.take());
         Ok(())
     }
 
@@ -212,6 +210,16 @@ impl World {
         ensures { self.new ≡ ended_world number codes self.old }
     {
         end(&mut self.shells, &mut self.ended, number, codes);
+    }
+}
+
+// The shared parts become new ones, where there are any; else their cache learns what was asked.
+fn renew(alloc: Global, shared: &mut Shared, new: Option<Shared>, asked: Option<Box<Question>>)
+    ensures { shared.new ≡ version shared.old new }
+{
+    match new {
+        None => learn(alloc, shared, asked),
+        Some(new) => *shared = new,
     }
 }
 
