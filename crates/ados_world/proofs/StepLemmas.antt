@@ -1,6 +1,8 @@
 -- What a turn changes, moved in, is the machine's world behind the turn.
 use Rattle.std.proofs.Common.{◌≡◌, ◌∙◌, ◌-◌, ◌++◌, ℕ, List, [], false, Option, Some, None, Result, Ok, Err, IfErr, OnErr, OnOk, drop, ap, sym, refl, subst}
-use Rattle.std.specs.Prelude.{◌==◌, if◌then◌else◌}
+use Rattle.std.specs.Prelude.{◌==◌, true, is_some, if◌then◌else◌}
+use Rattle.std.specs.Borrow.{Bor}
+use Rattle.std.specs.Option.{option_copied}
 use Rattle.std.proofs.Common.{inl, inr}
 use Rattle.std.proofs.lemmas.Bool.{cases_Bool}
 use Rattle.ados_find.specs.declared.codes.Codes.{Codes}
@@ -10,6 +12,8 @@ use Rattle.ados_machine.specs.declared.events.Event.TheVariants as event
 use Rattle.ados_machine.specs.declared.outs.Out.{Out}
 use Rattle.ados_machine.specs.declared.refusals.Refusal.{Refusal}
 use Rattle.ados_machine.specs.declared.refusals.Refusal.TheVariants.{NoMemory, Over, WrongAnswer}
+use Rattle.ados_machine.specs.declared.events.Kind.{Kind}
+use Rattle.ados_machine.specs.Breaks.{breaks_by, broken_number}
 use Rattle.ados_machine.specs.Items.{Item, reports_of}
 use Rattle.ados_machine.specs.Shells.{ShellState}
 use Rattle.ados_machine.specs.Limits.{IsSane}
@@ -22,7 +26,7 @@ use Rattle.ados_machine.specs.Requests.{request_of}
 use Rattle.ados_machine.specs.declared.answers.Answer.{Answer as Reply}
 use Rattle.ados_shell.specs.declared.answers.Answering.TheVariants as reply
 use Rattle.ados_shell.specs.Answerings.{IsAnswering, answering_in}
-use Rattle.ados_machine.specs.Step.{Response, Refused, Accepted, applied, begun_items, giving, of_shell, queue_behind, start, turned, unflagged, answered as answered_of}
+use Rattle.ados_machine.specs.Step.{Response, Refused, Accepted, applied, begun_items, giving, of_shell, queue_behind, start, turned, unflagged, answered as answered_of, broken}
 use Rattle.ados_machine.proofs.Sane.{sane-after}
 use Rattle.ados_shell.specs.declared.drafts.Draft.{Draft}
 use Rattle.ados_shell.specs.declared.scenes.Scene.{Scene}
@@ -267,3 +271,21 @@ pub sane-answered : (w world : WorldState) (k : ℕ) (answer : Reply) (given : O
 sane-answered w world k answer given sane over (items, e) =
     (let P : Response → Type 0 = λ r. IsSane (world_after w (Ok given) r) in
     subst P (ap (λ b. if b then Refused Over else answered_of w k answer (shell_at w k)) over ∙ e) (sane-after w (event.Answer k answer) (Ok given) sane))
+
+-- a shell that is shown runs
+pub copied-some : {X : Type 0} (shown : Option (Bor X)) → is_some shown ≡ true → is_some (option_copied shown) ≡ true
+copied-some None e = e
+copied-some (Some shell) e = refl
+
+found-broken : (w : WorldState) (k : ℕ) (kind : Kind) (found : Option ShellState) → shell_at w k ≡ found → is_some found ≡ true → IsSane w → is_over w ≡ false
+    → IsSane (record w { shells = broken_number (breaks_by kind) k w.shells })
+found-broken w k kind None e runs sane over = cc
+found-broken w k kind (Some shell) e runs sane over =
+    (let given : Out = giving [] None [] in
+    let P : Response → Type 0 = λ r. IsSane (world_after w (Ok given) r) in
+    subst P (ap (λ b. if b then Refused Over else broken w k kind (shell_at w k)) over ∙ ap (λ f. broken w k kind f) e) (sane-after w (event.Break k kind) (Ok given) sane))
+
+-- no script runs on behind a failure in the world that a break leaves
+pub sane-broken : (w : WorldState) (k : ℕ) (kind : Kind) → IsSane w → is_over w ≡ false → is_some (shell_at w k) ≡ true
+    → IsSane (record w { shells = broken_number (breaks_by kind) k w.shells })
+sane-broken w k kind sane over runs = found-broken w k kind (shell_at w k) refl runs sane over
