@@ -95,9 +95,9 @@ next-none s w e = sym (none-due (next_by (first_before (s.taken + 1) (breaks_lef
 
 -- by the test whether something is due
 pub due-none : (place : Option ℕ) (over : Bool) → over ≡ is_none place → over ≡ true → None ≡ place
-due-none None over is yes = refl
-due-none (Some k) over is yes = cc
+due-none None over is told = refl
+due-none (Some k) over is told = cc
 
 pub due-some : (place : Option ℕ) (over : Bool) → over ≡ is_none place → over ≡ false → (k : ℕ) × (Some k ≡ place)
-due-some None over is no = cc
-due-some (Some k) over is no = (k, refl)
+due-some None over is told = cc
+due-some (Some k) over is told = (k, refl)

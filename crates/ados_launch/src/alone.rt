@@ -146,7 +146,7 @@ pub fn system<L: Launcher>(
 // Appends what an event printed. Where it printed nothing no room is needed.
 fn append(out: &mut Vec<u8>, printed: &[u8]) -> Result<(), AllocError>
     ensures grown { OnOk result (out.new.items ≡ out.old.items ++ printed.now) }
-    ensures kept { OnErr result (out.new ≡ out.old) }
+    ensures kept { OnErr result (out.new.items ≡ out.old.items) }
     ensures some { OnErr result (0 < length printed.now) }
 {
     if printed.is_empty() {

@@ -4,6 +4,7 @@ use Rattle.ados_launch.proofs.Coming.{due-none, due-some, in-round, next-none, p
 use Rattle.ados_launch.proofs.Outcomes.{comes-by, ends, stops-memory, stops-read, stops-turns, stops-write}
 use Rattle.ados_launch.proofs.Places.{idle, running}
 use Rattle.ados_launch.proofs.Sessions.{driven-more, driven-none}
+use Rattle.ados_launch.specs.Lines.{ahead}
 use Rattle.ados_launch.specs.Rounds.{due, IsIdle}
 use Rattle.ados_launch.specs.Schedule.{next_as, next_in, standing_behind}
 use Rattle.ados_launch.specs.declared.faults.DriveFault.TheVariants.{Memory, Read, Turns, Write}
@@ -80,7 +81,7 @@ loop-events-preserved g c =
         stalls = g.K.Sink.stalls c.write_whole.new.writer;
         calls = g.L.Launcher.calls c.take_next.new.launcher;
         is_full = g.L.Launcher.is_full c.take_next.new.launcher;
-      }) c.args.self.now.breaks.now c.loop-events.events c.loop-events.schedule c.pass.new.self _ _ (next_as c.in-Some.next) c.take_next.new.draft.printed.items
+      }) c.args.self.now.breaks.now c.loop-events.events c.loop-events.schedule c.pass.new.self (ahead c.loop-events.held (g.S.Source.left c.loop-events.reader)) (ahead c.take_next.new.held (g.S.Source.left c.take_next.new.reader)) (next_as c.in-Some.next) c.take_next.new.draft.printed.items
           i.driven here c.take_next.ensures.stays c.in_ok-take_next.ensures.took c.in_ok-take_next.ensures.agrees (rw c.as_slice.ensures.value at c.in_ok-write_whole.ensures.whole) behind;
     }
 
@@ -137,7 +138,7 @@ returns-in_err-take_next-clause-comes_to g c =
       stalls = g.K.Sink.stalls c.loop-events.writer;
       calls = g.L.Launcher.calls c.take_next.new.launcher;
       is_full = g.L.Launcher.is_full c.take_next.new.launcher;
-    }) c.loop-events.schedule _ (next_as c.in-Some.next) dropped.0 i.driven c.loop-events-test.true i.in_round here
+    }) c.loop-events.schedule (ahead c.loop-events.held (g.S.Source.left c.loop-events.reader)) (next_as c.in-Some.next) dropped.0 i.driven c.loop-events-test.true i.in_round here
     c.take_next.ensures.stays c.in_err-take_next.ensures.err refl dropped.2 dropped.1 (c.take_next.ensures.memory_honest failed ∙ i.reader) (i.writer, i.stalls))
     (λ is.
     let failed : IsErrOf c.take_next.result Read = search rules in
@@ -168,7 +169,7 @@ returns-in_err-take_next-clause-comes_to g c =
       stalls = g.K.Sink.stalls c.loop-events.writer;
       calls = g.L.Launcher.calls c.take_next.new.launcher;
       is_full = g.L.Launcher.is_full c.take_next.new.launcher;
-    }) c.loop-events.schedule _ c.take_next.new.held i.driven c.loop-events-test.true (rw (c.take_next.ensures.reading failed) at here)
+    }) c.loop-events.schedule (ahead c.loop-events.held (g.S.Source.left c.loop-events.reader)) c.take_next.new.held i.driven c.loop-events-test.true (rw (c.take_next.ensures.reading failed) at here)
     c.take_next.ensures.stays c.in_err-take_next.ensures.err refl (c.take_next.ensures.unasked failed) (c.take_next.ensures.few i.few) i.reader (c.take_next.ensures.read failed) (i.writer, i.stalls))
     (λ is.
     let failed : IsErrOf c.take_next.result Write = search rules in
@@ -231,7 +232,7 @@ returns-in_err-write_whole-clause-comes_to g c =
       stalls = g.K.Sink.stalls c.write_whole.new.writer;
       calls = g.L.Launcher.calls c.take_next.new.launcher;
       is_full = g.L.Launcher.is_full c.take_next.new.launcher;
-    }) c.loop-events.schedule _ _ (next_as c.in-Some.next) c.take_next.new.draft.printed.items i.driven c.loop-events-test.true here
+    }) c.loop-events.schedule (ahead c.loop-events.held (g.S.Source.left c.loop-events.reader)) (ahead c.take_next.new.held (g.S.Source.left c.take_next.new.reader)) (next_as c.in-Some.next) c.take_next.new.draft.printed.items i.driven c.loop-events-test.true here
     c.take_next.ensures.stays c.in_ok-take_next.ensures.took c.in_ok-take_next.ensures.agrees (rw c.as_slice.ensures.value at front.1) (rw c.as_slice.ensures.value at front.2) (c.in_ok-take_next.ensures.honest ∙ i.reader)
     (rw (i.writer, i.stalls) at c.in_err-write_whole.ensures.cause))
     (λ is. cc)
