@@ -11,7 +11,7 @@ use Rattle.ados_machine.specs.declared.events.Event.{Event}
 use Rattle.ados_machine.specs.declared.events.Event.TheVariants as event
 use Rattle.ados_machine.specs.declared.outs.Out.{Out}
 use Rattle.ados_machine.specs.declared.refusals.Refusal.{Refusal}
-use Rattle.ados_machine.specs.declared.refusals.Refusal.TheVariants.{NoMemory, Over, WrongAnswer}
+use Rattle.ados_machine.specs.declared.refusals.Refusal.TheVariants.{NoMemory, NotReady, Over, WrongAnswer}
 use Rattle.ados_machine.specs.declared.events.Kind.{Kind}
 use Rattle.ados_machine.specs.Breaks.{breaks_by, broken_number}
 use Rattle.ados_machine.specs.Items.{Item, reports_of}
@@ -198,6 +198,23 @@ turn-ends w k shell scene input draft codes s e c t =
     (let P : turning.Turning → Type 0 = λ x. IsTurning scene (input_of w k).queue turn.Ends draft x in
     let Q : Codes → Type 0 = λ x. Accepts (turned w k (shell_at w k)) (ended_world k x w) (giving [] None []) in
     subst Q (sym c) (to-turned w _ k _ shell s.here (ends w k shell scene draft _ (subst P (turning-is w k shell scene input s e) t))))
+
+-- a turn that was refused
+refuses : (w : WorldState) (k : ℕ) (shell : ShellState) (scene : Scene) (draft : Draft) (turning : turning.Turning)
+    → IsTurning scene (input_of w k).queue turn.NotReady draft turning
+    → IsAnswer (event.Turn k) (Err NotReady) (applied w k shell.parts.codes turning)
+refuses w k shell scene draft (turning.Refuses why) t = sym t
+refuses w k shell scene draft turning.Ends t = absurd t
+refuses w k shell scene draft (turning.Takes rest turned) t = absurd t
+
+pub turn-refused : (w : WorldState) (k : ℕ) (shell : ShellState) (scene : Scene) (input : Input) (draft : Draft)
+    → Shows w k shell scene → input.is_ended ≡ (input_of w k).is_ended
+    → IsTurning scene (input_of w k).queue turn.NotReady draft (turning_in scene input (input_of w k).queue)
+    → IsAnswer (event.Turn k) (Err NotReady) (turned w k (shell_at w k))
+turn-refused w k shell scene input draft s e t =
+    (let P : Response → Type 0 = λ r. IsAnswer (event.Turn k) (Err NotReady) r in
+    let Q : turning.Turning → Type 0 = λ x. IsTurning scene (input_of w k).queue turn.NotReady draft x in
+    subst P (sym (ap (turned w k) s.here)) (refuses w k shell scene draft _ (subst Q (turning-is w k shell scene input s e) t)))
 
 -- the same world with other lines that wait
 pub sane-taken : (w : WorldState) (queue : List (List ℕ)) → IsSane (record w { queue = queue }) → IsSane w
