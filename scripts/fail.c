@@ -1,8 +1,8 @@
 /* Lets calls of the system fail in a program, and in none that it starts. Built by scripts/fail-each-call and put before the
    C library by LD_PRELOAD. FAIL_CALL names the kind of the calls: `read`, of standard input; `write`, to standard output;
    `piece`, a read of a pipe that is not standard input; `wait`, for a process; `pipe`, the making of one; `start`, of a process.
-   Of these the one whose number, from 1, FAIL_AT gives fails with the error FAIL_ERRNO, or where that is 0 moves no byte; where
-   it came, the file that FAIL_MARK names is made. Each read or write of the kind moves at most FAIL_BYTES bytes, where that is
+   Of these the one whose number, from 1, FAIL_AT gives fails with the error FAIL_ERRNO, or where that is 0 moves no byte, and
+   so does each after it where FAIL_ON is given; where it came, the file that FAIL_MARK names is made. Each read or write of the kind moves at most FAIL_BYTES bytes, where that is
    given. A wait that fails has waited, unless it was interrupted. */
 #define _GNU_SOURCE
 #include <dlfcn.h>
@@ -20,7 +20,7 @@
 static const char *failing;
 static long calls, at;
 static size_t most = (size_t)-1;
-static int error;
+static int error, goes_on;
 
 __attribute__((constructor)) static void begin(void) {
     const char *number = getenv("FAIL_AT"), *bytes = getenv("FAIL_BYTES"), *why = getenv("FAIL_ERRNO");
@@ -28,6 +28,7 @@ __attribute__((constructor)) static void begin(void) {
     if (number) at = atol(number);
     if (bytes) most = (size_t)atol(bytes);
     if (why) error = atoi(why);
+    goes_on = getenv("FAIL_ON") != NULL;
     unsetenv("LD_PRELOAD"); /* what is started is left alone */
 }
 
@@ -35,7 +36,7 @@ static int is_kind(const char *kind) { return failing && strcmp(kind, failing) =
 
 /* Counts a call of this kind, and tells whether it is the one that fails. */
 static int fails(const char *kind) {
-    if (!is_kind(kind) || ++calls != at) return 0;
+    if (!is_kind(kind) || ++calls < at || (calls > at && !goes_on)) return 0;
     const char *file = getenv("FAIL_MARK");
     if (file) close(open(file, O_CREAT | O_WRONLY, 0600));
     errno = error;

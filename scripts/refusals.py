@@ -1,30 +1,54 @@
 """Runs a program again and again, and refuses one request for memory in each run: the first, the second, the third .."""
 import os
 import subprocess
+import sys
+from concurrent.futures import ProcessPoolExecutor
 
 ROOT = os.path.dirname(os.path.dirname(os.path.realpath(__file__)))
+sys.path.insert(0, f"{ROOT}/examples")
+from real_programs import adopt, ran
+
+
+def workers():
+    """Processes, one a processor, each of which counts those that its own runs leave."""
+    return ProcessPoolExecutor(len(os.sched_getaffinity(0)), initializer=adopt)
+
+
+def library(room, name):
+    """The library of scripts/NAME.c, built in a folder."""
+    path = f"{room}/{name}.so"
+    subprocess.run(["gcc", "-shared", "-fPIC", "-O1", "-o", path, f"{ROOT}/scripts/{name}.c", "-ldl"], check=True)
+    return path
+
+
+def was_marked(mark):
+    """Says whether a file was made, and removes it."""
+    if not os.path.exists(mark):
+        return False
+    os.remove(mark)
+    return True
 
 
 class Refusals:
-    """The library that refuses, in a folder of its own."""
+    """The library that refuses, in a folder of its own. After the first `each` requests of a program one in `step` is refused."""
 
-    def __init__(self, room):
-        self.room = room
-        self.library = f"{room}/refuse.so"
-        subprocess.run(["gcc", "-shared", "-fPIC", "-O1", "-o", self.library, f"{ROOT}/scripts/refuse.c", "-ldl"], check=True)
+    def __init__(self, room, each, step):
+        self.room, self.each, self.step = room, each, step
+        self.library = library(room, "refuse")
 
-    def runs(self, name, words, given, each, step):
-        """Gives the number of each request that was refused, and how that run ended; of those behind `each` one in `step`.
+    def runs(self, name, words, given, folder="."):
+        """Gives the number of each request that was refused, how that run ended, and whether the program waited for a process
+        that was not there.
 
-        The words are the program's, `given` is its standard input, and the name is that of no other run at the time.
+        The words are the program's, which runs in the folder, `given` is its standard input, and the name is that of no other
+        run at the time.
         """
-        mark = f"{self.room}/{name}.refused"
+        refused, missed = f"{self.room}/{name}.refused", f"{self.room}/{name}.missed"
         number = 0
         while True:
-            number += 1 if number < each else step
-            shown = {**os.environ, "LD_PRELOAD": self.library, "REFUSE": str(number), "REFUSED": mark}
-            ran = subprocess.run(words, input=given, env=shown, capture_output=True, timeout=60)
-            if not os.path.exists(mark):
+            number += 1 if number < self.each else self.step
+            more = {"LD_PRELOAD": self.library, "REFUSE": str(number), "REFUSED": refused, "MISSED": missed}
+            came = ran(words, given, folder, more)
+            if not was_marked(refused):
                 return
-            os.remove(mark)
-            yield number, ran
+            yield number, came, was_marked(missed)

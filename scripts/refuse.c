@@ -1,14 +1,25 @@
-/* Refuses one request for memory of a program: the one whose number, from 1, REFUSE names. Built by
-   scripts/refusals.py and put before the C library by LD_PRELOAD. Where that request came, the
-   file that REFUSED names is made. */
+/* Refuses one request for memory of a program, and none of those that it starts: the one whose number, from 1, REFUSE names.
+   Built by scripts/refusals.py and put before the C library by LD_PRELOAD. Where that request came, the file that REFUSED names
+   is made; and where the program waits for a process that is not there, as for one that it waited for before, that of MISSED. */
 #define _GNU_SOURCE
 #include <dlfcn.h>
 #include <errno.h>
 #include <fcntl.h>
 #include <stdlib.h>
+#include <sys/types.h>
 #include <unistd.h>
 
 static long requests = -1, refused;
+
+__attribute__((constructor)) static void begin(void) {
+    unsetenv("LD_PRELOAD"); /* what is started is left alone */
+}
+
+/* Makes the file that a variable names. */
+static void mark(const char *name) {
+    const char *file = getenv(name);
+    if (file) close(open(file, O_CREAT | O_WRONLY, 0600));
+}
 
 static int is_refused(void) {
     if (requests < 0) {
@@ -17,8 +28,7 @@ static int is_refused(void) {
         requests = 0;
     }
     if (++requests != refused) return 0;
-    const char *file = getenv("REFUSED");
-    if (file) close(open(file, O_CREAT | O_WRONLY, 0600));
+    mark("REFUSED");
     errno = ENOMEM;
     return 1;
 }
@@ -56,4 +66,15 @@ int posix_memalign(void **at, size_t alignment, size_t size) {
     static int (*next)(void **, size_t, size_t);
     if (!next) next = dlsym(RTLD_NEXT, "posix_memalign");
     return is_refused() ? ENOMEM : next(at, alignment, size);
+}
+
+pid_t waitpid(pid_t child, int *status, int options) {
+    static pid_t (*next)(pid_t, int *, int);
+    if (!next) next = dlsym(RTLD_NEXT, "waitpid");
+    pid_t ended = next(child, status, options);
+    if (ended < 0 && errno == ECHILD) {
+        mark("MISSED");
+        errno = ECHILD;
+    }
+    return ended;
 }

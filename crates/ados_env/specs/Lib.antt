@@ -20,5 +20,6 @@ pub mod Path
 pub mod Which
 pub mod Status
 pub mod Resident
+pub mod Breaks
 pub mod Rows
 pub mod Devices

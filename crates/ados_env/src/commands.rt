@@ -5,6 +5,7 @@ ghost use Rattle.std.specs.Prelude.{◌≡◌};
 pub enum Command {
     Alias,
     Assign,
+    Break,
     /// CD.
     Cd,
     Echo,
@@ -40,6 +41,7 @@ impl Command {
         match self {
             Command::Alias => "NAME,STRING/F",
             Command::Assign => "NAME,TARGET/M,EXISTS/S,DEFER/S,PATH/S,ADD/S,REMOVE/S",
+            Command::Break => "PROCESS/A/N,ALL/S,C/S,D/S",
             Command::Cd => "DIR",
             Command::Echo => "/M,NOLINE/S",
             Command::Eval => "VALUE1/A,OP,VALUE2",
@@ -70,6 +72,7 @@ impl Command {
             Command::Resident | Command::SetEnv | Command::UnsetEnv => true,
             Command::Alias
             | Command::Assign
+            | Command::Break
             | Command::Cd
             | Command::Echo
             | Command::Eval
@@ -94,7 +97,7 @@ impl Command {
         ensures ignores { result ≡ false → (shared : SharedState) (args : List Arg) → IgnoresShells (λ view. row_of self shared view args) }
     {
         match self {
-            Command::Resident | Command::Status => true,
+            Command::Break | Command::Resident | Command::Status => true,
             Command::Alias
             | Command::Assign
             | Command::Cd

@@ -8,6 +8,7 @@ mod assign_lines;
 mod assign_list;
 mod assign_names;
 mod assign_request;
+mod breaks;
 mod cd;
 mod commands;
 mod devices;

@@ -1,5 +1,5 @@
 -- What a word that is no path stands for beside the resident list: what is found before C:, or else there.
-use Rattle.std.proofs.Common.{◌≡◌, ◌∙◌, List, [], ◌∷◌, ◌++◌, Bool, false, Option, Some, None, Result, refl, ap}
+use Rattle.std.proofs.Common.{◌≡◌, ◌∙◌, List, [], ◌∷◌, ◌++◌, false, Option, Some, None, Result, refl, ap}
 use Rattle.std.specs.Prelude.{codes}
 use Rattle.std.specs.Option.{option_or}
 use Rattle.ados_text.specs.Text.{Text}

@@ -2,12 +2,14 @@
 //! What commands read and what they make: the parts that all shells share, the view of a shell, the work on arguments
 //! in order, and the outcome of a command; and what the word of a command stands for.
 
+mod cache;
 mod changes;
 mod codes;
 mod devices;
 mod outcomes;
 mod paths;
 mod programs;
+mod questions;
 mod refusals;
 mod routes;
 mod search;
@@ -22,8 +24,9 @@ mod work;
 pub use ados_resident::{DiskCommand, InternalCommand};
 pub use changes::Change;
 pub use codes::Codes;
-pub use outcomes::{Outcome, Renamed};
+pub use outcomes::{Breaking, Breaks, Outcome, Renamed};
 pub use paths::{bases_of, place_of};
+pub use questions::Question;
 pub use refusals::Refusal;
 pub use routes::{Route, Search};
 pub use search::{Found, ProgramFile, find, find_file};

@@ -1,28 +1,29 @@
 -- The world and the launcher's list agree behind each event.
-use Rattle.std.proofs.Common.{◌≡◌, ◌≢◌, ℕ, ◌<◌, List, [], ◌++◌, Bool, false, Option, Some, None, Result, Ok, Err, OnOk, refl, sym, ap, ◌∙◌, inl, inr, subst, get_or, length, slice_set, append-nil}
+use Rattle.std.proofs.Common.{arith, ◌≡◌, ◌≢◌, ℕ, ◌<◌, List, [], ◌++◌, Bool, true, false, Option, Some, None, Result, Ok, Err, OnOk, refl, sym, ap, ◌∙◌, inl, inr, subst, get_or, length, slice_set, append-nil}
 use Rattle.std.proofs.lemmas.Bool.{cases_eq}
+use Rattle.std.proofs.lemmas.Grind.{common_steps}
 use Rattle.std.proofs.lemmas.List.{get_or-set_same, get_or-set_other}
 use Rattle.ados_machine.specs.declared.answers.Answer.{Answer as Reply}
 use Rattle.ados_machine.specs.declared.children.ChildState.{ChildState}
-use Rattle.ados_machine.specs.declared.children.ChildState.TheVariants.{Closed, Reading, Waiting}
+use Rattle.ados_machine.specs.declared.children.ChildState.TheVariants.{Closed, Reading, Waiting, Cut}
 use Rattle.ados_machine.specs.declared.events.Event.{Event}
 use Rattle.ados_machine.specs.declared.events.Event.TheVariants.{Answer}
 use Rattle.ados_machine.specs.declared.outs.Out.{Out}
 use Rattle.ados_machine.specs.declared.requests.Request.{Request}
 use Rattle.ados_machine.specs.declared.requests.Request.TheVariants.{Start, Read, Wait}
-use Rattle.ados_machine.specs.Children.{behind_answer, child_asked, child_in, is_launchers, shell_named}
+use Rattle.ados_machine.specs.Children.{behind_answer, child_in, is_asked, is_launchers, is_marked, shell_named}
 use Rattle.ados_machine.specs.Items.{Item}
 use Rattle.ados_machine.specs.Limits.{IsSane}
 use Rattle.ados_machine.specs.Runs.{IsAnswer, world_after}
 use Rattle.ados_machine.specs.Step.{Response, Accepted, Refused, step_of}
 use Rattle.ados_machine.specs.World.{WorldState, pending_of}
-use Rattle.ados_machine.proofs.ChildLemmas.{turns-keep, answers-move, request-names}
+use Rattle.ados_machine.proofs.ChildLemmas.{turns-keep, answers-move, request-names, requests-are}
 use Rattle.ados_launcher.specs.declared.calls.Call.{Call}
-use Rattle.ados_launcher.specs.Lives.{life_of, life_in, life_behind, is_open, state_of}
-use Rattle.ados_launch.specs.Agreement.{Agrees, AreWhole, IsWhole, IsOpenTable}
-use Rattle.ados_launch.specs.Asked.{Answers, Asks, Lists, TakesAnswer, call_of}
-use Rattle.ados_launch.specs.Schedule.{asks_further}
-use Rattle.ados_launch.proofs.Rows.{life-more, life-here, life-there, state-is}
+use Rattle.ados_launcher.specs.Lives.{Broken, life_of, life_in, life_behind, is_open, state_of}
+use Rattle.ados_launch.specs.Agreement.{Agrees, AreWhole, IsOpenTable}
+use Rattle.ados_launch.specs.Asked.{Answers, Asks, Lists, MayAsk, TakesAnswer, call_of}
+use Rattle.ados_launch.specs.Rounds.{asks_further}
+use Rattle.ados_launch.proofs.Rows.{asked-start, life-more, life-here, life-there, may-ask, unmarked}
 
 -- the response to an event that was accepted
 pub record IsAccepted (now : WorldState) (out : Out) (response : Response) : Type 0 where
@@ -50,17 +51,19 @@ given-agrees w now event out calls (Err why) agrees other answer world = tt
 pub same-agrees : (w now : WorldState) (calls : List Call) → Agrees w calls → now ≡ w → Agrees now calls
 same-agrees w now calls agrees same = rw same agrees
 
--- the row of the child for which a request is made
-row-asked : (w : WorldState) (k : ℕ) (request : Request) (calls : List Call) → Agrees w calls → pending_of w k ≡ Some request → life_of k calls ≡ life_in (child_asked (Some request))
-row-asked w k request calls agrees asked = agrees k ∙ ap (λ p. life_in (child_asked p)) asked
+-- the child of the shell that asks is one of which this is asked
+asked-of : (w : WorldState) (k : ℕ) (request : Request) → pending_of w k ≡ Some request → is_asked (Some request) (child_in w k) ≡ true
+asked-of w k request asked = subst (λ p. is_asked p (child_in w k) ≡ true) asked (requests-are w k)
 
+-- the row of the child for which a request is made
 row-here : (w : WorldState) (k : ℕ) (is_full : Bool) (request : Request) (reply : Reply) (calls listed : List Call) → Agrees w calls → pending_of w k ≡ Some request →
-    shell_named request ≡ k → Lists is_full request reply listed → life_of k (calls ++ listed) ≡ life_in (behind_answer request reply)
+    shell_named request ≡ k → Lists is_full request reply listed → life_of k (calls ++ listed) ≡ life_in (behind_answer (is_marked w k) request reply)
 row-here w k is_full request reply calls listed agrees asked named (fit, inl listed_is) =
     rw listed_is (life-more k calls (call_of request reply)
-    ∙ (ap (λ life. life_behind k life (call_of request reply)) (row-asked w k request calls agrees asked) ∙ life-here k request reply named fit))
+    ∙ (ap (λ life. life_behind k life (call_of request reply)) (agrees k)
+    ∙ life-here k (is_marked w k) request reply (child_in w k) named fit (asked-of w k request asked)))
 row-here w k is_full (Start job) reply calls listed agrees asked named (fit, inr none) =
-    rw (none.0, none.2, append-nil) (row-asked w k (Start job) calls agrees asked)
+    rw (none.0, none.2, append-nil) (agrees k ∙ ap life_in (asked-start job (child_in w k) (asked-of w k (Start job) asked)))
 row-here w k is_full (Read n) reply calls listed agrees asked named (fit, inr none) = let no = none.1 in cc
 row-here w k is_full (Wait n) reply calls listed agrees asked named (fit, inr none) = let no = none.1 in cc
 
@@ -80,7 +83,7 @@ answer-agrees w now k is_full request reply out calls listed sane agrees asked l
     elim (cases_eq j k) [
       | inl same ↦ subst (λ n. life_of n (calls ++ listed) ≡ life_in (child_in now n)) (sym same)
           (row-here w k is_full request reply calls listed agrees asked named lists ∙ ap life_in (sym moves.own))
-      | inr apart ↦ row-there k j is_full request reply calls listed named lists apart ∙ (agrees j ∙ ap (λ p. life_in (child_asked p)) (sym (moves.others j apart)))
+      | inr apart ↦ row-there k j is_full request reply calls listed named lists apart ∙ (agrees j ∙ ap life_in (sym (moves.children j apart)))
     ]
 
 -- where its answer was taken, the world and the list agree
@@ -99,31 +102,32 @@ untaken-agrees w k was_full is_full calls calls_now request reply out sane agree
     rw asks.calls_are (answer-agrees w (world_after w (Ok out) (step_of w (Answer k reply))) k is_full request reply out calls asks.listed sane agrees asked asks.lists
     (accepted-is w (world_after w (Ok out) (step_of w (Answer k reply))) (Answer k reply) out (step_of w (Answer k reply)) is refl))
 
-whole-in : (state : ChildState) → IsWhole (life_in state)
-whole-in Closed = tt
-whole-in Reading = tt
-whole-in Waiting = tt
+whole-in : (state : ChildState) → life_in state ≢ Broken
+whole-in Closed e = cc
+whole-in Reading e = cc
+whole-in Waiting e = cc
+whole-in Cut e = cc
 
 pub agrees-whole : (w : WorldState) (calls : List Call) → Agrees w calls → AreWhole calls
-agrees-whole w calls agrees k = subst IsWhole (sym (agrees k)) (whole-in (child_in w k))
+agrees-whole w calls agrees k e = whole-in (child_in w k) (sym (agrees k) ∙ e)
 
 -- behind a call each row is whole, whatever came of its answer
 pub answers-whole : (w : WorldState) (k : ℕ) (was_full is_full : Bool) (calls calls_now : List Call) (outcome : Reply → Type 0) → IsSane w → Agrees w calls →
     Answers w k was_full is_full calls calls_now outcome → AreWhole calls_now
-answers-whole w k was_full is_full calls calls_now outcome sane agrees a j =
+answers-whole w k was_full is_full calls calls_now outcome sane agrees a j e =
     let named = request-names w k a.request sane a.pending_is in
-    rw a.asks.calls_are
-    (elim (cases_eq j k) [
-      | inl same ↦ subst (λ n. IsWhole (life_of n (calls ++ a.asks.listed))) (sym same)
-          (subst IsWhole (sym (row-here w k is_full a.request a.reply calls a.asks.listed agrees a.pending_is named a.asks.lists)) (whole-in (behind_answer a.request a.reply)))
-      | inr apart ↦ subst IsWhole (sym (row-there k j is_full a.request a.reply calls a.asks.listed named a.asks.lists apart)) (agrees-whole w calls agrees j)
-    ])
+    let is : life_of j (calls ++ a.asks.listed) ≡ Broken = ap (life_of j) (sym a.asks.calls_are) ∙ e in
+    elim (cases_eq j k) [
+      | inl same ↦ whole-in (behind_answer (is_marked w k) a.request a.reply)
+          (sym (row-here w k is_full a.request a.reply calls a.asks.listed agrees a.pending_is named a.asks.lists) ∙ subst (λ n. life_of n (calls ++ a.asks.listed) ≡ Broken) same is)
+      | inr apart ↦ agrees-whole w calls agrees j (sym (row-there k j is_full a.request a.reply calls a.asks.listed named a.asks.lists apart) ∙ is)
+    ]
 
 -- what a launcher's conditions ask for
 pub state-asked : (w : WorldState) (k : ℕ) (request : Request) (calls : List Call) → IsSane w → Agrees w calls → pending_of w k ≡ Some request →
-    state_of (shell_named request) calls ≡ child_asked (Some request)
+    MayAsk request (state_of (shell_named request) calls)
 state-asked w k request calls sane agrees asked =
-    rw (request-names w k request sane asked) (state-is k calls (child_asked (Some request)) (row-asked w k request calls agrees asked))
+    rw (request-names w k request sane asked) (may-ask k calls request (child_in w k) (asked-of w k request asked) (agrees k))
 
 pub number-asked : (w : WorldState) (k : ℕ) (request : Request) → IsSane w → pending_of w k ≡ Some request → k < 21 → shell_named request < 21
 number-asked w k request sane asked few = rw (request-names w k request sane asked) few
@@ -131,25 +135,25 @@ number-asked w k request sane asked few = rw (request-names w k request sane ask
 -- the table behind a call
 pub table-asked : (w : WorldState) (k : ℕ) (was_full is_full b : Bool) (request : Request) (reply : Reply) (calls calls_now : List Call) (table : List Bool) → IsSane w → Agrees w calls →
     IsOpenTable table calls → k < length table → pending_of w k ≡ Some request → Asks request reply was_full is_full calls calls_now →
-    b ≡ is_open (life_in (behind_answer request reply)) → IsOpenTable (slice_set table k b) calls_now
+    b ≡ is_open (life_in (behind_answer false request reply)) → IsOpenTable (slice_set table k b) calls_now
 table-asked w k was_full is_full b request reply calls calls_now table sane agrees opened few asked asks is j =
     let named = request-names w k request sane asked in
     rw asks.calls_are
     (elim (cases_eq j k) [
       | inl same ↦ subst (λ n. get_or (slice_set table k b) n false ≡ is_open (life_of n (calls ++ asks.listed))) (sym same)
-          (get_or-set_same table k b false few ∙ (is ∙ ap is_open (sym (row-here w k is_full request reply calls asks.listed agrees asked named asks.lists))))
+          (get_or-set_same table k b false few ∙ (is ∙ ap is_open (sym (row-here w k is_full request reply calls asks.listed agrees asked named asks.lists ∙ unmarked (is_marked w k) request reply))))
       | inr apart ↦ get_or-set_other table k j b false apart ∙ (opened j ∙ ap is_open (sym (row-there k j is_full request reply calls asks.listed named asks.lists apart)))
     ])
 
-further-open : (request : Option Request) → asks_further request ≡ is_open (life_in (child_asked request))
-further-open None = refl
-further-open (Some (Start job)) = refl
-further-open (Some (Read n)) = refl
-further-open (Some (Wait n)) = refl
+further-open : (request : Option Request) (state : ChildState) → is_asked request state ≡ true → asks_further request ≡ is_open (life_in state)
+further-open None state asked = grind (arith, common_steps)
+further-open (Some (Start job)) state asked = grind (arith, common_steps)
+further-open (Some (Read n)) state asked = grind (arith, common_steps)
+further-open (Some (Wait n)) state asked = grind (arith, common_steps)
 
 -- the table of the open children by what the shells ask for
 pub table-begins : (w : WorldState) (calls : List Call) (table : List Bool) → Agrees w calls → ((k : ℕ) → get_or table k false ≡ asks_further (pending_of w k)) → IsOpenTable table calls
-table-begins w calls table agrees filled k = filled k ∙ (further-open (pending_of w k) ∙ ap is_open (sym (agrees k)))
+table-begins w calls table agrees filled k = filled k ∙ (further-open (pending_of w k) (child_in w k) (requests-are w k) ∙ ap is_open (sym (agrees k)))
 
 -- a world that asks for nothing, as a fresh one does, and a launcher without a call
 pub new-pair : (w : WorldState) (calls : List Call) → ((k : ℕ) → child_in w k ≡ Closed) → calls ≡ [] → Agrees w calls

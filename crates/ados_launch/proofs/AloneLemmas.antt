@@ -5,12 +5,13 @@ use Rattle.ados_text.specs.Text.{Bytes, Text}
 use Rattle.ados_find.specs.declared.codes.Codes.{Codes}
 use Rattle.ados_machine.specs.declared.answers.Answer.{Answer as Reply}
 use Rattle.ados_machine.specs.declared.events.Event.{Event}
-use Rattle.ados_machine.specs.declared.events.Event.TheVariants.{Typed, EndOfInput, Turn, Answer}
+use Rattle.ados_machine.specs.declared.events.Event.TheVariants.{Typed, EndOfInput, Turn, Answer, Break}
+use Rattle.ados_machine.specs.declared.events.Kind.{Kind}
 use Rattle.ados_machine.specs.declared.outs.Out.{Out}
 use Rattle.ados_machine.specs.declared.refusals.Refusal.TheVariants.{NoMemory}
 use Rattle.ados_machine.specs.declared.requests.Request.{Request}
 use Rattle.ados_machine.specs.Alone.{AreOf, alone, bytes_in}
-use Rattle.ados_machine.specs.Children.{child_asked}
+use Rattle.ados_machine.specs.Children.{child_by, child_in}
 use Rattle.ados_machine.specs.Numbers.{free_number}
 use Rattle.ados_machine.specs.Requests.{request_of}
 use Rattle.ados_machine.specs.Runs.{IsAnswer, Runs, world_after}
@@ -35,18 +36,18 @@ use Rattle.ados_launch.proofs.Taken.{run-more, asked-more, asked-full}
 none-at : (shells : List (Option ShellState)) (k : ℕ) → IsFree shells (Some k) → found shells k ≡ None
 none-at shells k free = rw (free.1, free.2) refl
 
--- a shell that was just opened asks for nothing, and before it none stood at its number
-opened-asks : (w : WorldState) (k : ℕ) (commands : List Text) (j : ℕ) → free_number w.shells ≡ Some k → pending_of (opened w k commands) j ≡ pending_of w j
-opened-asks w k commands j free =
+-- a shell that was just opened has no child, and before it none stood at its number
+opened-child : (w : WorldState) (k : ℕ) (commands : List Text) (j : ℕ) → free_number w.shells ≡ Some k → child_in (opened w k commands) j ≡ child_in w j
+opened-child w k commands j free =
     let is : IsFree w.shells (Some k) = rw free at (free-number w.shells) in
     elim (cases_eq j k) [
-      | inl same ↦ rw same (ap pending_by (opened-stands w k commands free) ∙ sym (ap pending_by (none-at w.shells k is)))
-      | inr apart ↦ ap pending_by (found-set_other w.shells k (Some (opened_shell k commands)) j apart (omega (arith, is.1)))
+      | inl same ↦ rw same (ap child_by (opened-stands w k commands free) ∙ sym (ap child_by (none-at w.shells k is)))
+      | inr apart ↦ ap child_by (found-set_other w.shells k (Some (opened_shell k commands)) j apart (omega (arith, is.1)))
     ]
 
 -- so the launcher's list agrees with the world as before
 pub opened-agrees : (w : WorldState) (k : ℕ) (commands : List Text) (calls : List Call) → free_number w.shells ≡ Some k → Agrees w calls → Agrees (opened w k commands) calls
-opened-agrees w k commands calls free agrees j = agrees j ∙ ap (λ p. life_in (child_asked p)) (sym (opened-asks w k commands j free))
+opened-agrees w k commands calls free agrees j = agrees j ∙ ap life_in (sym (opened-child w k commands j free))
 
 -- the answers among an event
 abbrev pub replies_in : Event → List Reply
@@ -54,6 +55,7 @@ replies_in (Answer k reply) = reply ∷ []
 replies_in (Turn k) = []
 replies_in (Typed line) = []
 replies_in EndOfInput = []
+replies_in (Break k kind) = []
 
 accepted-of : (response : Response) → IsTaken response → is_accepted response ≡ true
 accepted-of (Refused why) taken = absurd taken
@@ -77,6 +79,7 @@ turn-takes w now k is_full calls out asks answer world = record {
   accepted = answer;
   world_is = world;
   asked = refl;
+  when_full = λ full. tt;
   calls_are = sym (append-nil calls);
 }
 
@@ -91,6 +94,7 @@ answer-takes w now k was_full is_full calls calls_now request reply out asked as
   accepted = answer;
   world_is = world;
   asked = rw asked asks.lists;
+  when_full = asks.when_full;
   calls_are = asks.calls_are;
 }
 
@@ -143,6 +147,10 @@ end-next : (pending : Option Request) (k : ℕ) → IsNextOf k pending EndOfInpu
 end-next None k is = is
 end-next (Some request) k is = is
 
+break-next : (pending : Option Request) (k j : ℕ) (kind : Kind) → IsNextOf k pending (Break j kind) → ⊥
+break-next None k j kind is = is
+break-next (Some request) k j kind is = is
+
 turn-next : (pending : Option Request) (k j : ℕ) → IsNextOf k pending (Turn j) → (pending ≡ None) × (j ≡ k)
 turn-next None k j is = (refl, is)
 turn-next (Some request) k j is = absurd is
@@ -165,6 +173,7 @@ steps-by k n w (Answer j reply) out printed shell runs is accepted rest =
     (sym (pending-hosted shell.parts.number shell.phase) ∙ next.0) (rw next.1 at accepted))
 steps-by k n w (Typed line) out printed shell runs is accepted rest = absurd (typed-next (request_of shell.parts.number shell.phase) k line is)
 steps-by k n w EndOfInput out printed shell runs is accepted rest = absurd (end-next (request_of shell.parts.number shell.phase) k is)
+steps-by k n w (Break j kind) out printed shell runs is accepted rest = absurd (break-next (request_of shell.parts.number shell.phase) k j kind is)
 
 pub steps-on : (k n : ℕ) (w : WorldState) (event : Event) (out : Out) (printed : Bytes) (o : Option ShellState) → shell_at w k ≡ o → is_some o ≡ true →
     IsNextOf k (pending_by o) event → IsAnswer event (Ok out) (step_of w event) → (rest : List Reply) →
@@ -177,6 +186,7 @@ last-are k (Turn j) pending is = ((turn-next pending k j is).1, refl)
 last-are k (Answer j reply) pending is = ((answer-next pending k j reply is).1, refl, refl)
 last-are k (Typed line) pending is = absurd (typed-next pending k line is)
 last-are k EndOfInput pending is = absurd (end-next pending k is)
+last-are k (Break j kind) pending is = absurd (break-next pending k j kind is)
 
 pub are-more : (k : ℕ) (taken : List Taken) (answers : List Reply) (event : Event) (out : Out) (pending : Option Request) → AreOf k (events_in taken) answers [] →
     IsNextOf k pending event → AreOf k (events_in (taken ++ Given event out ∷ [])) (answers ++ replies_in event) []
@@ -187,6 +197,7 @@ are-more k (Given (Answer j reply) given ∷ taken) (first ∷ answers) event ou
     (are.0, are.1, are-more k taken answers event out pending are.2 is)
 are-more k (Given (Typed line) given ∷ taken) answers event out pending are is = absurd are
 are-more k (Given EndOfInput given ∷ taken) answers event out pending are is = absurd are
+are-more k (Given (Break j kind) given ∷ taken) answers event out pending are is = absurd are
 are-more k (LongLine ∷ taken) answers event out pending are is = are-more k taken answers event out pending are is
 
 pub events-more : (taken : List Taken) (event : Event) (out : Out) → length (events_in (taken ++ Given event out ∷ [])) ≡ length (events_in taken) + 1
@@ -214,7 +225,7 @@ going-more k w line turns n was_full is_full world next before mid last calls mi
   run = rw t.world_is (run-more (opened w k (line ∷ [])) g.taken world (Given t.event out) g.run t.accepted);
   events_are = are-more k g.taken g.answers t.event out (pending_of world k) g.events_are t.is_next;
   asked = asked-more is_full (opened w k (line ∷ [])) g.taken g.listed world (Given t.event out) t.listed
-      (asked-full was_full is_full (opened w k (line ∷ [])) g.taken g.listed stays g.asked) g.run t.asked;
+      (asked-full was_full is_full (opened w k (line ∷ [])) g.taken g.listed stays g.asked) g.run t.asked t.when_full;
   calls_are = calls-more calls mid_calls calls_now g.listed t.listed g.calls_are t.calls_are;
   count = events-more g.taken t.event out ∙ ap (λ m. m + 1) g.count;
   printed = printed-more before mid last (bytes_in (outs_in g.taken)) out.bytes _ g.printed grown (bytes-more g.taken t.event out);
@@ -291,9 +302,9 @@ stands-untaken k w line turns n was_full is_full world before now calls mid_call
 pub stands-unwritten : (k : ℕ) (w : WorldState) (line : Text) (turns n : ℕ) (was_full is_full : Bool) (world next : WorldState) (before mid : Bytes)
     (calls mid_calls calls_now : List Call) (out : Out) (fault : SystemFault) →
     Going k w line turns n was_full world before mid calls mid_calls → opening_fault w line ≡ None → free_number w.shells ≡ Some k → (was_full ≡ true → is_full ≡ true) → is_some (shell_at world k) ≡ true → n < turns →
-    TakesNext k world is_full mid_calls next calls_now out → fault.refusal ≡ NoMemory → fault.events ≡ n + 1 → fault.answer ≡ None → fault.unwritten ≡ out.bytes →
+    TakesNext k world is_full mid_calls next calls_now out → fault.refusal ≡ NoMemory → fault.events ≡ n + 1 → fault.answer ≡ None → fault.unwritten ≡ out.bytes → 0 < length fault.unwritten →
     StandsAt w line turns is_full fault next before mid calls calls_now k
-stands-unwritten k w line turns n was_full is_full world next before mid calls mid_calls calls_now out fault g good free stays runs within t why count none bytes =
+stands-unwritten k w line turns n was_full is_full world next before mid calls mid_calls calls_now out fault g good free stays runs within t why count none bytes some =
     let more = going-more k w line turns n was_full is_full world next before mid (mid ++ out.bytes) calls mid_calls calls_now out g stays runs t refl in
     record {
       taken = more.taken;
@@ -302,6 +313,6 @@ stands-unwritten k w line turns n was_full is_full world next before mid calls m
       runs = runs-line k w line turns (n + 1) is_full is_full next before (mid ++ out.bytes) calls calls_now calls_now [] good free (λ is. is) (sym (append-nil calls_now)) more;
       count = more.count ∙ sym count;
       refusal_is = why;
-      stops = inr (omega (arith, count, within), (g.taken, t.event, out, refl, bytes), none, refl);
+      stops = inr (omega (arith, count, within), (g.taken, t.event, out, refl, bytes), some, none, refl);
       written = rw bytes more.printed;
     }

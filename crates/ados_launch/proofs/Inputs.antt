@@ -1,5 +1,6 @@
 -- What an event makes of the input: shell 1 ends only where it has ended.
 use Rattle.std.proofs.Common.{◌≡◌, ◌≢◌, ℕ, zero, suc, ◌-◌, ◌∷◌, List, [], Option, Some, None, Ok, true, false, not, ◌&&◌, refl, ap, sym, ◌∙◌, is_some, slice_get, slice_set, ◌⊎◌, inl, inr, arith, Bool}
+use Rattle.std.specs.Prelude.{if◌then◌else◌}
 use Rattle.std.proofs.lemmas.Bool.{cases_Bool, and_parts, true≢false}
 use Rattle.std.proofs.lemmas.Grind.{common_steps}
 use Rattle.ados_find.specs.declared.codes.Codes.{Codes}
@@ -11,19 +12,23 @@ use Rattle.ados_machine.specs.Numbers.{free_number}
 use Rattle.ados_machine.specs.Settle.{Turned}
 use Rattle.ados_machine.specs.Shells.{Begun, begun_shell, ShellState}
 use Rattle.ados_machine.specs.Course.{Course}
+use Rattle.ados_find.specs.declared.outcomes.Breaking.{Breaking}
+use Rattle.ados_find.specs.declared.outcomes.Breaks.{Breaks}
+use Rattle.ados_machine.specs.Breaks.{breaks_by, broken_at, broken_by, broken_number, broken_place, has_script}
 use Rattle.ados_machine.specs.Carrying.{carried_shells}
 use Rattle.ados_machine.specs.Answers.{answered_in}
 use Rattle.ados_machine.specs.Sinks.{sink_in}
 use Rattle.ados_machine.specs.Deeds.{Deed}
-use Rattle.ados_machine.specs.Turning.{Input, Turning, Refuses, Ends, Takes, turning, console_turning, ready_turning, input_turning, replied}
-use Rattle.ados_machine.specs.Step.{step_of, turned, applied, left, start, moved_in, answered, with_begun}
+use Rattle.ados_machine.specs.Turning.{Input, Turning, Refuses, Ends, Takes, flagged_turning, in_place_of, turning, console_turning, ready_turning, input_turning, replied}
+use Rattle.ados_machine.specs.Step.{broken, step_of, turned, applied, left, start, moved_in, answered, unflagged, with_begun}
 use Rattle.ados_machine.specs.Runs.{world_after}
 use Rattle.ados_machine.specs.declared.answers.Answer.{Answer as Reply}
 use Rattle.ados_machine.specs.declared.outs.Out.{Out}
 use Rattle.ados_machine.specs.declared.phases.Phase.{Phase}
 use Rattle.ados_machine.specs.declared.phases.Phase.TheVariants.{Ready, GoingOn, Waiting}
 use Rattle.ados_machine.specs.declared.phases.Wait.TheVariants.{ForAnswer, ForLines, ForStart, ForPiece, ForEnd}
-use Rattle.ados_machine.specs.declared.events.Event.TheVariants.{Typed, Turn, Answer}
+use Rattle.ados_machine.specs.declared.events.Event.TheVariants.{Typed, Turn, Answer, Break}
+use Rattle.ados_machine.specs.declared.events.Kind.{Kind}
 use Rattle.ados_launch.specs.Schedule.{takes_input}
 
 first-carried : (moved : Option Renamed) (shells : List (Option ShellState)) → is_some (flatten (slice_get shells 0)) ≡ true → is_some (flatten (slice_get (carried_shells moved shells) 0)) ≡ true
@@ -42,6 +47,24 @@ first-begun : (begun : Option Begun) (number : Option ℕ) (shells : List (Optio
 first-begun None number shells e = e
 first-begun (Some begun) None shells e = e
 first-begun (Some begun) (Some number) shells e = first-set shells (number - 1) (begun_shell number begun) e
+
+-- a shell that is broken runs on
+place-broken : (breaks : Breaks) (found : Option ShellState) → is_some found ≡ true → is_some (broken_place breaks found) ≡ true
+place-broken breaks None e = e
+place-broken breaks (Some shell) e = refl
+
+first-at : (breaks : Breaks) (n : ℕ) (shells : List (Option ShellState)) → is_some (flatten (slice_get shells 0)) ≡ true → is_some (flatten (slice_get (broken_at breaks n shells) 0)) ≡ true
+first-at breaks n [] e = e
+first-at breaks zero (found ∷ shells) e = place-broken breaks found e
+first-at breaks (suc n) (found ∷ shells) e = e
+
+first-numbered : (breaks : Breaks) (n : ℕ) (shells : List (Option ShellState)) → is_some (flatten (slice_get shells 0)) ≡ true → is_some (flatten (slice_get (broken_number breaks n shells) 0)) ≡ true
+first-numbered breaks zero shells e = e
+first-numbered breaks (suc n) shells e = first-at breaks n shells e
+
+first-broken : (breaking : Option Breaking) (shells : List (Option ShellState)) → is_some (flatten (slice_get shells 0)) ≡ true → is_some (flatten (slice_get (broken_by breaking shells) 0)) ≡ true
+first-broken None shells e = e
+first-broken (Some breaking) shells e = first-numbered breaking.breaks breaking.shell shells e
 
 -- what stands at a number is replaced: at the first by a shell
 first-replaced : (shells : List (Option ShellState)) (i : ℕ) (now : Option ShellState) → (i ≡ 0 → is_some now ≡ true) → is_some (flatten (slice_get shells 0)) ≡ true
@@ -87,6 +110,17 @@ turning-ends input frames course (Waiting (ForStart starting)) e = cc
 turning-ends input frames course (Waiting (ForPiece child)) e = cc
 turning-ends input frames course (Waiting (ForEnd child)) e = cc
 
+-- nor where its scripts end at a break
+placed-ends : (t : Turning) (input : Input) (frames : List FrameState) (course : Course) → in_place_of t input frames course ≡ Ends → t ≡ Ends
+placed-ends (Refuses why) input frames course e = cc
+placed-ends Ends input frames course e = refl
+placed-ends (Takes queue turned) input frames course e = cc
+
+flagged-ends : (b : Bool) (input : Input) (frames : List FrameState) (course : Course) (phase : Phase) →
+    (if b then in_place_of (turning input frames course phase) input frames course else turning input frames course phase) ≡ Ends → input.is_ended ≡ true
+flagged-ends true input frames course phase e = turning-ends input frames course phase (placed-ends (turning input frames course phase) input frames course e)
+flagged-ends false input frames course phase e = turning-ends input frames course phase e
+
 applied-takes : (w : WorldState) (out : Out) (k : ℕ) (codes : Codes) (t : Turning) → (t ≡ Ends → k ≢ 1) → k ≢ 0 → takes_input w ≡ true → takes_input (world_after w (Ok out) (applied w k codes t)) ≡ true
 applied-takes w out k codes (Refuses why) ends some e = e
 applied-takes w out k codes Ends ends some e = rw (first-unset w.shells (k - 1) (omega (arith, some, ends refl))) e
@@ -95,9 +129,10 @@ applied-takes w out k codes (Takes queue turned) ends some e =
     let moved = moved_in w turned in
     let carried = first-carried moved w.shells parts.0 in
     let begun = first-begun turned.course.begun (free_number w.shells) (carried_shells moved w.shells) carried in
+    let broke = first-broken turned.course.breaking (with_begun turned.course.begun (free_number w.shells) (carried_shells moved w.shells)) begun in
     rw (
-      first-replaced (with_begun turned.course.begun (free_number w.shells) (carried_shells moved w.shells)) (k - 1) (left k moved turned)
-          (λ first. first-left k moved turned (omega (arith, some, first))) begun,
+      first-replaced (broken_by turned.course.breaking (with_begun turned.course.begun (free_number w.shells) (carried_shells moved w.shells))) (k - 1) (left k moved turned)
+          (λ first. first-left k moved turned (omega (arith, some, first))) broke,
       parts.1,
     ) refl
 
@@ -107,7 +142,7 @@ turned-takes w out k (Some shell) at e =
     let unended : not w.input_ended ≡ true = (and_parts (is_some (shell_at w 1)) (not w.input_ended) e).1 in
     applied-takes w out k shell.parts.codes _
     (λ ends one.
-    let ended : (input_of w k).is_ended ≡ true = turning-ends (input_of w k) shell.frames (start w shell) shell.phase ends in
+    let ended : (input_of w k).is_ended ≡ true = flagged-ends (shell.flagged && has_script shell.frames) (input_of w k) shell.frames (unflagged (start w shell)) shell.phase ends in
     let first : w.input_ended ≡ true = rw one at ended in
     true≢false (sym unended ∙ ap not first))
     (λ none. let nothing : None ≡ Some shell = rw none at at in cc)
@@ -140,6 +175,20 @@ answer-takes w out k reply e =
     elim (cases_Bool (is_over w)) [
       | inl over ↦ rw over e
       | inr running ↦ rw running (answered-takes w out k reply (shell_at w k) refl e)
+    ]
+
+broken-takes : (w : WorldState) (out : Out) (k : ℕ) (kind : Kind) (found : Option ShellState) → takes_input w ≡ true → takes_input (world_after w (Ok out) (broken w k kind found)) ≡ true
+broken-takes w out k kind None e = e
+broken-takes w out k kind (Some shell) e =
+    let parts = and_parts (is_some (shell_at w 1)) (not w.input_ended) e in
+    rw (first-numbered (breaks_by kind) k w.shells parts.0, parts.1) refl
+
+-- no shell ends by a break
+pub break-takes : (w : WorldState) (out : Out) (k : ℕ) (kind : Kind) → takes_input w ≡ true → takes_input (world_after w (Ok out) (step_of w (Break k kind))) ≡ true
+break-takes w out k kind e =
+    elim (cases_Bool (is_over w)) [
+      | inl over ↦ rw over e
+      | inr running ↦ rw running (broken-takes w out k kind (shell_at w k) e)
     ]
 
 -- where shell 1 takes input and waits for no launcher, a line is wanted or shell 1 is ready

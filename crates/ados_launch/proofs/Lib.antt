@@ -2,9 +2,11 @@ pub mod Scanning
 pub mod HeldLines
 pub mod Appending
 pub mod Places
+pub mod Coming
 pub mod Taken
 pub mod Taking
 pub mod Sessions
+pub mod Unique
 pub mod Inputs
 pub mod Accepts
 pub mod ReaderEnd
@@ -12,4 +14,6 @@ pub mod Over
 pub mod Rows
 pub mod Agreeing
 pub mod Waits
+pub mod Outcomes
 pub mod AloneLemmas
+pub mod NewPair

@@ -7,7 +7,7 @@ use Rattle.std.proofs.lemmas.List.{length-map}
 use Rattle.std.proofs.lemmas.Grind.{common_steps}
 use Rattle.ados_flow.specs.Frames.{FrameState}
 use Rattle.ados_machine.specs.Requests.{request_of}
-use Rattle.ados_machine.specs.Children.{child_asked}
+use Rattle.ados_machine.specs.Children.{child_by}
 use Rattle.ados_machine.specs.World.{WorldState, shell_at, can_take, can_turn, flatten, has_input, input_of, is_over, pending_by, running, takes_input, wants_input}
 use Rattle.ados_machine.specs.Shells.{ShellState}
 use Rattle.ados_machine.specs.Turning.{Input}
@@ -15,9 +15,9 @@ use Rattle.ados_machine.specs.declared.phases.Phase.{Phase}
 use Rattle.ados_machine.specs.declared.phases.Phase.TheVariants.{Ready, GoingOn, Waiting}
 use Rattle.ados_machine.specs.declared.phases.Wait.TheVariants.{ForAnswer, ForLines, ForStart, ForPiece, ForEnd}
 use Rattle.ados_launcher.specs.declared.calls.Call.{Call}
-use Rattle.ados_launcher.specs.Lives.{Between, life_of, life_in}
-use Rattle.ados_launch.specs.Agreement.{Agrees, AreOver, IsOver}
-use Rattle.ados_launch.specs.Schedule.{IsIdle}
+use Rattle.ados_launcher.specs.Lives.{life_in}
+use Rattle.ados_launch.specs.Agreement.{Agrees, AreOver}
+use Rattle.ados_launch.specs.Rounds.{IsIdle}
 use Rattle.ados_launch.proofs.Places.{idle-line, idle-turn, idle-pending}
 
 -- a background shell that waits for no launcher is ready: it runs a frame, a line of it goes on, or its input is at its end
@@ -88,12 +88,23 @@ none-any (Some shell ∷ shells) none = let found = none 0 in cc
 pub over : (w : WorldState) → length w.shells ≡ 20 → IsIdle w → is_over w ≡ true
 over w size idle = ap not (none-any w.shells (λ i. none-there w (suc i) size idle))
 
--- and then each row of lives is whole, and has come to its end
-pub idle-between : (w : WorldState) (calls : List Call) → Agrees w calls → length w.shells ≡ 20 → IsIdle w → (k : ℕ) → life_of k calls ≡ Between
-idle-between w calls agrees size idle k = agrees k ∙ ap (λ o. life_in (child_asked (pending_by o))) (none-there w k size idle)
+none-in : (shells : List (Option ShellState)) (i : ℕ) → list_any is_some shells ≡ false → flatten (slice_get shells i) ≡ None
+none-in [] i none = refl
+none-in (None ∷ shells) zero none = refl
+none-in (None ∷ shells) (suc i) none = none-in shells i none
+none-in (Some shell ∷ shells) i none = cc
 
-pub between-over : (calls : List Call) → ((k : ℕ) → life_of k calls ≡ Between) → AreOver calls
-between-over calls between k = subst IsOver (sym (between k)) tt
+over-none : (w : WorldState) (k : ℕ) → is_over w ≡ true → shell_at w k ≡ None
+over-none w zero over = refl
+over-none w (suc i) over = none-in w.shells i (unset (list_any is_some w.shells) over)
+  where
+    unset : (b : Bool) → not b ≡ true → b ≡ false
+    unset true e = cc
+    unset false e = refl
+
+-- and then each row of lives has come to its end
+pub calls-over : (w : WorldState) (calls : List Call) → Agrees w calls → is_over w ≡ true → AreOver calls
+calls-over w calls agrees over k = agrees k ∙ ap (λ o. life_in (child_by o)) (over-none w k over)
 
 -- a view of which numbers have a shell has a place for each
 pub size-of : (w : WorldState) (table : List Bool) → table ≡ running w → length table ≡ 20 → length w.shells ≡ 20

@@ -7,8 +7,8 @@ use Rattle.std.proofs.lemmas.Bool.{cases_Bool, cases_eq}
 use Rattle.std.proofs.lemmas.Grind.{common_steps}
 use Rattle.ados_machine.specs.declared.requests.Request.{Request}
 use Rattle.ados_machine.specs.World.{WorldState, is_ready, pending_of, wants_line}
-use Rattle.ados_launch.specs.declared.schedule.Round.{Round}
-use Rattle.ados_launch.specs.Schedule.{asks_further, asks_start, comes, is_due, due, in_this_round, in_next_round, none_answered, place_behind, IsRunning, IsIdle}
+use Rattle.ados_launch.specs.declared.rounds.Round.{Round}
+use Rattle.ados_launch.specs.Rounds.{asks_further, asks_start, comes, is_due, due, in_this_round, in_next_round, none_answered, place_behind, IsRunning, IsIdle}
 
 passes_cons : (test : ℕ → Bool) (x : ℕ) (xs : List ℕ) (k : ℕ) (b : Bool) → test x ≡ b → cond b (Some x) (find test xs) ≡ Some k → (find test xs ≡ Some k → test k ≡ true) → test k ≡ true
 passes_cons test x xs k true t f later = let same : x ≡ k = cc in rw (← same) t

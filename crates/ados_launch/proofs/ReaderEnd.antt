@@ -4,13 +4,14 @@ use Rattle.std.proofs.lemmas.Bool.{true≢false}
 use Rattle.std.proofs.lemmas.Grind.{common_steps}
 use Rattle.ados_machine.specs.World.{WorldState}
 use Rattle.ados_machine.specs.Runs.{Runs}
-use Rattle.ados_machine.specs.declared.events.Event.TheVariants.{Typed, EndOfInput, Turn, Answer}
+use Rattle.ados_machine.specs.declared.events.Event.TheVariants.{Typed, EndOfInput, Turn, Answer, Break}
 use Rattle.ados_launch.specs.declared.lines.LineKind.TheVariants.{End}
 use Rattle.ados_launch.specs.Lines.{line_of, rest_of, kind_of, kind_of_length, ahead}
 use Rattle.ados_launch.specs.Taken.{Taken, Given, LongLine, events_in, outs_in, world_behind, IsNext, left_behind, AreRead, left_after}
-use Rattle.ados_launch.specs.Schedule.{takes_input, IsIdle}
+use Rattle.ados_launch.specs.Rounds.{IsIdle}
+use Rattle.ados_launch.specs.Schedule.{takes_input}
 use Rattle.ados_launch.proofs.Places.{idle-line, idle-turn, idle-pending}
-use Rattle.ados_launch.proofs.Inputs.{typed-takes, turn-takes, answer-takes, takes-due}
+use Rattle.ados_launch.proofs.Inputs.{typed-takes, turn-takes, answer-takes, break-takes, takes-due}
 
 -- shell 1 takes input, or nothing is left to read
 abbrev Reads : WorldState → List ℕ → Type 0
@@ -32,6 +33,8 @@ item-reads w left (Given (Turn k) out) next (inl e) = inl (turn-takes w out k e)
 item-reads w left (Given (Turn k) out) next (inr e) = inr e
 item-reads w left (Given (Answer k reply) out) next (inl e) = inl (answer-takes w out k reply e)
 item-reads w left (Given (Answer k reply) out) next (inr e) = inr e
+item-reads w left (Given (Break k kind) out) next (inl e) = inl (break-takes w out k kind e)
+item-reads w left (Given (Break k kind) out) next (inr e) = inr e
 item-reads w left LongLine next (inl e) = inl e
 item-reads w left LongLine next (inr e) = inr (ap rest_of e)
 

@@ -1,15 +1,17 @@
 -- What was taken, with one more behind it.
 use Rattle.std.proofs.Common.{◌≡◌, ℕ, ◌+◌, List, [], ◌∷◌, ◌++◌, Bool, true, length, Option, Some, None, refl, ap, sym, ◌∙◌, append_assoc, append-nil, length-append, inl, inr}
 use Rattle.ados_machine.specs.declared.answers.Answer.{Answer as Reply}
-use Rattle.ados_machine.specs.declared.events.Event.TheVariants.{Typed, EndOfInput, Turn, Answer}
+use Rattle.ados_machine.specs.declared.events.Event.TheVariants.{Typed, EndOfInput, Turn, Answer, Break}
 use Rattle.ados_machine.specs.declared.requests.Request.{Request}
 use Rattle.ados_machine.specs.World.{WorldState, pending_of}
 use Rattle.ados_machine.specs.Runs.{Runs}
 use Rattle.ados_launcher.specs.declared.calls.Call.{Call}
-use Rattle.ados_launch.specs.declared.schedule.Round.{Round}
-use Rattle.ados_launch.specs.Asked.{AreAsked, IsAsked, ListsOf}
+use Rattle.ados_launcher.specs.declared.calls.Call.TheVariants.{Start as Starts, Read as Reads, Wait as Waits}
+use Rattle.ados_launch.specs.Asked.{AreAsked, AreNoStarts, HasCall, IsAsked, ListsOf}
 use Rattle.ados_launch.specs.Taken.{Taken, Given, LongLine, events_in, outs_in, bytes_of, written_for, world_behind, IsAccepted, IsNext, left_behind, AreRead, left_after}
-use Rattle.ados_launch.specs.Schedule.{due, place_of, place_of_event, round_behind, InOrder, round_after}
+use Rattle.ados_launch.specs.Agreement.{Agrees}
+use Rattle.ados_launch.specs.Schedule.{Standing, InOrder, next_in, next_of, standing_after, standing_behind}
+use Rattle.ados_launch.specs.Session.{AgreesAlong}
 
 pub run-more : (w : WorldState) (taken : List Taken) (mid : WorldState) (item : Taken) → Runs w (events_in taken) (outs_in taken) mid → IsAccepted mid item
     → Runs w (events_in (taken ++ item ∷ [])) (outs_in (taken ++ item ∷ [])) (world_behind mid item)
@@ -18,36 +20,68 @@ run-more w [] mid LongLine run ok = run
 run-more w (Given event out ∷ taken) mid item run ok = (run.0, run-more (world_behind w (Given event out)) taken mid item run.1 ok)
 run-more w (LongLine ∷ taken) mid item run ok = run-more w taken mid item run ok
 
-pub order-more : (round : Round) (w : WorldState) (taken : List Taken) (last : WorldState) (item : Taken) → InOrder round w taken → Runs w (events_in taken) (outs_in taken) last
-    → due (round_after round w taken) last ≡ Some (place_of item) → InOrder round w (taken ++ item ∷ [])
-order-more round w [] last item ordered run next = (rw run at next, tt)
-order-more round w (Given event out ∷ taken) last item ordered run next =
-    (ordered.0, order-more (round_behind round w (place_of_event event)) (world_behind w (Given event out)) taken last item ordered.1 run.1 next)
-order-more round w (LongLine ∷ taken) last item ordered run next = (ordered.0, order-more (round_behind round w 0) w taken last item ordered.1 run next)
+pub order-more : (s : Standing) (w : WorldState) (taken : List Taken) (last : WorldState) (item : Taken) → InOrder s w taken → Runs w (events_in taken) (outs_in taken) last
+    → next_in (standing_after s w taken) last ≡ Some (next_of item) → InOrder s w (taken ++ item ∷ [])
+order-more s w [] last item ordered run next = (rw run at next, tt)
+order-more s w (Given event out ∷ taken) last item ordered run next =
+    (ordered.0, order-more (standing_behind s w (next_of (Given event out))) (world_behind w (Given event out)) taken last item ordered.1 run.1 next)
+order-more s w (LongLine ∷ taken) last item ordered run next = (ordered.0, order-more (standing_behind s w (next_of LongLine)) w taken last item ordered.1 run next)
 
-pub round-more : (round : Round) (w : WorldState) (taken : List Taken) (last : WorldState) (item : Taken) → Runs w (events_in taken) (outs_in taken) last
-    → round_after round w (taken ++ item ∷ []) ≡ round_behind (round_after round w taken) last (place_of item)
-round-more round w [] last item run = rw run refl
-round-more round w (Given event out ∷ taken) last item run =
-    round-more (round_behind round w (place_of_event event)) (world_behind w (Given event out)) taken last item run.1
-round-more round w (LongLine ∷ taken) last item run = round-more (round_behind round w 0) w taken last item run
+pub standing-more : (s : Standing) (w : WorldState) (taken : List Taken) (last : WorldState) (item : Taken) → Runs w (events_in taken) (outs_in taken) last
+    → standing_after s w (taken ++ item ∷ []) ≡ standing_behind (standing_after s w taken) last (next_of item)
+standing-more s w [] last item run = rw run refl
+standing-more s w (Given event out ∷ taken) last item run =
+    standing-more (standing_behind s w (next_of (Given event out))) (world_behind w (Given event out)) taken last item run.1
+standing-more s w (LongLine ∷ taken) last item run = standing-more (standing_behind s w (next_of LongLine)) w taken last item run
+
+pub starts-more : (later more : List Call) → AreNoStarts later → AreNoStarts more → AreNoStarts (later ++ more)
+starts-more [] more none others = others
+starts-more (Starts job reply ∷ later) more none others = none
+starts-more (Reads n reply ∷ later) more none others = starts-more later more none others
+starts-more (Waits n reply ∷ later) more none others = starts-more later more none others
+
+-- where nothing was listed for an answer the launcher is full
+unlisted-full : (is_full : Bool) (request : Option Request) (reply : Reply) → ListsOf is_full request reply [] → is_full ≡ true
+unlisted-full is_full None reply lists = absurd lists
+unlisted-full is_full (Some request) reply (fit, inl here) = cc
+unlisted-full is_full (Some request) reply (fit, inr none) = none.3
+
+call-more : (is_full : Bool) (w : WorldState) (item : Taken) (now later more : List Call) → IsAsked is_full w item now → HasCall item now later → (is_full ≡ true → AreNoStarts more) → HasCall item now (later ++ more)
+call-more is_full w (Given (Answer k reply) out) [] later more asked has full = starts-more later more has (full (unlisted-full is_full (pending_of w k) reply asked))
+call-more is_full w (Given (Answer k reply) out) (call ∷ calls) later more asked has full = tt
+call-more is_full w (Given (Typed line) out) now later more asked has full = tt
+call-more is_full w (Given EndOfInput out) now later more asked has full = tt
+call-more is_full w (Given (Turn k) out) now later more asked has full = tt
+call-more is_full w (Given (Break k kind) out) now later more asked has full = tt
+call-more is_full w LongLine now later more asked has full = tt
+
+call-last : (item : Taken) (now : List Call) → HasCall item now []
+call-last (Given (Answer k reply) out) [] = tt
+call-last (Given (Answer k reply) out) (call ∷ calls) = tt
+call-last (Given (Typed line) out) now = tt
+call-last (Given EndOfInput out) now = tt
+call-last (Given (Turn k) out) now = tt
+call-last (Given (Break k kind) out) now = tt
+call-last LongLine now = tt
 
 pub asked-more : (is_full : Bool) (w : WorldState) (taken : List Taken) (listed : List Call) (last : WorldState) (item : Taken) (more : List Call) → AreAsked is_full w taken listed
-    → Runs w (events_in taken) (outs_in taken) last → IsAsked is_full last item more → AreAsked is_full w (taken ++ item ∷ []) (listed ++ more)
-asked-more is_full w [] listed last item more asked run next = (more, [], ap (λ xs. xs ++ more) asked ∙ sym (append-nil more), rw run at next, refl)
-asked-more is_full w (Given event out ∷ taken) listed last item more asked run next = (
+    → Runs w (events_in taken) (outs_in taken) last → IsAsked is_full last item more → (is_full ≡ true → AreNoStarts more) → AreAsked is_full w (taken ++ item ∷ []) (listed ++ more)
+asked-more is_full w [] listed last item more asked run next full = (more, [], ap (λ xs. xs ++ more) asked ∙ sym (append-nil more), rw run at next, call-last item more, refl)
+asked-more is_full w (Given event out ∷ taken) listed last item more asked run next full = (
   asked.0,
   asked.1 ++ more,
   ap (λ xs. xs ++ more) asked.2 ∙ append_assoc asked.0 asked.1 more,
   asked.3,
-  asked-more is_full (world_behind w (Given event out)) taken asked.1 last item more asked.4 run.1 next,
+  call-more is_full w (Given event out) asked.0 asked.1 more asked.3 asked.4 full,
+  asked-more is_full (world_behind w (Given event out)) taken asked.1 last item more asked.5 run.1 next full,
 )
-asked-more is_full w (LongLine ∷ taken) listed last item more asked run next = (
+asked-more is_full w (LongLine ∷ taken) listed last item more asked run next full = (
   asked.0,
   asked.1 ++ more,
   ap (λ xs. xs ++ more) asked.2 ∙ append_assoc asked.0 asked.1 more,
   asked.3,
-  asked-more is_full w taken asked.1 last item more asked.4 run next,
+  tt,
+  asked-more is_full w taken asked.1 last item more asked.5 run next full,
 )
 
 -- a launcher that is full stays so
@@ -61,6 +95,7 @@ item-full : (was_full is_full : Bool) (w : WorldState) (item : Taken) (listed : 
 item-full was_full is_full w (Given (Typed line) out) listed stays asked = asked
 item-full was_full is_full w (Given EndOfInput out) listed stays asked = asked
 item-full was_full is_full w (Given (Turn k) out) listed stays asked = asked
+item-full was_full is_full w (Given (Break k kind) out) listed stays asked = asked
 item-full was_full is_full w (Given (Answer k reply) out) listed stays asked = lists-full was_full is_full (pending_of w k) reply listed stays asked
 item-full was_full is_full w LongLine listed stays asked = asked
 
@@ -72,7 +107,36 @@ asked-full was_full is_full w (item ∷ taken) listed stays asked = (
   asked.1,
   asked.2,
   item-full was_full is_full w item asked.0 stays asked.3,
-  asked-full was_full is_full (world_behind w item) taken asked.1 stays asked.4,
+  asked.4,
+  asked-full was_full is_full (world_behind w item) taken asked.1 stays asked.5,
+)
+
+parted-calls : (calls now later more listed : List Call) → listed ≡ now ++ later → calls ++ (listed ++ more) ≡ (calls ++ now) ++ (later ++ more)
+parted-calls calls now later more listed is = rw (is, append_assoc now later more, append_assoc calls now (later ++ more)) refl
+
+-- the world and the list agree along it, whether the launcher is full or not
+pub along-full : (was_full is_full : Bool) (w : WorldState) (calls : List Call) (taken : List Taken) (listed : List Call) (stays : was_full ≡ true → is_full ≡ true) (asked : AreAsked was_full w taken listed)
+    → AgreesAlong was_full w calls taken listed asked → AgreesAlong is_full w calls taken listed (asked-full was_full is_full w taken listed stays asked)
+unfolding asked-full
+along-full was_full is_full w calls [] listed stays asked along = along
+along-full was_full is_full w calls (item ∷ taken) listed stays asked along =
+    (along.0, along-full was_full is_full (world_behind w item) (calls ++ asked.0) taken asked.1 stays asked.5 along.1)
+
+-- and with one more behind it, where they agree
+pub along-more : (is_full : Bool) (w : WorldState) (calls : List Call) (taken : List Taken) (listed : List Call) (last : WorldState) (item : Taken) (more calls_now : List Call) (asked : AreAsked is_full w taken listed)
+    (run : Runs w (events_in taken) (outs_in taken) last) (next : IsAsked is_full last item more) (full : is_full ≡ true → AreNoStarts more) → AgreesAlong is_full w calls taken listed asked → calls_now ≡ calls ++ (listed ++ more)
+    → Agrees (world_behind last item) calls_now → AgreesAlong is_full w calls (taken ++ item ∷ []) (listed ++ more) (asked-more is_full w taken listed last item more asked run next full)
+unfolding asked-more
+along-more is_full w calls [] listed last item more calls_now asked run next full along is agrees = (along, rw (is, asked, run) at agrees)
+along-more is_full w calls (Given event out ∷ taken) listed last item more calls_now asked run next full along is agrees = (
+  along.0,
+  along-more is_full (world_behind w (Given event out)) (calls ++ asked.0) taken asked.1 last item more calls_now asked.5 run.1 next full along.1
+      (is ∙ parted-calls calls asked.0 asked.1 more listed asked.2) agrees,
+)
+along-more is_full w calls (LongLine ∷ taken) listed last item more calls_now asked run next full along is agrees = (
+  along.0,
+  along-more is_full w (calls ++ asked.0) taken asked.1 last item more calls_now asked.5 run next full along.1
+      (is ∙ parted-calls calls asked.0 asked.1 more listed asked.2) agrees,
 )
 
 pub lines-more : (bytes : List ℕ) (taken : List Taken) (item : Taken) → AreRead bytes taken → IsNext (left_after bytes taken) item → AreRead bytes (taken ++ item ∷ [])

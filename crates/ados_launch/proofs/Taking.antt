@@ -5,7 +5,8 @@ use Rattle.std.proofs.lemmas.Bool.{cases_Bool}
 use Rattle.std.proofs.lemmas.Grind.{common_steps}
 use Rattle.ados_machine.specs.declared.answers.Answer.{Answer as Reply}
 use Rattle.ados_machine.specs.declared.events.Event.{Event}
-use Rattle.ados_machine.specs.declared.events.Event.TheVariants.{Typed, EndOfInput, Turn, Answer}
+use Rattle.ados_machine.specs.declared.events.Event.TheVariants.{Typed, EndOfInput, Turn, Answer, Break}
+use Rattle.ados_machine.specs.declared.events.Kind.{Kind}
 use Rattle.ados_machine.specs.declared.outs.Out.{Out}
 use Rattle.ados_machine.specs.declared.requests.Request.{Request}
 use Rattle.ados_machine.specs.declared.requests.Request.TheVariants.{Start, Read, Wait}
@@ -19,7 +20,8 @@ use Rattle.ados_launch.specs.declared.lines.LineKind.TheVariants.{End, Overlong,
 use Rattle.ados_launch.specs.Asked.{Answers, IsAsked, Lists, TakesAnswer}
 use Rattle.ados_launch.specs.Lines.{BeginsOverlong, Known, TakesLine, line_of, rest_of, kind_of}
 use Rattle.ados_launch.specs.Taken.{Taken, Given, LongLine, IsNext, IsOfReader, left_behind, text_of}
-use Rattle.ados_launch.specs.Schedule.{asks_further, asks_start, comes, place_of, place_of_event}
+use Rattle.ados_launch.specs.Rounds.{asks_further, asks_start, comes}
+use Rattle.ados_launch.specs.Schedule.{AtBreak, AtFurther, AtLine, AtStart, AtTurn, next_at, next_of, next_of_event}
 use Rattle.ados_launch.specs.Session.{AreDropped, TakesAt, TakesLineAt}
 use Rattle.ados_launch.proofs.Places.{comes-start, comes-late}
 
@@ -32,11 +34,12 @@ took-line w now left rest event out (Ok done) answer world of_reader lines =
     (Given event out, of_reader, record { accepted = answer; world_is = world; lines = lines; bytes_are = refl })
 took-line w now left rest event out (Err fault) answer world of_reader lines = tt
 
-read-place : (item : Taken) → IsOfReader item → place_of item ≡ 0
+read-place : (item : Taken) → IsOfReader item → next_of item ≡ AtLine
 read-place (Given (Typed line) out) h = refl
 read-place (Given EndOfInput out) h = refl
 read-place (Given (Turn k) out) h = absurd h
 read-place (Given (Answer k reply) out) h = absurd h
+read-place (Given (Break k kind) out) h = absurd h
 read-place LongLine h = refl
 
 read-asks : (is_full : Bool) (w : WorldState) (item : Taken) → IsOfReader item → IsAsked is_full w item []
@@ -44,34 +47,55 @@ read-asks is_full w (Given (Typed line) out) h = refl
 read-asks is_full w (Given EndOfInput out) h = refl
 read-asks is_full w (Given (Turn k) out) h = absurd h
 read-asks is_full w (Given (Answer k reply) out) h = absurd h
+read-asks is_full w (Given (Break k kind) out) h = absurd h
 read-asks is_full w LongLine h = refl
 
 -- at place 0 a line is taken, and nothing is asked of the launcher
 pub took-at-lines : {X E : Type 0} (w now : WorldState) (left rest : Option (List ℕ)) (is_full : Bool) (calls : List Call) (place : ℕ) (bytes : List ℕ) (result : Result X E) → place ≡ 0
-    → OnOk result (TakesLineAt w left now rest bytes) → OnOk result (TakesAt w left is_full calls place now rest calls bytes)
+    → OnOk result (TakesLineAt w left now rest bytes) → OnOk result (TakesAt w left is_full calls (next_at place) now rest calls bytes)
 took-at-lines w now left rest is_full calls place bytes (Ok done) at t = record {
   item = t.0;
   listed = [];
-  place_is = read-place t.0 t.1 ∙ sym at;
+  next_is = read-place t.0 t.1 ∙ ap next_at (sym at);
   takes = t.2;
   calls_are = sym (append-nil calls);
   asked = read-asks is_full w t.0 t.1;
+  when_full = λ full. tt;
 }
 took-at-lines w now left rest is_full calls place bytes (Err fault) at t = tt
 
+turn-at : (place : ℕ) → 1 ≤ place → place ≤ 20 → AtTurn place ≡ next_at place
+turn-at place low high = grind (arith, common_steps)
+
 -- the turn of a shell
 pub took-at-turn : {X E : Type 0} (w now : WorldState) (left : Option (List ℕ)) (is_full : Bool) (calls : List Call) (place : ℕ) (out : Out) (result : Result X E)
-    → OnOk result (IsAnswer (Turn place) (Ok out) (step_of w (Turn place))) → OnOk result (now ≡ world_after w (Ok out) (step_of w (Turn place)))
-    → OnOk result (TakesAt w left is_full calls place now left calls out.bytes)
-took-at-turn w now left is_full calls place out (Ok done) answer world = record {
+    → 1 ≤ place → place ≤ 20 → OnOk result (IsAnswer (Turn place) (Ok out) (step_of w (Turn place))) → OnOk result (now ≡ world_after w (Ok out) (step_of w (Turn place)))
+    → OnOk result (TakesAt w left is_full calls (next_at place) now left calls out.bytes)
+took-at-turn w now left is_full calls place out (Ok done) low high answer world = record {
   item = Given (Turn place) out;
   listed = [];
-  place_is = refl;
+  next_is = turn-at place low high;
   takes = record { accepted = answer; world_is = world; lines = λ bytes e. (tt, e); bytes_are = refl };
   calls_are = sym (append-nil calls);
   asked = refl;
+  when_full = λ full. tt;
 }
-took-at-turn w now left is_full calls place out (Err fault) answer world = tt
+took-at-turn w now left is_full calls place out (Err fault) low high answer world = tt
+
+-- a break of a shell
+pub took-at-break : {X E : Type 0} (w now : WorldState) (left : Option (List ℕ)) (is_full : Bool) (calls : List Call) (k : ℕ) (kind : Kind) (out : Out) (result : Result X E)
+    → OnOk result (IsAnswer (Break k kind) (Ok out) (step_of w (Break k kind))) → OnOk result (now ≡ world_after w (Ok out) (step_of w (Break k kind)))
+    → OnOk result (TakesAt w left is_full calls (AtBreak k kind) now left calls out.bytes)
+took-at-break w now left is_full calls k kind out (Ok done) answer world = record {
+  item = Given (Break k kind) out;
+  listed = [];
+  next_is = refl;
+  takes = record { accepted = answer; world_is = world; lines = λ bytes e. (tt, e); bytes_are = refl };
+  calls_are = sym (append-nil calls);
+  asked = refl;
+  when_full = λ full. tt;
+}
+took-at-break w now left is_full calls k kind out (Err fault) answer world = tt
 
 start-fits : (request : Request) (reply : Reply) → fits request reply ≡ true → asks_start (Some request) ≡ answers_start reply
 start-fits (Start job) reply fit = sym fit
@@ -98,32 +122,32 @@ further-due w place request off due asked =
 abbrev pub shell_at_place : ℕ → ℕ
 shell_at_place place = if nat_lt place 41 then place - 20 else place - 40
 
-place-by : (place : ℕ) (b : Bool) → 21 ≤ place → (nat_lt place 41 ≡ true → b ≡ true) → (nat_lt place 41 ≡ false → b ≡ false) →
-    (if b then shell_at_place place + 20 else shell_at_place place + 40) ≡ place
-place-by place b late early further =
+answer-by : (place : ℕ) (b : Bool) → 21 ≤ place → (nat_lt place 41 ≡ true → b ≡ true) → (nat_lt place 41 ≡ false → b ≡ false) →
+    (if b then AtStart (shell_at_place place) else AtFurther (shell_at_place place)) ≡ next_at place
+answer-by place b late early further =
     elim (cases_Bool (nat_lt place 41)) [
-      | inl on ↦ rw (on, early on) (omega (arith, late))
-      | inr off ↦ rw (off, further off) (grind (arith, common_steps))
+      | inl on ↦ rw (early on) (grind (arith, common_steps))
+      | inr off ↦ rw (further off) (grind (arith, common_steps))
     ]
 
--- an answer has the place at which it was due
-answer-place : (w : WorldState) (place : ℕ) (request : Request) (reply : Reply) → 21 ≤ place → comes w place ≡ true → pending_of w (shell_at_place place) ≡ Some request → fits request reply ≡ true
-    → place_of_event (Answer (shell_at_place place) reply) ≡ place
-answer-place w place request reply late due asked fit = place-by place (answers_start reply) late
+-- an answer is what was due at its place
+answer-at : (w : WorldState) (place : ℕ) (request : Request) (reply : Reply) → 21 ≤ place → comes w place ≡ true → pending_of w (shell_at_place place) ≡ Some request → fits request reply ≡ true
+    → next_of_event (Answer (shell_at_place place) reply) ≡ next_at place
+answer-at w place request reply late due asked fit = answer-by place (answers_start reply) late
     (λ on. sym (start-fits request reply fit) ∙ start-due w place request late on due (rw on at asked))
     (λ off. sym (start-fits request reply fit) ∙ further-due w place request off due (rw off at asked))
 
 listed-dropped : (w : WorldState) (is_full : Bool) (place : ℕ) (request : Request) (reply : Reply) (listed : List Call) → 21 ≤ place → comes w place ≡ true
-    → pending_of w (shell_at_place place) ≡ Some request → Lists is_full request reply listed → AreDropped w (Some place) listed
+    → pending_of w (shell_at_place place) ≡ Some request → Lists is_full request reply listed → AreDropped w (Some (next_at place)) listed
 listed-dropped w is_full place request reply listed late due asked (fit, inl is) =
-    subst (AreDropped w (Some place)) (sym is)
-    (record { number = shell_at_place place; request = request; reply = reply; next_is = ap Some (sym (answer-place w place request reply late due asked fit)); pending_is = asked; fit = fit; call_is = refl })
-listed-dropped w is_full place request reply listed late due asked (fit, inr none) = subst (AreDropped w (Some place)) (sym none.0) tt
+    subst (AreDropped w (Some (next_at place))) (sym is)
+    (record { number = shell_at_place place; request = request; reply = reply; next_is = ap Some (sym (answer-at w place request reply late due asked fit)); pending_is = asked; fit = fit; call_is = refl })
+listed-dropped w is_full place request reply listed late due asked (fit, inr none) = subst (AreDropped w (Some (next_at place))) (sym none.0) tt
 
 -- a launcher's answer that was not taken
 pub dropped-at-answer : {X E : Type 0} (w now : WorldState) (was_full is_full : Bool) (calls calls_now : List Call) (place : ℕ) (out : Out) (result : Result X E)
     → 21 ≤ place → comes w place ≡ true → Answers w (shell_at_place place) was_full is_full calls calls_now (TakesAnswer w (shell_at_place place) result now out)
-    → OnErr result ((dropped : List Call) × AreDropped w (Some place) dropped × (calls_now ≡ calls ++ dropped))
+    → OnErr result ((dropped : List Call) × AreDropped w (Some (next_at place)) dropped × (calls_now ≡ calls ++ dropped))
 dropped-at-answer w now was_full is_full calls calls_now place out (Ok done) late due a = tt
 dropped-at-answer w now was_full is_full calls calls_now place out (Err fault) late due a =
     (a.asks.listed, listed-dropped w is_full place a.request a.reply a.asks.listed late due a.pending_is a.asks.lists, a.asks.calls_are)
@@ -131,14 +155,15 @@ dropped-at-answer w now was_full is_full calls calls_now place out (Err fault) l
 -- a launcher's answer
 pub took-at-answer : {X E : Type 0} (w now : WorldState) (left : Option (List ℕ)) (was_full is_full : Bool) (calls calls_now : List Call) (place : ℕ) (out : Out) (result : Result X E)
     → 21 ≤ place → comes w place ≡ true → Answers w (shell_at_place place) was_full is_full calls calls_now (TakesAnswer w (shell_at_place place) result now out)
-    → OnOk result (TakesAt w left is_full calls place now left calls_now out.bytes)
+    → OnOk result (TakesAt w left is_full calls (next_at place) now left calls_now out.bytes)
 took-at-answer w now left was_full is_full calls calls_now place out (Ok done) late due a = record {
   item = Given (Answer (shell_at_place place) a.reply) out;
   listed = a.asks.listed;
-  place_is = answer-place w place a.request a.reply late due a.pending_is a.asks.lists.0;
+  next_is = answer-at w place a.request a.reply late due a.pending_is a.asks.lists.0;
   takes = record { accepted = a.led_to.0; world_is = a.led_to.1; lines = λ bytes e. (tt, e); bytes_are = refl };
   calls_are = a.asks.calls_are;
   asked = rw a.pending_is a.asks.lists;
+  when_full = a.asks.when_full;
 }
 took-at-answer w now left was_full is_full calls calls_now place out (Err fault) late due a = tt
 

@@ -9,13 +9,13 @@ use Rattle.ados_machine.specs.declared.answers.Answer.{Answer}
 use Rattle.ados_machine.specs.Children.{answers_wait}
 use Rattle.ados_launcher.specs.declared.calls.Call.{Call}
 use Rattle.ados_launcher.specs.declared.calls.Call.TheVariants.{Start as Starts, Read as Reads, Wait as Waits}
-use Rattle.ados_launcher.specs.Lives.{Life, Between, InReads, BehindReads, Cut, Broken, life_of, life_waited, is_open}
-use Rattle.ados_launch.specs.Agreement.{AddsWait, AreWaits, AreWaitsFor, AreWhole, AreOver, IsWhole, IsOver, IsOpenTable, WaitsForOpen, waited_child}
+use Rattle.ados_launcher.specs.Lives.{Life, Between, InReads, BehindReads, Broken, life_of, life_waited, is_open}
+use Rattle.ados_launch.specs.Agreement.{AddsWait, AreWaits, AreWaitsFor, AreWhole, AreOver, IsOpenTable, WaitsForOpen, waited_child}
 use Rattle.ados_launch.proofs.Rows.{life-more}
 
 -- a row once its open child was waited for
 abbrev pub waited : Life → Life
-waited InReads = Cut
+waited InReads = Between
 waited BehindReads = Between
 waited life = life
 
@@ -30,14 +30,12 @@ waited-is : (life : Life) (a : Answer) → is_open life ≡ true → answers_wai
 waited-is InReads a o f = rw f refl
 waited-is BehindReads a o f = rw f refl
 waited-is Between a o f = cc
-waited-is Cut a o f = cc
 waited-is Broken a o f = cc
 
 closed-stays : (life : Life) → is_open life ≡ false → waited life ≡ life
 closed-stays InReads o = cc
 closed-stays BehindReads o = cc
 closed-stays Between o = refl
-closed-stays Cut o = refl
 closed-stays Broken o = refl
 
 at : (n : ℕ) (x y : Life) → (if nat_lt n n then x else y) ≡ y
@@ -83,28 +81,26 @@ rows-more n false before mid after w o m = subst (IsWaited (n + 1) before) (sym 
 pub still-open : (n : ℕ) (before mid : List Call) → IsWaited n before mid → is_open (life_of n before) ≡ true → is_open (life_of n mid) ≡ true
 still-open n before mid w o = ap is_open (w n ∙ at n (waited (life_of n before)) (life_of n before)) ∙ o
 
-whole-over : (life : Life) → IsWhole life → IsOver (waited life)
-whole-over Between h = tt
-whole-over InReads h = tt
-whole-over BehindReads h = tt
-whole-over Cut h = tt
-whole-over Broken h = h
+whole-over : (life : Life) → life ≢ Broken → waited life ≡ Between
+whole-over Between h = refl
+whole-over InReads h = refl
+whole-over BehindReads h = refl
+whole-over Broken h = absurd (h refl)
 
-closed-over : (life : Life) → IsWhole life → is_open life ≡ false → IsOver life
-closed-over Between h o = tt
+closed-over : (life : Life) → life ≢ Broken → is_open life ≡ false → life ≡ Between
+closed-over Between h o = refl
 closed-over InReads h o = cc
 closed-over BehindReads h o = cc
-closed-over Cut h o = tt
-closed-over Broken h o = h
+closed-over Broken h o = absurd (h refl)
 
-over-by : (b : Bool) (life : Life) → IsWhole life → (b ≡ false → is_open life ≡ false) → IsOver (if b then waited life else life)
+over-by : (b : Bool) (life : Life) → life ≢ Broken → (b ≡ false → is_open life ≡ false) → (if b then waited life else life) ≡ Between
 over-by true life h o = whole-over life h
 over-by false life h o = closed-over life h (o refl)
 
 -- at the end none is open
 pub all-over : (table : List Bool) (n : ℕ) (before after : List Call) → IsWaited n before after → AreWhole before → IsOpenTable table before → ((j : ℕ) → nat_lt j n ≡ false → get_or table j false ≡ false) → AreOver after
 all-over table n before after w h t past j =
-    subst IsOver (sym (w j)) (over-by (nat_lt j n) (life_of j before) (h j) (λ e. sym (t j) ∙ past j e))
+    w j ∙ over-by (nat_lt j n) (life_of j before) (h j) (λ e. sym (t j) ∙ past j e)
 
 -- the open children below n, rising
 abbrev pub open_below : List Call → ℕ → List ℕ

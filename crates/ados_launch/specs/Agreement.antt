@@ -1,39 +1,25 @@
 -- Agreement: what the requests of a world and the list of a launcher's calls have to do with one another.
-use Rattle.std.specs.Prelude.{◌≡◌, ℕ, List, [], ◌∷◌, ◌++◌, map, Bool, true, false, Option, Some, None, get_or, filter}
+use Rattle.std.specs.Prelude.{◌≡◌, ◌≢◌, ℕ, List, [], ◌∷◌, ◌++◌, map, Bool, true, false, Option, Some, None, get_or, filter}
 use Rattle.std.specs.List.{range_with_len}
 use Rattle.ados_machine.specs.declared.answers.Answer.{Answer}
 use Rattle.ados_machine.specs.Children.{answers_wait, child_in}
 use Rattle.ados_machine.specs.World.{WorldState}
 use Rattle.ados_launcher.specs.declared.calls.Call.{Call}
 use Rattle.ados_launcher.specs.declared.calls.Call.TheVariants.{Start, Read, Wait}
-use Rattle.ados_launcher.specs.Lives.{Life, Between, InReads, BehindReads, Cut, Broken, life_of, life_in, is_open}
+use Rattle.ados_launcher.specs.Lives.{Life, Between, Broken, life_of, life_in, is_open}
 
--- Each row of lives is whole so far, and its open child is the one that the world reads or waits for: no end of its reads is
--- listed where the world reads it, and that end is listed where the world waits for it.
+-- Each row of lives is one so far, and its open child is the one that the world reads or waits for: no end of its reads is
+-- listed where the world reads it or has broken it, and that end is listed where the world waits for it and has not.
 abbrev pub Agrees : WorldState → List Call → Type 0
 Agrees w calls = (k : ℕ) → life_of k calls ≡ life_in (child_in w k)
 
--- no child was cut short, and no call is out of place
-abbrev pub IsWhole : Life → Type 0
-IsWhole Between = Unit {0}
-IsWhole InReads = Unit {0}
-IsWhole BehindReads = Unit {0}
-IsWhole Cut = ⊥
-IsWhole Broken = ⊥
-
+-- no call is out of place
 abbrev pub AreWhole : List Call → Type 0
-AreWhole calls = (k : ℕ) → IsWhole (life_of k calls)
+AreWhole calls = (k : ℕ) → life_of k calls ≢ Broken
 
--- no child is open, and no call is out of place; of the last life the end of the reads may lack
-abbrev pub IsOver : Life → Type 0
-IsOver Between = Unit {0}
-IsOver Cut = Unit {0}
-IsOver InReads = ⊥
-IsOver BehindReads = ⊥
-IsOver Broken = ⊥
-
+-- no child is open, and no call is out of place: the calls for each number are a row of whole lives
 abbrev pub AreOver : List Call → Type 0
-AreOver calls = (k : ℕ) → IsOver (life_of k calls)
+AreOver calls = (k : ℕ) → life_of k calls ≡ Between
 
 -- the numbers of the open children, rising
 abbrev pub open_children : List Call → List ℕ

@@ -21,7 +21,7 @@ use Rattle.ados_launch.specs.declared.alone.SystemEnd.{SystemEnd}
 use Rattle.ados_launch.specs.declared.alone.SystemEnd.TheVariants.{Ended, NoShell, StillRunning}
 use Rattle.ados_launch.specs.declared.alone.SystemFault.{SystemFault}
 use Rattle.ados_launch.specs.Agreement.{Agrees}
-use Rattle.ados_launch.specs.Asked.{AreAsked, IsAsked, ListsOf}
+use Rattle.ados_launch.specs.Asked.{AreAsked, AreNoStarts, IsAsked, ListsOf}
 use Rattle.ados_launch.specs.Taken.{Taken, Given, events_in, outs_in}
 
 -- the next event of a shell: an answer where it waits for one, and else a turn
@@ -38,6 +38,7 @@ pub record TakesNext (k : ℕ) (w : WorldState) (is_full : Bool) (calls : List C
   pub accepted : IsAnswer event (Ok out) (step_of w event)
   pub world_is : now ≡ world_after w (Ok out) (step_of w event)
   pub asked : IsAsked is_full w (Given event out) listed
+  pub when_full : is_full ≡ true → AreNoStarts listed
   pub calls_are : calls_now ≡ calls ++ listed
 
 -- An answer was asked for what a shell waits for and not taken, and this was listed for it; or none was asked.
@@ -102,7 +103,7 @@ StopsAtEvent is_full turns fault w k others =
 -- There was no room for what the last event printed, which is handed back; nothing was asked for a further one.
 abbrev pub StopsAtBytes : ℕ → SystemFault → List Taken → List Call → Type 0
 StopsAtBytes turns fault taken others =
-    (fault.events ≤ turns) × AreOfLast fault.unwritten taken × (fault.answer ≡ None) × (others ≡ [])
+    (fault.events ≤ turns) × AreOfLast fault.unwritten taken × (0 < length fault.unwritten) × (fault.answer ≡ None) × (others ≡ [])
 
 -- The shell stands after the events that the fault counts, and may have ended with the last of them.
 pub record StandsAt (w : WorldState) (line : Text) (turns : ℕ) (is_full : Bool) (fault : SystemFault) (last : WorldState) (before now : Bytes) (calls calls_now : List Call) (k : ℕ) : Type 0 where

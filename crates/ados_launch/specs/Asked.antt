@@ -1,8 +1,10 @@
 -- Asked: what a launcher is asked for, of the events that a run takes.
-use Rattle.std.specs.Prelude.{◌≡◌, ◌⊎◌, ℕ, List, [], ◌∷◌, ◌++◌, Bool, true, false, Option, Some, None, Result, Ok, MatchResult}
+use Rattle.std.specs.Prelude.{◌≡◌, ◌≢◌, ◌⊎◌, ℕ, List, [], ◌∷◌, ◌++◌, Bool, true, false, Option, Some, None, Result, Ok, MatchResult}
 use Rattle.ados_machine.specs.declared.answers.Answer.{Answer as Reply}
 use Rattle.ados_machine.specs.declared.answers.Answer.TheVariants.{Memory}
-use Rattle.ados_machine.specs.declared.events.Event.TheVariants.{Typed, EndOfInput, Turn, Answer}
+use Rattle.ados_machine.specs.declared.children.ChildState.{ChildState}
+use Rattle.ados_machine.specs.declared.children.ChildState.TheVariants.{Closed, Reading}
+use Rattle.ados_machine.specs.declared.events.Event.TheVariants.{Typed, EndOfInput, Turn, Answer, Break}
 use Rattle.ados_machine.specs.declared.outs.Out.{Out}
 use Rattle.ados_machine.specs.declared.requests.Request.{Request}
 use Rattle.ados_machine.specs.declared.requests.Request.TheVariants.{Start, Read, Wait}
@@ -26,6 +28,13 @@ call_of (Start job) reply = Starts job reply
 call_of (Read n) reply = Reads n reply
 call_of (Wait n) reply = Waits n reply
 
+-- The request may be made of a child that is so far: a start where there is none, a read while its output is read, and a wait
+-- of one that is open, also before the end of its reads.
+abbrev pub MayAsk : Request → ChildState → Type 0
+MayAsk (Start job) state = state ≡ Closed
+MayAsk (Read n) state = state ≡ Reading
+MayAsk (Wait n) state = state ≢ Closed
+
 -- What a launcher lists of it: the call, with an answer of its kind. A start that finds no room is answered Memory, and is
 -- not listed; the launcher is full then, and stays so.
 abbrev pub Lists : Bool → Request → Reply → List Call → Type 0
@@ -44,19 +53,38 @@ IsAsked is_full w (Given (Answer k reply) out) listed = ListsOf is_full (pending
 IsAsked is_full w (Given (Typed line) out) listed = listed ≡ []
 IsAsked is_full w (Given EndOfInput out) listed = listed ≡ []
 IsAsked is_full w (Given (Turn k) out) listed = listed ≡ []
+IsAsked is_full w (Given (Break k kind) out) listed = listed ≡ []
 IsAsked is_full w LongLine listed = listed ≡ []
+
+-- no program's start is among these calls
+abbrev pub AreNoStarts : List Call → Type 0
+AreNoStarts [] = Unit {0}
+AreNoStarts (Starts job reply ∷ calls) = ⊥
+AreNoStarts (Reads n reply ∷ calls) = AreNoStarts calls
+AreNoStarts (Waits n reply ∷ calls) = AreNoStarts calls
+
+-- an answer that was taken without a call is one of a launcher that is full: it lists no start behind it
+abbrev pub HasCall : Taken → List Call → List Call → Type 0
+HasCall (Given (Answer k reply) out) [] later = AreNoStarts later
+HasCall (Given (Answer k reply) out) (call ∷ calls) later = Unit {0}
+HasCall (Given (Typed line) out) now later = Unit {0}
+HasCall (Given EndOfInput out) now later = Unit {0}
+HasCall (Given (Turn k) out) now later = Unit {0}
+HasCall (Given (Break k kind) out) now later = Unit {0}
+HasCall LongLine now later = Unit {0}
 
 -- for all of it, one after another, each once
 abbrev pub AreAsked : Bool → WorldState → List Taken → List Call → Type 0
 AreAsked is_full w [] listed = listed ≡ []
 AreAsked is_full w (item ∷ taken) listed =
-    (now later : List Call) × (listed ≡ now ++ later) × IsAsked is_full w item now × AreAsked is_full (world_behind w item) taken later
+    (now later : List Call) × (listed ≡ now ++ later) × IsAsked is_full w item now × HasCall item now later × AreAsked is_full (world_behind w item) taken later
 
 -- A request was made to a launcher, which answered so: what it listed.
 pub record Asks (request : Request) (reply : Reply) (was_full is_full : Bool) (calls calls_now : List Call) : Type 0 where
   pub listed : List Call
   pub calls_are : calls_now ≡ calls ++ listed
   pub lists : Lists is_full request reply listed
+  pub when_full : is_full ≡ true → AreNoStarts listed
   pub stays : was_full ≡ true → is_full ≡ true
 
 -- What shell k waits for was asked of a launcher, and this is what its answer led to.

@@ -1,9 +1,11 @@
 pub mod Agreement
 pub mod Alone
 pub mod Asked
+pub mod Drives
 pub mod Faults
 pub mod Laws
 pub mod Lines
+pub mod Rounds
 pub mod Schedule
 pub mod Session
 pub mod Taken

@@ -1,122 +1,134 @@
--- The order in which events come, in rounds of places. At place 0 a line is read as long as one is wanted. At places 1 to 20
--- the shells take their turns, at places 21 to 40 their starts are answered, and at places 41 to 60 their reads and waits, each
--- shell when its place comes. A shell that had an answer in a round is answered no second read or wait in it.
-use Rattle.std.specs.Prelude.{◌≡◌, ℕ, zero, suc, ◌+◌, ◌-◌, ◌≤◌, List, [], ◌∷◌, Option, Some, None, is_some, Bool, true, false, not, ◌&&◌, nat_lt, get_or, slice_set, if◌then◌else◌}
-use Rattle.std.proofs.Math.ListN.{replicate}
-use Rattle.std.specs.List.{find, range_with_len}
-use Rattle.std.specs.Option.{option_or}
+-- The order in which events come: the breaks of a list, each before the event whose number it names, and else what is due in
+-- the rounds.
+use Rattle.std.specs.Prelude.{◌≡◌, ℕ, ◌+◌, ◌-◌, ◌<◌, List, [], ◌∷◌, drop, Option, Some, None, option_map, is_some, Bool, true, not, ◌&&◌, nat_le, nat_lt, if◌then◌else◌}
+use Rattle.std.specs.List.{prefix_len}
+use Rattle.ados_machine.specs.declared.events.BreakAt.{BreakAt}
 use Rattle.ados_machine.specs.declared.events.Event.{Event}
-use Rattle.ados_machine.specs.declared.events.Event.TheVariants.{Typed, EndOfInput, Turn, Answer}
-use Rattle.ados_machine.specs.declared.requests.Request.{Request}
-use Rattle.ados_machine.specs.declared.requests.Request.TheVariants.{Start, Read, Wait}
+use Rattle.ados_machine.specs.declared.events.Event.TheVariants.{Typed, EndOfInput, Turn, Answer, Break}
+use Rattle.ados_machine.specs.declared.events.Kind.{Kind}
 use Rattle.ados_machine.specs.Children.{answers_start}
-use Rattle.ados_machine.specs.World.{WorldState, shell_at, is_ready, pending_of, wants_line}
-use Rattle.ados_launch.specs.declared.schedule.Round.{Round}
+use Rattle.ados_machine.specs.World.{WorldState, shell_at}
+use Rattle.ados_launch.specs.declared.rounds.Round.{Round}
+use Rattle.ados_launch.specs.declared.schedule.Next as found
+use Rattle.ados_launch.specs.declared.schedule.Next.TheVariants.{Break as BreakFound, Due as DueFound}
+use Rattle.ados_launch.specs.Rounds.{comes, due, first_round, passed_round, round_behind}
 use Rattle.ados_launch.specs.Taken.{Taken, Given, LongLine, world_behind}
 
--- a start is asked for
-abbrev pub asks_start : Option Request → Bool
-asks_start None = false
-asks_start (Some (Start job)) = true
-asks_start (Some (Read k)) = false
-asks_start (Some (Wait k)) = false
+-- Where a schedule stands: the round; the breaks of its list that were neither given nor passed over; and how many events and
+-- long lines were taken.
+pub record Standing : Type 0 where
+  pub round : Round
+  pub breaks : List BreakAt
+  pub taken : ℕ
 
--- a read or a wait is asked for
-abbrev pub asks_further : Option Request → Bool
-asks_further None = false
-asks_further (Some (Start job)) = false
-asks_further (Some (Read k)) = true
-asks_further (Some (Wait k)) = true
+-- it begins with a list of breaks
+abbrev pub first_standing : List BreakAt → Standing
+first_standing breaks = record { round = first_round; breaks = breaks; taken = 0 }
 
--- something may come at this place
-abbrev pub comes : WorldState → ℕ → Bool
-comes w place =
-    if nat_lt place 1 then wants_line w else
-    (if nat_lt place 21 then is_ready w place else
-    (if nat_lt place 41 then asks_start (pending_of w (place - 20)) else asks_further (pending_of w (place - 40))))
+-- what comes next: a break of a shell; a line; a shell's turn, the answer to its start, or to its read or wait
+pub data Next : Type 0 where
+  AtBreak : (shell : ℕ) (kind : Kind) → Next
+  AtLine : Next
+  AtTurn : (shell : ℕ) → Next
+  AtStart : (shell : ℕ) → Next
+  AtFurther : (shell : ℕ) → Next
 
--- it is due, but for a read or a wait of a shell that had an answer in this round
-abbrev pub is_due : WorldState → List Bool → ℕ → Bool
-is_due w answered place = comes w place && not (nat_lt 40 place && get_or answered (place - 40) false)
+-- what is due at a place of a round, and the place of that
+abbrev pub next_at : ℕ → Next
+next_at place =
+    if nat_lt place 1 then AtLine else
+    (if nat_lt place 21 then AtTurn place else
+    (if nat_lt place 41 then AtStart (place - 20) else AtFurther (place - 40)))
 
--- a round begins
-abbrev pub none_answered : List Bool
-none_answered = replicate 21 false
+abbrev pub place_of : Next → ℕ
+place_of (AtBreak shell kind) = 0
+place_of AtLine = 0
+place_of (AtTurn shell) = shell
+place_of (AtStart shell) = shell + 20
+place_of (AtFurther shell) = shell + 40
 
-abbrev pub first_round : Round
-first_round = record { place = 0; answered = none_answered }
+-- a break whose shell is not there is passed over before the event of its number, for good
+abbrev pub is_passed : ℕ → WorldState → BreakAt → Bool
+is_passed number w at = nat_le at.event number && not (is_some (shell_at w at.shell))
 
--- the place of the next event in this round, and in the next one
-abbrev pub in_this_round : Round → WorldState → Option ℕ
-in_this_round round w = find (is_due w round.answered) (range_with_len round.place (61 - round.place))
+-- the breaks that are left before the next event
+abbrev pub breaks_left : Standing → WorldState → List BreakAt
+breaks_left s w = drop (prefix_len (is_passed (s.taken + 1) w) s.breaks) s.breaks
 
-abbrev pub in_next_round : WorldState → Option ℕ
-in_next_round w = find (is_due w none_answered) (range_with_len 0 61)
+-- the first of these breaks, where it comes before the event of this number
+abbrev pub first_before : ℕ → List BreakAt → Option BreakAt
+first_before number [] = None
+first_before number (at ∷ breaks) = if nat_le at.event number then Some at else None
 
--- the place of the next event: between two events the world stays as it is
-abbrev pub due : Round → WorldState → Option ℕ
-due round w = option_or (in_this_round round w) (in_next_round w)
+-- such a break comes before what is due
+abbrev pub next_by : Option BreakAt → ℕ → Next
+next_by None place = next_at place
+next_by (Some at) place = AtBreak at.shell at.kind
 
--- which shells had an answer in the round of the next event
-abbrev pub answered_if : Option ℕ → List Bool → List Bool
-answered_if None answered = none_answered
-answered_if (Some place) answered = answered
+-- what comes next: where nothing is due no break comes either
+abbrev pub next_in : Standing → WorldState → Option Next
+next_in s w = option_map (next_by (first_before (s.taken + 1) (breaks_left s w))) (due s.round w)
 
-abbrev pub answered_by : Round → WorldState → List Bool
-answered_by round w = answered_if (in_this_round round w) round.answered
+-- where the schedule stands behind what came: a break leaves the round as it is
+abbrev pub behind_place : Standing → WorldState → ℕ → Standing
+behind_place s w place = record { round = round_behind s.round w place; breaks = breaks_left s w; taken = s.taken + 1 }
 
--- the place from which a round goes on: lines are read as long as they are wanted
-abbrev pub place_behind : ℕ → ℕ
-place_behind zero = 0
-place_behind (suc k) = suc k + 1
+abbrev pub standing_behind : Standing → WorldState → Next → Standing
+standing_behind s w (AtBreak shell kind) = record { round = s.round; breaks = drop 1 (breaks_left s w); taken = s.taken + 1 }
+standing_behind s w AtLine = behind_place s w (place_of AtLine)
+standing_behind s w (AtTurn shell) = behind_place s w (place_of (AtTurn shell))
+standing_behind s w (AtStart shell) = behind_place s w (place_of (AtStart shell))
+standing_behind s w (AtFurther shell) = behind_place s w (place_of (AtFurther shell))
 
--- the shell has had an answer whose place this is
-abbrev pub marked : ℕ → List Bool → List Bool
-marked place answered =
-    if nat_lt place 21 then answered else
-    (if nat_lt place 41 then slice_set answered (place - 20) true else slice_set answered (place - 40) true)
+-- what was found to come next, and where the schedule stands behind it once the breaks before it were passed over
+abbrev pub next_as : found.Next → Next
+next_as (BreakFound at) = AtBreak at.shell at.kind
+next_as (DueFound due_at) = next_at due_at.place
 
--- where the round stands behind what came at a place
-abbrev pub round_behind : Round → WorldState → ℕ → Round
-round_behind round w place = record { place = place_behind place; answered = marked place (answered_by round w) }
+abbrev pub passed : Standing → found.Next → Standing
+passed s (BreakFound at) = record s { breaks = drop 1 s.breaks; taken = s.taken + 1 }
+passed s (DueFound due_at) = record s { round = passed_round s.round due_at; taken = s.taken + 1 }
 
--- the place of an event in a round
-abbrev pub place_of_event : Event → ℕ
-place_of_event (Typed line) = 0
-place_of_event EndOfInput = 0
-place_of_event (Turn k) = k
-place_of_event (Answer k reply) = if answers_start reply then k + 20 else k + 40
+-- it may come: a break of a shell that runs, or what may come at a place
+abbrev pub MayCome : WorldState → found.Next → Type 0
+MayCome w (BreakFound at) = is_some (shell_at w at.shell) ≡ true
+MayCome w (DueFound due_at) = (due_at.place < 61) × (comes w due_at.place ≡ true)
 
--- the place of what was taken: long lines are read where lines are
-abbrev pub place_of : Taken → ℕ
-place_of (Given event out) = place_of_event event
-place_of LongLine = 0
+-- what is due has a place in the round
+abbrev pub IsInRound : found.Next → Type 0
+IsInRound (BreakFound at) = Unit {0}
+IsInRound (DueFound due_at) = due_at.place < 61
 
--- from here on, in this world, each came where its place was the next at which something was due
-abbrev pub InOrder : Round → WorldState → List Taken → Type 0
-InOrder round w [] = Unit {0}
-InOrder round w (item ∷ taken) = (due round w ≡ Some (place_of item)) × InOrder (round_behind round w (place_of item)) (world_behind w item) taken
+-- what an event is in a schedule
+abbrev pub next_of_event : Event → Next
+next_of_event (Typed line) = AtLine
+next_of_event EndOfInput = AtLine
+next_of_event (Turn k) = AtTurn k
+next_of_event (Answer k reply) = if answers_start reply then AtStart k else AtFurther k
+next_of_event (Break k kind) = AtBreak k kind
 
--- where the round stands behind all of it
-abbrev pub round_after : Round → WorldState → List Taken → Round
-round_after round w [] = round
-round_after round w (item ∷ taken) = round_after (round_behind round w (place_of item)) (world_behind w item) taken
+-- what was taken is this: long lines are read where lines are
+abbrev pub next_of : Taken → Next
+next_of (Given event out) = next_of_event event
+next_of LongLine = AtLine
 
--- the place of what comes next behind what was taken from a world
-abbrev pub due_behind : WorldState → List Taken → WorldState → Option ℕ
-due_behind w taken now = due (round_after first_round w taken) now
+-- from here on, in this world, each was the next that came
+abbrev pub InOrder : Standing → WorldState → List Taken → Type 0
+InOrder s w [] = Unit {0}
+InOrder s w (item ∷ taken) = (next_in s w ≡ Some (next_of item)) × InOrder (standing_behind s w (next_of item)) (world_behind w item) taken
+
+-- where the schedule stands behind all of it
+abbrev pub standing_after : Standing → WorldState → List Taken → Standing
+standing_after s w [] = s
+standing_after s w (item ∷ taken) = standing_after (standing_behind s w (next_of item)) (world_behind w item) taken
+
+-- what comes next behind what was taken from a world
+abbrev pub next_behind : List BreakAt → WorldState → List Taken → WorldState → Option Next
+next_behind breaks w taken now = next_in (standing_after (first_standing breaks) w taken) now
 
 -- a line comes next
-abbrev pub IsReading : WorldState → List Taken → WorldState → Type 0
-IsReading w taken now = due_behind w taken now ≡ Some 0
-
--- at some place something may come
-abbrev pub IsRunning : WorldState → Type 0
-IsRunning w = (place : ℕ) × (place ≤ 60) × (comes w place ≡ true)
-
--- nothing may come at any place: no line is wanted, no shell is ready, and none asks for anything
-abbrev pub IsIdle : WorldState → Type 0
-IsIdle w = (place : ℕ) → place ≤ 60 → comes w place ≡ false
+abbrev pub IsReading : List BreakAt → WorldState → List Taken → WorldState → Type 0
+IsReading breaks w taken now = next_behind breaks w taken now ≡ Some AtLine
 
 -- shell 1 runs, and its input has not ended
 abbrev pub takes_input : WorldState → Bool

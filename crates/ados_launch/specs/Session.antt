@@ -1,7 +1,8 @@
--- Sessions: what a driven world took from a reader and a launcher, and what was written for it.
+-- Sessions: what a driven world took from a reader, a launcher and a list of breaks, and what was written for it.
 use Rattle.std.specs.Prelude.{◌≡◌, ℕ, ◌+◌, ◌<◌, List, [], ◌∷◌, ◌++◌, length, take, Bool, true, Option, Some}
 use Rattle.std.specs.Io.KnownBytes.{Appends}
 use Rattle.ados_machine.specs.declared.answers.Answer.{Answer as Reply}
+use Rattle.ados_machine.specs.declared.events.BreakAt.{BreakAt}
 use Rattle.ados_machine.specs.declared.events.Event.TheVariants.{Answer}
 use Rattle.ados_machine.specs.declared.requests.Request.{Request}
 use Rattle.ados_machine.specs.Children.{fits}
@@ -9,60 +10,82 @@ use Rattle.ados_machine.specs.World.{WorldState, pending_of}
 use Rattle.ados_machine.specs.Runs.{Runs}
 use Rattle.ados_launcher.specs.declared.calls.Call.{Call}
 use Rattle.ados_launch.specs.declared.lines.LineKind.TheVariants.{Overlong}
+use Rattle.ados_launch.specs.Agreement.{Agrees}
 use Rattle.ados_launch.specs.Lines.{Known, ahead, behind_overlong, kind_of}
 use Rattle.ados_launch.specs.Taken.{Taken, events_in, outs_in, bytes_of, written_for, world_behind, IsAccepted, IsNext, IsOfReader, left_behind, AreRead}
-use Rattle.ados_launch.specs.Asked.{IsAsked, AreAsked, call_of}
-use Rattle.ados_launch.specs.Schedule.{InOrder, place_of, place_of_event, first_round}
+use Rattle.ados_launch.specs.Asked.{IsAsked, AreAsked, AreNoStarts, call_of}
+use Rattle.ados_launch.specs.Schedule.{InOrder, Next, first_standing, next_of, next_of_event}
 
--- From a world, with a reader that had this left, and a launcher that is full in the end or not and listed these calls, this
--- was taken, and the last world stands behind it.
-pub record Session (w : WorldState) (left : Option (List ℕ)) (is_full : Bool) (listed : List Call) (taken : List Taken) (last : WorldState) : Type 0 where
+-- What stands at a moment of a drive: the world; what the reader has left, and how many of its reads have failed; what the
+-- writer holds, how many of its writes have failed, and how many took nothing; and the launcher's calls, and whether it is full.
+pub record Moment : Type 0 where
+  pub world : WorldState
+  pub left : Option (List ℕ)
+  pub read_faults : ℕ
+  pub contents : Option (List ℕ)
+  pub write_faults : ℕ
+  pub stalls : ℕ
+  pub calls : List Call
+  pub is_full : Bool
+
+-- Before each thing that was taken the world and the launcher's list agree. So a child is waited for before the end of its reads
+-- just where the world has broken it.
+abbrev pub AgreesAlong : (is_full : Bool) (w : WorldState) (calls : List Call) (taken : List Taken) (listed : List Call) → AreAsked is_full w taken listed → Type 0
+AgreesAlong is_full w calls [] listed asked = Agrees w calls
+AgreesAlong is_full w calls (item ∷ taken) listed asked =
+    Agrees w calls × AgreesAlong is_full (world_behind w item) (calls ++ asked.0) taken asked.1 asked.5
+
+-- From a world, with a reader that had this left, these breaks, and a launcher that had these calls, is full in the end or not
+-- and then listed those, this was taken, and the last world stands behind it.
+pub record Session (w : WorldState) (left : Option (List ℕ)) (breaks : List BreakAt) (calls : List Call) (is_full : Bool) (listed : List Call) (taken : List Taken) (last : WorldState) : Type 0 where
   -- the events are a run of the machine, which accepted each
   pub run : Runs w (events_in taken) (outs_in taken) last
-  -- they came in the order of the rounds
-  pub ordered : InOrder first_round w taken
+  -- they came in the order of the schedule
+  pub ordered : InOrder (first_standing breaks) w taken
   -- the lines are those of the reader's bytes
   pub lines : Known left (λ bytes. AreRead bytes taken)
   -- the answers are the launcher's: each request was called once, and in their order
   pub asked : AreAsked is_full w taken listed
+  -- each was called where the launcher's list and the world agreed
+  pub agreed : AgreesAlong is_full w calls taken listed asked
 
 -- The call is one for the answer that comes next: for what its shell asks for, with an answer of that kind.
-pub record IsForNext (w : WorldState) (next : Option ℕ) (call : Call) : Type 0 where
+pub record IsForNext (w : WorldState) (next : Option Next) (call : Call) : Type 0 where
   pub number : ℕ
   pub request : Request
   pub reply : Reply
-  pub next_is : next ≡ Some (place_of_event (Answer number reply))
+  pub next_is : next ≡ Some (next_of_event (Answer number reply))
   pub pending_is : pending_of w number ≡ Some request
   pub fit : fits request reply ≡ true
   pub call_is : call ≡ call_of request reply
 
 -- Calls whose answers the world did not take: none, or one for the answer that comes next.
-abbrev pub AreDropped : WorldState → Option ℕ → List Call → Type 0
+abbrev pub AreDropped : WorldState → Option Next → List Call → Type 0
 AreDropped w next [] = Unit {0}
 AreDropped w next (call ∷ []) = IsForNext w next call
 AreDropped w next (call ∷ other ∷ calls) = ⊥
 
--- So many events and long lines were taken, and all of their bytes were written. The launcher listed what was asked for them,
--- and then these other calls.
-pub record Stands (w : WorldState) (left : Option (List ℕ)) (is_full : Bool) (n : ℕ) (last : WorldState) (before now : Option (List ℕ)) (calls calls_now others : List Call) : Type 0 where
+-- From one moment to another so many events and long lines were taken, and all of their bytes were written. The launcher listed
+-- what was asked for them, and then these other calls.
+pub record Stands (before now : Moment) (breaks : List BreakAt) (n : ℕ) (others : List Call) : Type 0 where
   pub taken : List Taken
   pub listed : List Call
   pub count_is : length taken ≡ n
-  pub session : Session w left is_full listed taken last
-  pub written : Appends before now (written_for taken)
-  pub calls_are : calls_now ≡ calls ++ (listed ++ others)
+  pub session : Session before.world before.left breaks before.calls now.is_full listed taken now.world
+  pub written : Appends before.contents now.contents (written_for taken)
+  pub calls_are : now.calls ≡ before.calls ++ (listed ++ others)
 
 -- So many were taken, and of the last one's bytes some were not written.
-pub record StandsCut (w : WorldState) (left : Option (List ℕ)) (is_full : Bool) (n : ℕ) (last : WorldState) (before now : Option (List ℕ)) (calls calls_now others : List Call) : Type 0 where
+pub record StandsCut (before now : Moment) (breaks : List BreakAt) (n : ℕ) : Type 0 where
   pub taken : List Taken
   pub item : Taken
   pub listed : List Call
   pub count_is : length taken + 1 ≡ n
-  pub session : Session w left is_full listed (taken ++ item ∷ []) last
+  pub session : Session before.world before.left breaks before.calls now.is_full listed (taken ++ item ∷ []) now.world
   pub length_written : ℕ
   pub cut : length_written < length (bytes_of item)
-  pub written : Appends before now (written_for taken ++ take length_written (bytes_of item))
-  pub calls_are : calls_now ≡ calls ++ (listed ++ others)
+  pub written : Appends before.contents now.contents (written_for taken ++ take length_written (bytes_of item))
+  pub calls_are : now.calls ≡ before.calls ++ listed
 
 -- of what is left to read, less than 4,096 bytes were taken from the reader
 abbrev pub IsReadAhead : List ℕ → Option (List ℕ) → Type 0
@@ -84,11 +107,12 @@ pub record Takes (w : WorldState) (left : Option (List ℕ)) (item : Taken) (now
 abbrev pub TakesLineAt : WorldState → Option (List ℕ) → WorldState → Option (List ℕ) → List ℕ → Type 0
 TakesLineAt w left now rest bytes = (item : Taken) × IsOfReader item × Takes w left item now rest bytes
 
--- At this place one thing was taken, and this was asked of the launcher for it.
-pub record TakesAt (w : WorldState) (left : Option (List ℕ)) (is_full : Bool) (calls : List Call) (place : ℕ) (now : WorldState) (rest : Option (List ℕ)) (calls_now : List Call) (bytes : List ℕ) : Type 0 where
+-- What came next was taken, and this was asked of the launcher for it.
+pub record TakesAt (w : WorldState) (left : Option (List ℕ)) (is_full : Bool) (calls : List Call) (next : Next) (now : WorldState) (rest : Option (List ℕ)) (calls_now : List Call) (bytes : List ℕ) : Type 0 where
   pub item : Taken
   pub listed : List Call
-  pub place_is : place_of item ≡ place
+  pub next_is : next_of item ≡ next
   pub takes : Takes w left item now rest bytes
   pub calls_are : calls_now ≡ calls ++ listed
   pub asked : IsAsked is_full w item listed
+  pub when_full : is_full ≡ true → AreNoStarts listed

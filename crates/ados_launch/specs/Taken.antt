@@ -2,7 +2,7 @@
 use Rattle.std.specs.Prelude.{◌≡◌, ℕ, List, [], ◌∷◌, ◌++◌, Result, Ok, map, codes}
 use Rattle.ados_text.specs.Text.{to_ascii}
 use Rattle.ados_machine.specs.declared.events.Event.{Event}
-use Rattle.ados_machine.specs.declared.events.Event.TheVariants.{Typed, EndOfInput, Turn, Answer}
+use Rattle.ados_machine.specs.declared.events.Event.TheVariants.{Typed, EndOfInput, Turn, Answer, Break}
 use Rattle.ados_machine.specs.declared.outs.Out.{Out}
 use Rattle.ados_machine.specs.declared.refusals.Refusal.{Refusal}
 use Rattle.ados_machine.specs.World.{WorldState}
@@ -57,12 +57,13 @@ abbrev pub text_of : List ℕ → List ℕ
 text_of line = map to_ascii line
 
 -- it is what comes next in the bytes: a line is typed as text, at their end the input ends, a long line is
--- passed over; a turn and an answer read nothing
+-- passed over; a turn, an answer and a break read nothing
 abbrev pub IsNext : List ℕ → Taken → Type 0
 IsNext bytes (Given (Typed line) out) = (kind_of bytes ≡ Short) × (line ≡ text_of (line_of bytes))
 IsNext bytes (Given EndOfInput out) = kind_of bytes ≡ End
 IsNext bytes (Given (Turn k) out) = Unit {0}
 IsNext bytes (Given (Answer k reply) out) = Unit {0}
+IsNext bytes (Given (Break k kind) out) = Unit {0}
 IsNext bytes LongLine = kind_of bytes ≡ Long
 
 -- it is a line of the reader, or its end
@@ -71,6 +72,7 @@ IsOfReader (Given (Typed line) out) = Unit {0}
 IsOfReader (Given EndOfInput out) = Unit {0}
 IsOfReader (Given (Turn k) out) = ⊥
 IsOfReader (Given (Answer k reply) out) = ⊥
+IsOfReader (Given (Break k kind) out) = ⊥
 IsOfReader LongLine = Unit {0}
 
 -- what is left of the bytes behind it
@@ -79,6 +81,7 @@ left_behind bytes (Given (Typed line) out) = rest_of bytes
 left_behind bytes (Given EndOfInput out) = rest_of bytes
 left_behind bytes (Given (Turn k) out) = bytes
 left_behind bytes (Given (Answer k reply) out) = bytes
+left_behind bytes (Given (Break k kind) out) = bytes
 left_behind bytes LongLine = rest_of bytes
 
 -- its lines are those of the bytes, in their order

@@ -1,5 +1,5 @@
 // A line that runs alone, in a shell that is opened for it.
-ghost use Rattle.std.specs.Prelude.{◌≡◌, ◌<◌, ◌≤◌, ◌++◌, List, Ok, None, true, is_some, IfErr, IfSome, OnOk, OnErr};
+ghost use Rattle.std.specs.Prelude.{◌≡◌, ◌<◌, ◌≤◌, ◌++◌, List, length, Ok, None, true, is_some, IfErr, IfSome, OnOk, OnErr};
 ghost use Rattle.ados_machine.specs.Numbers.{free_number};
 ghost use Rattle.ados_machine.specs.World.{shell_at};
 ghost use Rattle.ados_world.specs.Opened.{opening_fault};
@@ -13,7 +13,7 @@ use crate::events::give;
 use ados_launcher::Launcher;
 use ados_text::{Octets, Text};
 use ados_world::{Answer, Codes, Draft, Event, Refusal, World};
-use std::alloc::Global;
+use std::alloc::{AllocError, Global};
 use thiserror::Error;
 
 /// What a line came to that ran alone.
@@ -71,7 +71,7 @@ impl SystemFault {
 /// A line for which no shell is opened is refused with `Over` where no shell is left, then `LineTooLong` for more than 512
 /// bytes, then `NoMemory`; the world, the launcher and `out` are then as they were. Where memory is wanting later the fault
 /// says where the shell stands, and holds what would else be lost: the answer to the event for which there was no memory,
-/// or the last event's bytes, for which `out` had no room. A shell that still runs goes on by steps of the world: that
+/// or the last event's bytes, for which `out` had no room: there are some then. A shell that still runs goes on by steps of the world: that
 /// answer, and then turns and further answers. A child that is open stays open at each return.
 ///
 /// Before the call every child that the launcher lists and that is not open was read to its end and waited for once. The open
@@ -127,7 +127,7 @@ pub fn system<L: Launcher>(
                 unwritten: Octets::from_vec(Vec::new(alloc)),
             });
         }
-        if out.extend_from_slice(draft.printed.as_slice()).is_err() {
+        if append(out, draft.printed.as_slice()).is_err() {
             return Err(SystemFault {
                 refusal: Refusal::NoMemory,
                 shell: Some(number),
@@ -141,6 +141,18 @@ pub fn system<L: Launcher>(
         None => Ok(SystemEnd::Ended(world.codes(number))),
         Some(_) => Ok(SystemEnd::StillRunning(number)),
     }
+}
+
+// Appends what an event printed. Where it printed nothing no room is needed.
+fn append(out: &mut Vec<u8>, printed: &[u8]) -> Result<(), AllocError>
+    ensures grown { OnOk result (out.new.items ≡ out.old.items ++ printed.now) }
+    ensures kept { OnErr result (out.new.items ≡ out.old.items) }
+    ensures some { OnErr result (0 < length printed.now) }
+{
+    if printed.is_empty() {
+        return Ok(());
+    }
+    out.extend_from_slice(printed)
 }
 
 // Gives a background shell that runs its next event: the launcher's answer to what it waits for, or else a turn. The draft

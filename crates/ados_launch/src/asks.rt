@@ -1,12 +1,12 @@
 // Asks a launcher for what a shell waits for, and gives the world its answer.
-ghost use Rattle.std.specs.Prelude.{◌≡◌, ◌≢◌, ◌<◌, Some, None, Err, OnErr};
+ghost use Rattle.std.specs.Prelude.{◌≡◌, ◌≢◌, ◌<◌, false, None, Err, OnErr};
 ghost use Rattle.ados_machine.specs.Limits.{IsSane};
 ghost use Rattle.ados_machine.specs.World.{pending_of};
-ghost use Rattle.ados_machine.specs.Children.{behind_answer, child_asked, shell_named};
+ghost use Rattle.ados_machine.specs.Children.{behind_answer, shell_named};
 ghost use Rattle.ados_shell.specs.Drafts.{out_of};
 ghost use Rattle.ados_launcher.specs.Lives.{is_open, life_in, state_of};
 ghost use Rattle.ados_launch.specs.Agreement.{Agrees, IsOpenTable};
-ghost use Rattle.ados_launch.specs.Asked.{Answers, Asks, TakesAnswer};
+ghost use Rattle.ados_launch.specs.Asked.{Answers, Asks, MayAsk, TakesAnswer};
 
 use crate::events::give;
 use crate::faults::DriveFault;
@@ -43,7 +43,7 @@ pub fn answer<L: Launcher>(
 // The launcher's answer to a request.
 pub fn ask<L: Launcher>(launcher: &mut L, request: &Request) -> Answer
     requires number { shell_named request.now < 21 }
-    requires state { state_of (shell_named request.now) (L.calls launcher.old) ≡ child_asked (Some request.now) }
+    requires state { MayAsk request.now (state_of (shell_named request.now) (L.calls launcher.old)) }
     ensures { Asks request.now result (L.is_full launcher.old) (L.is_full launcher.new) (L.calls launcher.old) (L.calls launcher.new) }
 {
     match request {
@@ -55,7 +55,7 @@ pub fn ask<L: Launcher>(launcher: &mut L, request: &Request) -> Answer
 
 // The child is open behind this answer to what was asked for it.
 fn runs_behind(request: &Request, answer: &Answer) -> bool
-    ensures { result ≡ is_open (life_in (behind_answer request.now answer.now)) }
+    ensures { result ≡ is_open (life_in (behind_answer false request.now answer.now)) }
 {
     match request {
         Request::Start(_) => matches!(answer, Answer::Started),

@@ -4,9 +4,9 @@ ghost use Rattle.ados_machine.specs.World.{pending_of};
 ghost use Rattle.ados_machine.specs.declared.children.ChildState.TheVariants.{Closed};
 ghost use Rattle.ados_launcher.specs.Lives.{state_of};
 ghost use Rattle.ados_launch.specs.Agreement.{AddsWait, AreOver, AreWhole, IsOpenTable, WaitsForOpen};
-ghost use Rattle.ados_launch.specs.Schedule.{asks_further};
+ghost use Rattle.ados_launch.specs.Rounds.{asks_further};
 
-use crate::schedule::asks_further;
+use crate::rounds::asks_further;
 use ados_launcher::Launcher;
 use ados_world::World;
 

@@ -3,6 +3,7 @@ ghost use Rattle.std.specs.Io.{ReadsAtMost, WritesAtMost};
 ghost use Rattle.std.specs.Io.KnownBytes.{ReadConsumes, WriteAppends};
 ghost use Rattle.ados_launch.specs.Faults.{CountsFault, CountsStall};
 
+use ados_world::World;
 use std::io;
 use std::io::{Read, Write};
 
@@ -13,6 +14,14 @@ pub trait Source {
 
     /// How many reads have failed.
     ghost faults: { Self → ℕ };
+
+    /// Sees the world that is about to take a line.
+    ///
+    /// A reader of a program's own may choose by it what its reads give next, where that is not known; others do nothing.
+    fn heed(&mut self, _world: &World)
+        ensures left { left self.new ≡ left self.old }
+        ensures faults { faults self.new ≡ faults self.old }
+    {}
 
     /// Reads some bytes into the front of the buffer, and gives their number.
     ///

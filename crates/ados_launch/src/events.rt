@@ -7,7 +7,8 @@ ghost use Rattle.ados_shell.specs.Drafts.{out_of};
 ghost use Rattle.ados_launcher.specs.declared.calls.Call.{Call};
 ghost use Rattle.ados_launch.specs.Agreement.{Agrees, AreWhole, IsOpenTable};
 ghost use Rattle.ados_launch.specs.Lines.{ahead, BeginsOverlong, Known};
-ghost use Rattle.ados_launch.specs.Schedule.{comes};
+ghost use Rattle.ados_launch.specs.Rounds.{comes};
+ghost use Rattle.ados_launch.specs.Schedule.{AtLine, next_as, next_at, MayCome};
 ghost use Rattle.ados_launch.specs.Session.{AreDropped, TakesAt, TakesLineAt};
 
 use crate::Source;
@@ -15,6 +16,7 @@ use crate::asks::answer;
 use crate::faults::DriveFault;
 use crate::lines::{LineKind, next_line};
 use crate::read_ahead::ReadAhead;
+use crate::schedule::Next;
 use ados_launcher::Launcher;
 use ados_text::Text;
 use ados_world::{Draft, Event, Refusal, World};
@@ -22,9 +24,61 @@ use std::alloc::Global;
 
 const LONG_LINE_TEXT: &[u8] = b"Line too long\n";
 
+// Takes what comes next: a break, or what is due. The draft holds then what is to be written.
+pub fn take_next<L: Launcher, S: Source>(
+    alloc: Global,
+    world: &mut World,
+    launcher: &mut L,
+    children: &mut [bool; 21],
+    next: Next,
+    held: &mut ReadAhead,
+    reader: &mut S,
+    line: &mut Vec<u8>,
+    draft: &mut Draft,
+) -> Result<(), DriveFault>
+    requires reader { S.faults reader.old < 2 ^ 64 - 1 }
+    requires may_come { MayCome world.old next }
+    requires agrees { Agrees world.old (L.calls launcher.old) }
+    requires children { IsOpenTable children.old (L.calls launcher.old) }
+    ensures took { OnOk result (TakesAt world.old (ahead held.old (S.left reader.old)) (L.is_full launcher.new) (L.calls launcher.old) (next_as next)
+        world.new (ahead held.new (S.left reader.new)) (L.calls launcher.new) draft.new.printed.items) }
+    ensures agrees { OnOk result (Agrees world.new (L.calls launcher.new)) }
+    ensures children { IsOpenTable children.new (L.calls launcher.new) }
+    ensures whole { AreWhole (L.calls launcher.new) }
+    ensures stays { L.is_full launcher.old ≡ true → L.is_full launcher.new ≡ true }
+    ensures few { length held.old < 4096 → length held.new < 4096 }
+    ensures honest { OnOk result (S.faults reader.new ≡ S.faults reader.old) }
+    ensures err { OnErr result (world.new ≡ world.old) }
+    ensures dropped { OnErr result ((dropped : List Call) × AreDropped world.old (Some (next_as next)) dropped
+        × (L.calls launcher.new ≡ L.calls launcher.old ++ dropped)) }
+    ensures unasked { IsErrOf result DriveFault.Read → L.calls launcher.new ≡ L.calls launcher.old }
+    ensures read { IsErrOf result DriveFault.Read → (S.faults reader.new ≡ S.faults reader.old + 1)
+        ⊎ ((S.faults reader.new ≡ S.faults reader.old) × Known (ahead held.old (S.left reader.old))
+        (λ bytes. BeginsOverlong bytes (ahead held.new (S.left reader.new)))) }
+    ensures reading { IsErrOf result DriveFault.Read → next_as next ≡ AtLine }
+    ensures memory_honest { IsErrOf result DriveFault.Memory → S.faults reader.new ≡ S.faults reader.old }
+    ensures no_write { IsErrOf result DriveFault.Write → ⊥ }
+    ensures no_turns { IsErrOf result DriveFault.Turns → ⊥ }
+{
+    match next {
+        Next::Break(at) => give(world, &Event::Break(at.shell, at.kind), draft),
+        Next::Due(found) => take_event(
+            alloc,
+            world,
+            launcher,
+            children,
+            found.place,
+            held,
+            reader,
+            line,
+            draft,
+        ),
+    }
+}
+
 // Takes the event that is due at this place: the next line, the turn of a shell, or a launcher's answer. The draft holds
 // then what is to be written.
-pub fn take_event<L: Launcher, S: Source>(
+fn take_event<L: Launcher, S: Source>(
     alloc: Global,
     world: &mut World,
     launcher: &mut L,
@@ -40,7 +94,7 @@ pub fn take_event<L: Launcher, S: Source>(
     requires due { comes world.old place ≡ true }
     requires agrees { Agrees world.old (L.calls launcher.old) }
     requires children { IsOpenTable children.old (L.calls launcher.old) }
-    ensures took { OnOk result (TakesAt world.old (ahead held.old (S.left reader.old)) (L.is_full launcher.new) (L.calls launcher.old) place
+    ensures took { OnOk result (TakesAt world.old (ahead held.old (S.left reader.old)) (L.is_full launcher.new) (L.calls launcher.old) (next_at place)
         world.new (ahead held.new (S.left reader.new)) (L.calls launcher.new) draft.new.printed.items) }
     ensures agrees { OnOk result (Agrees world.new (L.calls launcher.new)) }
     ensures children { IsOpenTable children.new (L.calls launcher.new) }
@@ -49,7 +103,7 @@ pub fn take_event<L: Launcher, S: Source>(
     ensures few { length held.old < 4096 → length held.new < 4096 }
     ensures honest { OnOk result (S.faults reader.new ≡ S.faults reader.old) }
     ensures err { OnErr result (world.new ≡ world.old) }
-    ensures dropped { OnErr result ((dropped : List Call) × AreDropped world.old (Some place) dropped
+    ensures dropped { OnErr result ((dropped : List Call) × AreDropped world.old (Some (next_at place)) dropped
         × (L.calls launcher.new ≡ L.calls launcher.old ++ dropped)) }
     ensures unasked { IsErrOf result DriveFault.Read → L.calls launcher.new ≡ L.calls launcher.old }
     ensures read { IsErrOf result DriveFault.Read → (S.faults reader.new ≡ S.faults reader.old + 1)
@@ -58,10 +112,10 @@ pub fn take_event<L: Launcher, S: Source>(
     ensures reading { IsErrOf result DriveFault.Read → place ≡ 0 }
     ensures memory_honest { IsErrOf result DriveFault.Memory → S.faults reader.new ≡ S.faults reader.old }
     ensures no_write { IsErrOf result DriveFault.Write → ⊥ }
-    ensures no_turns { IsErrOf result DriveFault.Turns → ⊥ }
+    ensures none_turns { IsErrOf result DriveFault.Turns → ⊥ }
 {
     if place < 1 {
-        take_line(alloc, world, held, reader, line, draft)
+        take_next_line(alloc, world, held, reader, line, draft)
     } else if place < 21 {
         give(world, &Event::Turn(place), draft)
     } else {
@@ -76,6 +130,33 @@ fn shell_answered(place: u8) -> u8
     ensures { result ≡ (if nat_lt place 41 then place - 20 else place - 40) }
 {
     if place < 41 { place - 20 } else { place - 40 }
+}
+
+// Shows the reader the world, and has it take the next line.
+fn take_next_line<S: Source>(
+    alloc: Global,
+    world: &mut World,
+    held: &mut ReadAhead,
+    reader: &mut S,
+    line: &mut Vec<u8>,
+    draft: &mut Draft,
+) -> Result<(), DriveFault>
+    requires reader { S.faults reader.old < 2 ^ 64 - 1 }
+    requires due { wants_line world.old ≡ true }
+    ensures took { OnOk result
+        (TakesLineAt world.old (ahead held.old (S.left reader.old)) world.new (ahead held.new (S.left reader.new)) draft.new.printed.items) }
+    ensures few { length held.old < 4096 → length held.new < 4096 }
+    ensures honest { OnOk result (S.faults reader.new ≡ S.faults reader.old) }
+    ensures err { OnErr result (world.new ≡ world.old) }
+    ensures read { IsErrOf result DriveFault.Read → (S.faults reader.new ≡ S.faults reader.old + 1)
+        ⊎ ((S.faults reader.new ≡ S.faults reader.old) × Known (ahead held.old (S.left reader.old))
+        (λ bytes. BeginsOverlong bytes (ahead held.new (S.left reader.new)))) }
+    ensures memory_honest { IsErrOf result DriveFault.Memory → S.faults reader.new ≡ S.faults reader.old }
+    ensures not_write { IsErrOf result DriveFault.Write → ⊥ }
+    ensures not_turns { IsErrOf result DriveFault.Turns → ⊥ }
+{
+    reader.heed(world);
+    take_line(alloc, world, held, reader, line, draft)
 }
 
 // Reads a line and gives it to the world, or the end of the input. A long one is not given, and a
@@ -128,8 +209,8 @@ pub fn give(world: &mut World, event: &Event, draft: &mut Draft) -> Result<(), D
 {
     match world.step_into(event, draft) {
         Ok(()) => Ok(()),
-        Err(Refusal::NoMemory) => Err(DriveFault::Memory),
-        Err(_) => unreachable!(),
+        // An event that is accepted is refused for want of memory alone.
+        Err(_) => Err(DriveFault::Memory),
     }
 }
 

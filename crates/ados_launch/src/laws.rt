@@ -1,5 +1,5 @@
 // The laws of the machine, for what a driver takes.
-ghost use Rattle.ados_launch.specs.Laws.{SessionsObeyLimits, SessionsReportEnds, SessionsEndFramesOnce};
+ghost use Rattle.ados_launch.specs.Laws.{NewPairsAgree, SessionsAreUnique, SessionsObeyLimits, SessionsReportEnds, SessionsEndFramesOnce};
 
 use ados_machine::{
     each_end_is_reported_once, each_frame_ends_once, scripts_end_where_the_rule_says,
@@ -17,3 +17,14 @@ pub fn sessions_obey_the_laws()
     each_end_is_reported_once();
     each_frame_ends_once();
 }
+
+/// A fresh world and a launcher without a call agree, as [`Drive::run`](crate::Drive::run) and [`system`](crate::system) need it.
+pub fn new_pairs_agree()
+    ensures { NewPairsAgree }
+{}
+
+/// The world, the reader's bytes, the breaks and the launcher's list of calls determine what is taken: of two sessions that begin
+/// alike, where one's list may go on behind the other's, what the one took is a front of what the other took.
+pub fn sessions_are_unique()
+    ensures { SessionsAreUnique }
+{}

@@ -15,12 +15,14 @@ mod faults;
 mod laws;
 mod lines;
 mod read_ahead;
+mod rounds;
 mod schedule;
 mod written;
 
-pub use ados_launcher::{Call, Host, Launcher, Listed};
+pub use ados_launcher::{Call, Host, Launcher, Listed, calls_are_rows_of_lives};
+pub use ados_machine::BreakAt;
 pub use alone::{SystemEnd, SystemFault, system};
 pub use counted::{Counted, Sink, Source};
-pub use driver::{End, drive};
+pub use driver::{Drive, End};
 pub use faults::DriveFault;
-pub use laws::sessions_obey_the_laws;
+pub use laws::{new_pairs_agree, sessions_are_unique, sessions_obey_the_laws};

@@ -1,147 +1,148 @@
 // The order in which events come.
-ghost use Rattle.std.specs.Prelude.{◌≡◌, ◌<◌, ◌≤◌, get_or, false};
-ghost use Rattle.ados_machine.specs.World.{pending_of};
+ghost use Rattle.std.specs.Prelude.{◌≡◌, ◌<◌, ◌≤◌, ◌+◌, ◌-◌, ◌^◌, drop, length, option_map, IfSome, is_none};
+ghost use Rattle.std.specs.List.{prefix_len};
+ghost use Rattle.ados_launch.specs.Rounds.{due};
 ghost use Rattle.ados_launch.specs.Schedule.{
-  asks_start,
-  asks_further,
-  comes,
-  is_due,
-  due,
-  in_this_round,
-  answered_by,
-  first_round,
-  marked,
-  place_behind,
+  breaks_left,
+  first_before,
+  first_standing,
+  is_passed,
+  next_as,
+  next_in,
+  passed,
+  standing_behind,
+  IsInRound,
+  MayCome,
 };
 
-use ados_machine::Request;
+use crate::rounds::{Due, Round};
+use ados_machine::BreakAt;
 use ados_world::World;
+use std::marker::Model;
 
-// The places of a round: 0 for the lines, and three for each shell: its turns, its starts, its reads and waits.
-const PLACES: u8 = 61;
-
-/// Where a round stands.
+/// What comes next.
 #[derive(Clone, Copy)]
-pub struct Round {
-    /// The place from which it goes on.
-    pub place: u8,
-    /// Which shells had an answer in it, by their numbers.
-    pub answered: [bool; 21],
+pub enum Next {
+    /// A break.
+    Break(BreakAt),
+    /// What is due in the rounds.
+    Due(Due),
 }
 
-impl Round {
-    // A round begins.
-    pub fn first() -> Round
-        ensures { result ≡ first_round }
+/// Where a schedule stands.
+#[derive(Drop)]
+pub struct Schedule<'a> {
+    round: Round,
+    // Those that were neither given nor passed over.
+    breaks: &'a [BreakAt],
+    // How many events and long lines were taken.
+    taken: u64,
+}
+
+impl<'a> Model for Schedule<'a> {
+    ghost use Rattle.ados_launch.specs.Schedule.{Standing};
+
+    ghost Value = { Standing };
+
+    ghost view = { λ s. record { round = s.round; breaks = s.breaks.now; taken = s.taken } };
+}
+
+impl<'a> Schedule<'a> {
+    // A schedule begins, with these breaks.
+    pub fn new(breaks: &'a [BreakAt]) -> Schedule<'a>
+        ensures { result ≡ first_standing breaks.now }
     {
-        Round {
-            place: 0,
-            answered: [false; 21],
+        Schedule {
+            round: Round::first(),
+            breaks,
+            taken: 0,
         }
     }
 
-    // The place of the next event: the first of this round at which one is due, or else of the next round, in which no
-    // shell had an answer yet.
-    pub fn next(&mut self, world: &World) -> Option<u8>
-        requires { self.old.place ≤ 61 }
-        ensures due { result ≡ due self.old world.now }
-        ensures round { self.new ≡ record self.old { answered = answered_by self.old world.now } }
+    // What comes next, if anything does: a break that comes before what is due, or that. Breaks before it whose shells are not
+    // there are passed over.
+    pub fn next(&mut self, world: &World) -> Option<Next>
+        requires round { self.old.round.place ≤ 61 }
+        requires count { self.old.taken < 2 ^ 64 - 1 }
+        ensures next { option_map next_as result ≡ next_in self.old world.now }
+        ensures round { self.new.round ≡ self.old.round }
+        ensures taken { self.new.taken ≡ self.old.taken }
+        ensures may_come { IfSome result (λ next. MayCome world.now next) }
+        ensures passed { IfSome result (λ next. passed self.new next ≡ standing_behind self.old world.now (next_as next)) }
     {
-        match self.next_here(world) {
-            Some(place) => Some(place),
-            None => {
-                let next = Round::first();
-                self.answered = next.answered;
-                next.next_here(world)
-            }
+        let found = self.round.next(world)?;
+        self.pass_over(world);
+        match self.first_before() {
+            Some(at) => Some(Next::Break(at)),
+            None => Some(Next::Due(found)),
         }
     }
 
-    // The round goes on behind the event of this place.
-    pub fn pass(&mut self, place: u8)
-        requires { place < 61 }
-        ensures { self.new ≡ record { place = place_behind place; answered = marked place self.old.answered } }
+    // The schedule goes on behind what came.
+    pub fn pass(&mut self, next: Next)
+        requires place { IsInRound next }
+        requires count { self.old.taken < 2 ^ 64 - 1 }
+        ensures { self.new ≡ passed self.old next }
     {
-        self.place = behind(place);
-        self.mark(place);
-    }
-
-    // The first place of this round at which an event is due.
-    fn next_here(&self, world: &World) -> Option<u8>
-        requires { self.now.place ≤ 61 }
-        ensures { result ≡ in_this_round self.now world.now }
-    {
-        (self.place..PLACES).find(|place| self.is_due(world, *place))
-    }
-
-    // Something may come at this place, and it is no read or wait of a shell that had an answer in this round.
-    fn is_due(&self, world: &World, place: u8) -> bool
-        ensures { result ≡ is_due world.now self.now.answered place }
-    {
-        comes(world, place) && !(place > 40 && self.had_answer(place - 40))
-    }
-
-    fn had_answer(&self, number: u8) -> bool
-        ensures { result ≡ get_or self.now.answered number false }
-    {
-        self.answered
-            .get(usize::from(number))
-            .copied()
-            .unwrap_or(false)
-    }
-
-    // The shell whose start, read or wait has this place had an answer in this round.
-    fn mark(&mut self, place: u8)
-        requires { place < 61 }
-        ensures { self.new ≡ record self.old { answered = marked place self.old.answered } }
-    {
-        if place < 21 {
-            return;
+        match next {
+            Next::Break(_) => self.drop_break(),
+            Next::Due(found) => self.round.pass(found),
         }
-        if place < 41 {
-            self.answered[usize::from(place - 20)] = true;
-        } else {
-            self.answered[usize::from(place - 40)] = true;
+        self.taken += 1;
+    }
+
+    // Nothing is due.
+    pub fn is_over(&self, world: &World) -> bool
+        requires { self.now.round.place ≤ 61 }
+        ensures { result ≡ is_none (due self.now.round world.now) }
+    {
+        self.round.next(world).is_none()
+    }
+
+    // Passes over the breaks that come before the next event and whose shells are not there.
+    fn pass_over(&mut self, world: &World)
+        requires { self.old.taken < 2 ^ 64 - 1 }
+        ensures { self.new ≡ record self.old { breaks = breaks_left self.old world.now } }
+    {
+        let count = count_passed(self.breaks, self.taken + 1, world);
+        self.breaks = &self.breaks[count..];
+    }
+
+    // The first of the breaks, where it comes before the next event.
+    fn first_before(&self) -> Option<BreakAt>
+        requires { self.now.taken < 2 ^ 64 - 1 }
+        ensures { result ≡ first_before (self.now.taken + 1) self.now.breaks }
+    {
+        match self.breaks {
+            [at, ..] if at.event <= self.taken + 1 => Some(*at),
+            _ => None,
         }
     }
-}
 
-// Something may come at this place.
-fn comes(world: &World, place: u8) -> bool
-    ensures { result ≡ comes world.now place }
-{
-    if place < 1 {
-        world.wants_line()
-    } else if place < 21 {
-        world.ready(place)
-    } else if place < 41 {
-        asks_start(world, place - 20)
-    } else {
-        asks_further(world, place - 40)
+    // The first of the breaks was given.
+    fn drop_break(&mut self)
+        ensures { self.new ≡ record self.old { breaks = drop 1 self.old.breaks } }
+    {
+        if let [_, later @ ..] = self.breaks {
+            self.breaks = later;
+        }
     }
 }
 
-// The shell of this number asks for a program's start.
-fn asks_start(world: &World, number: u8) -> bool
-    ensures { result ≡ asks_start (pending_of world.now number) }
+// How many breaks are passed over before the event of this number.
+fn count_passed(breaks: &[BreakAt], number: u64, world: &World) -> usize
+    ensures value { result ≡ prefix_len (is_passed number world.now) breaks.now }
+    ensures within { result ≤ length breaks.now }
 {
-    matches!(world.pending(number), Some(Request::Start(_)))
+    breaks
+        .iter()
+        .take_while(|at| is_passed(at, number, world))
+        .count()
 }
 
-// The shell of this number asks for a piece of its program's output, or for its end.
-pub fn asks_further(world: &World, number: u8) -> bool
-    ensures { result ≡ asks_further (pending_of world.now number) }
+// A break that comes before the event of this number is passed over.
+fn is_passed(at: &BreakAt, number: u64, world: &World) -> bool
+    ensures { result ≡ is_passed number world.now at.now }
 {
-    matches!(
-        world.pending(number),
-        Some(Request::Read(_) | Request::Wait(_))
-    )
-}
-
-// The place behind an event: lines are read as long as they are wanted.
-fn behind(place: u8) -> u8
-    requires { place < 61 }
-    ensures { result ≡ place_behind place }
-{
-    if place == 0 { 0 } else { place + 1 }
+    at.event <= number && world.shell(at.shell).is_none()
 }

@@ -1,12 +1,15 @@
 -- where a comment begins, one item after another
-use Rattle.std.proofs.Common.{ℕ, zero, suc, ◌+◌, ◌≤◌, ◌==◌, ◌≡◌, List, true, false, length, ap, sym, arith}
+use Rattle.std.proofs.Common.{ℕ, zero, suc, ◌+◌, ◌<◌, ◌≤◌, ◌==◌, ◌≡◌, ◌∙◌, ◌&&◌, List, [], ◌∷◌, Bool, Option, Some, None, true, false, length, drop, refl, subst, ap, sym, arith}
 use Rattle.std.specs.List.{list_any}
-use Rattle.std.proofs.lemmas.List.{take_all}
-use Rattle.ados_items.specs.Items.{item_at}
+use Rattle.std.specs.List.{prefix_len}
+use Rattle.std.proofs.lemmas.Bool.{cond_both, eqb-true}
+use Rattle.std.proofs.lemmas.List.{drop_all, take_all}
+use Rattle.ados_items.specs.Items.{is_blank, is_word_byte, closing_from, quoted_of, item_by_first, item_at}
 use Rattle.ados_items.specs.declared.items.Item.{Item}
 use Rattle.ados_items.specs.declared.items.Item.TheVariants.{Word, Quoted, Equal, End, Unmatched}
-use Rattle.ados_items.proofs.ItemLemmas.{IsAtEnd, item-at-end}
-use Rattle.ados_line.specs.Comment.{comment_behind, comment_from, comment_start, without_comment}
+use Rattle.ados_items.proofs.ItemLemmas.{IsAtEnd, StandsBehind, item-at-end, item-behind}
+use Rattle.ados_line.specs.Pieces.{EndsAt}
+use Rattle.ados_line.specs.Comment.{comment_behind, comment_from, comment_start, without_comment, StopsAt, StandUpTo, IsDropped, IsUpToComment}
 
 pub comment_from-item : (n : ℕ) (line : List ℕ) (place : ℕ) (item : Item) → item ≡ item_at true line place
     → comment_from (suc n) line place ≡ comment_behind (λ to. comment_from n line to) line item
@@ -28,3 +31,57 @@ from-end (suc n) line place none =
 
 pub whole : (line : List ℕ) → list_any (λ c. c == 59) line ≡ false → without_comment line ≡ line
 whole line none = take_all (comment_start line) line (from-end (length line + 1) line 0 none)
+
+-- where the line's end is an item, nothing stands there but a comment
+abbrev EndDrops : List ℕ → Item → Type 0
+EndDrops line (End at) = IsDropped (drop at line)
+EndDrops line (Word from to) = Unit {0}
+EndDrops line (Quoted from to) = Unit {0}
+EndDrops line (Equal at) = Unit {0}
+EndDrops line (Unmatched from) = Unit {0}
+
+quote-drops : (line : List ℕ) (from : ℕ) (found : Option ℕ) → EndDrops line (quoted_of from found)
+quote-drops line from (Some to) = tt
+quote-drops line from None = tt
+
+first-drops : (line : List ℕ) (place : ℕ) (bytes : List ℕ) → drop place line ≡ bytes → EndDrops line (item_by_first true place bytes)
+first-drops line place [] e = subst IsDropped (sym e) tt
+first-drops line place (c ∷ cs) e =
+    let P : Item → Type 0 = λ item. EndDrops line item in
+    cond_both (c == 59) _ _ P (λ e59. subst IsDropped (sym e) (eqb-true c 59 e59)) (λ _.
+    cond_both (c == 34) _ _ P (λ _. quote-drops line (place + 1) (closing_from (place + 1) false cs)) (λ _.
+    cond_both (c == 61) _ _ P (λ _. tt) (λ _. tt)))
+
+end-drops : (line : List ℕ) (place : ℕ) → EndDrops line (item_at true line place)
+end-drops line place = let place' = place + prefix_len is_blank (drop place line) in first-drops line place' (drop place' line) refl
+
+-- the items from a place on stand up to another, where a comment begins or the line ends
+abbrev StopsFrom : List ℕ → ℕ → ℕ → Type 0
+StopsFrom line at place = ((items : List Item) × StandUpTo at line place items) × IsDropped (drop at line)
+
+item-stops : (next : ℕ → ℕ) (line : List ℕ) (place : ℕ) (item : Item) → item_at true line place ≡ item → StandsBehind place (length line) item
+    → EndDrops line item → ((to : ℕ) → place < to → to ≤ length line → StopsFrom line (next to) to) → StopsFrom line (comment_behind next line item) place
+item-stops next line place (Word from to) e w d goes =
+    let rest = goes to (omega (arith, w.0, w.1)) w.2 in
+    ((Word from to ∷ rest.0.0, (to, e, refl, rest.0.1)), rest.1)
+item-stops next line place (Quoted from to) e w d goes =
+    let rest = goes (to + 1) (omega (arith, w.0, w.1)) (omega (arith, w.2)) in
+    ((Quoted from to ∷ rest.0.0, (to + 1, e, refl, rest.0.1)), rest.1)
+item-stops next line place (Equal at) e w d goes =
+    let rest = goes (at + 1) (omega (arith, w.0)) (omega (arith, w.1)) in
+    ((Equal at ∷ rest.0.0, (at + 1, e, refl, rest.0.1)), rest.1)
+item-stops next line place (End at) e w d goes = (([], subst (λ it. StopsAt line at it) (sym e) refl), d)
+item-stops next line place (Unmatched from) e w d goes =
+    (([], subst (λ it. StopsAt line (length line) it) (sym e) refl), subst IsDropped (sym (drop_all (length line) line (omega arith))) tt)
+
+from-stops : (n : ℕ) (line : List ℕ) (place : ℕ) → place ≤ length line → length line < n + place → StopsFrom line (comment_from n line place) place
+from-stops zero line place within enough = absurd (omega arith)
+from-stops (suc n) line place within enough =
+    item-stops (λ to. comment_from n line to) line place (item_at true line place) refl (item-behind true line place) (end-drops line place)
+    (λ to more end. from-stops n line to end (omega arith))
+
+-- what is kept of a line ends at its comment
+pub up-to-comment : (line : List ℕ) → IsUpToComment line (without_comment line)
+up-to-comment line =
+    let stops = from-stops (length line + 1) line 0 (omega arith) (omega arith) in
+    record { place = comment_start line; items = stops.0.0; is_kept = refl; stand = stops.0.1; dropped = stops.1 }

@@ -1,9 +1,10 @@
 -- A line without its comment, which begins at the first `;` outside quotes.
-use Rattle.std.specs.Prelude.{ℕ, zero, suc, ◌+◌, length, take, true}
+use Rattle.std.specs.Prelude.{◌≡◌, ℕ, zero, suc, ◌+◌, List, [], ◌∷◌, length, take, drop, true}
 use Rattle.ados_text.specs.Text.{Text}
 use Rattle.ados_items.specs.declared.items.Item.{Item}
 use Rattle.ados_items.specs.declared.items.Item.TheVariants.{Word, Quoted, Equal, End, Unmatched}
 use Rattle.ados_items.specs.Items.{item_at}
+use Rattle.ados_line.specs.Pieces.{EndsAt}
 
 -- where the comment begins, or the line ends, behind an item; `next` gives it from a place on
 abbrev pub comment_behind : (ℕ → ℕ) → Text → Item → ℕ
@@ -25,3 +26,29 @@ comment_start line = comment_from (length line + 1) line 0
 -- A line up to its comment: all of it where it has none.
 abbrev pub without_comment : Text → Text
 without_comment line = take (comment_start line) line
+
+-- at a place behind which no item ends: the comment begins, or a quote that none closes takes the rest of the line
+abbrev pub StopsAt : Text → ℕ → Item → Type 0
+StopsAt line at (Word from to) = ⊥
+StopsAt line at (Quoted from to) = ⊥
+StopsAt line at (Equal place) = ⊥
+StopsAt line at (End place) = at ≡ place
+StopsAt line at (Unmatched from) = at ≡ length line
+
+-- the items stand in the line one after another from a place on, and after the last it stops at a place
+abbrev pub StandUpTo : ℕ → Text → ℕ → List Item → Type 0
+StandUpTo at line place [] = StopsAt line at (item_at true line place)
+StandUpTo at line place (item ∷ items) = (to : ℕ) × (item_at true line place ≡ item) × EndsAt to item × StandUpTo at line to items
+
+-- what is dropped of a line is nothing, or begins with `;`
+abbrev pub IsDropped : Text → Type 0
+IsDropped [] = Unit {0}
+IsDropped (c ∷ cs) = c ≡ 59
+
+-- What is kept of a line, items one after another, ends at the first `;` outside quotes, or is the whole line.
+pub record IsUpToComment (line kept : Text) : Type 0 where
+  pub place : ℕ
+  pub items : List Item
+  pub is_kept : kept ≡ take place line
+  pub stand : StandUpTo place line 0 items
+  pub dropped : IsDropped (drop place line)

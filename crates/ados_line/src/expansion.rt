@@ -2,7 +2,7 @@ ghost use Rattle.std.specs.Prelude.{◌≡◌, ◌<◌, ◌++◌, map, Err, IfOk
 ghost use Rattle.ados_text.specs.Text.{IsText};
 ghost use Rattle.ados_line.specs.Answers.{Gives};
 ghost use Rattle.ados_line.specs.Alias.{with_alias};
-ghost use Rattle.ados_line.specs.Comment.{without_comment};
+ghost use Rattle.ados_line.specs.Comment.{without_comment, IsUpToComment};
 ghost use Rattle.ados_line.specs.Expansion.{expanded_in, expanded_line, read_behind, resumed_at, resumed_of, spaced, without_newline, tick_text, IsMade, IsResumed};
 ghost use Rattle.ados_line.specs.Values.{variables_in};
 
@@ -29,6 +29,7 @@ use std::alloc::Global;
 pub fn expand(scope: &Scope, raw: &Text) -> Result<Expanded, LineFault>
     ensures value { Gives result (expanded_in scope.now.aliases.now (variables_in scope.now) raw.now) }
     ensures long { 512 < length raw.now → result ≡ Err LineFault.LineTooLong }
+    ensures comment { IsUpToComment raw.now (without_comment raw.now) }
     ensures made { IfOk result (IsMade (variables_in scope.now) (with_alias scope.now.aliases.now (without_comment raw.now))) }
 {
     let bytes = raw.as_bytes();

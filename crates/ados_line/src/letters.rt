@@ -1,8 +1,9 @@
 ghost use Rattle.std.specs.Prelude.{◌≡◌, ◌++◌, ℕ, List, true, false, IfOk, OnOk};
+ghost use Rattle.std.specs.List.{flat_map};
 ghost use Rattle.ados_text.specs.Text.{IsText};
 ghost use Rattle.ados_items.specs.Items.{item_at};
 ghost use Rattle.ados_line.specs.declared.letters.Letter.{Letter};
-ghost use Rattle.ados_line.specs.Letters.{singly, paired, letters_behind, letters_of, behind};
+ghost use Rattle.ados_line.specs.Letters.{singly, paired, letters_behind, letters_of, behind, written};
 
 use crate::cuts::piece;
 use ados_items::{Item, next_item};
@@ -18,10 +19,12 @@ pub enum Letter {
     Starred(u8),
 }
 
-/// The characters of a line: inside quotes a star and the byte behind it are one, anything else is a byte on its own.
+/// The characters of a line: inside quotes a star and the byte after it are one, anything else is a byte on its own. Written
+/// one after another, they are the line.
 pub fn read_letters(alloc: Global, line: &[u8]) -> Result<Vec<Letter>, NoMemory>
     requires { IsText line.now }
-    ensures { IfOk result (λ letters. letters.items ≡ letters_of line.now) }
+    ensures letters { IfOk result (λ letters. letters.items ≡ letters_of line.now) }
+    ensures written { IfOk result (λ letters. flat_map written letters.items ≡ line.now) }
 {
     let mut letters = Vec::with_capacity(alloc, line.len())?;
     let mut place = 0;

@@ -1,24 +1,22 @@
 -- The end of an event binds only Defers that it used, and only to directories that are there.
-use Rattle.std.proofs.Common.{◌≡◌, ◌⊎◌, ◌<◌, get_or, ◌∙◌, ℕ, zero, suc, List, [], ◌∷◌, Bool, true, false, cond, Option, Some, None, option_map, Result, Ok, Err, if◌then◌else◌, inl, inr, refl, sym, ap, subst, arith}
+use Rattle.std.proofs.Common.{◌≡◌, ◌⊎◌, ◌<◌, get_or, ◌∙◌, ℕ, zero, suc, List, [], ◌∷◌, Bool, true, false, cond, Option, Some, None, option_map, Ok, Err, if◌then◌else◌, inl, inr, refl, sym, ap, subst, arith}
 use Rattle.std.proofs.lemmas.Bool.{cases_Bool}
 use Rattle.std.specs.FinMap as map
 use Rattle.std.specs.FinMap.{get-insert}
 use Rattle.std.specs.declared.cmp.Ordering.{Ordering}
 use Rattle.std.specs.declared.cmp.Ordering.TheVariants.{Less, Equal, Greater}
-use Rattle.std.specs.List.{Contains}
 use Rattle.std.specs.Ordering.{eq_by_cmp, is_eq}
 use Rattle.ados_text.specs.Text.{Text, folded}
 use Rattle.ados_text.specs.Name.{name_cmp, name_cmp_total, name_cmp_exact}
-use Rattle.ados_text.specs.declared.codes.Result2.{Result2}
 use Rattle.ados_text.specs.declared.codes.TheConstants.Result2.{WRONG_TYPE}
 use Rattle.ados_ram.specs.Entry.{is_directory}
 use Rattle.ados_ram.specs.Place.{Place, key_of}
 use Rattle.ados_ram.specs.Files.{Files, is_some_directory}
 use Rattle.ados_ram.specs.declared.entries.Entry.{Entry}
 use Rattle.ados_names.specs.Path.{path_of}
-use Rattle.ados_assign.specs.Assigns.{AssignMap, rebound, set_of}
+use Rattle.ados_assign.specs.Assigns.{AssignMap, rebound}
 use Rattle.ados_assign.specs.Resolve.{Resolved, by_path, directory_at, led, leads_in, on_entry, resolved_by}
-use Rattle.ados_assign.specs.Uses.{bound_each, bound_of, bound_row, bound_to_place, if_led, is_defer, is_used, led_by}
+use Rattle.ados_assign.specs.Uses.{bound_each, bound_row, bound_to_place, if_led, is_defer, is_used, led_by}
 use Rattle.ados_assign.specs.declared.assigns.Assign.{Assign}
 use Rattle.ados_assign.specs.declared.bindings.Binding.{Binding}
 use Rattle.ados_assign.specs.declared.bindings.Binding.TheVariants.{Dirs, Path, Defer}

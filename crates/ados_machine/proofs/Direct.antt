@@ -1,8 +1,8 @@
 -- The events of a shell that runs alone come to what its lines mean: those of the newest frame, and then those of the frames
 -- below it.
-use Rattle.std.proofs.Common.{◌≡◌, ℕ, ◌<◌, ◌≤◌, zero, suc, List, [], ◌∷◌, Bool, true, false, ◌||◌, ◌&&◌, nat_le, Option, Some, None, length, refl, arith, inl, inr, get_or, if◌then◌else◌}
+use Rattle.std.proofs.Common.{◌≡◌, ◌∙◌, ap, nat_lt, ℕ, ◌<◌, ◌≤◌, zero, suc, List, [], ◌∷◌, Bool, true, false, ◌||◌, ◌&&◌, nat_le, Option, Some, None, length, refl, arith, inl, inr, get_or, if◌then◌else◌}
 use Rattle.std.specs.List.{slice_get}
-use Rattle.std.proofs.lemmas.Bool.{leb-false, leb-true, cases_Bool}
+use Rattle.std.proofs.lemmas.Bool.{and_parts, leb-false, leb-true, cases_Bool}
 use Rattle.std.proofs.lemmas.Option.{slice_get_past, slice_get-get_or}
 use Rattle.ados_text.specs.Text.{Text}
 use Rattle.ados_text.specs.declared.codes.Code.{Code}
@@ -25,11 +25,13 @@ use Rattle.ados_machine.specs.Names.{name_in}
 use Rattle.ados_machine.specs.Deeds.{Here, Deed, Passes, Answers, Jumps, Calls, Ticks, Waits, course_of}
 use Rattle.ados_machine.specs.Lines.{line_deed, parted_deed, answer_deed}
 use Rattle.ados_machine.specs.NewShells.{gathered_deed}
-use Rattle.ados_machine.specs.Settled.{with_limit, after_end, finish, passed, finished, faulted, newest_kept}
+use Rattle.ados_machine.specs.Items.{broken_codes}
+use Rattle.ados_machine.specs.Breaks.{has_script}
+use Rattle.ados_machine.specs.Settled.{Said, Settled, after_break, broken_off, with_limit, after_end, finish, passed, finished, faulted, newest_kept}
 use Rattle.ados_machine.specs.Settle.{here_of, jumped_in, ruled}
 use Rattle.ados_flow.specs.declared.records.Record.{Record}
-use Rattle.ados_machine.specs.Whole.{recorded, report_of, Common, absorbed, At, Whole, Done, Late, Short, says, here_at, start_at, after_answer, answered_at, after_call, after_tick, behind_deed, waits, lines, ticking, ticked_out, reply_of, deed_of, script_at, tick_at}
-use Rattle.ados_machine.proofs.Alone.{with_end, Lone, Going, Unfed, go_by, does, deed_event, exec}
+use Rattle.ados_machine.specs.Whole.{recorded, report_of, report_broken, with_report, after_broken, flagless, turn_at, Broken, Common, absorbed, At, Whole, Done, Late, Short, says, here_at, start_at, after_answer, answered_at, after_call, after_tick, behind_deed, waits, lines, ticking, ticked_out, reply_of, deed_of, script_at, tick_at}
+use Rattle.ados_machine.proofs.Alone.{with_end, Go, line_event, start_in, turn_event, Lone, Going, Unfed, go_by, does, deed_event, exec}
 
 abbrev pub Next : Type 0
 Next = ℕ → List Reply → Option Record → Common → Lone
@@ -45,11 +47,20 @@ abbrev pub IsRunning : List Reply → Lone → Type 0
 IsRunning answers (Going answers' frames phase common) = answers' ≡ answers
 IsRunning answers _ = ⊥
 
--- a shell does what lines mean, and then this
-abbrev pub AgreesBy : ℕ → Lone → Whole → Next → Type 0
-AgreesBy n exec (Done left answers last common) next = (left ≤ n) × (exec ≡ next left answers last common)
-AgreesBy n exec (Late answers) next = IsRunning answers exec
-AgreesBy n exec Short next = exec ≡ Unfed
+-- there is one at least
+abbrev pub IsSome : ℕ → Type 0
+IsSome n = (m : ℕ) × (n ≡ suc m)
+
+-- what a shell does at a break that came to this frame
+abbrev pub breaking : ℕ → FrameState → List FrameState → Next
+breaking k frame frames n answers last common = go_by k (exec k n answers) common (broken_off (record frame { last = last } ∷ frames) common.said)
+
+-- a shell does what lines mean, in or below which so many scripts run, and then the one or, at a break, the other
+abbrev pub AgreesBy : ℕ → Lone → Whole → Next → Next → ℕ → Type 0
+AgreesBy n exec (Done left answers last common) next breaks scripts = (left ≤ n) × (exec ≡ next left answers last common)
+AgreesBy n exec (Broken left answers last common) next breaks scripts = (left ≤ n) × IsSome scripts × (exec ≡ breaks left answers last common)
+AgreesBy n exec (Late answers) next breaks scripts = IsRunning answers exec
+AgreesBy n exec Short next breaks scripts = exec ≡ Unfed
 
 -- where the lines of the newest frame stand
 abbrev pub at_of : ℕ → FrameState → List FrameState → At
@@ -80,7 +91,7 @@ AgreesAt k gas = (n : ℕ) (answers : List Reply) (common : Common) (frame : Fra
     n < gas → HasNext parted frame →
     AgreesBy n (exec k n answers (frame ∷ frames) (phase_of parted) common)
     (lines k gas n answers common (at_of k frame frames) parted)
-    (ended k frame frames)
+    (ended k frame frames) (breaking k frame frames) (scripts_in (frame ∷ frames))
 
 -- a line of the newest frame knows just what one of these lines knows
 script-line : (kind : Kind) (frame : FrameState) →
@@ -92,10 +103,12 @@ script-line (Tick before after) frame = refl
 here-is : (k : ℕ) (frame : FrameState) (frames : List FrameState) → here_of (frame ∷ frames) ≡ here_at (at_of k frame frames)
 here-is k frame frames = rw (script-line frame.kind frame) refl
 
-weaker : (m n : ℕ) (x : Lone) (w : Whole) (next : Next) → m ≤ n → AgreesBy m x w next → AgreesBy n x w next
-weaker m n x (Late answers) next le h = h
-weaker m n x Short next le h = h
-weaker m n x (Done left answers last common) next le h = (omega (arith, h.0), h.1)
+weaker : (m n : ℕ) (x : Lone) (w : Whole) (next breaks : Next) (scripts : ℕ) → m ≤ n →
+    AgreesBy m x w next breaks scripts → AgreesBy n x w next breaks scripts
+weaker m n x (Late answers) next breaks scripts le h = h
+weaker m n x Short next breaks scripts le h = h
+weaker m n x (Done left answers last common) next breaks scripts le h = (omega (arith, h.0), h.1)
+weaker m n x (Broken left answers last common) next breaks scripts le h = (omega (arith, h.0), h.1, h.2)
 
 -- no line left costs nothing
 lines-over : (k gas n : ℕ) (answers : List Reply) (common : Common) (at : At) → n < gas → nat_le (length at.lines) at.position ≡ true →
@@ -111,7 +124,7 @@ passed-agrees : (k gas : ℕ) → AgreesAt k gas →
     (n : ℕ) (answers : List Reply) (common : Common) (frame : FrameState) (frames : List FrameState) → n < gas →
     AgreesBy n (go_by k (exec k n answers) common (passed (frame ∷ frames) common.said))
     (lines k gas n answers common (at_of k frame frames) None)
-    (ended k frame frames)
+    (ended k frame frames) (breaking k frame frames) (scripts_in (frame ∷ frames))
 passed-agrees k gas ih n answers common frame frames lt =
     elim (cases_Bool (is_over frame)) [
       | inl e ↦ rw (e, lines-over k gas n answers common (at_of k frame frames) lt e) (omega arith, refl)
@@ -124,7 +137,7 @@ answer-agrees : (k gas : ℕ) → AgreesAt k gas →
     (word : Text) (answer : Codes) (quits : Bool) → n < gas →
     AgreesBy n (go_by k (exec k n answers) common (finish word answer quits (frame ∷ frames) common.said))
     (after_answer (lines k gas) n answers common (at_of k frame frames) word answer quits)
-    (ended k frame frames)
+    (ended k frame frames) (breaking k frame frames) (scripts_in (frame ∷ frames))
 answer-agrees k gas ih n answers common frame frames word answer quits lt =
     elim (cases_Bool (is_over frame)) [
       | inl e ↦ rw (e, lines-over k gas n answers (says word answer common) (record (at_of k frame frames) { last = Some (recorded (at_of k frame frames) answer common) }) lt e)
@@ -140,7 +153,7 @@ answer-agrees k gas ih n answers common frame frames word answer quits lt =
         AgreesBy n (ended k frame frames n answers (Some (recorded (at_of k frame frames) answer common)) (says word answer common))
         (if early then Done n answers (Some (recorded (at_of k frame frames) answer common)) (says word answer common)
         else Done n answers (Some (recorded (at_of k frame frames) answer common)) (says word answer common))
-        (ended k frame frames)
+        (ended k frame frames) (breaking k frame frames) (scripts_in (frame ∷ frames))
     over true = (omega arith, refl)
     over false = (omega arith, refl)
 
@@ -149,7 +162,7 @@ finished-agrees : (k gas : ℕ) → AgreesAt k gas →
     (word : Text) (answer : Codes) (quits : Bool) → n < gas →
     AgreesBy n (go_by k (exec k n answers) common (finished word answer quits (frame ∷ frames) common.said))
     (answered_at (lines k gas) n answers common (at_of k frame frames) word answer quits)
-    (ended k frame frames)
+    (ended k frame frames) (breaking k frame frames) (scripts_in (frame ∷ frames))
 finished-agrees k gas ih n answers common frame frames word answer quits lt =
     answer-agrees k gas ih n answers (record common { said = faulted word answer.result2 common.said }) frame frames word answer quits lt
 
@@ -159,39 +172,82 @@ jumped-agrees : (k gas : ℕ) → AgreesAt k gas →
     (word : Text) (answer : Codes) (line : ℕ) → n < gas →
     AgreesBy n (go_by k (exec k n answers) common (finished word answer false (jumped_in line (frame ∷ frames)) common.said))
     (answered_at (lines k gas) n answers common (at_of k (jumped line frame) frames) word answer false)
-    (ended k frame frames)
+    (ended k frame frames) (breaking k frame frames) (scripts_in (frame ∷ frames))
 jumped-agrees k gas ih n answers common frame frames word answer line lt =
     finished-agrees k gas ih n answers common (jumped line frame) frames word answer false lt
+
+-- the shell's events, where `exec` is another
+abbrev exec_of : ℕ → ℕ → List Reply → Go
+exec_of k n answers = exec k n answers
+
+-- a turn, which may find the flag
+some-script : (n : ℕ) → nat_lt 0 n ≡ true → (m : ℕ) × (n ≡ suc m)
+some-script zero e = cc
+some-script (suc m) e = (m, refl)
+
+turn-agrees : (k n : ℕ) (answers : List Reply) (common : Common) (frame : FrameState) (frames : List FrameState)
+    (work : Common → Lone) (meaning : Common → Whole) →
+    AgreesBy (suc n) (work (flagless common)) (meaning (flagless common)) (ended k frame frames) (breaking k frame frames) (scripts_in (frame ∷ frames)) →
+    AgreesBy (suc n) (turn_event k (exec k n answers) (frame ∷ frames) common work) (turn_at n answers common (at_of k frame frames) meaning) (ended k frame frames) (breaking k frame frames) (scripts_in (frame ∷ frames))
+turn-agrees k n answers common frame frames work meaning h =
+    elim (cases_Bool (common.flagged && has_script (frame ∷ frames))) [
+      | inl e ↦ rw e (omega arith, some-script (scripts_in (frame ∷ frames)) (and_parts common.flagged (has_script (frame ∷ frames)) e).1, refl)
+      | inr e ↦ rw e h
+    ]
+
+-- behind a script that ended at a break
+break-agrees : (k gas : ℕ) → AgreesAt k gas → (m n : ℕ) (answers : List Reply) (common : Common) (frame : FrameState) (frames : List FrameState)
+    (name word : Text) (limit : Code) → n < gas → scripts_in (frame ∷ frames) ≡ m →
+    AgreesBy n (go_by k (exec k n answers) common (after_break m (Script name word) limit (broken_off (frame ∷ frames) common.said) (frame ∷ frames) common.said))
+    (after_broken (lines k gas) n answers common (at_of k frame frames) limit word m)
+    (ended k frame frames) (breaking k frame frames) (scripts_in (frame ∷ frames))
+break-agrees k gas ih zero n answers common frame frames name word limit lt e =
+    let limited : Common = record common { said = with_limit (limit_behind (frame ∷ frames) limit) common.said } in
+    answer-agrees k gas ih n answers limited frame frames word broken_codes false lt
+break-agrees k gas ih (suc m) n answers common frame frames name word limit lt e = (omega arith, (m, e), refl)
 
 -- behind a script
 call-agrees : (k gas : ℕ) → AgreesAt k gas → (n : ℕ) (exec : Lone) (meaning : Whole) (frame : FrameState) (frames : List FrameState)
     (name word : Text) (commands : List Text) (limit : Code) (output : Option Target) → n < gas →
-    AgreesBy n exec meaning (ended k (began (Script name word) commands limit output) (frame ∷ frames)) →
-    AgreesBy n exec (after_call (lines k gas) (at_of k frame frames) limit name word meaning) (ended k frame frames)
+    AgreesBy n exec meaning (ended k (began (Script name word) commands limit output) (frame ∷ frames)) (breaking k (began (Script name word) commands limit output) (frame ∷ frames)) (scripts_in (began (Script name word) commands limit output ∷ frame ∷ frames)) →
+    AgreesBy n exec (after_call (lines k gas) (at_of k frame frames) limit name word meaning) (ended k frame frames) (breaking k frame frames) (scripts_in (frame ∷ frames))
 call-agrees k gas ih n exec (Late answers) frame frames name word commands limit output lt h = h
 call-agrees k gas ih n exec Short frame frames name word commands limit output lt h = h
+call-agrees k gas ih n exec (Broken left answers last common) frame frames name word commands limit output lt h =
+    rw h.2 (weaker left n _ (after_broken (lines k gas) left answers (with_report (report_broken k name last) common) (at_of k frame frames) limit word (scripts_in (frame ∷ frames))) (ended k frame frames) (breaking k frame frames) (scripts_in (frame ∷ frames))
+    h.0 (break-agrees k gas ih (scripts_in (frame ∷ frames)) left answers (with_report (report_broken k name last) common) frame frames name word limit (omega (arith, h.0)) refl))
 call-agrees k gas ih n exec (Done left answers last common) frame frames name word commands limit output lt h =
-    let limited : Common = record common { said = with_limit (limit_behind (frame ∷ frames) limit) common.said; reports = report_of k name last ∷ common.reports } in
+    let limited : Common = record (with_report (report_of k name last) common) { said = with_limit (limit_behind (frame ∷ frames) limit) common.said } in
     rw h.1 (weaker left n _ (after_answer (lines k gas) left answers limited (at_of k frame frames) word (last_codes last) false)
-    (ended k frame frames) h.0
+    (ended k frame frames) (breaking k frame frames) (scripts_in (frame ∷ frames)) h.0
     (answer-agrees k gas ih left answers limited frame frames word (last_codes last) false (omega (arith, h.0))))
+
+after-some : (n m : ℕ) (kind : Kind) (limit : Code) (further : Settled) (frames : List FrameState) (said : Said) → n ≡ suc m →
+    after_break n kind limit further frames said ≡ further
+after-some n m kind limit further frames said e = rw e refl
 
 -- behind a tick the line goes on that waits for it
 tick-agrees : (k gas : ℕ) → AgreesAt k gas → (n : ℕ) (exec : Lone) (meaning : Whole) (frame : FrameState) (frames : List FrameState)
     (before after : Text) (commands : List Text) (limit : Code) → n < gas →
-    AgreesBy n exec meaning (ended k (began (Tick before after) commands limit None) (frame ∷ frames)) →
-    AgreesBy n exec (after_tick (lines k gas) (at_of k frame frames) before after meaning) (ended k frame frames)
+    AgreesBy n exec meaning (ended k (began (Tick before after) commands limit None) (frame ∷ frames)) (breaking k (began (Tick before after) commands limit None) (frame ∷ frames)) (scripts_in (began (Tick before after) commands limit None ∷ frame ∷ frames)) →
+    AgreesBy n exec (after_tick (lines k gas) (at_of k frame frames) before after meaning) (ended k frame frames) (breaking k frame frames) (scripts_in (frame ∷ frames))
 tick-agrees k gas ih n exec (Late answers) frame frames before after commands limit lt h = h
 tick-agrees k gas ih n exec Short frame frames before after commands limit lt h = h
+tick-agrees k gas ih n exec (Broken left answers last common) frame frames before after commands limit lt h = (
+  h.0,
+  h.1,
+  h.2 ∙ ap (go_by k (exec_of k left answers) common)
+      (after-some (scripts_in (frame ∷ frames)) h.1.0 (Tick before after) limit (broken_off (frame ∷ frames) (ticked_out common).said) (frame ∷ frames) common.said h.1.1),
+)
 tick-agrees k gas ih n exec (Done left answers last common) frame frames before after commands limit lt h =
     let parted : Parted = record { before = before; output = newest_kept common.said.kept; after = after } in
-    rw h.1 (weaker left n _ (lines k gas left answers (ticked_out common) (at_of k frame frames) (Some parted)) (ended k frame frames) h.0
+    rw h.1 (weaker left n _ (lines k gas left answers (ticked_out common) (at_of k frame frames) (Some parted)) (ended k frame frames) (breaking k frame frames) (scripts_in (frame ∷ frames)) h.0
     (ih left answers (ticked_out common) frame frames (Some parted) (omega (arith, h.0)) tt))
 
 -- what the shell waits for
 abbrev WaitsAgree : ℕ → ℕ → List Reply → FrameState → List FrameState → (Common → Wait → Whole) → Type 0
 WaitsAgree k n answers frame frames further = (common : Common) (wait : Wait) →
-    AgreesBy n (exec k n answers (frame ∷ frames) (Waiting wait) common) (further common wait) (ended k frame frames)
+    AgreesBy n (exec k n answers (frame ∷ frames) (Waiting wait) common) (further common wait) (ended k frame frames) (breaking k frame frames) (scripts_in (frame ∷ frames))
 
 -- what any deed comes to
 deed-agrees : (k gas : ℕ) → AgreesAt k gas →
@@ -199,7 +255,7 @@ deed-agrees : (k gas : ℕ) → AgreesAt k gas →
     (further : Common → Wait → Whole) (deed : Deed) → n < gas → WaitsAgree k n answers frame frames further →
     AgreesBy n (go_by k (exec k n answers) common (ruled deed (frame ∷ frames) common.said))
     (behind_deed further (lines k gas) n answers common (at_of k frame frames) deed)
-    (ended k frame frames)
+    (ended k frame frames) (breaking k frame frames) (scripts_in (frame ∷ frames))
 deed-agrees k gas ih n answers common frame frames further (Passes course) lt waits =
     passed-agrees k gas ih n answers common frame frames lt
 deed-agrees k gas ih n answers common frame frames further (Answers word answer quits course) lt waits =
@@ -229,10 +285,10 @@ event-agrees : (k gas : ℕ) → AgreesAt k gas →
     (further : Common → Wait → Whole) (deed : Deed) → n < gas → WaitsAgree k n answers frame frames further →
     AgreesBy (suc n) (does k (exec k n answers) (frame ∷ frames) common deed)
     (deed_of further (lines k gas) n answers common (at_of k frame frames) deed)
-    (ended k frame frames)
+    (ended k frame frames) (breaking k frame frames) (scripts_in (frame ∷ frames))
 event-agrees k gas ih n answers common frame frames further deed lt waits =
     let behind = absorbed common (course_of deed) in
-    weaker n (suc n) _ (behind_deed further (lines k gas) n answers behind (at_of k frame frames) deed) (ended k frame frames)
+    weaker n (suc n) _ (behind_deed further (lines k gas) n answers behind (at_of k frame frames) deed) (ended k frame frames) (breaking k frame frames) (scripts_in (frame ∷ frames))
     (omega arith) (deed-agrees k gas ih n answers behind frame frames further deed lt waits)
 
 -- an event that comes to the deed of a line
@@ -241,7 +297,7 @@ work-agrees : (k gas : ℕ) → AgreesAt k gas →
     (further : Common → Wait → Whole) (work : Here → Deed) → n < gas → WaitsAgree k n answers frame frames further →
     AgreesBy (suc n) (does k (exec k n answers) (frame ∷ frames) common (work (here_of (frame ∷ frames))))
     (deed_of further (lines k gas) n answers common (at_of k frame frames) (work (here_at (at_of k frame frames))))
-    (ended k frame frames)
+    (ended k frame frames) (breaking k frame frames) (scripts_in (frame ∷ frames))
 work-agrees k gas ih n answers common frame frames further work lt waits =
     rw (here-is k frame frames)
     (event-agrees k gas ih n answers common frame frames further (work (here_at (at_of k frame frames))) lt waits)
@@ -252,7 +308,7 @@ reply-agrees : (k gas : ℕ) → AgreesAt k gas →
     (further : Common → Wait → Whole) (deed : Option Deed) → n < gas → WaitsAgree k n answers frame frames further →
     AgreesBy (suc n) (deed_event k (exec k n answers) (frame ∷ frames) common deed)
     (reply_of (deed_of further (lines k gas) n answers common (at_of k frame frames)) deed)
-    (ended k frame frames)
+    (ended k frame frames) (breaking k frame frames) (scripts_in (frame ∷ frames))
 reply-agrees k gas ih n answers common frame frames further None lt waits = refl
 reply-agrees k gas ih n answers common frame frames further (Some deed) lt waits =
     event-agrees k gas ih n answers common frame frames further deed lt waits
@@ -262,13 +318,19 @@ waits-agree : (k gas : ℕ) → AgreesAt k gas → (n : ℕ) (answers : List Rep
     WaitsAgree k n answers frame frames (waits k (lines k gas) (at_of k frame frames) n answers)
 waits-agree k gas ih zero answers frame frames lt common wait = refl
 waits-agree k gas ih (suc n) answers frame frames lt common (ForAnswer asking) =
-    work-agrees k gas ih n answers common frame frames (waits k (lines k gas) (at_of k frame frames) n answers)
-    (λ here. answer_deed [] asking here (start_at k (at_of k frame frames) (Some (ForAnswer asking)) common)) (omega arith)
-    (waits-agree k gas ih n answers frame frames (omega arith))
+    turn-agrees k n answers common frame frames
+    (λ now. does k (exec k n answers) (frame ∷ frames) now (answer_deed [] asking (here_of (frame ∷ frames)) (start_in k (frame ∷ frames) (Waiting (ForAnswer asking)) now)))
+    (λ now. deed_of (waits k (lines k gas) (at_of k frame frames) n answers) (lines k gas) n answers now (at_of k frame frames) (answer_deed [] asking (here_at (at_of k frame frames)) (start_at k (at_of k frame frames) (Some (ForAnswer asking)) now)))
+    (work-agrees k gas ih n answers (flagless common) frame frames (waits k (lines k gas) (at_of k frame frames) n answers)
+    (λ here. answer_deed [] asking here (start_at k (at_of k frame frames) (Some (ForAnswer asking)) (flagless common))) (omega arith)
+    (waits-agree k gas ih n answers frame frames (omega arith)))
 waits-agree k gas ih (suc n) answers frame frames lt common (ForLines gathering) =
-    event-agrees k gas ih n answers common frame frames (waits k (lines k gas) (at_of k frame frames) n answers)
-    (gathered_deed gathering (sink_in (frame ∷ frames)) (start_at k (at_of k frame frames) (Some (ForLines gathering)) common)) (omega arith)
-    (waits-agree k gas ih n answers frame frames (omega arith))
+    turn-agrees k n answers common frame frames
+    (λ now. does k (exec k n answers) (frame ∷ frames) now (gathered_deed gathering (sink_in (frame ∷ frames)) (start_in k (frame ∷ frames) (Waiting (ForLines gathering)) now)))
+    (λ now. deed_of (waits k (lines k gas) (at_of k frame frames) n answers) (lines k gas) n answers now (at_of k frame frames) (gathered_deed gathering (at_of k frame frames).sink (start_at k (at_of k frame frames) (Some (ForLines gathering)) now)))
+    (event-agrees k gas ih n answers (flagless common) frame frames (waits k (lines k gas) (at_of k frame frames) n answers)
+    (gathered_deed gathering (sink_in (frame ∷ frames)) (start_at k (at_of k frame frames) (Some (ForLines gathering)) (flagless common))) (omega arith)
+    (waits-agree k gas ih n answers frame frames (omega arith)))
 waits-agree k gas ih (suc n) [] frame frames lt common (ForStart starting) = refl
 waits-agree k gas ih (suc n) [] frame frames lt common (ForPiece child) = refl
 waits-agree k gas ih (suc n) [] frame frames lt common (ForEnd child) = refl
@@ -285,12 +347,18 @@ agrees k zero n answers common frame frames parted lt next = absurd (omega arith
 agrees k (suc gas) zero answers common frame frames (Some parted) lt next = refl
 agrees k (suc gas) zero answers common frame frames None lt next = rw (there frame.lines frame.position next) refl
 agrees k (suc gas) (suc n) answers common frame frames (Some parted) lt next =
-    work-agrees k gas (agrees k gas) n answers common frame frames (waits k (lines k gas) (at_of k frame frames) n answers)
-    (λ here. parted_deed parted here (start_at k (at_of k frame frames) None common)) (omega arith)
-    (waits-agree k gas (agrees k gas) n answers frame frames (omega arith))
+    turn-agrees k n answers common frame frames
+    (λ now. does k (exec k n answers) (frame ∷ frames) now (parted_deed parted (here_of (frame ∷ frames)) (start_in k (frame ∷ frames) (GoingOn parted) now)))
+    (λ now. deed_of (waits k (lines k gas) (at_of k frame frames) n answers) (lines k gas) n answers now (at_of k frame frames) (parted_deed parted (here_at (at_of k frame frames)) (start_at k (at_of k frame frames) None now)))
+    (work-agrees k gas (agrees k gas) n answers (flagless common) frame frames (waits k (lines k gas) (at_of k frame frames) n answers)
+    (λ here. parted_deed parted here (start_at k (at_of k frame frames) None (flagless common))) (omega arith)
+    (waits-agree k gas (agrees k gas) n answers frame frames (omega arith)))
 agrees k (suc gas) (suc n) answers common frame frames None lt next =
     let line = get_or frame.lines frame.position [] in
     rw (there frame.lines frame.position next)
-    (work-agrees k gas (agrees k gas) n answers common (moved frame) frames (waits k (lines k gas) (at_of k (moved frame) frames) n answers)
-    (λ here. line_deed line here (start_at k (at_of k frame frames) None common)) (omega arith)
-    (waits-agree k gas (agrees k gas) n answers (moved frame) frames (omega arith)))
+    (turn-agrees k n answers common frame frames
+    (λ now. line_event k (exec k n answers) frame frames now (Some line))
+    (λ now. deed_of (waits k (lines k gas) (at_of k (moved frame) frames) n answers) (lines k gas) n answers now (at_of k (moved frame) frames) (line_deed line (here_at (at_of k (moved frame) frames)) (start_at k (at_of k frame frames) None now)))
+    (work-agrees k gas (agrees k gas) n answers (flagless common) (moved frame) frames (waits k (lines k gas) (at_of k (moved frame) frames) n answers)
+    (λ here. line_deed line here (start_at k (at_of k frame frames) None (flagless common))) (omega arith)
+    (waits-agree k gas (agrees k gas) n answers (moved frame) frames (omega arith))))

@@ -9,29 +9,33 @@ use Rattle.ados_text.specs.declared.codes.Code.{Code}
 use Rattle.ados_line.specs.Cut.{line_limit}
 use Rattle.ados_find.specs.declared.codes.Codes.{Codes}
 use Rattle.ados_find.specs.Codes.{went_well}
+use Rattle.ados_find.specs.declared.outcomes.Breaking.{Breaking}
+use Rattle.ados_find.specs.declared.outcomes.Breaks.{Breaks}
 use Rattle.ados_find.specs.declared.outcomes.Renamed.{Renamed}
 use Rattle.ados_machine.specs.declared.answers.Answer.{Answer as Reply}
 use Rattle.ados_machine.specs.declared.events.Event.{Event}
-use Rattle.ados_machine.specs.declared.events.Event.TheVariants.{Typed, EndOfInput, Turn, Answer}
+use Rattle.ados_machine.specs.declared.events.Event.TheVariants.{Typed, EndOfInput, Turn, Answer, Break}
 use Rattle.ados_machine.specs.declared.outs.Out.{Out}
 use Rattle.ados_machine.specs.declared.refusals.Refusal.{Refusal}
+use Rattle.ados_machine.specs.declared.events.Kind.{Kind}
+use Rattle.ados_machine.specs.Breaks.{breaks_by, broken_at, broken_number, broken_by}
 use Rattle.ados_machine.specs.Carrying.{carried_place, carried_shells, carried_by}
-use Rattle.ados_machine.specs.Items.{Item, Began, Answered, Ended}
+use Rattle.ados_machine.specs.Items.{Item, Began, Answered, Ended, Broke}
 use Rattle.ados_machine.specs.Limits.{IsSane}
 use Rattle.ados_machine.specs.Numbers.{free_number}
 use Rattle.ados_machine.specs.Runs.{world_after}
 use Rattle.ados_machine.specs.Settle.{Turned}
 use Rattle.ados_machine.specs.Shells.{Begun, begun_shell, ShellState}
 use Rattle.ados_machine.specs.Stacks.{Entry, opened, with_last, stack_of, Standing, standing_of, codes_at as codes_begun, limit_after, codes_after}
-use Rattle.ados_machine.specs.Step.{Response, Refused, Accepted, queue_limit, of_shell, shell_of_turn, with_begun, begun_items, is_done, left, ended_with, moved_in, took, shell_ended, start, applied, turned, answered, typed, end_of_input, happened, step_of}
+use Rattle.ados_machine.specs.Step.{Response, Refused, Accepted, queue_limit, of_shell, shell_of_turn, with_begun, begun_items, is_done, left, ended_with, moved_in, took, shell_ended, start, unflagged, applied, turned, answered, broken, typed, end_of_input, happened, step_of}
 use Rattle.ados_machine.specs.Trace.{items_after, trace, own}
-use Rattle.ados_machine.specs.Turning.{Turning, Refuses, Ends, Takes, turning, answering}
+use Rattle.ados_machine.specs.Turning.{Turning, Refuses, Ends, Takes, flagged_turning, answering}
 use Rattle.ados_machine.specs.World.{WorldState, numbered, shell_at, is_over, input_of, shell_codes, codes_at}
 use Rattle.ados_machine.specs.Kept.{codes_behind, HasAllCodes, FreshWorldsHaveAllCodes, EventsKeepAllCodes, LastCodesStay}
 use Rattle.ados_machine.proofs.Follows.{back, Follows}
 use Rattle.ados_machine.proofs.Turns.{Goes}
-use Rattle.ados_machine.proofs.Turnings.{TurningGoes, turning-goes, answering-goes}
-use Rattle.ados_machine.proofs.Shells.{shells_behind, found, IsFree, free-number, carried-free, carried_found, found-carried, carried-runs, found-set_same, found-set_other, found-left, own-append, own-of_shell_same, own-of_shell_other, place_before, place_within, not_before, runs_pos, slice_get-set_other, slice_get-set_same}
+use Rattle.ados_machine.proofs.Turnings.{TurningGoes, flagged-goes, answering-goes}
+use Rattle.ados_machine.proofs.Shells.{shells_behind, broken_maybe, broken_for, found-broken, found, IsFree, free-number, carried-free, carried_found, found-carried, carried-runs, found-set_same, found-set_other, found-left, own-append, own-of_shell_same, own-of_shell_other, place_before, place_within, not_before, runs_pos, slice_get-set_other, slice_get-set_same}
 use Rattle.ados_machine.proofs.Moves.{placed-at, begun-silent}
 use Rattle.ados_machine.proofs.Sane.{sane-after}
 
@@ -47,12 +51,15 @@ follows-codes limit codes (top ∷ below) (Answered d entry ∷ log) stands h =
 follows-codes limit codes [] (Ended d kind line answer early ∷ log) stands h = absurd h
 follows-codes limit codes (top ∷ below) (Ended d kind line answer early ∷ log) stands h =
     rw h.0.kind_is (follows-codes (limit_after top.kind (back below top.limit) limit) (codes_after top.kind answer codes) below log stands h.2)
+follows-codes limit codes [] (Broke d kind line ∷ log) stands h = absurd h
+follows-codes limit codes (top ∷ below) (Broke d kind line ∷ log) stands h = follows-codes limit codes below log stands h.3
 
 behind-append : (codes : Codes) (log more : List Item) → codes_behind codes (log ++ more) ≡ codes_behind (codes_behind codes log) more
 behind-append codes [] more = refl
 behind-append codes (Began d kind first ∷ log) more = behind-append (codes_begun kind codes) log more
 behind-append codes (Answered d entry ∷ log) more = behind-append entry.codes log more
 behind-append codes (Ended d kind line answer early ∷ log) more = behind-append (codes_after kind answer codes) log more
+behind-append codes (Broke d kind line ∷ log) more = behind-append codes log more
 
 -- the last codes that stay at a number
 abbrev stays_at : List Codes → ℕ → Codes
@@ -84,6 +91,11 @@ carried-codes : (renamed : Option Renamed) (o : Option ShellState) (codes : Code
 carried-codes None o codes = refl
 carried-codes (Some renamed) None codes = refl
 carried-codes (Some renamed) (Some shell) codes = refl
+
+broken-codes : (breaks : Option Breaks) (o : Option ShellState) (codes : Codes) → shell_codes (broken_maybe breaks o) codes ≡ shell_codes o codes
+broken-codes None o codes = refl
+broken-codes (Some breaks) None codes = refl
+broken-codes (Some breaks) (Some shell) codes = refl
 
 begun-codes : (shells : List (Option ShellState)) (begun : Option Begun) (n : Option ℕ) (j : ℕ) (codes : Codes) → IsFree shells n →
     shell_codes (found (with_begun begun n shells) j) codes ≡ codes_behind (shell_codes (found shells j) codes) (own j (begun_items begun n))
@@ -122,6 +134,8 @@ took-codes w k shell queue t all is goes = λ j.
     let number = free_number w.shells in
     let free = carried-free moved w.shells number (free-number w.shells) in
     let there = found-carried moved w.shells k ∙ carried-runs moved (found w.shells k) shell is in
+    let placed = with_begun t.course.begun number carried in
+    let breaking = t.course.breaking in
     rw (own-append j (of_shell k t.log) (begun_items t.course.begun number))
     (elim (cases_eq j k) [
       | inl same ↦ rw (same, own-of_shell_same k t.log, begun-silent carried t.course.begun number k (carried_by moved shell) free there, append-nil t.log)
@@ -131,10 +145,12 @@ took-codes w k shell queue t all is goes = λ j.
           (let pos = runs_pos w.shells k shell is in
           rw (
             ap (λ o. shell_codes o (stays_at (ended_with (is_done k t.frames) k t.course.parts.codes w.ended) j))
-                (found-set_other (with_begun t.course.begun number carried) k (left k moved t) j differ pos),
+                (found-set_other (broken_by breaking placed) k (left k moved t) j differ pos),
             with-other (is_done k t.frames) w.ended k t.course.parts.codes j differ pos,
           )
-          (begun-codes carried t.course.begun number j (stays_at w.ended j) free
+          (ap (λ o. shell_codes o (stays_at w.ended j)) (found-broken breaking placed j)
+          ∙ broken-codes (broken_for breaking j) (found placed j) (stays_at w.ended j)
+          ∙ begun-codes carried t.course.begun number j (stays_at w.ended j) free
           ∙ ap (λ codes. codes_behind codes (own j (begun_items t.course.begun number)))
           (ap (λ o. shell_codes o (stays_at w.ended j)) (found-carried moved w.shells j) ∙ carried-codes moved (found w.shells j) (stays_at w.ended j))))
     ])
@@ -160,8 +176,8 @@ applied-codes w k shell (Takes queue t) all is goes = took-codes w k shell queue
 turned-codes : (w : WorldState) (k : ℕ) (o : Option ShellState) → IsSane w → HasAllCodes w → shell_at w k ≡ o → LeadsCodes w (turned w k o)
 turned-codes w k None sane all is = tt
 turned-codes w k (Some shell) sane all is =
-    applied-codes w k shell (turning (input_of w k) shell.frames (start w shell) shell.phase) all is
-    (turning-goes (input_of w k) shell.frames (start w shell) shell.phase (rw is at (sane.each k)))
+    applied-codes w k shell (flagged_turning shell.flagged (input_of w k) shell.frames (unflagged (start w shell)) shell.phase) all is
+    (flagged-goes shell.flagged (input_of w k) shell.frames (unflagged (start w shell)) shell.phase (rw is at (sane.each k)))
 
 answered-codes : (w : WorldState) (k : ℕ) (reply : Reply) (o : Option ShellState) → IsSane w → HasAllCodes w → shell_at w k ≡ o →
     LeadsCodes w (answered w k reply o)
@@ -190,11 +206,19 @@ end-codes w =
       | inr e ↦ rw e (λ j. refl)
     ]
 
+break-codes : (w : WorldState) (k : ℕ) (kind : Kind) (o : Option ShellState) → LeadsCodes w (broken w k kind o)
+break-codes w k kind None = tt
+break-codes w k kind (Some shell) = λ j.
+    let breaking = Some (record { shell = k; breaks = breaks_by kind }) in
+    ap (λ o. shell_codes o (stays_at w.ended j)) (found-broken breaking w.shells j)
+    ∙ broken-codes (broken_for breaking j) (found w.shells j) (stays_at w.ended j)
+
 happened-codes : (w : WorldState) (event : Event) → IsSane w → HasAllCodes w → LeadsCodes w (happened w event)
 happened-codes w (Typed line) sane all = typed-codes w line
 happened-codes w EndOfInput sane all = end-codes w
 happened-codes w (Turn k) sane all = turned-codes w k (shell_at w k) sane all refl
 happened-codes w (Answer k reply) sane all = answered-codes w k reply (shell_at w k) sane all refl
+happened-codes w (Break k kind) sane all = break-codes w k kind (shell_at w k)
 
 step-codes : (w : WorldState) (event : Event) → IsSane w → HasAllCodes w → LeadsCodes w (step_of w event)
 step-codes w event sane all =
@@ -227,10 +251,25 @@ length-begun None n shells = refl
 length-begun (Some begun) None shells = refl
 length-begun (Some begun) (Some n) shells = length-set shells (n - 1) (Some (begun_shell n begun))
 
+length-broken_at : (breaks : Breaks) (n : ℕ) (shells : List (Option ShellState)) → length (broken_at breaks n shells) ≡ length shells
+length-broken_at breaks n [] = refl
+length-broken_at breaks zero (first ∷ shells) = refl
+length-broken_at breaks (suc n) (first ∷ shells) = ap suc (length-broken_at breaks n shells)
+
+length-broken_number : (breaks : Breaks) (n : ℕ) (shells : List (Option ShellState)) → length (broken_number breaks n shells) ≡ length shells
+length-broken_number breaks zero shells = refl
+length-broken_number breaks (suc n) shells = length-broken_at breaks n shells
+
+length-broken : (breaking : Option Breaking) (shells : List (Option ShellState)) → length (broken_by breaking shells) ≡ length shells
+length-broken None shells = refl
+length-broken (Some breaking) shells = length-broken_number breaking.breaks breaking.shell shells
+
 length-behind : (shells : List (Option ShellState)) (k : ℕ) (moved : Option Renamed) (t : Turned) → length (shells_behind shells k moved t) ≡ length shells
 length-behind shells k moved t =
-    length-set (with_begun t.course.begun (free_number shells) (carried_shells moved shells)) (k - 1) (left k moved t)
-    ∙ (length-begun t.course.begun (free_number shells) (carried_shells moved shells) ∙ length-carried moved shells)
+    let placed = with_begun t.course.begun (free_number shells) (carried_shells moved shells) in
+    length-set (broken_by t.course.breaking placed) (k - 1) (left k moved t)
+    ∙ (length-broken t.course.breaking placed
+    ∙ length-begun t.course.begun (free_number shells) (carried_shells moved shells) ∙ length-carried moved shells)
 
 length-ended : (done : Bool) (k : ℕ) (codes : Codes) (ended : List Codes) → length (ended_with done k codes ended) ≡ length ended
 length-ended done k codes ended =
@@ -251,7 +290,8 @@ applied-all w k codes (Takes queue t) all =
 
 turned-all : (w : WorldState) (k : ℕ) (o : Option ShellState) → HasAllCodes w → KeepsAll (turned w k o)
 turned-all w k None all = tt
-turned-all w k (Some shell) all = applied-all w k shell.parts.codes (turning (input_of w k) shell.frames (start w shell) shell.phase) all
+turned-all w k (Some shell) all =
+    applied-all w k shell.parts.codes (flagged_turning shell.flagged (input_of w k) shell.frames (unflagged (start w shell)) shell.phase) all
 
 answered-all : (w : WorldState) (k : ℕ) (reply : Reply) (o : Option ShellState) → HasAllCodes w → KeepsAll (answered w k reply o)
 answered-all w k reply None all = tt
@@ -278,11 +318,16 @@ end-all w all =
       | inr e ↦ rw e all
     ]
 
+break-all : (w : WorldState) (k : ℕ) (kind : Kind) (o : Option ShellState) → HasAllCodes w → KeepsAll (broken w k kind o)
+break-all w k kind None all = tt
+break-all w k kind (Some shell) all = all ∙ sym (length-broken_number (breaks_by kind) k w.shells)
+
 happened-all : (w : WorldState) (event : Event) → HasAllCodes w → KeepsAll (happened w event)
 happened-all w (Typed line) all = typed-all w line all
 happened-all w EndOfInput all = end-all w all
 happened-all w (Turn k) all = turned-all w k (shell_at w k) all
 happened-all w (Answer k reply) all = answered-all w k reply (shell_at w k) all
+happened-all w (Break k kind) all = break-all w k kind (shell_at w k) all
 
 step-all : (w : WorldState) (event : Event) → HasAllCodes w → KeepsAll (step_of w event)
 step-all w event all =

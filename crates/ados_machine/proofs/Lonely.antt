@@ -1,9 +1,11 @@
 -- The world's events of a shell that runs alone are the shell's own over what its lines hand through.
-use Rattle.std.proofs.Common.{◌≡◌, ◌∙◌, ℕ, ◌≤◌, zero, suc, ◌-◌, List, [], ◌∷◌, true, false, ◌==◌, Option, Some, None, refl, arith, option_map}
+use Rattle.std.proofs.Common.{◌≡◌, ◌∙◌, ap, ℕ, ◌≤◌, zero, suc, ◌-◌, List, [], ◌∷◌, true, false, ◌==◌, ◌&&◌, inl, inr, Option, Some, None, refl, arith, option_map}
 use Rattle.std.specs.List.{slice_get}
-use Rattle.std.proofs.lemmas.Bool.{ne_eqb}
+use Rattle.std.proofs.lemmas.Bool.{cases_Bool, ne_eqb}
 use Rattle.ados_text.specs.Text.{Bytes, Text}
+use Rattle.ados_find.specs.declared.outcomes.Breaking.{Breaking}
 use Rattle.ados_find.specs.declared.outcomes.Renamed.{Renamed}
+use Rattle.ados_machine.specs.Breaks.{break_text, broken_by, has_script}
 use Rattle.ados_flow.specs.Frames.{FrameState, moved}
 use Rattle.ados_machine.specs.declared.answers.Answer.{Answer as Reply}
 use Rattle.ados_machine.specs.declared.events.Event.TheVariants.{Turn, Answer}
@@ -14,23 +16,23 @@ use Rattle.ados_machine.specs.Items.{Item}
 use Rattle.ados_machine.specs.Numbers.{free_number}
 use Rattle.ados_machine.specs.Shells.{Begun, ShellState, seen_of}
 use Rattle.ados_machine.specs.Sinks.{sink_in}
-use Rattle.ados_machine.specs.Course.{Course, shared_behind}
+use Rattle.ados_machine.specs.Course.{Course, shared_behind, printing}
 use Rattle.ados_machine.specs.Deeds.{Deed, Passes, course_of}
-use Rattle.ados_machine.specs.Lines.{line_deed}
+use Rattle.ados_machine.specs.Lines.{line_deed, parted_deed, answer_deed}
 use Rattle.ados_machine.specs.NewShells.{gathered_deed}
 use Rattle.ados_machine.specs.Answers.{answered_in}
-use Rattle.ados_machine.specs.Settled.{Said, Settled}
-use Rattle.ados_machine.specs.Settle.{here_of, said_of, by_rule, ruled, settle}
-use Rattle.ados_machine.specs.Turning.{Input, frame_turned, turning, replied}
+use Rattle.ados_machine.specs.Settled.{Said, Settled, broken_off}
+use Rattle.ados_machine.specs.Settle.{Turned, here_of, said_of, by_rule, ruled, settle}
+use Rattle.ados_machine.specs.Turning.{Input, Takes, frame_turned, flagged_turning, turning, replied}
 use Rattle.ados_machine.specs.World.{WorldState, shell_at, input_of, is_over}
 use Rattle.ados_machine.specs.Carrying.{carried_shells, carried_by, moved_by}
-use Rattle.ados_machine.specs.Step.{with_begun, ended_with, queue_behind, is_done, moved_in, took, start, applied, step_of}
-use Rattle.ados_machine.specs.Whole.{Common, absorbed, carried_parts}
+use Rattle.ados_machine.specs.Step.{with_begun, ended_with, queue_behind, is_done, moved_in, took, start, unflagged, applied, step_of}
+use Rattle.ados_machine.specs.Whole.{Common, absorbed, carried_parts, flagless}
 use Rattle.ados_machine.specs.Alone.{Exec, go_on, reply_next, event_next, alone, world_behind}
-use Rattle.ados_machine.proofs.Shells.{shells_behind, found, found-set_same, found-carried, carried-runs, found-placed_other, carried-free, free-number}
-use Rattle.ados_machine.proofs.Places.{map-set, any-found, shells-same}
-use Rattle.ados_machine.proofs.Fronts.{front, ruled-front}
-use Rattle.ados_machine.proofs.Alone.{lift, shell_of, standing, start_in, Go, with_ends, does, line_event, deed_event, reply_event, event_in, exec}
+use Rattle.ados_machine.proofs.Shells.{shells_behind, broken_one, broken_for, broken-there, found, found-set_same, found-carried, carried-runs, found-placed_other, carried-free, free-number}
+use Rattle.ados_machine.proofs.Places.{map-set, any-found, shells-same, broken-same_set}
+use Rattle.ados_machine.proofs.Fronts.{front, fronted, broken-front, ruled-front}
+use Rattle.ados_machine.proofs.Alone.{Lone, go_by, turn_event, lift, shell_of, standing, start_in, Go, with_ends, does, line_event, deed_event, reply_event, event_in, exec}
 
 -- a background shell's number, at which a shell runs
 pub record Stands (k : ℕ) (common : Common) : Type 0 where
@@ -72,19 +74,21 @@ starts-in k w frames phase common =
     rw (map-set (option_map seen_of) common.shells (k - 1) (Some (shell_of frames phase common))) refl
 
 -- where a shell stands it stands behind an event
-carried-stands : (k : ℕ) (moved : Option Renamed) (begun : Option Begun) (shells : List (Option ShellState))
+carried-stands : (k : ℕ) (moved : Option Renamed) (begun : Option Begun) (breaking : Option Breaking) (shells : List (Option ShellState))
     (shell : ShellState) → found shells k ≡ Some shell →
-    found (with_begun begun (free_number shells) (carried_shells moved shells)) k ≡ Some (carried_by moved shell)
-carried-stands k moved begun shells shell is =
-    found-placed_other (carried_shells moved shells) begun (free_number shells) k (carried_by moved shell)
+    found (broken_by breaking (with_begun begun (free_number shells) (carried_shells moved shells))) k
+    ≡ Some (broken_one (broken_for breaking k) (carried_by moved shell))
+carried-stands k moved begun breaking shells shell is =
+    broken-there breaking (with_begun begun (free_number shells) (carried_shells moved shells)) k (carried_by moved shell)
+    (found-placed_other (carried_shells moved shells) begun (free_number shells) k (carried_by moved shell)
     (carried-free moved shells (free_number shells) (free-number shells))
-    (found-carried moved shells k ∙ carried-runs moved (found shells k) shell is)
+    (found-carried moved shells k ∙ carried-runs moved (found shells k) shell is))
 
 stands-behind : (k : ℕ) (common : Common) (course : Course) → Stands k common → Stands k (absorbed common course)
 stands-behind k common course stands = record {
   above = stands.above;
-  shell = carried_by (moved_by common.shared (shared_behind course) course.renamed) stands.shell;
-  is = carried-stands k (moved_by common.shared (shared_behind course) course.renamed) course.begun common.shells stands.shell stands.is;
+  shell = broken_one (broken_for course.breaking k) (carried_by (moved_by common.shared (shared_behind course) course.renamed) stands.shell);
+  is = carried-stands k (moved_by common.shared (shared_behind course) course.renamed) course.begun course.breaking common.shells stands.shell stands.is;
 }
 
 pub stands-again : (k : ℕ) (common : Common) (course : Course) (said : Said) (log : List Item) → Stands k common →
@@ -126,21 +130,41 @@ world-same k w old phase common course [] next said log stands =
     let moved = moved_by common.shared (shared_behind course) course.renamed in
     rw (
       not-first k common stands,
-      shells-same moved course.begun common.shells k stands.shell (shell_of old phase common) None stands.is,
+      broken-same_set course.breaking _ _ (k - 1) None
+          (shells-same moved course.begun common.shells k stands.shell (shell_of old phase common) None stands.is),
     ) refl
 world-same k w old phase common course (frame ∷ frames) next said log stands =
     let moved = moved_by common.shared (shared_behind course) course.renamed in
-    let now : ShellState = record { frames = frame ∷ frames; phase = next; parts = said.parts; kept = said.kept } in
+    let now : ShellState = record { frames = frame ∷ frames; phase = next; parts = said.parts; kept = said.kept; flagged = course.flagged } in
     rw (
       not-first k common stands,
       left-same moved now,
-      shells-same moved course.begun common.shells k stands.shell (shell_of old phase common)
-          (Some (record now { parts = carried_parts moved said.parts })) stands.is,
+      broken-same_set course.breaking _ _ (k - 1) (Some (record now { parts = carried_parts moved said.parts }))
+          (shells-same moved course.begun common.shells k stands.shell (shell_of old phase common)
+          (Some (record now { parts = carried_parts moved said.parts })) stands.is),
     ) refl
 
 -- how the world goes on
 abbrev pub Goes : Type 0
 Goes = WorldState → Bytes → Exec
+
+-- an event after which the code rule makes this of what was handed on
+took-rules : (k : ℕ) (w : WorldState) (go : Goes) (on : Go) (old : List FrameState) (phase : Phase) (common : Common) (course : Course)
+    (rule : Said → Settled) → Stands k common →
+    ((bytes : Bytes) (moved : Option Renamed) (said : Said) → rule (front bytes moved said) ≡ fronted bytes moved (rule said)) →
+    ((frames : List FrameState) (phase : Phase) (common : Common) → Stands k common →
+    go (world_of k w frames phase common) common.said.printed ≡ lift k w (on frames phase common)) →
+    go_on go common.said.printed (took (standing k w old phase common) k [] (by_rule course (rule (said_of course))))
+    ≡ lift k w (go_by k on (absorbed common course) (rule (absorbed common course).said))
+took-rules k w go on old phase common course rule stands fronts same =
+    let moved = moved_by common.shared (shared_behind course) course.renamed in
+    let settled = rule (said_of course) in
+    rw (
+      fronts common.said.printed moved (said_of course),
+      world-same k w old phase common course settled.frames settled.phase settled.said settled.log stands,
+    )
+    (same settled.frames settled.phase (common_by k common course settled.said settled.log)
+    (stands-again k common course (front common.said.printed moved settled.said) settled.log stands))
 
 -- an event that comes to a deed
 took-does : (k : ℕ) (w : WorldState) (go : Goes) (on : Go) (old : List FrameState) (phase : Phase) (common : Common) (deed : Deed)
@@ -149,26 +173,20 @@ took-does : (k : ℕ) (w : WorldState) (go : Goes) (on : Go) (old : List FrameSt
     go (world_of k w frames phase common) common.said.printed ≡ lift k w (on frames phase common)) →
     go_on go common.said.printed (took (standing k w old phase common) k [] (settle deed frames)) ≡ lift k w (does k on frames common deed)
 took-does k w go on old phase common deed frames stands same =
-    let course = course_of deed in
-    let moved = moved_by common.shared (shared_behind course) course.renamed in
-    let settled = ruled deed frames (said_of course) in
-    rw (
-      ruled-front common.said.printed moved deed frames (said_of course),
-      world-same k w old phase common course settled.frames settled.phase settled.said settled.log stands,
-    )
-    (same settled.frames settled.phase (common_by k common course settled.said settled.log)
-    (stands-again k common course (front common.said.printed moved settled.said) settled.log stands))
+    took-rules k w go on old phase common (course_of deed) (ruled deed frames) stands
+    (λ bytes moved said. ruled-front bytes moved deed frames said) same
 
 -- the world's turn of the shell
 pub turn-is : (k : ℕ) (w : WorldState) (frames : List FrameState) (phase : Phase) (common : Common) → Stands k common →
     step_of (standing k w frames phase common) (Turn k)
-    ≡ applied (standing k w frames phase common) k common.said.parts.codes (turning no_input frames (start_in k frames phase common) phase)
+    ≡ applied (standing k w frames phase common) k common.said.parts.codes
+    (flagged_turning common.flagged no_input frames (start_in k frames phase (flagless common)) phase)
 turn-is k w frames phase common stands =
     rw (
       not-over k w frames phase common stands,
       stands-at k w frames phase common stands,
       background k (standing k w frames phase common) (not-first k common stands),
-      starts-in k w frames phase common,
+      ap unflagged (starts-in k w frames phase common),
     ) refl
 
 -- an answer for it
@@ -192,13 +210,30 @@ Same k w go on = (frames : List FrameState) (phase : Phase) (common : Common) �
 line-same : (k : ℕ) (w : WorldState) (go : Goes) (on : Go) (frame : FrameState) (frames : List FrameState) (common : Common)
     (line : Option Text) → Stands k common → Same k w go on →
     go_on go common.said.printed
-    (took (standing k w (frame ∷ frames) Ready common) k [] (frame_turned frame frames (start_in k (frame ∷ frames) Ready common) line))
-    ≡ lift k w (line_event k on frame frames common line)
+    (took (standing k w (frame ∷ frames) Ready common) k [] (frame_turned frame frames (start_in k (frame ∷ frames) Ready (flagless common)) line))
+    ≡ lift k w (line_event k on frame frames (flagless common) line)
 line-same k w go on frame frames common None stands same =
-    took-does k w go on (frame ∷ frames) Ready common (Passes (start_in k (frame ∷ frames) Ready common)) (frame ∷ frames) stands same
+    took-does k w go on (frame ∷ frames) Ready common (Passes (start_in k (frame ∷ frames) Ready (flagless common))) (frame ∷ frames) stands same
 line-same k w go on frame frames common (Some line) stands same =
     took-does k w go on (frame ∷ frames) Ready common
-    (line_deed line (here_of (moved frame ∷ frames)) (start_in k (frame ∷ frames) Ready common)) (moved frame ∷ frames) stands same
+    (line_deed line (here_of (moved frame ∷ frames)) (start_in k (frame ∷ frames) Ready (flagless common))) (moved frame ∷ frames) stands same
+
+-- a turn, which may find the flag
+turn-same : (k : ℕ) (w : WorldState) (go : Goes) (on : Go) (frames : List FrameState) (common : Common) (phase : Phase) (queue : List (List ℕ))
+    (turned : Turned) (work : Common → Lone) → Stands k common → Same k w go on →
+    turning no_input frames (start_in k frames phase (flagless common)) phase ≡ Takes queue turned →
+    go_on go common.said.printed
+    (applied (standing k w frames phase common) k common.said.parts.codes (turning no_input frames (start_in k frames phase (flagless common)) phase))
+    ≡ lift k w (work (flagless common)) →
+    go_on go common.said.printed (step_of (standing k w frames phase common) (Turn k)) ≡ lift k w (turn_event k on frames common work)
+turn-same k w go on frames common phase queue turned work stands same takes plain =
+    rw (turn-is k w frames phase common stands)
+    (elim (cases_Bool (common.flagged && has_script frames)) [
+      | inl e ↦ rw (e, takes)
+          (took-rules k w go on frames phase common (printing break_text (start_in k frames phase (flagless common))) (broken_off frames) stands
+          (λ bytes moved said. broken-front bytes moved frames said) same)
+      | inr e ↦ rw e plain
+    ])
 
 deed-same : (k : ℕ) (w : WorldState) (go : Goes) (on : Go) (frames : List FrameState) (phase : Phase) (common : Common)
     (deed : Option Deed) → Stands k common → Same k w go on →
@@ -226,18 +261,22 @@ event-same : (k : ℕ) (w : WorldState) (go : List Reply → Goes) (on : List Re
     (Some (shell_of (frame ∷ frames) phase common))
     ≡ lift k w (event_in k on answers frame frames common phase)
 event-same k w go on n answers frame frames common Ready stands same =
-    rw (turn-is k w (frame ∷ frames) Ready common stands)
+    turn-same k w (go answers) (on answers) (frame ∷ frames) common Ready _ _
+    (λ now. line_event k (on answers) frame frames now (slice_get frame.lines frame.position)) stands (same answers) refl
     (line-same k w (go answers) (on answers) frame frames common (slice_get frame.lines frame.position) stands (same answers))
 event-same k w go on n answers frame frames common (GoingOn parted) stands same =
-    rw (turn-is k w (frame ∷ frames) (GoingOn parted) common stands)
+    turn-same k w (go answers) (on answers) (frame ∷ frames) common (GoingOn parted) _ _
+    (λ now. does k (on answers) (frame ∷ frames) now (parted_deed parted (here_of (frame ∷ frames)) (start_in k (frame ∷ frames) (GoingOn parted) now))) stands (same answers) refl
     (took-does k w (go answers) (on answers) (frame ∷ frames) (GoingOn parted) common _ (frame ∷ frames) stands (same answers))
 event-same k w go on n answers frame frames common (Waiting (ForAnswer asking)) stands same =
-    rw (turn-is k w (frame ∷ frames) (Waiting (ForAnswer asking)) common stands)
+    turn-same k w (go answers) (on answers) (frame ∷ frames) common (Waiting (ForAnswer asking)) _ _
+    (λ now. does k (on answers) (frame ∷ frames) now (answer_deed [] asking (here_of (frame ∷ frames)) (start_in k (frame ∷ frames) (Waiting (ForAnswer asking)) now))) stands (same answers) refl
     (took-does k w (go answers) (on answers) (frame ∷ frames) (Waiting (ForAnswer asking)) common _ (frame ∷ frames) stands (same answers))
 event-same k w go on n answers frame frames common (Waiting (ForLines gathering)) stands same =
-    rw (turn-is k w (frame ∷ frames) (Waiting (ForLines gathering)) common stands)
+    turn-same k w (go answers) (on answers) (frame ∷ frames) common (Waiting (ForLines gathering)) _ _
+    (λ now. does k (on answers) (frame ∷ frames) now (gathered_deed gathering (sink_in (frame ∷ frames)) (start_in k (frame ∷ frames) (Waiting (ForLines gathering)) now))) stands (same answers) refl
     (took-does k w (go answers) (on answers) (frame ∷ frames) (Waiting (ForLines gathering)) common
-    (gathered_deed gathering (sink_in (frame ∷ frames)) (start_in k (frame ∷ frames) (Waiting (ForLines gathering)) common))
+    (gathered_deed gathering (sink_in (frame ∷ frames)) (start_in k (frame ∷ frames) (Waiting (ForLines gathering)) (flagless common)))
     (frame ∷ frames) stands (same answers))
 event-same k w go on n answers frame frames common (Waiting (ForStart starting)) stands same =
     reply-same k w go on (frame ∷ frames) (Waiting (ForStart starting)) common answers stands same

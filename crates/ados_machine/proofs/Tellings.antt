@@ -1,7 +1,7 @@
 -- The reports of a shell that runs alone are those of the direct meaning.
-use Rattle.std.proofs.Common.{◌≡◌, ℕ, zero, suc, ◌-◌, List, [], ◌∷◌, Option, Some, None, refl, arith}
+use Rattle.std.proofs.Common.{◌≡◌, ℕ, zero, suc, ◌-◌, List, [], ◌∷◌, true, false, ◌&&◌, inl, inr, Option, Some, None, refl, arith}
 use Rattle.std.specs.List.{slice_get}
-use Rattle.ados_text.specs.Text.{Text}
+use Rattle.ados_text.specs.Text.{Bytes, Text}
 use Rattle.ados_flow.specs.Frames.{FrameState, moved}
 use Rattle.ados_machine.specs.declared.answers.Answer.{Answer as Reply}
 use Rattle.ados_machine.specs.declared.phases.Phase.{Phase}
@@ -11,30 +11,34 @@ use Rattle.ados_machine.specs.Items.{Item}
 use Rattle.ados_machine.specs.Shells.{ShellState}
 use Rattle.ados_machine.specs.Sinks.{sink_in}
 use Rattle.ados_machine.specs.Deeds.{Deed, Passes, course_of}
-use Rattle.ados_machine.specs.Lines.{line_deed}
+use Rattle.ados_machine.specs.Lines.{line_deed, parted_deed, answer_deed}
 use Rattle.ados_machine.specs.NewShells.{gathered_deed}
 use Rattle.ados_machine.specs.Answers.{answered_in}
-use Rattle.ados_machine.specs.Settle.{here_of, said_of, ruled, settle}
-use Rattle.ados_machine.specs.Turning.{frame_turned, replied}
+use Rattle.ados_machine.specs.Settle.{Turned, here_of, said_of, by_rule, ruled, settle}
+use Rattle.ados_machine.specs.Settled.{Said, Settled, broken_off}
+use Rattle.ados_machine.specs.Breaks.{break_text, has_script}
+use Rattle.ados_find.specs.declared.outcomes.Renamed.{Renamed}
+use Rattle.ados_machine.specs.declared.events.Event.TheVariants.{Turn}
+use Rattle.ados_machine.specs.Turning.{Takes, frame_turned, turning, replied}
 use Rattle.ados_machine.specs.World.{WorldState}
 use Rattle.ados_machine.specs.Carrying.{moved_by}
-use Rattle.ados_machine.specs.Step.{took, applied}
-use Rattle.ados_machine.specs.Whole.{Common}
-use Rattle.ados_machine.proofs.Fronts.{front, ruled-front}
-use Rattle.ados_machine.proofs.Alone.{shell_of, standing, start_in, Go, does, line_event, deed_event, reply_event, event_in, exec}
+use Rattle.ados_machine.specs.Step.{took, applied, step_of}
+use Rattle.ados_machine.specs.Whole.{Common, absorbed, flagless}
+use Rattle.ados_machine.proofs.Fronts.{front, fronted, broken-front, ruled-front}
+use Rattle.ados_machine.proofs.Alone.{go_by, turn_event, shell_of, standing, start_in, Go, does, line_event, deed_event, reply_event, event_in, exec}
 use Rattle.ados_flow.specs.declared.kinds.Kind.TheVariants.{Script, Lines, Tick}
-use Rattle.ados_flow.specs.Frames.{began, first_limit}
-use Rattle.std.proofs.lemmas.Bool.{lt-leb}
+use Rattle.ados_flow.specs.Frames.{began, first_limit, scripts_in}
+use Rattle.std.proofs.lemmas.Bool.{cases_Bool, lt-leb}
 use Rattle.std.proofs.Common.{length}
 use Rattle.ados_machine.specs.declared.outs.EndReport.{EndReport}
-use Rattle.ados_machine.specs.Items.{Began, Answered, Ended, reports_of}
-use Rattle.ados_machine.specs.Whole.{Whole, Done, Late, Short, lines, at_bottom, opened_shell, opened, first_common}
-use Rattle.ados_machine.specs.Course.{shared_behind}
+use Rattle.ados_machine.specs.Items.{Began, Answered, Ended, Broke, broken_codes, reports_of}
+use Rattle.ados_machine.specs.Whole.{Whole, Done, Broken, Late, Short, lines, at_bottom, opened_shell, opened, first_common}
+use Rattle.ados_machine.specs.Course.{Course, shared_behind, printing}
 use Rattle.ados_machine.specs.Told.{onto, told_on, told_reply, told_next, told, TellsReports, AloneTellsReports}
 use Rattle.ados_machine.proofs.Alone.{with_ends, Lone, Rested, Going, Unfed, exec-rests}
-use Rattle.ados_machine.proofs.Direct.{AgreesBy, ended, agrees}
+use Rattle.ados_machine.proofs.Direct.{AgreesBy, ended, breaking, agrees}
 use Rattle.ados_machine.proofs.Places.{set-set}
-use Rattle.ados_machine.proofs.Systems.{free-two, opened-stands}
+use Rattle.ados_machine.proofs.Systems.{none_below, free-two, opened-stands}
 use Rattle.ados_machine.proofs.Lonely.{Stands, world_of, no_input, stands-at, ended-at, stands-again, world-same, turn-is, answer-is, common_by}
 
 onto-ends : (k : ℕ) (log : List Item) (reports : List EndReport) → onto (reports_of k log) reports ≡ with_ends k log reports
@@ -42,9 +46,13 @@ onto-ends k [] reports = refl
 onto-ends k (Began depth kind limit ∷ log) reports = onto-ends k log reports
 onto-ends k (Answered depth entry ∷ log) reports = onto-ends k log reports
 onto-ends k (Ended depth (Script name command) line codes early ∷ log) reports =
-    onto-ends k log (record { shell = k; name = name; last_line = line; code = codes.code; early = early } ∷ reports)
+    onto-ends k log (record { shell = k; name = name; last_line = line; code = codes.code; early = early; broken = false } ∷ reports)
 onto-ends k (Ended depth Lines line codes early ∷ log) reports = onto-ends k log reports
 onto-ends k (Ended depth (Tick before after) line codes early ∷ log) reports = onto-ends k log reports
+onto-ends k (Broke depth (Script name command) line ∷ log) reports =
+    onto-ends k log (record { shell = k; name = name; last_line = line; code = broken_codes.code; early = false; broken = true } ∷ reports)
+onto-ends k (Broke depth Lines line ∷ log) reports = onto-ends k log reports
+onto-ends k (Broke depth (Tick before after) line ∷ log) reports = onto-ends k log reports
 
 abbrev told_by : Lone → Option (List EndReport)
 told_by (Rested left answers common) = Some common.reports
@@ -55,6 +63,25 @@ told_by Unfed = None
 abbrev Goes : Type 0
 Goes = WorldState → List EndReport → Option (List EndReport)
 
+-- an event after which the code rule makes this of what was handed on
+took-rules : (k : ℕ) (w : WorldState) (go : Goes) (on : Go) (old : List FrameState) (phase : Phase) (common : Common) (course : Course)
+    (rule : Said → Settled) → Stands k common →
+    ((bytes : Bytes) (moved : Option Renamed) (said : Said) → rule (front bytes moved said) ≡ fronted bytes moved (rule said)) →
+    ((frames : List FrameState) (phase : Phase) (common : Common) → Stands k common →
+    go (world_of k w frames phase common) common.reports ≡ told_by (on frames phase common)) →
+    told_on go common.reports (took (standing k w old phase common) k [] (by_rule course (rule (said_of course))))
+    ≡ told_by (go_by k on (absorbed common course) (rule (absorbed common course).said))
+took-rules k w go on old phase common course rule stands fronts same =
+    let moved = moved_by common.shared (shared_behind course) course.renamed in
+    let settled = rule (said_of course) in
+    rw (
+      fronts common.said.printed moved (said_of course),
+      world-same k w old phase common course settled.frames settled.phase settled.said settled.log stands,
+      onto-ends k settled.log common.reports,
+    )
+    (same settled.frames settled.phase (common_by k common course settled.said settled.log)
+    (stands-again k common course (front common.said.printed moved settled.said) settled.log stands))
+
 -- an event that comes to a deed
 took-does : (k : ℕ) (w : WorldState) (go : Goes) (on : Go) (old : List FrameState) (phase : Phase) (common : Common) (deed : Deed)
     (frames : List FrameState) → Stands k common →
@@ -62,16 +89,8 @@ took-does : (k : ℕ) (w : WorldState) (go : Goes) (on : Go) (old : List FrameSt
     go (world_of k w frames phase common) common.reports ≡ told_by (on frames phase common)) →
     told_on go common.reports (took (standing k w old phase common) k [] (settle deed frames)) ≡ told_by (does k on frames common deed)
 took-does k w go on old phase common deed frames stands same =
-    let course = course_of deed in
-    let moved = moved_by common.shared (shared_behind course) course.renamed in
-    let settled = ruled deed frames (said_of course) in
-    rw (
-      ruled-front common.said.printed moved deed frames (said_of course),
-      world-same k w old phase common course settled.frames settled.phase settled.said settled.log stands,
-      onto-ends k settled.log common.reports,
-    )
-    (same settled.frames settled.phase (common_by k common course settled.said settled.log)
-    (stands-again k common course (front common.said.printed moved settled.said) settled.log stands))
+    took-rules k w go on old phase common (course_of deed) (ruled deed frames) stands
+    (λ bytes moved said. ruled-front bytes moved deed frames said) same
 
 -- the world goes on as the shell does
 abbrev pub Same : ℕ → WorldState → Goes → Go → Type 0
@@ -81,13 +100,30 @@ Same k w go on = (frames : List FrameState) (phase : Phase) (common : Common) �
 line-same : (k : ℕ) (w : WorldState) (go : Goes) (on : Go) (frame : FrameState) (frames : List FrameState) (common : Common)
     (line : Option Text) → Stands k common → Same k w go on →
     told_on go common.reports
-    (took (standing k w (frame ∷ frames) Ready common) k [] (frame_turned frame frames (start_in k (frame ∷ frames) Ready common) line))
-    ≡ told_by (line_event k on frame frames common line)
+    (took (standing k w (frame ∷ frames) Ready common) k [] (frame_turned frame frames (start_in k (frame ∷ frames) Ready (flagless common)) line))
+    ≡ told_by (line_event k on frame frames (flagless common) line)
 line-same k w go on frame frames common None stands same =
-    took-does k w go on (frame ∷ frames) Ready common (Passes (start_in k (frame ∷ frames) Ready common)) (frame ∷ frames) stands same
+    took-does k w go on (frame ∷ frames) Ready common (Passes (start_in k (frame ∷ frames) Ready (flagless common))) (frame ∷ frames) stands same
 line-same k w go on frame frames common (Some line) stands same =
     took-does k w go on (frame ∷ frames) Ready common
-    (line_deed line (here_of (moved frame ∷ frames)) (start_in k (frame ∷ frames) Ready common)) (moved frame ∷ frames) stands same
+    (line_deed line (here_of (moved frame ∷ frames)) (start_in k (frame ∷ frames) Ready (flagless common))) (moved frame ∷ frames) stands same
+
+-- a turn, which may find the flag
+turn-same : (k : ℕ) (w : WorldState) (go : Goes) (on : Go) (frames : List FrameState) (common : Common) (phase : Phase) (queue : List (List ℕ))
+    (turned : Turned) (work : Common → Lone) → Stands k common → Same k w go on →
+    turning no_input frames (start_in k frames phase (flagless common)) phase ≡ Takes queue turned →
+    told_on go common.reports
+    (applied (standing k w frames phase common) k common.said.parts.codes (turning no_input frames (start_in k frames phase (flagless common)) phase))
+    ≡ told_by (work (flagless common)) →
+    told_on go common.reports (step_of (standing k w frames phase common) (Turn k)) ≡ told_by (turn_event k on frames common work)
+turn-same k w go on frames common phase queue turned work stands same takes plain =
+    rw (turn-is k w frames phase common stands)
+    (elim (cases_Bool (common.flagged && has_script frames)) [
+      | inl e ↦ rw (e, takes)
+          (took-rules k w go on frames phase common (printing break_text (start_in k frames phase (flagless common))) (broken_off frames) stands
+          (λ bytes moved said. broken-front bytes moved frames said) same)
+      | inr e ↦ rw e plain
+    ])
 
 deed-same : (k : ℕ) (w : WorldState) (go : Goes) (on : Go) (frames : List FrameState) (phase : Phase) (common : Common)
     (deed : Option Deed) → Stands k common → Same k w go on →
@@ -115,18 +151,22 @@ event-same : (k : ℕ) (w : WorldState) (go : List Reply → Goes) (on : List Re
     (Some (shell_of (frame ∷ frames) phase common))
     ≡ told_by (event_in k on answers frame frames common phase)
 event-same k w go on n answers frame frames common Ready stands same =
-    rw (turn-is k w (frame ∷ frames) Ready common stands)
+    turn-same k w (go answers) (on answers) (frame ∷ frames) common Ready _ _
+    (λ now. line_event k (on answers) frame frames now (slice_get frame.lines frame.position)) stands (same answers) refl
     (line-same k w (go answers) (on answers) frame frames common (slice_get frame.lines frame.position) stands (same answers))
 event-same k w go on n answers frame frames common (GoingOn parted) stands same =
-    rw (turn-is k w (frame ∷ frames) (GoingOn parted) common stands)
+    turn-same k w (go answers) (on answers) (frame ∷ frames) common (GoingOn parted) _ _
+    (λ now. does k (on answers) (frame ∷ frames) now (parted_deed parted (here_of (frame ∷ frames)) (start_in k (frame ∷ frames) (GoingOn parted) now))) stands (same answers) refl
     (took-does k w (go answers) (on answers) (frame ∷ frames) (GoingOn parted) common _ (frame ∷ frames) stands (same answers))
 event-same k w go on n answers frame frames common (Waiting (ForAnswer asking)) stands same =
-    rw (turn-is k w (frame ∷ frames) (Waiting (ForAnswer asking)) common stands)
+    turn-same k w (go answers) (on answers) (frame ∷ frames) common (Waiting (ForAnswer asking)) _ _
+    (λ now. does k (on answers) (frame ∷ frames) now (answer_deed [] asking (here_of (frame ∷ frames)) (start_in k (frame ∷ frames) (Waiting (ForAnswer asking)) now))) stands (same answers) refl
     (took-does k w (go answers) (on answers) (frame ∷ frames) (Waiting (ForAnswer asking)) common _ (frame ∷ frames) stands (same answers))
 event-same k w go on n answers frame frames common (Waiting (ForLines gathering)) stands same =
-    rw (turn-is k w (frame ∷ frames) (Waiting (ForLines gathering)) common stands)
+    turn-same k w (go answers) (on answers) (frame ∷ frames) common (Waiting (ForLines gathering)) _ _
+    (λ now. does k (on answers) (frame ∷ frames) now (gathered_deed gathering (sink_in (frame ∷ frames)) (start_in k (frame ∷ frames) (Waiting (ForLines gathering)) now))) stands (same answers) refl
     (took-does k w (go answers) (on answers) (frame ∷ frames) (Waiting (ForLines gathering)) common
-    (gathered_deed gathering (sink_in (frame ∷ frames)) (start_in k (frame ∷ frames) (Waiting (ForLines gathering)) common))
+    (gathered_deed gathering (sink_in (frame ∷ frames)) (start_in k (frame ∷ frames) (Waiting (ForLines gathering)) (flagless common)))
     (frame ∷ frames) stands (same answers))
 event-same k w go on n answers frame frames common (Waiting (ForStart starting)) stands same =
     reply-same k w go on (frame ∷ frames) (Waiting (ForStart starting)) common answers stands same
@@ -145,10 +185,11 @@ told-exec k w (suc n) answers (frame ∷ frames) phase common stands =
 
 -- the frame of its lines is the last to end
 bottom-tells : (k n : ℕ) (frame : FrameState) (meaning : Whole) (lone : Lone) → frame.kind ≡ Lines →
-    AgreesBy n lone meaning (ended k frame []) → TellsReports meaning (told_by lone)
+    AgreesBy n lone meaning (ended k frame []) (breaking k frame []) (scripts_in (frame ∷ [])) → TellsReports meaning (told_by lone)
 bottom-tells k n frame (Done left answers last common) lone lines h = rw (h.1, lines, exec-rests k left answers Ready common) refl
 bottom-tells k n frame (Late answers) lone lines h = tt
 bottom-tells k n frame Short lone lines h = tt
+bottom-tells k n frame (Broken left answers last common) lone lines h = absurd (none_below frame.kind h.1.0 lines h.1.1)
 
 pub alone-tells : AloneTellsReports
 alone-tells n k w command commands answers free =

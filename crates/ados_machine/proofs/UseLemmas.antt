@@ -7,19 +7,22 @@ use Rattle.ados_text.specs.declared.codes.Result2.{Result2}
 use Rattle.ados_line.specs.Cut.{line_limit}
 use Rattle.ados_find.specs.declared.codes.Codes.{Codes}
 use Rattle.ados_find.specs.Codes.{went_well}
+use Rattle.ados_find.specs.declared.outcomes.Breaks.{Breaks}
 use Rattle.ados_find.specs.declared.outcomes.Renamed.{Renamed}
 use Rattle.ados_flow.specs.Frames.{FrameState}
 use Rattle.ados_machine.specs.declared.answers.Answer.{Answer as Reply}
 use Rattle.ados_machine.specs.declared.answers.Answer.TheVariants.{Started, NotFound, Denied, Memory, Other, «Bytes» as Piece, End, PipeFault, Exit, Signal, WaitFault}
 use Rattle.ados_machine.specs.declared.events.Event.{Event}
-use Rattle.ados_machine.specs.declared.events.Event.TheVariants.{Typed, EndOfInput, Turn, Answer}
+use Rattle.ados_machine.specs.declared.events.Event.TheVariants.{Typed, EndOfInput, Turn, Answer, Break}
 use Rattle.ados_machine.specs.declared.phases.Child.{Child}
 use Rattle.ados_machine.specs.declared.phases.Phase.{Phase}
 use Rattle.ados_machine.specs.declared.phases.Phase.TheVariants as phase
 use Rattle.ados_machine.specs.declared.phases.Starting.{Starting}
 use Rattle.ados_machine.specs.declared.phases.Wait.{Wait}
 use Rattle.ados_machine.specs.declared.phases.Wait.TheVariants.{ForAnswer, ForLines, ForStart, ForPiece, ForEnd}
-use Rattle.ados_machine.specs.Answers.{started_deed, behind_piece, fault_in, piece_deed, is_piece, ended_deed, answered_deed, answered_in}
+use Rattle.ados_machine.specs.Answers.{child_of, next_wait, with_break, started_deed, behind_piece, fault_in, piece_deed, is_piece, ended_deed, answered_deed, answered_in}
+use Rattle.ados_machine.specs.declared.events.Kind.{Kind}
+use Rattle.ados_machine.specs.Breaks.{breaks_by, broken_by, marked_if}
 use Rattle.ados_machine.specs.Carrying.{carried_shells, carried_by}
 use Rattle.ados_machine.specs.Course.{Course, put}
 use Rattle.ados_machine.specs.Deeds.{Deed, Passes, Answers, Jumps, Calls, Ticks, Waits}
@@ -30,13 +33,14 @@ use Rattle.ados_machine.specs.Requests.{request_of}
 use Rattle.ados_machine.specs.Settle.{Turned, jumped_in, said_of, settle}
 use Rattle.ados_machine.specs.Shells.{Begun, begun_shell, ShellState, seen_of, entry_while, entry_in}
 use Rattle.ados_machine.specs.Sinks.{Sink, sink_in, sink_or}
-use Rattle.ados_machine.specs.Step.{Response, Refused, Accepted, queue_limit, shell_of_turn, with_begun, is_done, left, moved_in, took, shell_ended, start, applied, turned, answered, typed, end_of_input, happened, step_of}
-use Rattle.ados_machine.specs.Turning.{Turning, Refuses, Ends, Takes, turning, replied}
+use Rattle.ados_machine.specs.Step.{Response, Refused, Accepted, queue_limit, shell_of_turn, with_begun, is_done, left, moved_in, took, shell_ended, start, unflagged, applied, turned, answered, broken, typed, end_of_input, happened, step_of}
+use Rattle.ados_machine.specs.Turning.{Turning, Refuses, Ends, Takes, flagged_turning, replied}
 use Rattle.ados_machine.specs.World.{WorldState, shell_at, is_over, input_of, pending_by}
+use Rattle.ados_machine.proofs.Asked.{flagged-refused}
 use Rattle.ados_machine.proofs.ChildLemmas.{carried-pending}
 use Rattle.ados_machine.proofs.Moves.{placed-at}
 use Rattle.ados_machine.proofs.Rests.{IsIdle, passed-rests, finished-rests, called-rests, ticked-rests}
-use Rattle.ados_machine.proofs.Shells.{shells_behind, found, IsFree, free-number, carried-free, carried_found, found-carried, found-set_same, found-set_other, found-left, runs_pos}
+use Rattle.ados_machine.proofs.Shells.{shells_behind, broken_maybe, broken_for, found-broken, found, IsFree, free-number, carried-free, carried_found, found-carried, found-set_same, found-set_other, found-left, runs_pos}
 
 -- the entry that is seen of a shell, and whether it asks for something
 abbrev entry_found : Option ShellState → Option Text
@@ -57,6 +61,22 @@ carried_by-entry (Some renamed) shell = refl
 carried_by-asks : (renamed : Option Renamed) (shell : ShellState) → asks_found (Some (carried_by renamed shell)) ≡ asks_found (Some shell)
 carried_by-asks None shell = refl
 carried_by-asks (Some renamed) shell = refl
+
+-- a break keeps what a shell runs from
+marked-entry : (marks : Bool) (now : Phase) → entry_in (marked_if marks now) ≡ entry_in now
+marked-entry false now = refl
+marked-entry true phase.Ready = refl
+marked-entry true (phase.GoingOn parted) = refl
+marked-entry true (phase.Waiting (ForAnswer asking)) = refl
+marked-entry true (phase.Waiting (ForLines gathering)) = refl
+marked-entry true (phase.Waiting (ForStart starting)) = refl
+marked-entry true (phase.Waiting (ForPiece child)) = refl
+marked-entry true (phase.Waiting (ForEnd child)) = refl
+
+broken-entry : (breaks : Option Breaks) (o : Option ShellState) → entry_found (broken_maybe breaks o) ≡ entry_found o
+broken-entry None o = refl
+broken-entry (Some breaks) None = refl
+broken-entry (Some breaks) (Some shell) = marked-entry breaks.marks shell.phase
 
 -- a shell begins where none asked for anything
 begun-entry : (shells : List (Option ShellState)) (begun : Option Begun) (n : Option ℕ) (j : ℕ) → IsFree shells n →
@@ -82,8 +102,12 @@ others-entry shells k shell moved t is j differ asked =
     let number = free_number shells in
     let free = carried-free moved shells number (free-number shells) in
     let there = found-carried moved shells j in
-    ap entry_found (found-set_other (with_begun t.course.begun number carried) k (left k moved t) j differ (runs_pos shells k shell is))
-    ∙ (begun-entry carried t.course.begun number j free (ap is_some (ap pending_by there ∙ carried-pending moved (found shells j)) ∙ asked)
+    let placed = with_begun t.course.begun number carried in
+    let breaking = t.course.breaking in
+    ap entry_found (found-set_other (broken_by breaking placed) k (left k moved t) j differ (runs_pos shells k shell is))
+    ∙ (ap entry_found (found-broken breaking placed j)
+    ∙ broken-entry (broken_for breaking j) (found placed j)
+    ∙ begun-entry carried t.course.begun number j free (ap is_some (ap pending_by there ∙ carried-pending moved (found shells j)) ∙ asked)
     ∙ (ap entry_found there ∙ carried-entry moved (found shells j)))
 
 -- an accepted event keeps each entry in use whose shell asks for something before it and behind it
@@ -125,19 +149,25 @@ applied-entries w k shell (Takes queue t) is idle = took-entries w k shell queue
     never : false ≡ true → ⊥
     never e = cc
 
+-- its turn in a phase
+abbrev turn_by : WorldState → ℕ → ShellState → Phase → Turning
+turn_by w k shell now = flagged_turning shell.flagged (input_of w k) shell.frames (unflagged (start w shell)) now
+
 -- a shell that waits for a launcher takes no turn
 by-phase : (w : WorldState) (k : ℕ) (shell : ShellState) (now : Phase) → shell_at w k ≡ Some shell → shell.phase ≡ now →
-    KeepsEntries w (applied w k shell.parts.codes (turning (input_of w k) shell.frames (start w shell) now))
-by-phase w k shell (phase.Waiting (ForStart starting)) is e = tt
-by-phase w k shell (phase.Waiting (ForPiece child)) is e = tt
-by-phase w k shell (phase.Waiting (ForEnd child)) is e = tt
-by-phase w k shell phase.Ready is e = applied-entries w k shell (turning (input_of w k) shell.frames (start w shell) phase.Ready) is (rw e refl)
-by-phase w k shell (phase.GoingOn parted) is e =
-    applied-entries w k shell (turning (input_of w k) shell.frames (start w shell) (phase.GoingOn parted)) is (rw e refl)
+    KeepsEntries w (applied w k shell.parts.codes (turn_by w k shell now))
+by-phase w k shell (phase.Waiting (ForStart starting)) is e =
+    rw (flagged-refused shell.flagged (input_of w k) shell.frames (unflagged (start w shell)) (ForStart starting) refl) tt
+by-phase w k shell (phase.Waiting (ForPiece child)) is e =
+    rw (flagged-refused shell.flagged (input_of w k) shell.frames (unflagged (start w shell)) (ForPiece child) refl) tt
+by-phase w k shell (phase.Waiting (ForEnd child)) is e =
+    rw (flagged-refused shell.flagged (input_of w k) shell.frames (unflagged (start w shell)) (ForEnd child) refl) tt
+by-phase w k shell phase.Ready is e = applied-entries w k shell (turn_by w k shell phase.Ready) is (rw e refl)
+by-phase w k shell (phase.GoingOn parted) is e = applied-entries w k shell (turn_by w k shell (phase.GoingOn parted)) is (rw e refl)
 by-phase w k shell (phase.Waiting (ForAnswer asking)) is e =
-    applied-entries w k shell (turning (input_of w k) shell.frames (start w shell) (phase.Waiting (ForAnswer asking))) is (rw e refl)
+    applied-entries w k shell (turn_by w k shell (phase.Waiting (ForAnswer asking))) is (rw e refl)
 by-phase w k shell (phase.Waiting (ForLines gathering)) is e =
-    applied-entries w k shell (turning (input_of w k) shell.frames (start w shell) (phase.Waiting (ForLines gathering))) is (rw e refl)
+    applied-entries w k shell (turn_by w k shell (phase.Waiting (ForLines gathering))) is (rw e refl)
 
 turned-entries : (w : WorldState) (k : ℕ) (o : Option ShellState) → shell_at w k ≡ o → KeepsEntries w (turned w k o)
 turned-entries w k None is = tt
@@ -152,9 +182,23 @@ abbrev KeepsEntryIf : Option Text → Option Deed → Type 0
 KeepsEntryIf entry None = Unit {0}
 KeepsEntryIf entry (Some deed) = KeepsEntry entry deed
 
+next-entry : (child : Child) → entry_while (next_wait child) ≡ child.entry
+next-entry child =
+    elim (cases_Bool child.marked) [
+      | inl e ↦ rw e refl
+      | inr e ↦ rw e refl
+    ]
+
+break-entry : (child : Child) → (with_break child).entry ≡ child.entry
+break-entry child =
+    elim (cases_Bool child.marked) [
+      | inl e ↦ rw e refl
+      | inr e ↦ rw e refl
+    ]
+
 started-entry : (starting : Starting) (course : Course) (opened : Result Opened Result2) → KeepsEntry starting.entry (started_deed starting course opened)
-started-entry starting course (Err fault) = refl
-started-entry starting course (Ok opened) = refl
+started-entry starting course (Err fault) = next-entry (child_of starting None (Some fault))
+started-entry starting course (Ok opened) = next-entry (child_of starting opened.target None)
 
 put-entry : (child : Child) (fault : Option Result2) → (behind_piece child fault).entry ≡ child.entry
 put-entry child None = refl
@@ -162,8 +206,10 @@ put-entry child (Some fault) = refl
 
 piece-entry : (child : Child) (bytes : Bytes) (sink : Sink) (course : Course) (fault : Option Result2) →
     KeepsEntry child.entry (piece_deed child bytes sink course fault)
-piece-entry child bytes sink course (Some fault) = refl
-piece-entry child bytes sink course None = put-entry child (fault_in (put (sink_or child.output sink) bytes went_well course).codes)
+piece-entry child bytes sink course (Some fault) = next-entry (with_break child) ∙ break-entry child
+piece-entry child bytes sink course None =
+    let fault = fault_in (put (sink_or child.output sink) bytes went_well course).codes in
+    next-entry (behind_piece (with_break child) fault) ∙ (put-entry (with_break child) fault ∙ break-entry child)
 
 ended-entry : (entry : Option Text) (child : Child) (codes : Codes) (course : Course) (fault : Option Result2) → KeepsEntry entry (ended_deed child codes course fault)
 ended-entry entry child codes course (Some fault) = tt
@@ -180,8 +226,8 @@ wait-entry sink course (ForPiece child) (Piece bytes) =
       | inl e ↦ rw e (piece-entry child bytes sink course child.fault)
       | inr e ↦ rw e tt
     ]
-wait-entry sink course (ForPiece child) End = refl
-wait-entry sink course (ForPiece child) PipeFault = refl
+wait-entry sink course (ForPiece child) End = break-entry child
+wait-entry sink course (ForPiece child) PipeFault = break-entry child
 wait-entry sink course (ForEnd child) (Exit status) = ended-entry child.entry child _ course child.fault
 wait-entry sink course (ForEnd child) Signal = ended-entry child.entry child _ course child.fault
 wait-entry sink course (ForEnd child) WaitFault = ended-entry child.entry child _ course child.fault
@@ -265,11 +311,18 @@ end-entries w =
       | inr e ↦ rw e (λ j before behind. refl)
     ]
 
+break-entries : (w : WorldState) (k : ℕ) (kind : Kind) (o : Option ShellState) → KeepsEntries w (broken w k kind o)
+break-entries w k kind None = tt
+break-entries w k kind (Some shell) = λ j before behind.
+    let breaking = Some (record { shell = k; breaks = breaks_by kind }) in
+    ap entry_found (found-broken breaking w.shells j) ∙ broken-entry (broken_for breaking j) (found w.shells j)
+
 happened-entries : (w : WorldState) (event : Event) → KeepsEntries w (happened w event)
 happened-entries w (Typed line) = typed-entries w line
 happened-entries w EndOfInput = end-entries w
 happened-entries w (Turn k) = turned-entries w k (shell_at w k) refl
 happened-entries w (Answer k reply) = answered-entries w k reply (shell_at w k) refl
+happened-entries w (Break k kind) = break-entries w k kind (shell_at w k)
 
 step-entries : (w : WorldState) (event : Event) → KeepsEntries w (step_of w event)
 step-entries w event =

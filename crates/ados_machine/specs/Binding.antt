@@ -12,7 +12,7 @@ use Rattle.ados_assign.specs.declared.bindings.Binding.TheVariants.{Dirs}
 use Rattle.ados_machine.specs.Items.{Item}
 use Rattle.ados_machine.specs.declared.outs.Out.{Out}
 use Rattle.ados_machine.specs.Settle.{Turned}
-use Rattle.ados_machine.specs.Step.{Response, Accepted, took}
+use Rattle.ados_machine.specs.Step.{Accepted, took}
 use Rattle.ados_machine.specs.World.{WorldState}
 
 -- one of these assigns was bound, and stands for a directory now: it has the name, was a Defer, and was used

@@ -1,5 +1,5 @@
 -- The meaning of lines that run alone in a shell, by direct recursion: no frames, no phases.
-use Rattle.std.specs.Prelude.{ℕ, zero, suc, ◌+◌, ◌-◌, List, [], ◌∷◌, ◌++◌, Bool, true, false, ◌&&◌, ◌||◌, nat_le, Option, Some, None, slice_get, slice_set, codes, if◌then◌else◌}
+use Rattle.std.specs.Prelude.{nat_lt, ℕ, zero, suc, ◌+◌, ◌-◌, List, [], ◌∷◌, ◌++◌, Bool, true, false, ◌&&◌, ◌||◌, nat_le, Option, Some, None, slice_get, slice_set, codes, if◌then◌else◌}
 use Rattle.ados_text.specs.Text.{Text}
 use Rattle.ados_text.specs.declared.codes.Code.{Code}
 use Rattle.ados_text.specs.declared.codes.TheConstants.Result2.{TOO_MANY_LEVELS}
@@ -24,7 +24,9 @@ use Rattle.ados_machine.specs.declared.phases.Wait.TheVariants.{ForAnswer, ForLi
 use Rattle.ados_machine.specs.Sinks.{Sink, Console, Kept, sink_or, held_while}
 use Rattle.ados_machine.specs.Names.{waiting_word}
 use Rattle.ados_machine.specs.Shells.{ShellState, Seen, begun_shell, entry_while, parts_in}
+use Rattle.ados_machine.specs.Breaks.{break_text}
 use Rattle.ados_machine.specs.Course.{Course}
+use Rattle.ados_machine.specs.Items.{broken_codes}
 use Rattle.ados_machine.specs.Deeds.{Here, Deed, Passes, Answers, Jumps, Calls, Ticks, Waits, course_of}
 use Rattle.ados_machine.specs.Lines.{line_deed, parted_deed, answer_deed}
 use Rattle.ados_machine.specs.NewShells.{gathered_deed}
@@ -34,12 +36,14 @@ use Rattle.ados_machine.specs.World.{WorldState, seen_in}
 use Rattle.ados_machine.specs.Step.{behind_event}
 
 -- what lines hand through: the shells (at the shell's own number it is only looked at that there is one), what all share, what
--- the shell itself has: its parts, what its ticks put out, and what is printed; and its scripts that ended, the newest first
+-- the shell itself has: its parts, what its ticks put out, and what is printed; its scripts that ended, the newest first; and
+-- whether it is flagged
 pub record Common : Type 0 where
   pub shells : List (Option ShellState)
   pub shared : SharedState
   pub said : Said
   pub reports : List EndReport
+  pub flagged : Bool
 
 -- where lines stand. What their caller hands to them: where output goes, whether they are a script's, how many scripts run at or
 -- below them, their depth, the lines, the files kept open by them and their callers, and the shell's name in Status. And how far
@@ -58,9 +62,11 @@ pub record At : Type 0 where
   pub last : Option Record
 
 -- what lines mean: they come to their end, with so many events and these answers left, with what their last command answered,
--- and hand this on; or an event more is due; or an answer is missing
+-- and hand this on; or they end at a break, which ends the lines that called them too, up to the outermost script's; or an event
+-- more is due; or an answer is missing
 pub data Whole : Type 0 where
   Done : (left : ℕ) (answers : List Reply) (last : Option Record) (common : Common) → Whole
+  Broken : (left : ℕ) (answers : List Reply) (last : Option Record) (common : Common) → Whole
   Late : (answers : List Reply) → Whole
   Short : Whole
 
@@ -118,6 +124,8 @@ start_at k at wait common = record {
   renamed = None;
   begun = None;
   used = [];
+  breaking = None;
+  flagged = common.flagged;
 }
 
 -- a current directory goes along with what was moved, if anything was
@@ -137,6 +145,7 @@ absorbed common course =
       shells = behind.shells;
       shared = behind.shared;
       said = record { parts = carried_parts behind.moved course.parts; kept = course.kept; printed = common.said.printed ++ course.printed };
+      flagged = course.flagged;
     })
 
 -- a command answered: the shell has its codes, and that it failed is printed where its code reaches the limit
@@ -187,14 +196,44 @@ tick_at at command = record at {
 
 -- a script ended: its shell, its name, the line of its last record or 0, that one's code, and whether it reached its limit
 abbrev pub report_of : ℕ → Text → Option Record → EndReport
-report_of k name last = record { shell = k; name = name; last_line = last_line last; code = (last_codes last).code; early = is_at_limit last }
+report_of k name last = record {
+  shell = k;
+  name = name;
+  last_line = last_line last;
+  code = (last_codes last).code;
+  early = is_at_limit last;
+  broken = false;
+}
 
--- behind a script: the limit of its beginning comes back, and it is 10 where no script is left; what it came to is the answer of
--- the command that called it
+-- a script ended at a break: the line of its last record or 0, and 10
+abbrev pub report_broken : ℕ → Text → Option Record → EndReport
+report_broken k name last = record {
+  shell = k;
+  name = name;
+  last_line = last_line last;
+  code = broken_codes.code;
+  early = false;
+  broken = true;
+}
+
+abbrev pub with_report : EndReport → Common → Common
+with_report report common = record common { reports = report ∷ common.reports }
+
+-- behind a script that ended at a break, where so many scripts run at or below these lines: behind the outermost one the command
+-- that called it answers with 10 and 304, and else these lines end too, at the same break
+abbrev pub after_broken : Meaning → ℕ → List Reply → Common → At → Code → Text → ℕ → Whole
+after_broken go n answers common at limit word zero =
+    after_answer go n answers (record common { said = with_limit (limit_for at.scripts limit) common.said }) at word broken_codes false
+after_broken go n answers common at limit word (suc scripts) = Broken n answers at.last common
+
+-- behind a script: it is reported, the limit of its beginning comes back, and it is 10 where no script is left; what it came to is
+-- the answer of the command that called it
 abbrev pub after_call : Meaning → At → Code → Text → Text → Whole → Whole
 after_call go at limit name word (Done n answers last common) =
-    after_answer go n answers (record common { said = with_limit (limit_for at.scripts limit) common.said; reports = report_of at.shell name last ∷ common.reports })
+    after_answer go n answers (record (with_report (report_of at.shell name last) common) { said = with_limit (limit_for at.scripts limit) common.said })
     at word (last_codes last) false
+after_call go at limit name word (Broken n answers last common) =
+    after_broken go n answers (with_report (report_broken at.shell name last) common) at limit word at.scripts
 after_call go at limit name word (Late answers) = Late answers
 after_call go at limit name word Short = Short
 
@@ -206,8 +245,9 @@ abbrev pub ticked_out : Common → Common
 ticked_out common = record common { said = without_tick common.said }
 
 abbrev pub after_tick : Meaning → At → Text → Text → Whole → Whole
-after_tick go at before after (Done n answers answer common) =
+after_tick go at before after (Done n answers last common) =
     go n answers (ticked_out common) at (Some (record { before = before; output = newest_kept common.said.kept; after = after }))
+after_tick go at before after (Broken n answers last common) = Broken n answers at.last (ticked_out common)
 after_tick go at before after (Late answers) = Late answers
 after_tick go at before after Short = Short
 
@@ -233,16 +273,31 @@ abbrev pub reply_of : (Deed → Whole) → Option Deed → Whole
 reply_of meaning None = Short
 reply_of meaning (Some deed) = meaning deed
 
+-- a turn takes the flag away
+abbrev pub flagless : Common → Common
+flagless common = record common { flagged = false }
+
+-- a turn that finds the flag in a script
+abbrev pub breaks_at : Common → At → Bool
+breaks_at common at = common.flagged && nat_lt 0 at.scripts
+
+abbrev pub broken_in : Common → Common
+broken_in common = record common { said = record common.said { printed = common.said.printed ++ break_text }; flagged = false }
+
+-- a turn does this, but where it finds the flag in a script
+abbrev pub turn_at : ℕ → List Reply → Common → At → (Common → Whole) → Whole
+turn_at n answers common at work = if breaks_at common at then Broken n answers at.last (broken_in common) else work (flagless common)
+
 -- what it means to wait, one event each: a prompt takes the end of input (and so would a Run that asks for further lines, as none
 -- does in lines); of a program the next answer is taken
 abbrev pub waits : ℕ → Meaning → At → ℕ → List Reply → Common → Wait → Whole
 waits k go at zero answers common wait = Late answers
 waits k go at (suc n) answers common (ForAnswer asking) =
-    deed_of (waits k go at n answers) go n answers common at
-    (answer_deed [] asking (here_at at) (start_at k at (Some (ForAnswer asking)) common))
+    turn_at n answers common at
+    (λ now. deed_of (waits k go at n answers) go n answers now at (answer_deed [] asking (here_at at) (start_at k at (Some (ForAnswer asking)) now)))
 waits k go at (suc n) answers common (ForLines gathering) =
-    deed_of (waits k go at n answers) go n answers common at
-    (gathered_deed gathering at.sink (start_at k at (Some (ForLines gathering)) common))
+    turn_at n answers common at
+    (λ now. deed_of (waits k go at n answers) go n answers now at (gathered_deed gathering at.sink (start_at k at (Some (ForLines gathering)) now)))
 waits k go at (suc n) [] common wait = Short
 waits k go at (suc n) (reply ∷ answers) common wait =
     reply_of (deed_of (waits k go at n answers) go n answers common at)
@@ -257,10 +312,12 @@ abbrev pub next_of : ℕ → Meaning → ℕ → List Reply → Common → At �
 next_of k go n answers common at None None = Done n answers at.last common
 next_of k go zero answers common at parted line = Late answers
 next_of k go (suc n) answers common at (Some parted) line =
-    deed_of (waits k go at n answers) go n answers common at (parted_deed parted (here_at at) (start_at k at None common))
+    turn_at n answers common at
+    (λ now. deed_of (waits k go at n answers) go n answers now at (parted_deed parted (here_at at) (start_at k at None now)))
 next_of k go (suc n) answers common at None (Some line) =
-    deed_of (waits k go (moved_on at) n answers) go n answers common (moved_on at)
-    (line_deed line (here_at (moved_on at)) (start_at k at None common))
+    turn_at n answers common at
+    (λ now. deed_of (waits k go (moved_on at) n answers) go n answers now (moved_on at)
+    (line_deed line (here_at (moved_on at)) (start_at k at None now)))
 
 -- what lines mean in the shell of a number, by a bound on how deep the calls go, which the events left never pass
 abbrev pub lines : ℕ → ℕ → Meaning
@@ -299,6 +356,7 @@ first_common w k commands = record {
   shared = w.shared;
   said = record { parts = parts_in k [] (first_settings k); kept = []; printed = [] };
   reports = [];
+  flagged = false;
 }
 
 -- the direct meaning of lines in a shell that is opened in a world and runs alone, with so many events and these answers

@@ -16,9 +16,12 @@ ghost use Rattle.ados_machine.specs.Laws.{
   EventsKeepWorldsSane,
   ReportsAreTheEnds,
   EachFrameEndsOnce,
+  BreaksEndScripts,
+  BreaksKeepWhatComes,
   FreshWorldsHaveNoChild,
   TurnsKeepChildren,
   AnswersMoveChildren,
+  RequestsAreOfChildren,
   FittingAnswersAreAccepted,
   AcceptedAnswersFit,
   RequestsNameTheirShells,
@@ -59,6 +62,13 @@ pub fn each_frame_ends_once()
     ensures { EachFrameEndsOnce }
 {}
 
+/// Frames end at a break exactly at a turn that finds a flag, in a shell in which a script runs. The event of a break
+/// itself changes nothing of what comes next.
+pub fn breaks_end_scripts()
+    ensures ends { BreaksEndScripts }
+    ensures next { BreaksKeepWhatComes }
+{}
+
 /// An answer that a program of the host could not be started changes the codes of the shell that asked, and what these
 /// change: its limit, its phase, the last record of its newest frame, and which of its frames go on. What all shells
 /// share, the other shells and their codes, and the input stay, and the use of its resident entry is given back. In a
@@ -87,6 +97,7 @@ pub fn children_go_by_their_answers()
     ensures fresh { FreshWorldsHaveNoChild }
     ensures turns { TurnsKeepChildren }
     ensures answers { AnswersMoveChildren }
+    ensures asked { RequestsAreOfChildren }
     ensures fitting { FittingAnswersAreAccepted }
     ensures accepted { AcceptedAnswersFit }
     ensures named { RequestsNameTheirShells }

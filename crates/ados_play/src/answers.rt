@@ -124,7 +124,7 @@ fn push_report(text: &mut Vec<u8>, report: &EndReport) -> Result<(), NoMemory> {
     push_count(text, report.last_line)?;
     text.extend_from_slice(b", code ")?;
     push_number(text, report.code.0)?;
-    let early: &[u8] = if report.early { b", early\n" } else { b"\n" };
-    text.extend_from_slice(early)?;
-    Ok(())
+    let early: &[u8] = if report.early { b", early" } else { b"" };
+    let broken: &[u8] = if report.broken { b", broken" } else { b"" };
+    push_all(text, &[early, broken, b"\n"])
 }

@@ -1,25 +1,24 @@
 // A launcher for a world in which children may be open.
 ghost use Rattle.std.specs.Prelude.{◌≡◌, ◌≢◌, ◌<◌, ℕ, IfOk, OnOk};
-ghost use Rattle.std.specs.Option.{option_copied};
-ghost use Rattle.ados_machine.specs.Children.{child_asked};
 ghost use Rattle.ados_launcher.specs.Lives.{Between, InReads, BehindReads, life_in, life_of};
 ghost use Rattle.ados_launch.specs.Agreement.{Agrees};
 
 use crate::lines::answer_of;
 use ados_launcher::{Launcher, Listed};
 use ados_text::{NoMemory, Text, Texts};
-use ados_world::{Answer, Job, Request, World};
+use ados_world::{Answer, ChildState, Job, World};
 use std::alloc::Global;
 
 /// A launcher that has its answers from these texts, and whose open children are those that the world reads or waits for.
 ///
-/// Each such child has a start in the list of calls, and the end of its reads where the world waits for it.
+/// Each such child has a start in the list of calls, and the end of its reads where the world waits for it, unless a break
+/// came before that end.
 pub fn launcher_of(alloc: Global, world: &World, texts: &[&str]) -> Result<Listed, NoMemory>
     ensures { IfOk result (λ launcher. Agrees world.now launcher.calls) }
 {
     let mut launcher = Listed::new(alloc, answers(alloc, world, texts)?);
     for number in 0..21u8 {
-        reopen(alloc, &mut launcher, world.pending(number), number)?;
+        reopen(alloc, &mut launcher, world.child(number), number)?;
     }
     // By this it is known that no shell has a number past 20.
     let _running = world.shells();
@@ -30,13 +29,13 @@ pub fn launcher_of(alloc: Global, world: &World, texts: &[&str]) -> Result<Liste
 fn answers(alloc: Global, world: &World, texts: &[&str]) -> Result<Vec<Answer>, NoMemory> {
     let mut answers = Vec::new(alloc);
     for number in 0..21u8 {
-        match world.pending(number) {
-            Some(Request::Read(_)) => answers.push(Answer::Started)?,
-            Some(Request::Wait(_)) => {
+        match world.child(number) {
+            ChildState::Closed => {}
+            ChildState::Reading | ChildState::Cut => answers.push(Answer::Started)?,
+            ChildState::Waiting => {
                 answers.push(Answer::Started)?;
                 answers.push(Answer::End)?;
             }
-            _ => {}
         }
     }
     for text in texts {
@@ -47,25 +46,25 @@ fn answers(alloc: Global, world: &World, texts: &[&str]) -> Result<Vec<Answer>, 
     Ok(answers)
 }
 
-// Opens the child of a number, as far as it is by what its shell asks for.
+// Opens the child of a number, as far as it is.
 fn reopen(
     alloc: Global,
     launcher: &mut Listed,
-    request: Option<&Request>,
+    child: ChildState,
     number: u8,
 ) -> Result<(), NoMemory>
     requires number { number < 21 }
     requires none { life_of number launcher.old.calls ≡ Between }
-    ensures own { OnOk result (life_of number launcher.new.calls ≡ life_in (child_asked (option_copied request.entry))) }
+    ensures own { OnOk result (life_of number launcher.new.calls ≡ life_in child) }
     ensures others { OnOk result ((k : ℕ) → k ≢ number → life_of k launcher.new.calls ≡ life_of k launcher.old.calls) }
 {
-    match request {
-        Some(Request::Read(_)) => start(alloc, launcher, number),
-        Some(Request::Wait(_)) => {
+    match child {
+        ChildState::Closed => Ok(()),
+        ChildState::Reading | ChildState::Cut => start(alloc, launcher, number),
+        ChildState::Waiting => {
             start(alloc, launcher, number)?;
             end_reads(launcher, number)
         }
-        _ => Ok(()),
     }
 }
 

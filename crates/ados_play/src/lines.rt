@@ -1,7 +1,7 @@
 //! The lines of a list.
 
 use ados_text::{NoMemory, Octets, Text};
-use ados_world::{Answer, Event, HostEntry};
+use ados_world::{Answer, Event, HostEntry, Kind};
 use std::alloc::Global;
 
 /// What a line of a list asks for.
@@ -132,7 +132,24 @@ pub fn event_of(alloc: Global, text: &str) -> Result<Option<Event>, NoMemory> {
         "end" => Ok(Some(Event::EndOfInput)),
         "turn" => Ok(number(rest).map(Event::Turn)),
         "answer" => answer_event_of(alloc, rest),
+        "break" => Ok(break_of(rest)),
         _ => Ok(None),
+    }
+}
+
+// The event of a break: the number of a shell, and how it is broken.
+fn break_of(text: &str) -> Option<Event> {
+    let (shell, kind) = parted(text);
+    number(shell)
+        .zip(kind_of(kind))
+        .map(|(shell, kind)| Event::Break(shell, kind))
+}
+
+fn kind_of(text: &str) -> Option<Kind> {
+    match text {
+        "C" => Some(Kind::C),
+        "D" => Some(Kind::D),
+        _ => None,
     }
 }
 

@@ -8,7 +8,7 @@ use crate::systems::push_system;
 use crate::texts::push_all;
 use crate::views::push_view;
 use ados_text::{NoMemory, Text};
-use ados_world::{Event, HostEntry, Out, Refusal, World};
+use ados_world::{Event, HostEntry, Out, Refusal, Run, World};
 use std::alloc::Global;
 use std::mem::replace;
 use thiserror::Error;
@@ -20,6 +20,8 @@ pub enum Way {
     Step,
     /// All at once.
     Run,
+    /// One by one, each as a run of its own.
+    Each,
 }
 
 /// Why a list is not played.
@@ -184,6 +186,7 @@ impl<'a> Player<'a> {
         match self.way {
             Way::Step => stepped(self.alloc, &mut self.world, &self.events),
             Way::Run => ran(self.alloc, &mut self.world, &self.events),
+            Way::Each => ran_each(self.alloc, &mut self.world, &self.events),
         }
     }
 }
@@ -243,4 +246,40 @@ fn ran(
         }
         Err(_) => Err(NoMemory),
     }
+}
+
+// What the world answers to the events, each as a run of its own.
+fn ran_each(
+    alloc: Global,
+    world: &mut World,
+    events: &[Event],
+) -> Result<Vec<Result<Out, Refusal>>, NoMemory> {
+    let mut answers = Vec::with_capacity(alloc, events.len())?;
+    let mut now = replace(world, fresh(alloc)?);
+    for event in events.chunks(1) {
+        let Ok(run) = ran_again(now, event) else {
+            return Err(NoMemory);
+        };
+        now = run.world;
+        answers.append(&mut run.outs.into_vec())?;
+    }
+    *world = now;
+    Ok(answers)
+}
+
+// The run of these events; where there was no memory for its list, or for an event, it is tried once more.
+fn ran_again(world: World, events: &[Event]) -> Result<Run, World> {
+    match world.run(events) {
+        Err(world) => world.run(events),
+        Ok(run) if wanted_memory(&run) => run.world.run(events),
+        Ok(run) => Ok(run),
+    }
+}
+
+// An event was refused for want of memory.
+fn wanted_memory(run: &Run) -> bool {
+    run.outs
+        .as_slice()
+        .iter()
+        .any(|answer| matches!(answer, Err(Refusal::NoMemory)))
 }

@@ -89,13 +89,17 @@ abbrev pub IsInOrder : Option Kid → Type 0
 IsInOrder None = Unit {0}
 IsInOrder (Some k) = IsSubtree k.1
 
+pub sorted-with : (x : List ℕ) (new : Option Kid) (ks : Kids) → IsTrue (is_sorted name_cmp ks) → IsTrue (is_sorted name_cmp (kids_with x new ks))
+sorted-with x None ks h = is_true _ (subst (λ (k : Kids). T (is_sorted name_cmp k)) (sym (as_filter x ks)) (is_sorted-where_key name_cmp _ ks (holds _ h)))
+sorted-with x (Some k) ks h = is_true _ (is_sorted-put name_cmp name_cmp_total x k.1 ks (holds _ h))
+
 pub kids-are : (x : List ℕ) (new : Option Kid) (ks out : Kids) → AreKids ks → IsInOrder new → out ≡ kids_with x new ks → AreKids out
 kids-are x None ks out a h e = record {
-  sorted = subst (λ (k : Kids). IsTrue (is_sorted name_cmp k)) (sym e) (is_true _ (subst (λ (k : Kids). T (is_sorted name_cmp k)) (sym (as_filter x ks)) (is_sorted-where_key name_cmp _ ks (holds _ a.sorted))));
+  sorted = subst (λ (k : Kids). IsTrue (is_sorted name_cmp k)) (sym e) (sorted-with x None ks a.sorted);
   all = subst AllSubtrees (sym e) (all_without x ks a.all);
 }
 kids-are x (Some k) ks out a h e = record {
-  sorted = subst (λ (k : Kids). IsTrue (is_sorted name_cmp k)) (sym e) (is_true _ (is_sorted-put name_cmp name_cmp_total x k.1 ks (holds _ a.sorted)));
+  sorted = subst (λ (k : Kids). IsTrue (is_sorted name_cmp k)) (sym e) (sorted-with x (Some k) ks a.sorted);
   all = subst AllSubtrees (sym e) (all_put x k.1 ks a.all h);
 }
 

@@ -1,10 +1,10 @@
 -- What is listed of a directory: just the places that it is to have, each once, in order.
 use Rattle.std.proofs.Common.{◌≡◌, ℕ, zero, suc, ◌<◌, Bool, true, false, cond, not, ◌&&◌, T, List, [], ◌∷◌, ◌++◌, Option, Some, None, IsSome, IsTrue, refl, sym, ap, ◌∙◌, subst, ◌⊎◌, inl, inr, arith, length, slice_index_or}
 use Rattle.std.specs.Prelude.{◌↔◌}
-use Rattle.std.specs.List.{All, Contains, AllByRecursion}
+use Rattle.std.specs.List.{Contains, AllByRecursion}
 use Rattle.std.specs.List.Sorted.{IsStrictlySortedBy}
 use Rattle.std.proofs.lemmas.Bool.Decides.{nat_tests}
-use Rattle.std.proofs.lemmas.List.Elements.{All-cons, All-head, All-tail, Contains-append_right, Contains-append_cases}
+use Rattle.std.proofs.lemmas.List.Elements.{Contains-append_right, Contains-append_cases}
 use Rattle.std.specs.declared.cmp.Ordering.{Ordering}
 use Rattle.std.specs.declared.cmp.Ordering.TheVariants.{Less, Equal, Greater}
 use Rattle.std.specs.Ordering.{ordering_then, ordering_reverse, is_eq, is_lt}
@@ -19,7 +19,6 @@ use Rattle.ados_ram.specs.Place.{Key, key_of, place_cmp, place_cmp_total, is_sam
 use Rattle.ados_ram.specs.Entry.{is_directory}
 use Rattle.ados_ram.specs.Files.{Files, Rows, is_some_file}
 use Rattle.ados_ram.specs.Contents.{children, put_behind, contents, is_within, files_below, contents_cmp, ListsJust}
-use Rattle.ados_ram.specs.Rows.{IsKey, put_by_key}
 use Rattle.ados_ram.proofs.FilesLemmas.{equal, same, clash}
 
 -- the order of contents
@@ -323,26 +322,6 @@ folded-twice : (bytes : List ℕ) → folded (folded bytes) ≡ folded bytes
 folded-twice [] = refl
 folded-twice (c ∷ cs) = ap (λ d. d ∷ folded (folded cs)) (fold-twice c) ∙ ap (λ ds. fold_of c ∷ ds) (folded-twice cs)
 
-pub key-twice : (place : Key) → IsKey (key_of place)
+pub key-twice : (place : Key) → key_of (key_of place) ≡ key_of place
 key-twice [] = refl
 key-twice (n ∷ ns) = ap (λ m. m ∷ key_of (key_of ns)) (folded-twice n) ∙ ap (λ ms. folded n ∷ ms) (key-twice ns)
-
-pub put-behind-keys : (p : Key) (ps : List Key) → IsKey p → All IsKey ps → put_by_key p ps ≡ put_behind p ps
-put-behind-keys p [] k all = refl
-put-behind-keys p (q ∷ qs) k all =
-    let e : is_below (key_of p) (key_of q) ≡ is_below p q = ap (λ d. is_below d (key_of q)) k ∙ ap (is_below p) (All-head IsKey q qs all) in
-    ap (λ b. cond b (q ∷ put_by_key p qs) (p ∷ q ∷ qs)) e ∙ ap (λ rest. cond (is_below p q) (q ∷ rest) (p ∷ q ∷ qs)) (put-behind-keys p qs k (All-tail IsKey q qs all))
-
-pub put-all-keys : (p : Key) (ps : List Key) → IsKey p → All IsKey ps → All IsKey (put_by_key p ps)
-put-all-keys p [] k all = All-cons IsKey p [] k all
-put-all-keys p (q ∷ qs) k all =
-    elim (is_below (key_of p) (key_of q)) as (λ b. All IsKey (cond b (q ∷ put_by_key p qs) (p ∷ q ∷ qs))) [
-      | true ↦ All-cons IsKey q (put_by_key p qs) (All-head IsKey q qs all) (put-all-keys p qs k (All-tail IsKey q qs all))
-      | false ↦ All-cons IsKey p (q ∷ qs) k all
-    ]
-
--- the contents of rows with one more in front that is below the directory
-pub contents-step : (d p : Key) (first : Key × Entry) (rest rows : Rows) (ps out : List Key) → rows ≡ first ∷ rest → is_below d first.0 ≡ true → p ≡ first.0 → ps ≡ contents d rest → IsKey p → All IsKey ps → out ≡ put_by_key p ps → out ≡ contents d rows
-contents-step d p first rest rows ps out r t e h k all o =
-    o ∙ put-behind-keys p ps k all ∙ ap (λ q. put_behind q ps) e ∙ ap (put_behind first.0) h
-    ∙ sym (ap (contents d) r ∙ ap (λ b. cond b (put_behind first.0 (contents d rest)) (contents d rest)) t)

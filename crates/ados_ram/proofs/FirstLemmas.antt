@@ -6,8 +6,8 @@ use Rattle.ados_ram.specs.declared.entries.Entry.{Entry}
 use Rattle.ados_ram.specs.Place.{key_of, place_cmp, place_cmp_total, is_same_key}
 use Rattle.ados_ram.specs.Entry.{new_directory}
 use Rattle.ados_ram.specs.Files.{Files, Rows, AreFiles, is_some_directory, bytes_at, total_of, directory_row, first_files, file_limit, bytes_limit, objects_limit}
-use Rattle.ados_ram.specs.Rows.{AreRows, first_rows}
-use Rattle.ados_ram.specs.Tree.{IsSubtree, AreKids, rows_of, first_kids}
+use Rattle.ados_ram.specs.Rows.{first_rows}
+use Rattle.ados_ram.specs.Tree.{rows_of, first_kids}
 use Rattle.ados_ram.proofs.RowsLemmas.{sorted_of, sorted_of_rows, entries_rows}
 use Rattle.ados_ram.proofs.FilesLemmas.{put_files, clash, nothing}
 
@@ -63,15 +63,6 @@ all_files =
 
 pub first_is : map.from_sorted first_rows ≡ first_files
 first_is = (sorted_of_rows (directory_row (codes "C") ∷ directory_row (codes "S") ∷ directory_row (codes "T") ∷ directory_row (codes "Env") ∷ root_rows)).is
-
-pub first_are : AreRows first_rows 0 5
-first_are = record { sorted = refl; summed = refl; counted = refl; fits = omega arith; few = omega arith }
-
-pub first_are_kids : AreKids first_kids
-first_are_kids = record { sorted = refl; all = (top (codes "C"), (top (codes "Env"), (top (codes "S"), (top (codes "T"), tt)))) }
-  where
-    top : (name : List ℕ) → IsSubtree (rows_of (new_directory name) [])
-    top name = record { sorted = refl; top = refl }
 
 pub first_rows_of : rows_of (new_directory []) first_kids ≡ first_rows
 first_rows_of = refl

@@ -7,9 +7,9 @@ use Rattle.ados_ram.specs.declared.entries.Entry.{Entry}
 use Rattle.ados_ram.specs.Place.{Key, place_cmp_total, is_same_key, is_root, behind, has_names, is_below, is_at_or_below}
 use Rattle.ados_ram.specs.InUse.{InUse}
 use Rattle.ados_ram.specs.Files.{Files, AreFiles, is_some_directory}
-use Rattle.ados_ram.specs.FileOperations.{way_fault, write_target_fault, write_fault, is_put, free_fault, make_dir_fault, any_below, delete_target_fault, delete_fault, rename_target_fault, rename_fault}
+use Rattle.ados_ram.specs.FileOperations.{way_fault, write_target_fault, write_fault, free_fault, make_dir_fault, any_below, delete_target_fault, delete_fault, rename_target_fault, rename_fault}
 use Rattle.ados_ram.specs.Tree.{above, MayMove}
-use Rattle.ados_ram.proofs.FilesLemmas.{same, clash, or_first, or_second, way_clear, behind-append, no_directory, a_file, CanDelete, can_delete}
+use Rattle.ados_ram.proofs.FilesLemmas.{same, clash, or_first, or_second, way_clear, behind-append, no_directory, CanDelete, can_delete}
 use Rattle.ados_ram.proofs.RenameLemmas.{IsAbove, CanMove, can_move, within_from, some_of, false_of, behind-exact, no_root_behind}
 
 above_of : (key : Key) → is_root key ≡ false → IsAbove (above key) key
@@ -48,9 +48,6 @@ root_is m key files e = subst (λ (k : Key). IsTrue (is_some_directory (map.get 
 pub written-inside : (m : Files) (is_open : Bool) (key : Key) (name bytes : List ℕ) → AreFiles m → write_fault is_open m key name bytes ≡ None → is_root key ≡ false
 written-inside m is_open key name bytes files e =
     by_root key (λ t. no_directory is_open (map.get m key) (or_first (write_target_fault is_open (map.get m key)) _ (or_second (way_fault m [] key) _ e)) (root_is m key files t))
-
-pub put-inside : (m : Files) (key : Key) (bytes : List ℕ) → AreFiles m → is_put (map.get m key) bytes ≡ true → is_root key ≡ false
-put-inside m key bytes files e = by_root key (λ t. a_file (map.get m key) _ e (root_is m key files t))
 
 pub made-inside : (m : Files) (key : Key) (name : List ℕ) → AreFiles m → make_dir_fault m key name ≡ None → is_root key ≡ false
 made-inside m key name files e =

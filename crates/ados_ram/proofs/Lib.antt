@@ -6,11 +6,13 @@ pub mod RenameLemmas
 pub mod ContentsLemmas
 pub mod StayLemmas
 pub mod KidLemmas
+pub mod BlockLemmas
 pub mod TreeLemmas
 pub mod ChangeLemmas
 pub mod WayLemmas
 pub mod TableLemmas
 pub mod WalkLemmas
+pub mod BelowLemmas
 pub mod TotalLemmas
 pub mod InsideLemmas
 pub mod WrittenLemmas

@@ -92,11 +92,6 @@ is_true false h = absurd h
 pub sorted_put : (k : List (List ℕ)) (v : Entry) (es : Rows) → IsTrue (is_sorted place_cmp es) → IsTrue (is_sorted place_cmp (put place_cmp k v es))
 sorted_put k v es h = is_true _ (is_sorted-put place_cmp place_cmp_total k v es (holds _ h))
 
--- the map's entries after a put
-pub entries_put : {m : Files} (es : Rows) (k : List (List ℕ)) (v : Entry) → map.from_sorted es ≡ m → IsTrue (is_sorted place_cmp es) → map.entries (map.insert m k v) ≡ put place_cmp k v es
-entries_put es k v e sorted =
-    entries-insert place_cmp_total _ k v ∙ ap (put place_cmp k v) (ap map.entries (sym e) ∙ entries-from_sorted place_cmp es (holds _ sorted))
-
 -- a file that is written has the size of what is written
 pub size-written : (bits : Bits) (o : Option Entry) (name bytes : List ℕ) → size_of (written_as bits o name bytes) ≡ length bytes
 size-written bits None name bytes = refl

@@ -92,10 +92,7 @@ pub from-root : (es : Rows) → rows_from [] es ≡ es
 from-root [] = refl
 from-root (e ∷ es) = ap (λ (t : Rows). e ∷ t) (from-root es)
 
--- from the place itself, and from the object of the first name
-pub from_here : (names : Key) (rows : Rows) → names ≡ [] → rows_from names rows ≡ rows
-from_here names rows e = ap (λ (k : Key). rows_from k rows) e ∙ from-root rows
-
+-- from the object of the first name
 pub from_kid : (entry : Entry) (ks : Kids) (rows : Rows) (x : List ℕ) (xs key : Key) → rows_of entry ks ≡ rows → IsTrue (is_sorted name_cmp ks) → key ≡ x ∷ xs → rows_from key rows ≡ rows_from xs (rows_found (find name_cmp x ks))
 from_kid entry ks rows x xs key view sorted is = ap (λ (k : Key). rows_from k rows) is ∙ ap (rows_from (x ∷ xs)) (sym view) ∙ from-flatten x xs ks (holds _ sorted)
 
@@ -110,3 +107,18 @@ find-here key es r e = ap (find place_cmp []) e ∙ find-from key [] es ∙ ap (
     keys-nil : (k : Key) → k ++ [] ≡ k
     keys-nil [] = refl
     keys-nil (n ∷ ns) = ap (λ (t : Key). n ∷ t) (keys-nil ns)
+
+-- further down from a place
+further : (key more p : Key) (e : Entry) (rows : Rows) → rows_from more (with_way (behind key p) e rows) ≡ with_way (behind (key ++ more) p) e (rows_from more rows)
+further [] more p e rows = refl
+further (n ∷ ns) more [] e rows = refl
+further (n ∷ ns) more (x ∷ xs) e rows =
+    elim (name_cmp n x) as (λ o. rows_from more (with_way (cond (is_eq o) (behind ns xs) None) e rows) ≡ with_way (cond (is_eq o) (behind (ns ++ more) xs) None) e (rows_from more rows)) [
+      | Less ↦ refl
+      | Equal ↦ further ns more xs e rows
+      | Greater ↦ refl
+    ]
+
+pub from-further : (key more : Key) (es : Rows) → rows_from more (rows_from key es) ≡ rows_from (key ++ more) es
+from-further key more [] = refl
+from-further key more (e ∷ es) = further key more e.0 e.1 (rows_from key es) ∙ ap (with_way (behind (key ++ more) e.0) e.1) (from-further key more es)

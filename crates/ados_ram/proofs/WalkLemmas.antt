@@ -4,11 +4,11 @@ use Rattle.std.proofs.lemmas.Bool.Decides.{nat_tests}
 use Rattle.std.specs.FinMap.{is_sorted, find}
 use Rattle.std.specs.FinMap.Entries.{below_all}
 use Rattle.ados_ram.specs.declared.entries.Entry.{Entry}
-use Rattle.ados_ram.specs.Place.{Key, place_cmp, is_child, is_below, behind, is_one_name, has_names}
+use Rattle.ados_ram.specs.Place.{Key, place_cmp, is_child, behind, is_one_name, has_names}
 use Rattle.ados_ram.specs.Files.{Rows}
 use Rattle.ados_ram.specs.FileOperations.{any_below, names_in}
 use Rattle.ados_ram.specs.Entry.{is_directory}
-use Rattle.ados_ram.specs.Contents.{is_within, children, put_behind, contents, files_below}
+use Rattle.ados_ram.specs.Contents.{is_within, children, files_below}
 use Rattle.ados_ram.specs.Rows.{rows_within}
 use Rattle.ados_ram.specs.Tree.{Kid, Kids, IsSubtree, AllSubtrees, under, flatten, rows_of, rows_to, rows_from, with_way}
 use Rattle.ados_ram.proofs.RowsLemmas.{first, none_above}
@@ -54,12 +54,12 @@ any-below key (e ∷ es) =
     ]
 
 -- the own row of an object comes first
-record IsTop (e : Entry) (rows : Rows) : Type 0 where
+pub record IsTop (e : Entry) (rows : Rows) : Type 0 where
   pub rest : Rows
   pub is : rows ≡ ([], e) ∷ rest
   pub low : T (below_all place_cmp [] rest)
 
-is_top : (e : Entry) (rows : Rows) → find place_cmp [] rows ≡ Some e → T (is_sorted place_cmp rows) → IsTop e rows
+pub is_top : (e : Entry) (rows : Rows) → find place_cmp [] rows ≡ Some e → T (is_sorted place_cmp rows) → IsTop e rows
 is_top e [] f s = cc
 is_top e (([], v) ∷ es) f s = record { rest = es; is = ap (λ (o : Option Entry). elim o as (λ _. Rows) [ None ↦ ([], v) ∷ es | Some x ↦ ([], x) ∷ es ]) f; low = first _ _ s }
 is_top e ((n ∷ ns, v) ∷ es) f s = let none : find place_cmp [] es ≡ None = none_above [] (n ∷ ns) es refl (first _ _ s) in cc
@@ -147,14 +147,6 @@ children-within key (e ∷ es) =
     elim (is_child key e.0) as (λ b. is_child key e.0 ≡ b → children key (cond b (e ∷ rows_within false key es) (rows_within false key es)) ≡ cond b (e.0 ∷ children key es) (children key es)) [
       | true ↦ λ t. ap (λ b. cond b (e.0 ∷ children key (rows_within false key es)) (children key (rows_within false key es))) t ∙ ap (λ (r : List Key). e.0 ∷ r) (children-within key es)
       | false ↦ λ t. children-within key es
-    ] refl
-
-pub contents-within : (key : Key) (es : Rows) → contents key (rows_within true key es) ≡ contents key es
-contents-within key [] = refl
-contents-within key (e ∷ es) =
-    elim (is_below key e.0) as (λ b. is_below key e.0 ≡ b → contents key (cond b (e ∷ rows_within true key es) (rows_within true key es)) ≡ cond b (put_behind e.0 (contents key es)) (contents key es)) [
-      | true ↦ λ t. ap (λ b. cond b (put_behind e.0 (contents key (rows_within true key es))) (contents key (rows_within true key es))) t ∙ ap (put_behind e.0) (contents-within key es)
-      | false ↦ λ t. contents-within key es
     ] refl
 
 pub files-within : (all : Bool) (key : Key) (es : Rows) → files_below all key (rows_within all key es) ≡ files_below all key es

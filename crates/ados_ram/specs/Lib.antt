@@ -7,4 +7,5 @@ pub mod Contents
 pub mod Rows
 pub mod Written
 pub mod Tree
+pub mod Blocks
 pub mod Falls

@@ -1,7 +1,7 @@
 -- Rows in order: the entries of the files with their places.
-use Rattle.std.specs.Prelude.{◌≡◌, ◌≤◌, ℕ, Bool, cond, List, [], ◌∷◌, length, IsTrue, codes}
+use Rattle.std.specs.Prelude.{◌≡◌, ◌≤◌, ℕ, Bool, cond, [], ◌∷◌, length, IsTrue, codes}
 use Rattle.std.specs.FinMap as map
-use Rattle.ados_ram.specs.Place.{Key, Place, key_of, place_cmp, is_same_key, is_below}
+use Rattle.ados_ram.specs.Place.{Key, place_cmp, is_same_key}
 use Rattle.ados_ram.specs.Entry.{new_directory}
 use Rattle.ados_ram.specs.Files.{Rows, directory_row, total_of, bytes_limit, objects_limit}
 use Rattle.ados_ram.specs.Contents.{is_within}
@@ -27,12 +27,3 @@ rows_within all directory (e ∷ es) = cond (is_within all directory e.0) (e ∷
 -- the rows at first
 abbrev pub first_rows : Rows
 first_rows = ([], new_directory []) ∷ directory_row (codes "C") ∷ directory_row (codes "Env") ∷ directory_row (codes "S") ∷ directory_row (codes "T") ∷ []
-
--- the place is in lower case
-abbrev pub IsKey : Place → Type 0
-IsKey place = key_of place ≡ place
-
--- a place behind those below it with which a list begins, where case is ignored
-abbrev pub put_by_key : Place → List Place → List Place
-put_by_key place [] = place ∷ []
-put_by_key place (q ∷ qs) = cond (is_below (key_of place) (key_of q)) (q ∷ put_by_key place qs) (place ∷ q ∷ qs)

@@ -143,6 +143,11 @@ abbrev pub rows_to : Key → Rows → Rows
 rows_to place [] = []
 rows_to place (e ∷ es) = (place ++ e.0, e.1) ∷ rows_to place es
 
+-- ways from a place, as places
+abbrev pub ways_to : Key → List Key → List Key
+ways_to place [] = []
+ways_to place (w ∷ ws) = (place ++ w) ∷ ways_to place ws
+
 -- rows from a place, with another entry at the place itself
 pub record IsEntryAt (entry : Entry) (old new : Rows) : Type 0 where
   pub whole : IsSubtree new

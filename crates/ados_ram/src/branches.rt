@@ -4,13 +4,14 @@ ghost use Rattle.std.specs.Option.{option_copied};
 ghost use Rattle.std.specs.FinMap as map;
 ghost use Rattle.ados_text.specs.Text.{folded};
 ghost use Rattle.ados_ram.specs.Place.{key_of, place_cmp, is_root};
-ghost use Rattle.ados_ram.specs.Tree.{AreKids, IsReplaced, MayStand, rows_at, rows_from, rows_of, rows_to, rows_way, rows_written, with_flat, IsEntryAt};
+ghost use Rattle.ados_ram.specs.Tree.{AreKids, IsReplaced, MayStand, rows_at, rows_from, rows_of, rows_to, rows_way, rows_written, ways_to, with_flat, IsEntryAt};
+ghost use Rattle.ados_ram.specs.Contents.{contents};
 ghost use Rattle.ados_ram.specs.Rows.{rows_within};
 ghost use Rattle.ados_ram.specs.FileOperations.{any_below};
 
+use crate::children::Children;
 use crate::entries::Entry;
-use crate::kids::{changed, kid_at, position, shared};
-use crate::places::Place;
+use crate::places::{Place, folded};
 use crate::rows::Row;
 use ados_text::{Name, NoMemory, Result2};
 use std::alloc::Global;
@@ -27,9 +28,15 @@ pub struct Branch {
 #[cycle(tree)]
 #[derive(Drop)]
 pub struct Node {
+    head: Rc<Head>,
+    kids: Children,
+}
+
+/// An object alone.
+#[derive(Drop)]
+pub struct Head {
     name: Name,
     entry: Entry,
-    kids: Vec<Branch>,
 }
 
 impl Model for Branch {
@@ -40,13 +47,13 @@ impl Model for Branch {
 
     ghost coded = { coded_kid };
 
-    ghost view = { λ b. (folded b.node.value.name, rows_of b.node.value.entry b.node.value.kids.items) };
+    ghost view = { λ b. (folded b.node.value.head.value.name, rows_of b.node.value.head.value.entry b.node.value.kids) };
 
-    ghost invariant = { λ b. AreKids b.node.value.kids.items };
+    ghost invariant = { λ b. AreKids b.node.value.kids };
 
-    ghost use Rattle.std.specs.Prelude.{length};
+    ghost use Rattle.std.specs.Prelude.{◌*◌, length};
 
-    ghost size = { λ v. length v.1 };
+    ghost size = { λ v. 3 * length v.1 };
 
     ghost use Rattle.ados_ram.specs.Falls.{falls};
 
@@ -55,12 +62,14 @@ impl Model for Branch {
 
 impl Branch {
     /// An object with these in it.
-    pub fn new(name: Name, entry: Entry, kids: Vec<Branch>) -> Result<Branch, NoMemory>
-        requires { AreKids kids.items }
-        ensures { IfOk result (λ b. b ≡ (folded name, rows_of entry kids.items)) }
+    pub fn new(name: Name, entry: Entry, kids: Children) -> Result<Branch, NoMemory>
+        requires { AreKids kids }
+        ensures { IfOk result (λ b. b ≡ (folded name, rows_of entry kids)) }
     {
+        let alloc = kids.allocator();
+        let head = Rc::new(alloc, Head { name, entry })?;
         Ok(Branch {
-            node: Rc::new(*kids.allocator(), Node { name, entry, kids })?,
+            node: Rc::new(alloc, Node { head, kids })?,
         })
     }
 
@@ -68,7 +77,7 @@ impl Branch {
     pub fn leaf(alloc: Global, name: Name, entry: Entry) -> Result<Branch, NoMemory>
         ensures { IfOk result (λ b. b ≡ (folded name, rows_of entry [])) }
     {
-        Branch::new(name, entry, Vec::new(alloc))
+        Branch::new(name, entry, Children::none(alloc))
     }
 
     /// The same branch, shared.
@@ -84,14 +93,14 @@ impl Branch {
     pub fn name(&self) -> &Name
         ensures { folded result.now ≡ self.now.0 }
     {
-        &self.node.name
+        &self.node.head.name
     }
 
     /// What stands here.
     pub fn entry(&self) -> &Entry
         ensures { map.find place_cmp [] self.now.1 ≡ Some result.now }
     {
-        &self.node.entry
+        &self.node.head.entry
     }
 
     /// The branch at a place.
@@ -101,7 +110,7 @@ impl Branch {
         let Some((name, rest)) = names.split_first() else {
             return Some(self);
         };
-        match kid_at(&self.node.kids, name) {
+        match self.node.kids.find(name) {
             None => None,
             Some(kid) => kid.at(rest),
         }
@@ -114,7 +123,7 @@ impl Branch {
         let Some((name, rest)) = names.split_first() else {
             return Ok(written);
         };
-        match kid_at(&self.node.kids, name) {
+        match self.node.kids.find(name) {
             None => written.joined(names),
             Some(kid) => kid.written(written.with(kid.entry().name.copy()?)?, rest),
         }
@@ -127,10 +136,10 @@ impl Branch {
         let Some((name, rest)) = names.split_first() else {
             return None;
         };
-        if !self.node.entry.is_directory() {
+        if !self.entry().is_directory() {
             return Some(Result2::WRONG_TYPE);
         }
-        match kid_at(&self.node.kids, name) {
+        match self.node.kids.find(name) {
             Some(kid) => kid.way(rest),
             None if rest.is_empty() => None,
             None => Some(Result2::DIRECTORY_NOT_FOUND),
@@ -158,12 +167,25 @@ impl Branch {
     pub fn add_rows(&self, place: &Place, all: bool, rows: &mut Vec<Row>) -> Result<(), NoMemory>
         ensures { OnOk result (rows.new.items ≡ rows.old.items ++ rows_to (key_of place.now) (rows_within all [] self.now.1)) }
     {
-        for kid in &self.node.kids {
+        for kid in &self.node.kids.each()? {
             let at = place.copy()?.with(kid.name().copy()?)?;
             rows.push(Row::new(at.copy()?, kid.entry().copy()?))?;
             if all {
                 kid.add_rows(&at, all, rows)?;
             }
+        }
+        Ok(())
+    }
+
+    /// Adds the places of all that is below this directory, which is at the place, each directory behind what is in it.
+    pub fn add_contents(&self, place: &Place, places: &mut Vec<Place>) -> Result<(), NoMemory>
+        ensures { OnOk result (places.new.items ≡ places.old.items ++ ways_to place.now (contents [] self.now.1)) }
+    {
+        for kid in &self.node.kids.each()? {
+            let name = folded(self.node.kids.allocator(), kid.name())?;
+            let at = place.copy()?.with(name)?;
+            kid.add_contents(&at, places)?;
+            places.push(at)?;
         }
         Ok(())
     }
@@ -178,35 +200,24 @@ impl Branch {
         let Some((name, rest)) = names.split_first() else {
             unreachable!();
         };
-        let alloc = *self.node.kids.allocator();
-        let at = position(&self.node.kids, name);
         if rest.is_empty() {
-            let kids = changed(alloc, &self.node.kids, name, at, new)?;
-            return self.with_kids(kids);
+            return self.with_kids(self.node.kids.with(name, new)?);
         }
-        let Ok(place) = at else {
+        let Some(kid) = self.node.kids.find(name) else {
             unreachable!();
         };
-        let kid = self.node.kids[place].with(rest, new)?;
-        let kids = changed(alloc, &self.node.kids, name, at, Some(kid))?;
-        self.with_kids(kids)
+        let kid = kid.with(rest, new)?;
+        self.with_kids(self.node.kids.with(name, Some(kid))?)
     }
 
     // The same object, with these in it.
-    fn with_kids(&self, kids: Vec<Branch>) -> Result<Branch, NoMemory>
-        requires { AreKids kids.items }
-        ensures { IfOk result (λ b. b ≡ (self.now.0, with_flat self.now.1 kids.items)) }
+    fn with_kids(&self, kids: Children) -> Result<Branch, NoMemory>
+        requires { AreKids kids }
+        ensures { IfOk result (λ b. b ≡ (self.now.0, with_flat self.now.1 kids)) }
     {
-        let node = &self.node;
+        let head = self.node.head.clone()?;
         Ok(Branch {
-            node: Rc::new(
-                *kids.allocator(),
-                Node {
-                    name: node.name.copy()?,
-                    entry: node.entry.copy()?,
-                    kids,
-                },
-            )?,
+            node: Rc::new(kids.allocator(), Node { head, kids })?,
         })
     }
 
@@ -215,9 +226,6 @@ impl Branch {
         ensures name { IfOk result (λ b. b.0 ≡ folded name) }
         ensures rows { IfOk result (λ b. IsEntryAt entry self.now.1 b.1) }
     {
-        let kids = shared(&self.node.kids, *self.node.kids.allocator())?;
-        Ok(Branch {
-            node: Rc::new(*self.node.kids.allocator(), Node { name, entry, kids })?,
-        })
+        Branch::new(name, entry, self.node.kids.share()?)
     }
 }

@@ -1,12 +1,10 @@
-// What is in a directory and below it.
-ghost use Rattle.std.specs.Prelude.{◌≡◌, ◌≤◌, length, IfOk, OnOk};
-ghost use Rattle.std.specs.List.{All, insert};
+// What is listed of a directory, by the rows.
+ghost use Rattle.std.specs.Prelude.{◌≡◌, IfOk};
 ghost use Rattle.ados_ram.specs.Place.{key_of};
 ghost use Rattle.ados_ram.specs.FileOperations.{names_in};
-ghost use Rattle.ados_ram.specs.Contents.{children, contents, is_within, files_below};
-ghost use Rattle.ados_ram.specs.Rows.{IsKey, put_by_key};
+ghost use Rattle.ados_ram.specs.Contents.{children, is_within, files_below};
 
-use crate::places::{Place, is_below};
+use crate::places::Place;
 use crate::rows::Row;
 use ados_text::{Name, NoMemory};
 use std::alloc::Global;
@@ -35,44 +33,6 @@ pub fn children(alloc: Global, rows: &[Row], directory: &[Name]) -> Result<Vec<P
         }
     }
     Ok(places)
-}
-
-/// The places below a directory, in order, but each directory behind what is in it.
-pub fn contents(alloc: Global, rows: &[Row], directory: &[Name]) -> Result<Vec<Place>, NoMemory>
-    ensures places { IfOk result (λ places. places.items ≡ contents (key_of directory.now) rows.now) }
-    ensures keys { IfOk result (λ places. All IsKey places.items) }
-{
-    let Some((first, rest)) = rows.split_first() else {
-        return Ok(Vec::new(alloc));
-    };
-    if !first.is_below(directory) {
-        return contents(alloc, rest, directory);
-    }
-    let mut places = contents(alloc, rest, directory)?;
-    put_behind(&mut places, first.place().folded()?)?;
-    Ok(places)
-}
-
-// Puts a place behind those below it with which a list begins.
-fn put_behind(places: &mut Vec<Place>, place: Place) -> Result<(), NoMemory>
-    ensures { OnOk result (places.new.items ≡ put_by_key place places.old.items) }
-{
-    let own = own_places(places, &place);
-    places.insert(own, place)?;
-    Ok(())
-}
-
-// How many places below a place a list begins with.
-fn own_places(places: &[Place], place: &Place) -> usize
-    ensures within { result ≤ length places.now }
-    ensures behind { insert places.now result place.now ≡ put_by_key place.now places.now }
-{
-    for (own, other) in places.iter().enumerate() {
-        if !is_below(place.names(), other.names()) {
-            return own;
-        }
-    }
-    places.len()
 }
 
 /// The places of the files directly in a directory, or of all that are below it, in order.

@@ -8,9 +8,11 @@ ghost use Rattle.ados_ram.specs.InUse.{is_output};
 ghost use Rattle.ados_ram.specs.FileOperations.{Answers, read_fault, list_fault, names_in, write_of, write_fault, write_as_of, append_of, append_fault, put_open_of, put_open_fault};
 ghost use Rattle.ados_ram.specs.FileOperations.{make_dir_of, make_dir_fault, delete_fault, rename_of, rename_fault, protect_of, protect_fault, comment_of, comment_fault};
 ghost use Rattle.ados_ram.specs.Contents.{children, contents, files_below};
+ghost use Rattle.ados_ram.specs.Tree.{rows_from};
 ghost use Rattle.ados_ram.specs.Written.{written_place, full_path};
 
-use crate::contents::{children, contents, files_below, names_in};
+use crate::contents::{children, files_below, names_in};
+use crate::cursors::Cursor;
 use crate::entries::{Bits, Entry};
 use crate::faults::FsFault;
 use crate::file_bytes::FileBytes;
@@ -65,6 +67,13 @@ impl Ram {
         ensures files { AreFiles self.now }
     {
         self.table.find(place.names())
+    }
+
+    /// What stands at a place and below it, to go on from there without a walk from the root. Takes no memory.
+    pub fn below(&self, place: &Place) -> Cursor<'_>
+        ensures { result ≡ rows_from (key_of place.now) (map.entries self.now) }
+    {
+        self.table.below(place.names())
     }
 
     /// The bytes of a file. Takes no memory.
@@ -257,8 +266,7 @@ impl Ram {
     pub fn contents(&self, place: &Place) -> Result<Vec<Place>, NoMemory>
         ensures { IfOk result (λ places. places.items ≡ contents (key_of place.now) (map.entries self.now)) }
     {
-        let rows = self.table.rows_below(place, true)?;
-        contents(self.alloc, &rows, place.names())
+        self.table.contents(place)
     }
 
     /// The places of the files directly in a directory, or of all that are below it, in lower case and in order.
@@ -305,10 +313,11 @@ impl Ram {
         ensures ok { IfOk result (λ new. new ≡ write_as_of self.now (key_of place.now) (last_name place.now) (kept.now ++ more.now) bits) }
         ensures fault { Answers result (write_fault (is_output busy.now (key_of place.now)) self.now (key_of place.now) (last_name place.now) (kept.now ++ more.now)) }
     {
+        let old = self.table.find(place.names());
         let open = busy.is_output(place.names());
         match write_refusal(open, &self.table, place.names(), kept.len(), more.len()) {
             Some(fault) => Err(FsFault::Refused(fault)),
-            None => Ok(self.with_bytes(place, kept, more, bits)?),
+            None => Ok(self.with_bytes(place, old, kept, more, bits)?),
         }
     }
 
@@ -319,26 +328,28 @@ impl Ram {
     {
         let old = self.table.find(place.names());
         if is_put(old, bytes) {
-            self.with_bytes(place, bytes_at(old), bytes, Bits::FRESH)
+            self.with_bytes(place, old, bytes_at(old), bytes, Bits::FRESH)
         } else {
             self.copy()
         }
     }
 
-    // The files with a file written, which holds the bytes that are kept and more; a new one takes the bits.
+    // The files with a file written, which holds the bytes that are kept and more; a new one takes the bits. The old
+    // entry is that at the place.
     fn with_bytes(
         &self,
         place: &Place,
+        old: Option<&Entry>,
         kept: &[u8],
         more: &[u8],
         bits: Bits,
     ) -> Result<Ram, NoMemory>
         requires root { is_root (key_of place.now) ≡ false }
+        requires old { option_copied old ≡ map.get self.now (key_of place.now) }
         requires files { AreFiles (write_as_of self.now (key_of place.now) (last_name place.now) (kept.now ++ more.now) bits) }
         ensures { IfOk result (λ new. new ≡ write_as_of self.now (key_of place.now) (last_name place.now) (kept.now ++ more.now) bits) }
     {
         let bytes = FileBytes::joined(self.alloc, kept, more)?;
-        let old = self.table.find(place.names());
         let entry = Entry::written(self.alloc, old, place.last_name()?, bytes, bits)?;
         self.with(place, entry)
     }

@@ -1,10 +1,11 @@
-// The objects of a directory, in the order of their names.
-ghost use Rattle.std.specs.Prelude.{◌≡◌, IfOk, IfSome, IsTrue, Some};
+// Some objects of a directory, in the order of their names.
+ghost use Rattle.std.specs.Prelude.{◌≡◌, ◌++◌, IfOk, IfSome, IsTrue, OnOk};
 ghost use Rattle.std.specs.Option.{option_copied};
 ghost use Rattle.std.specs.FinMap as map;
 ghost use Rattle.ados_text.specs.Text.{folded};
 ghost use Rattle.ados_text.specs.Name.{name_cmp};
 ghost use Rattle.ados_ram.specs.Tree.{IsKidPosition, kids_with, rows_at, rows_found};
+ghost use Rattle.ados_ram.specs.Blocks.{begins_by};
 
 use crate::branches::Branch;
 use ados_text::{Name, NoMemory};
@@ -18,6 +19,16 @@ fn order(kid: &Branch, name: &Name) -> Ordering
     kid.name().cmp(name)
 }
 
+/// The first object has the name, or one before it.
+pub fn begins_by(kids: &[Branch], name: &Name) -> bool
+    ensures { result ≡ begins_by (folded name.now) kids.now }
+{
+    match kids.first() {
+        None => false,
+        Some(first) => order(first, name).is_le(),
+    }
+}
+
 /// Where the object of a name is; else where it would be.
 pub fn position(kids: &[Branch], name: &Name) -> Result<usize, usize>
     requires { IsTrue (map.is_sorted name_cmp kids.now) }
@@ -29,7 +40,8 @@ pub fn position(kids: &[Branch], name: &Name) -> Result<usize, usize>
 /// The object of a name.
 pub fn kid_at<'a>(kids: &'a [Branch], name: &Name) -> Option<&'a Branch>
     requires { IsTrue (map.is_sorted name_cmp kids.now) }
-    ensures { rows_at (option_copied result) ≡ rows_found (map.find name_cmp (folded name.now) kids.now) }
+    ensures name { IfSome result (λ kid. kid.now.0 ≡ folded name.now) }
+    ensures rows { rows_at (option_copied result) ≡ rows_found (map.find name_cmp (folded name.now) kids.now) }
 {
     match position(kids, name) {
         Ok(at) => Some(&kids[at]),
@@ -37,15 +49,14 @@ pub fn kid_at<'a>(kids: &'a [Branch], name: &Name) -> Option<&'a Branch>
     }
 }
 
-/// The same objects, shared, with room for one more.
-pub fn shared(kids: &[Branch], alloc: Global) -> Result<Vec<Branch>, NoMemory>
-    ensures { IfOk result (λ v. v.items ≡ kids.now) }
+/// Adds objects, shared.
+pub fn share_kids(out: &mut Vec<Branch>, kids: &[Branch]) -> Result<(), NoMemory>
+    ensures { OnOk result (out.new.items ≡ out.old.items ++ kids.now) }
 {
-    let mut out = Vec::with_capacity(alloc, kids.len() + 1)?;
     for kid in kids {
         out.push(kid.share()?)?;
     }
-    Ok(out)
+    Ok(())
 }
 
 /// The objects with another one of a name, or none.
@@ -53,15 +64,15 @@ pub fn changed(
     alloc: Global,
     kids: &[Branch],
     name: &Name,
-    at: Result<usize, usize>,
     new: Option<Branch>,
 ) -> Result<Vec<Branch>, NoMemory>
-    requires at { IsKidPosition (folded name.now) kids.now at }
+    requires sorted { IsTrue (map.is_sorted name_cmp kids.now) }
     requires new { IfSome new (λ k. k.0 ≡ folded name.now) }
     ensures { IfOk result (λ v. v.items ≡ kids_with (folded name.now) new kids.now) }
 {
-    let mut out = shared(kids, alloc)?;
-    match (at, new) {
+    let mut out = Vec::with_capacity(alloc, kids.len() + 1)?;
+    share_kids(&mut out, kids)?;
+    match (position(kids, name), new) {
         (Ok(at), Some(kid)) => out[at] = kid,
         (Err(at), Some(kid)) => out.insert(at, kid)?,
         (Ok(at), None) => {

@@ -2,7 +2,9 @@
 //! The files of the RAM disk: places, entries, and a filing system of which each change is a new version.
 
 mod branches;
+mod children;
 mod contents;
+mod cursors;
 mod entries;
 mod faults;
 mod file_bytes;
@@ -16,6 +18,7 @@ mod rows;
 mod table;
 mod written;
 
+pub use cursors::Cursor;
 pub use entries::{Bits, Body, Entry};
 pub use faults::FsFault;
 pub use file_bytes::FileBytes;

@@ -191,8 +191,8 @@ pub fn any_at_or_below(places: &[Place], names: &[Name]) -> bool
     false
 }
 
-// A name in lower case.
-fn folded(alloc: Global, name: &Name) -> Result<Name, NoMemory>
+/// A name in lower case.
+pub fn folded(alloc: Global, name: &Name) -> Result<Name, NoMemory>
     ensures { IfOk result (λ low. low ≡ folded name.now) }
 {
     let bytes = name.text().as_bytes();

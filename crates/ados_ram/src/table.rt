@@ -8,11 +8,14 @@ ghost use Rattle.ados_ram.specs.Place.{key_of, place_cmp, is_root, last_name};
 ghost use Rattle.ados_ram.specs.Entry.{size_of};
 ghost use Rattle.ados_ram.specs.Files.{AreFiles, bytes_at, total_of, bytes_limit, first_files};
 ghost use Rattle.ados_ram.specs.FileOperations.{any_below, rename_of, way_fault};
+ghost use Rattle.ados_ram.specs.Contents.{contents};
 ghost use Rattle.ados_ram.specs.Rows.{rows_within};
 ghost use Rattle.ados_ram.specs.Written.{written_place};
-ghost use Rattle.ados_ram.specs.Tree.{above, first_kid, first_kids, rows_from, IsEntryAt, IsRenamed, MayMove};
+ghost use Rattle.ados_ram.specs.Tree.{above, first_kid, first_kids, rows_at, rows_from, IsEntryAt, IsRenamed, MayMove};
 
 use crate::branches::Branch;
+use crate::children::Children;
+use crate::cursors::Cursor;
 use crate::entries::Entry;
 use crate::places::Place;
 use crate::rows::Row;
@@ -50,7 +53,7 @@ impl Table {
     pub fn first(alloc: Global) -> Result<Table, NoMemory>
         ensures { IfOk result (λ table. table ≡ first_files) }
     {
-        let kids = first_kids(alloc)?;
+        let kids = Children::of(first_kids(alloc)?)?;
         let root = Entry::directory(alloc, name(alloc, b"")?)?;
         Ok(Table {
             root: Branch::new(name(alloc, b"")?, root, kids)?,
@@ -65,6 +68,13 @@ impl Table {
         ensures { option_copied result ≡ map.get self.now (key_of names.now) }
     {
         self.root.find(names)
+    }
+
+    /// What stands at a place and below it.
+    pub fn below(&self, names: &[Name]) -> Cursor<'_>
+        ensures { result ≡ rows_from (key_of names.now) (map.entries self.now) }
+    {
+        Cursor::new(self.root.at(names))
     }
 
     /// The fault of the places above a place.
@@ -103,6 +113,18 @@ impl Table {
         Ok(rows)
     }
 
+    /// The places below a directory, in lower case and in order, but each directory behind what is in it.
+    pub fn contents(&self, directory: &Place) -> Result<Vec<Place>, NoMemory>
+        ensures { IfOk result (λ places. places.items ≡ contents (key_of directory.now) (map.entries self.now)) }
+    {
+        let mut places = Vec::new(self.alloc);
+        let Some(branch) = self.root.at(directory.names()) else {
+            return Ok(places);
+        };
+        branch.add_contents(&directory.folded()?, &mut places)?;
+        Ok(places)
+    }
+
     /// How many bytes all files hold but that at a place.
     pub fn bytes_beside(&self, names: &[Name]) -> usize
         ensures total { (new : Entry) → total_of (map.entries (map.insert self.now (key_of names.now) new)) ≡ size_of new + result }
@@ -127,9 +149,10 @@ impl Table {
         requires files { AreFiles (map.insert self.now (key_of place.now) entry) }
         ensures { IfOk result (λ new. new ≡ map.insert self.now (key_of place.now) entry) }
     {
+        let there = self.root.at(place.names());
         let total = self.bytes_beside(place.names()) + entry.bytes().len();
         let count = self.objects_with(place.names());
-        let new = with_entry(self.alloc, &self.root, place, entry)?;
+        let new = with_entry(self.alloc, there, place, entry)?;
         Ok(Table {
             root: self.root.with(place.names(), Some(new))?,
             total,
@@ -195,12 +218,17 @@ pub fn bytes_at(entry: Option<&Entry>) -> &[u8]
 }
 
 // What stands at a place with another entry, or a new object there.
-fn with_entry(alloc: Global, root: &Branch, place: &Place, entry: Entry) -> Result<Branch, NoMemory>
+fn with_entry(
+    alloc: Global,
+    there: Option<&Branch>,
+    place: &Place,
+    entry: Entry,
+) -> Result<Branch, NoMemory>
     ensures name { IfOk result (λ b. b.0 ≡ last_name (key_of place.now)) }
-    ensures rows { IfOk result (λ b. IsEntryAt entry (rows_from (key_of place.now) root.now.1) b.1) }
+    ensures rows { IfOk result (λ b. IsEntryAt entry (rows_at (option_copied there.entry)) b.1) }
 {
     let name = place.last_name()?;
-    match root.at(place.names()) {
+    match there {
         None => Branch::leaf(alloc, name, entry),
         Some(there) => there.with_entry(name, entry),
     }

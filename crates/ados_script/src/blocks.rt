@@ -1,6 +1,7 @@
 // Where blocks end: a table of one row for each line, made from the last line up.
-ghost use Rattle.std.specs.Prelude.{◌≡◌, ◌≤◌, IfSome, OnOk};
-ghost use Rattle.ados_script.specs.Tables.{ends_above, is_nowhere, row_at, with_row};
+ghost use Rattle.std.specs.Prelude.{◌≡◌, ◌≤◌, true, IfSome, OnOk};
+ghost use Rattle.ados_script.specs.Blocks.{ends};
+ghost use Rattle.ados_script.specs.Tables.{ends_above, row_at, with_row};
 
 use crate::heads::Head;
 use ados_text::NoMemory;
@@ -20,12 +21,6 @@ impl Ends {
         end_if: None,
         branch: None,
     };
-
-    fn is_nowhere(&self) -> bool
-        ensures { result ≡ is_nowhere self.now }
-    {
-        self.end_if.is_none() && self.branch.is_none()
-    }
 }
 
 /// The row of the line that stands so many below the topmost that was read. Rows that are missing at the end say
@@ -44,12 +39,19 @@ pub fn push_row(rows: &mut Vec<Ends>, line: usize, head: Head) -> Result<(), NoM
     requires { IfSome (row_at rows.old.items 0).end_if (λ end. line ≤ end) }
     ensures { OnOk result (rows.new.items ≡ with_row rows.old.items (ends_above rows.old.items line head)) }
 {
-    let row = ends_above(rows, line, head);
-    if rows.is_empty() && row.is_nowhere() {
+    // Below the last end of a block no line has one, and none is looked for.
+    if rows.is_empty() && !is_end(head) {
         return Ok(());
     }
-    rows.push(row)?;
+    rows.push(ends_above(rows, line, head))?;
     Ok(())
+}
+
+// The line ends a block, or the first part of one.
+fn is_end(head: Head) -> bool
+    ensures { result ≡ ends true head }
+{
+    matches!(head, Head::EndIf | Head::Else)
 }
 
 // Where the block of a line ends that stands above this one. Behind an If it ends where that of the If's own end does.

@@ -1,5 +1,5 @@
 -- one line more
-use Rattle.std.proofs.Common.{◌≡◌, ℕ, ◌+◌, ◌<◌, Bool, true, false, ◌&&◌, List, [], ◌∷◌, ◌++◌, take, length, get_or, refl, sym, ◌∙◌, ap}
+use Rattle.std.proofs.Common.{◌≡◌, ℕ, suc, ◌+◌, ◌-◌, ◌<◌, arith, nat_le, Bool, true, false, ◌&&◌, List, [], ◌∷◌, ◌++◌, take, length, get_or, refl, sym, ◌∙◌, ap}
 use Rattle.std.specs.List.{list_all}
 use Rattle.std.proofs.lemmas.List.{take_more}
 use Rattle.std.proofs.lemmas.List.Elements.{filter_map-append}
@@ -8,7 +8,10 @@ use Rattle.std.proofs.lemmas.List.Folds.{list_all-append}
 use Rattle.ados_text.specs.Text.{Text}
 use Rattle.ados_resident.specs.declared.hosts.HostEntry.{HostEntry}
 use Rattle.ados_session.specs.Hosts.{are_free, are_hosts, host_in, host_line, hosts_in, is_host_line}
-use Rattle.ados_session.specs.Recordings.{Recorded, are_records, answer_in, is_record, joined, record_line, recorded, typed_in}
+use Rattle.ados_session.specs.declared.recordings.Form.{Form}
+use Rattle.ados_machine.specs.declared.events.BreakAt.{BreakAt}
+use Rattle.ados_session.specs.Breaks.{are_rising, last_event, rise_from}
+use Rattle.ados_session.specs.Recordings.{Recorded, are_records, answer_in, break_in, is_record, is_session, joined, record_line, recorded, typed_in}
 use Rattle.ados_session.specs.Recordings.{host_in as recorded_host}
 
 and_left : (a b : Bool) → (a && b) ≡ true → a ≡ true
@@ -30,11 +33,12 @@ all_more p done line free h = rw (list_all-append p done (line ∷ []), h) (and_
 hosts_more : (done : List Text) (line : Text) → hosts_in (done ++ line ∷ []) ≡ hosts_in done ++ hosts_in (line ∷ [])
 hosts_more done line = filter_map-append (λ line. host_in (host_line line)) done (line ∷ [])
 
-records_more : (done : List Text) (line : Text) → recorded (done ++ line ∷ []) ≡ joined (recorded done) (recorded (line ∷ []))
-records_more done line = rw (
-  filter_map-append (λ line. recorded_host (record_line line)) done (line ∷ []),
-  flat_map-append (λ line. typed_in (record_line line)) done (line ∷ []),
-  filter_map-append (λ line. answer_in (record_line line)) done (line ∷ []),
+records_more : (form : Form) (done : List Text) (line : Text) → recorded form (done ++ line ∷ []) ≡ joined (recorded form done) (recorded form (line ∷ []))
+records_more form done line = rw (
+  filter_map-append (λ line. recorded_host (record_line form line)) done (line ∷ []),
+  flat_map-append (λ line. typed_in (record_line form line)) done (line ∷ []),
+  filter_map-append (λ line. answer_in (record_line form line)) done (line ∷ []),
+  filter_map-append (λ line. break_in (record_line form line)) done (line ∷ []),
 ) refl
 
 -- a line of a file of hosts is taken
@@ -52,22 +56,50 @@ host_taken lines place line old new good within is_line before is_old is_new is_
     rw (take_more lines place line within, ← is_line) (checked, all)
 
 -- a line of a recording is taken
-pub record_taken : (lines : List Text) (place : ℕ) (line : Text) (old new : Recorded) (good : Bool) → place < length lines → line ≡ get_or lines place line
-    → are_records (take place lines) ≡ true → old ≡ recorded (take place lines)
-    → new ≡ joined old (recorded (line ∷ []))
-    → good ≡ (is_record (record_line line) && are_free new.hosts)
-    → (are_records (take (place + 1) lines) ≡ good) × (new ≡ recorded (take (place + 1) lines))
-record_taken lines place line old new good within is_line before is_old is_new is_good =
+pub record_taken : (form : Form) (lines : List Text) (place : ℕ) (line : Text) (old new : Recorded) (good : Bool) → place < length lines → line ≡ get_or lines place line
+    → are_records form (take place lines) ≡ true → old ≡ recorded form (take place lines)
+    → new ≡ joined old (recorded form (line ∷ []))
+    → good ≡ (is_record (record_line form line) && is_session new)
+    → (are_records form (take (place + 1) lines) ≡ good) × (new ≡ recorded form (take (place + 1) lines))
+record_taken form lines place line old new good within is_line before is_old is_new is_good =
     let done = take place lines in
-    let all : new ≡ recorded (done ++ line ∷ []) = is_new ∙ ap (λ session. joined session (recorded (line ∷ []))) is_old ∙ sym (records_more done line) in
-    let checked : are_records (done ++ line ∷ []) ≡ good =
-    all_more (λ line. is_record (record_line line)) done line (are_free (recorded (done ++ line ∷ [])).hosts) (and_left _ _ before)
-    ∙ ap (λ (session : Recorded). is_record (record_line line) && are_free session.hosts) (sym all) ∙ sym is_good in
+    let all : new ≡ recorded form (done ++ line ∷ []) = is_new ∙ ap (λ session. joined session (recorded form (line ∷ []))) is_old ∙ sym (records_more form done line) in
+    let checked : are_records form (done ++ line ∷ []) ≡ good =
+    all_more (λ line. is_record (record_line form line)) done line (is_session (recorded form (done ++ line ∷ []))) (and_left _ _ before)
+    ∙ ap (λ (session : Recorded). is_record (record_line form line) && is_session session) (sym all) ∙ sym is_good in
     rw (take_more lines place line within, ← is_line) (checked, all)
 
 -- with the commands of lines that are good a world can be made
 pub hosts_free : (lines : List Text) (hosts : List HostEntry) → are_hosts lines ≡ true → hosts ≡ hosts_in lines → are_free hosts ≡ true
 hosts_free lines hosts good is = rw is (and_right _ _ good)
 
-pub records_free : (lines : List Text) (session : Recorded) → are_records lines ≡ true → session ≡ recorded lines → are_free session.hosts ≡ true
-records_free lines session good is = rw is (and_right _ _ good)
+pub records_free : (form : Form) (lines : List Text) (session : Recorded) → are_records form lines ≡ true → session ≡ recorded form lines → are_free session.hosts ≡ true
+records_free form lines session good is = rw is (and_left _ _ (and_right _ _ good))
+
+-- and their breaks do not fall
+pub records_rise : (form : Form) (lines : List Text) (session : Recorded) → are_records form lines ≡ true → session ≡ recorded form lines → are_rising session.breaks ≡ true
+records_rise form lines session good is = rw is (and_right (are_free (recorded form lines).hosts) _ (and_right _ _ good))
+
+and_assoc : (a b c : Bool) → (a && (b && c)) ≡ ((a && b) && c)
+and_assoc true b c = refl
+and_assoc false b c = refl
+
+-- one break more
+pub rise_more : (least : ℕ) (breaks : List BreakAt) (at : BreakAt) → rise_from least (breaks ++ at ∷ []) ≡ (rise_from least breaks && nat_le (last_event least breaks) at.event)
+rise_more least [] at = and_last (nat_le least at.event)
+  where
+    and_last : (b : Bool) → (b && true) ≡ b
+    and_last true = refl
+    and_last false = refl
+rise_more least (first ∷ breaks) at = ap (λ b. nat_le least first.event && b) (rise_more first.event breaks at) ∙ and_assoc (nat_le least first.event) (rise_from first.event breaks) (nat_le (last_event first.event breaks) at.event)
+
+-- the last event of a list that is not empty
+pub last_at : (least : ℕ) (breaks : List BreakAt) (other : BreakAt) → 0 < length breaks → last_event least breaks ≡ (get_or breaks (length breaks - 1) other).event
+last_at least [] other some = absurd (omega (arith, some))
+last_at least (first ∷ []) other some = refl
+last_at least (first ∷ second ∷ breaks) other some =
+    let one : suc (length (second ∷ breaks) - 1) ≡ length (first ∷ second ∷ breaks) - 1 = omega arith in
+    last_at first.event (second ∷ breaks) other (omega arith) ∙ ap (λ m. (get_or (first ∷ second ∷ breaks) m other).event) one
+
+pub rising_more : (breaks : List BreakAt) (at : BreakAt) (is_rising : Bool) → are_rising breaks ≡ true → is_rising ≡ nat_le (last_event 0 breaks) at.event → is_rising ≡ are_rising (breaks ++ at ∷ [])
+rising_more breaks at is_rising rising is = is ∙ (ap (λ b. b && nat_le (last_event 0 breaks) at.event) (sym rising) ∙ sym (rise_more 0 breaks at))

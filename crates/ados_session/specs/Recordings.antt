@@ -1,41 +1,56 @@
 -- Recordings of sessions.
-use Rattle.std.specs.Prelude.{◌≡◌, Bool, true, false, ◌&&◌, ◌++◌, List, [], ◌∷◌, Option, Some, None, codes, MatchBool, if◌then◌else◌}
+use Rattle.std.specs.Prelude.{◌≡◌, Bool, true, false, ◌&&◌, ◌++◌, List, [], ◌∷◌, Option, Some, None, option_map, codes, if◌then◌else◌}
 use Rattle.std.specs.List.{filter_map, flat_map, list_all}
 use Rattle.std.specs.Option.{option_map_or}
 use Rattle.std.specs.Str.{bytes_eq}
 use Rattle.ados_text.specs.Text.{Bytes, Text}
 use Rattle.ados_resident.specs.declared.hosts.HostEntry.{HostEntry}
 use Rattle.ados_machine.specs.declared.answers.Answer.{Answer}
+use Rattle.ados_machine.specs.declared.events.BreakAt.{BreakAt}
 use Rattle.ados_session.specs.Parts.{parted}
 use Rattle.ados_session.specs.Faults.{IsFault}
 use Rattle.ados_session.specs.Hosts.{are_free}
 use Rattle.ados_session.specs.Answers.{answer_of}
+use Rattle.ados_session.specs.Breaks.{are_rising, break_of}
 use Rattle.ados_session.specs.declared.faults.FileFault.{FileFault}
 use Rattle.ados_session.specs.declared.faults.FileFault.TheVariants.{BadLine, NoMemory}
 use Rattle.ados_session.specs.declared.recordings.RecordLine.{RecordLine}
-use Rattle.ados_session.specs.declared.recordings.RecordLine.TheVariants.{Host, Typed, Answered, Bad}
+use Rattle.ados_session.specs.declared.recordings.RecordLine.TheVariants.{Host, Typed, Answered, Broken, Bad}
+use Rattle.ados_session.specs.declared.recordings.Form.{Form}
+use Rattle.ados_session.specs.declared.recordings.Form.TheVariants.{First, Second}
 
 -- what a line says that gives this answer
 abbrev pub answered : Option Answer → RecordLine
 answered (Some answer) = Answered answer
 answered None = Bad
 
--- what the text behind a word says: a command whose program has its name, a typed line, or an answer
-abbrev pub record_of : Text → Text → RecordLine
-record_of word text =
+-- what a line says that writes this break
+abbrev pub broken : Option BreakAt → RecordLine
+broken (Some at) = Broken at
+broken None = Bad
+
+-- in a recording of the first form there are no breaks
+abbrev pub broken_in : Form → Text → RecordLine
+broken_in First text = Bad
+broken_in Second text = broken (break_of text)
+
+-- what the text behind a word says: a command whose program has its name, a typed line, an answer, or a break
+abbrev pub record_of : Form → Text → Text → RecordLine
+record_of form word text =
     if bytes_eq word (codes "host") then Host (record { name = text; program = text }) else
     (if bytes_eq word (codes "line") then Typed text else
-    (if bytes_eq word (codes "answer") then answered (answer_of text) else Bad))
+    (if bytes_eq word (codes "answer") then answered (answer_of text) else
+    (if bytes_eq word (codes "break") then broken_in form text else Bad)))
 
 -- what a line behind the first says
-abbrev pub record_line : Text → RecordLine
-record_line line = option_map_or (λ p. record_of p.0 p.1) (parted line) Bad
+abbrev pub record_line : Form → Text → RecordLine
+record_line form line = option_map_or (λ p. record_of form p.0 p.1) (parted line) Bad
 
 abbrev pub is_record : RecordLine → Bool
 is_record Bad = false
 is_record _ = true
 
--- the command that a line says, what it types, and the answer that it gives
+-- the command that a line says, what it types, the answer that it gives, and the break
 abbrev pub host_in : RecordLine → Option HostEntry
 host_in (Host host) = Some host
 host_in _ = None
@@ -48,11 +63,16 @@ abbrev pub answer_in : RecordLine → Option Answer
 answer_in (Answered answer) = Some answer
 answer_in _ = None
 
--- a recorded session: its commands, its typed lines, and a launcher's answers
+abbrev pub break_in : RecordLine → Option BreakAt
+break_in (Broken at) = Some at
+break_in _ = None
+
+-- a recorded session: its commands, its typed lines, a launcher's answers, and the breaks
 pub record Recorded : Type 0 where
   pub hosts : List HostEntry
   pub typed : Bytes
   pub answers : List Answer
+  pub breaks : List BreakAt
 
 -- the one session, and the other behind it
 abbrev pub joined : Recorded → Recorded → Recorded
@@ -60,32 +80,50 @@ joined one other = record {
   hosts = one.hosts ++ other.hosts;
   typed = one.typed ++ other.typed;
   answers = one.answers ++ other.answers;
+  breaks = one.breaks ++ other.breaks;
 }
 
 -- the session of the lines behind the first
-abbrev pub recorded : List Text → Recorded
-recorded lines = record {
-  hosts = filter_map (λ line. host_in (record_line line)) lines;
-  typed = flat_map (λ line. typed_in (record_line line)) lines;
-  answers = filter_map (λ line. answer_in (record_line line)) lines;
+abbrev pub recorded : Form → List Text → Recorded
+recorded form lines = record {
+  hosts = filter_map (λ line. host_in (record_line form line)) lines;
+  typed = flat_map (λ line. typed_in (record_line form line)) lines;
+  answers = filter_map (λ line. answer_in (record_line form line)) lines;
+  breaks = filter_map (λ line. break_in (record_line form line)) lines;
 }
 
--- each line says one of these, and a world can be made with the commands of all
-abbrev pub are_records : List Text → Bool
-are_records lines = list_all (λ line. is_record (record_line line)) lines && are_free (recorded lines).hosts
+-- a world can be made with its commands, and its breaks name no earlier event than those before them
+abbrev pub is_session : Recorded → Bool
+is_session session = are_free session.hosts && are_rising session.breaks
 
--- the first line of a recording
-abbrev pub heading : Text
-heading = codes "amishell 1"
+-- each line says one of these, and together they are a session
+abbrev pub are_records : Form → List Text → Bool
+are_records form lines = list_all (λ line. is_record (record_line form line)) lines && is_session (recorded form lines)
+
+-- the form that the first line of a recording names
+abbrev pub form_of : Text → Option Form
+form_of line = if bytes_eq line (codes "amishell 1") then Some First else (if bytes_eq line (codes "amishell 2") then Some Second else None)
 
 -- the lines of a recording
 abbrev pub is_recording : List Text → Bool
 is_recording [] = false
-is_recording (first ∷ lines) = bytes_eq first heading && are_records lines
+is_recording (first ∷ lines) = option_map_or (λ form. are_records form lines) (form_of first) false
 
--- a fault names the first line at fault: the first, which is another or missing, or one behind it
+-- the session that its lines record
+abbrev pub session_of : Option Form → List Text → Option Recorded
+session_of form lines = option_map (λ found. recorded found lines) form
+
+abbrev pub session_in : List Text → Option Recorded
+session_in [] = None
+session_in (first ∷ lines) = session_of (form_of first) lines
+
+-- a fault names the first line at fault: the first, which names no form or is missing, or one behind it
+abbrev pub IsFaultBehind : Option Form → List Text → FileFault → Type 0
+IsFaultBehind (Some form) lines fault = IsFault (are_records form) 1 lines fault
+IsFaultBehind None lines (BadLine number) = number ≡ 1
+IsFaultBehind None lines NoMemory = Unit {0}
+
 abbrev pub IsRecordingFault : List Text → FileFault → Type 0
 IsRecordingFault [] (BadLine number) = number ≡ 1
-IsRecordingFault (first ∷ lines) (BadLine number) =
-    MatchBool (bytes_eq first heading) (IsFault are_records 1 lines (BadLine number)) (number ≡ 1)
-IsRecordingFault lines NoMemory = Unit {0}
+IsRecordingFault [] NoMemory = Unit {0}
+IsRecordingFault (first ∷ lines) fault = IsFaultBehind (form_of first) lines fault

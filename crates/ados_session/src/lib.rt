@@ -1,8 +1,9 @@
 #![tactic(auto)]
 //! What a session is made from: the programs of the host that are commands, named in a file, and recordings, whose typed
-//! lines and answers are run in the place of a terminal and of programs.
+//! lines, answers and breaks are run in the place of a terminal, of programs and of one who breaks.
 
 mod answers;
+mod breaks;
 mod faults;
 mod hosts;
 mod parts;

@@ -1,20 +1,31 @@
 //! Recordings of sessions.
-ghost use Rattle.std.specs.Prelude.{◌≡◌, ◌&&◌, [], ◌∷◌, true, drop, IfOk, IfErr};
-ghost use Rattle.std.specs.Str.{bytes_eq};
+ghost use Rattle.std.specs.Prelude.{◌≡◌, ◌&&◌, [], ◌∷◌, Some, true, IfOk, IfErr};
 ghost use Rattle.ados_text.specs.Lines.{lines_of};
 ghost use Rattle.ados_text.specs.Text.{IsText};
+ghost use Rattle.ados_session.specs.Breaks.{are_rising};
 ghost use Rattle.ados_session.specs.Faults.{IsFault};
 ghost use Rattle.ados_session.specs.Hosts.{are_free};
-ghost use Rattle.ados_session.specs.Recordings.{IsRecordingFault, answered, are_records, heading, is_record, is_recording, joined, record_line, record_of, recorded};
+ghost use Rattle.ados_session.specs.Recordings.{IsRecordingFault, answered, are_records, broken, broken_in, form_of, is_record, is_recording, is_session, joined, record_line, record_of, recorded, session_in};
 
 use crate::answers::answer_of;
+use crate::breaks::{add_break, break_of};
 use crate::faults::FileFault;
 use crate::hosts::add_host;
 use crate::parts::{parted, text_of};
+use ados_machine::BreakAt;
 use ados_text::{NoMemory, Text, lines_of};
 use ados_world::{Answer, HostEntry};
 use std::alloc::Global;
 use std::marker::Model;
+
+/// The form of a recording, by its first line.
+#[derive(Clone, Copy)]
+pub enum Form {
+    /// `amishell 1`: there are no breaks.
+    First,
+    /// `amishell 2`: there may be breaks.
+    Second,
+}
 
 /// What a line of a recording says, behind the first.
 #[derive(Drop)]
@@ -25,6 +36,8 @@ pub enum RecordLine {
     Typed(Text),
     /// A launcher gives an answer.
     Answered(Answer),
+    /// A shell is broken before an event.
+    Broken(BreakAt),
     /// None of these.
     Bad,
 }
@@ -38,6 +51,8 @@ pub struct Recording {
     pub typed: Vec<u8>,
     /// The answers of a launcher.
     pub answers: Vec<Answer>,
+    /// The breaks, each before the event of its number.
+    pub breaks: Vec<BreakAt>,
 }
 
 impl Model for Recording {
@@ -45,48 +60,60 @@ impl Model for Recording {
 
     ghost Value = { Recorded };
 
-    ghost view = { λ r. record { hosts = r.hosts.items; typed = r.typed.items; answers = r.answers.items } };
+    ghost view = { λ r. record { hosts = r.hosts.items; typed = r.typed.items; answers = r.answers.items; breaks = r.breaks.items } };
 }
 
 /// The session that a file records. A world can be made with its hosts.
 ///
-/// Its first line is `amishell 1`. Each other one is `host NAME`, a command whose program is NAME; `line TEXT`, a typed
-/// line; or `answer ANSWER`, the next answer of a launcher: `started`, `notfound`, `denied`, `memory`, `other`, `bytes HEX`
-/// of 1 to 4,096 bytes, `end`, `pipefault`, `exit N` with N from 0 to 255, `signal` or `waitfault`. A byte past ASCII is
-/// read as `?`.
+/// Its first line is `amishell 1` or `amishell 2`. Each other one is `host NAME`, a command whose program is NAME; `line TEXT`, a
+/// typed line; or `answer ANSWER`, the next answer of a launcher: `started`, `notfound`, `denied`, `memory`, `other`, `bytes HEX`
+/// of 1 to 4,096 bytes, `end`, `pipefault`, `exit N` with N from 0 to 255, `signal` or `waitfault`. Behind `amishell 2` a line may
+/// also be `break N K C` or `break N K D`: shell K, from 1 to 20, is broken before event N, from 1 to 1,000,000,000. A byte past
+/// ASCII is read as `?`.
 ///
 /// `BadLine` names the first line that is none of these, or whose NAME is no name, that of a command, or that of an earlier
-/// host, or that is a 65th host. It names line 1 of an empty file.
+/// host, or that is a 65th host, or whose N is less than that of the break before it. It names line 1 of an empty file.
 pub fn read_recording(alloc: Global, bytes: &[u8]) -> Result<Recording, FileFault>
     ensures good { IfOk result (λ recording. is_recording (lines_of bytes.now) ≡ true) }
-    ensures recording { IfOk result (λ recording. recording ≡ recorded (drop 1 (lines_of bytes.now))) }
+    ensures recording { IfOk result (λ recording. session_in (lines_of bytes.now) ≡ Some recording) }
     ensures free { IfOk result (λ recording. are_free recording.hosts ≡ true) }
+    ensures rising { IfOk result (λ recording. are_rising recording.breaks ≡ true) }
     ensures fault { IfErr result (IsRecordingFault (lines_of bytes.now)) }
 {
     let lines = lines_of(alloc, bytes)?;
-    match lines.as_slice() {
-        [first, records @ ..] if is_heading(first) => read_records(alloc, records),
-        _ => Err(FileFault::BadLine(1)),
+    let [first, records @ ..] = lines.as_slice() else {
+        return Err(FileFault::BadLine(1));
+    };
+    match form_of(first) {
+        Some(form) => read_records(alloc, form, records),
+        None => Err(FileFault::BadLine(1)),
     }
 }
 
-// It is the first line of a recording.
-fn is_heading(line: &Text) -> bool
-    ensures { result ≡ bytes_eq line.now heading }
+// The form that a first line names.
+fn form_of(line: &Text) -> Option<Form>
+    ensures { result ≡ form_of line.now }
 {
-    line.as_bytes() == b"amishell 1".as_slice()
+    if line.as_bytes() == b"amishell 1".as_slice() {
+        Some(Form::First)
+    } else if line.as_bytes() == b"amishell 2".as_slice() {
+        Some(Form::Second)
+    } else {
+        None
+    }
 }
 
 // The session of the lines behind the first.
-fn read_records(alloc: Global, lines: &[Text]) -> Result<Recording, FileFault>
-    ensures good { IfOk result (λ recording. are_records lines.now ≡ true) }
-    ensures recording { IfOk result (λ recording. recording ≡ recorded lines.now) }
+fn read_records(alloc: Global, form: Form, lines: &[Text]) -> Result<Recording, FileFault>
+    ensures good { IfOk result (λ recording. are_records form lines.now ≡ true) }
+    ensures recording { IfOk result (λ recording. recording ≡ recorded form lines.now) }
     ensures free { IfOk result (λ recording. are_free recording.hosts ≡ true) }
-    ensures fault { IfErr result (IsFault are_records 1 lines.now) }
+    ensures rising { IfOk result (λ recording. are_rising recording.breaks ≡ true) }
+    ensures fault { IfErr result (IsFault (are_records form) 1 lines.now) }
 {
     let mut recording = Recording::new(alloc);
     for (place, line) in lines.iter().enumerate() {
-        if !recording.take(alloc, line)? {
+        if !recording.take(alloc, form, line)? {
             return Err(FileFault::BadLine(place + 2));
         }
     }
@@ -96,22 +123,24 @@ fn read_records(alloc: Global, lines: &[Text]) -> Result<Recording, FileFault>
 impl Recording {
     // A session in which nothing happens.
     fn new(alloc: Global) -> Recording
-        ensures { result ≡ record { hosts = []; typed = []; answers = [] } }
+        ensures { result ≡ record { hosts = []; typed = []; answers = []; breaks = [] } }
     {
         Recording {
             hosts: Vec::new(alloc),
             typed: Vec::new(alloc),
             answers: Vec::new(alloc),
+            breaks: Vec::new(alloc),
         }
     }
 
     // Adds what a line says; `false` where the line is at fault.
-    fn take(&mut self, alloc: Global, line: &Text) -> Result<bool, NoMemory>
-        requires { are_free self.old.hosts ≡ true }
-        ensures good { IfOk result (λ is_good. is_good ≡ (is_record (record_line line.now) && are_free self.new.hosts)) }
-        ensures recording { IfOk result (λ _. self.new ≡ joined self.old (recorded (line.now ∷ []))) }
+    fn take(&mut self, alloc: Global, form: Form, line: &Text) -> Result<bool, NoMemory>
+        requires free { are_free self.old.hosts ≡ true }
+        requires rising { are_rising self.old.breaks ≡ true }
+        ensures good { IfOk result (λ is_good. is_good ≡ (is_record (record_line form line.now) && is_session self.new)) }
+        ensures recording { IfOk result (λ _. self.new ≡ joined self.old (recorded form (line.now ∷ []))) }
     {
-        match record_line(alloc, line)? {
+        match record_line(alloc, form, line)? {
             RecordLine::Host(host) => add_host(&mut self.hosts, host),
             RecordLine::Typed(text) => {
                 self.typed.extend_from_slice(text.as_bytes())?;
@@ -122,25 +151,26 @@ impl Recording {
                 self.answers.push(answer)?;
                 Ok(true)
             }
+            RecordLine::Broken(at) => add_break(&mut self.breaks, at),
             RecordLine::Bad => Ok(false),
         }
     }
 }
 
 // What a line says.
-fn record_line(alloc: Global, line: &Text) -> Result<RecordLine, NoMemory>
-    ensures { IfOk result (λ read. read ≡ record_line line.now) }
+fn record_line(alloc: Global, form: Form, line: &Text) -> Result<RecordLine, NoMemory>
+    ensures { IfOk result (λ read. read ≡ record_line form line.now) }
 {
     match parted(line.as_bytes()) {
-        Some((word, text)) => record_of(alloc, word, text),
+        Some((word, text)) => record_of(alloc, form, word, text),
         None => Ok(RecordLine::Bad),
     }
 }
 
 // What the text behind a word says.
-fn record_of(alloc: Global, word: &[u8], text: &[u8]) -> Result<RecordLine, NoMemory>
+fn record_of(alloc: Global, form: Form, word: &[u8], text: &[u8]) -> Result<RecordLine, NoMemory>
     requires { IsText text.now }
-    ensures { IfOk result (λ read. read ≡ record_of word.now text.now) }
+    ensures { IfOk result (λ read. read ≡ record_of form word.now text.now) }
 {
     if word == b"host".as_slice() {
         Ok(RecordLine::Host(HostEntry {
@@ -151,6 +181,8 @@ fn record_of(alloc: Global, word: &[u8], text: &[u8]) -> Result<RecordLine, NoMe
         Ok(RecordLine::Typed(text_of(alloc, text)?))
     } else if word == b"answer".as_slice() {
         Ok(answered(answer_of(alloc, text)?))
+    } else if word == b"break".as_slice() {
+        Ok(broken_in(form, text))
     } else {
         Ok(RecordLine::Bad)
     }
@@ -162,6 +194,27 @@ fn answered(answer: Option<Answer>) -> RecordLine
 {
     match answer {
         Some(answer) => RecordLine::Answered(answer),
+        None => RecordLine::Bad,
+    }
+}
+
+// What a line says that writes a break in a recording of this form.
+fn broken_in(form: Form, text: &[u8]) -> RecordLine
+    requires { IsText text.now }
+    ensures { result ≡ broken_in form text.now }
+{
+    match form {
+        Form::First => RecordLine::Bad,
+        Form::Second => broken(break_of(text)),
+    }
+}
+
+// What a line says that writes this break.
+fn broken(at: Option<BreakAt>) -> RecordLine
+    ensures { result ≡ broken at }
+{
+    match at {
+        Some(at) => RecordLine::Broken(at),
         None => RecordLine::Bad,
     }
 }

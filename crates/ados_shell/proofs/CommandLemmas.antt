@@ -14,6 +14,7 @@ use Rattle.ados_machine.specs.Commands.{template_of}
 pub ascii : (builtin : Builtin) → map to_ascii (template_of builtin) ≡ template_of builtin
 ascii (Env env.Alias) = refl
 ascii (Env env.Assign) = refl
+ascii (Env env.Break) = refl
 ascii (Env env.Cd) = refl
 ascii (Env env.Echo) = refl
 ascii (Env env.Eval) = refl
@@ -54,6 +55,7 @@ ascii (Flow flow.Skip) = refl
 pub are_templates : (builtin : Builtin) → IsTemplate (template_of builtin)
 are_templates (Env env.Alias) = refl
 are_templates (Env env.Assign) = refl
+are_templates (Env env.Break) = refl
 are_templates (Env env.Cd) = refl
 are_templates (Env env.Echo) = refl
 are_templates (Env env.Eval) = refl

@@ -2,6 +2,8 @@ mod LineLemmas
 pub mod CommandLemmas
 pub mod StackLemmas
 pub mod TurnLemmas
+pub mod DeedLemmas
 pub mod RunLemmas
 pub mod NumberLemmas
 pub mod UseLemmas
+pub mod BreakLemmas

@@ -10,12 +10,12 @@ use Rattle.ados_flow.specs.Frames.{FrameState}
 use Rattle.ados_line.specs.declared.lines.Redirection.{Redirection}
 use Rattle.ados_machine.specs.Course.{Course, printing, using}
 use Rattle.ados_machine.specs.Uses.{devices_named}
-use Rattle.ados_machine.specs.Answers.{child_of, started_deed}
+use Rattle.ados_machine.specs.Answers.{child_of, next_wait, started_deed}
 use Rattle.ados_machine.specs.Deeds.{Deed, Here, Waits, opened_by, read_by, refused}
 use Rattle.ados_machine.specs.Hosted.{tested_deed}
 use Rattle.ados_machine.specs.declared.phases.Child.{Child}
 use Rattle.ados_machine.specs.declared.phases.Starting.{Starting}
-use Rattle.ados_machine.specs.declared.phases.Wait.TheVariants.{ForPiece}
+use Rattle.ados_machine.specs.declared.phases.Wait.{Wait}
 use Rattle.ados_find.specs.Shared.{SharedState}
 use Rattle.ados_machine.specs.Lines.{command_deed, prompt_deed}
 use Rattle.ados_machine.specs.Opening.{Opened}
@@ -100,14 +100,14 @@ tested-refused scene before after shared entry program line fault (Err other) h 
 tested-refused scene before after shared entry program line fault (Ok opened) h g = absurd h
 
 -- a program has started, whose output is refused
-pub started-refused : (scene : Scene) (before mid after : Draft) (starting : Starting) (child : Child) (fault : Result2) (opened : Result Opened Result2)
+pub started-refused : (scene : Scene) (before mid after : Draft) (starting : Starting) (child : Child) (wait : Wait) (fault : Result2) (opened : Result Opened Result2)
     → HasOpened scene before mid starting.output (Err (Refused fault)) opened
-    → child ≡ child_of starting None (Some fault)
-    → Settles scene mid after (Waits (ForPiece child) (course_of scene mid))
+    → child ≡ child_of starting None (Some fault) → wait ≡ next_wait child
+    → Settles scene mid after (Waits wait (course_of scene mid))
     → Settles scene before after (started_deed starting (course_of scene before) opened)
-started-refused scene before mid after starting child fault (Err other) h e g =
-    let P : Draft → Type 0 = λ d. Settles scene d after (Waits (ForPiece child) (course_of scene d)) in
-    let Q : Child → Type 0 = λ x. Settles scene before after (Waits (ForPiece x) (course_of scene before)) in
-    let R : Result2 → Type 0 = λ f. Settles scene before after (Waits (ForPiece (child_of starting None (Some f))) (course_of scene before)) in
-    subst R h.0 (subst Q e (subst P h.1 g))
-started-refused scene before mid after starting child fault (Ok opened) h e g = absurd h
+started-refused scene before mid after starting child wait fault (Err other) h e w g =
+    let P : Draft → Type 0 = λ d. Settles scene d after (Waits wait (course_of scene d)) in
+    let Q : Wait → Type 0 = λ x. Settles scene before after (Waits x (course_of scene before)) in
+    let R : Result2 → Type 0 = λ f. Settles scene before after (Waits (next_wait (child_of starting None (Some f))) (course_of scene before)) in
+    subst R h.0 (subst Q (w ∙ ap next_wait e) (subst P h.1 g))
+started-refused scene before mid after starting child wait fault (Ok opened) h e w g = absurd h

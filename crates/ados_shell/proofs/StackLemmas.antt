@@ -1,29 +1,44 @@
 -- The frames of a shell, as a turn changes them.
-use Rattle.std.proofs.Common.{◌≡◌, ◌∙◌, ◌++◌, ◌∷◌, [], ◌+◌, ◌<◌, ◌^◌, ℕ, Some, List, Bool, true, false, ◌||◌, suc, ap, refl}
+use Rattle.std.proofs.Common.{◌≡◌, ◌∙◌, ◌++◌, ◌∷◌, [], ◌+◌, ◌<◌, ◌^◌, ℕ, zero, Some, List, Bool, true, false, ◌||◌, nat_lt, suc, ap, refl, sym}
+use Rattle.std.proofs.Common.{arith}
+use Rattle.std.proofs.lemmas.Bool.{lt-ltb}
 use Rattle.std.specs.Prelude.{if◌then◌else◌}
 use Rattle.ados_text.specs.declared.codes.Code.{Code}
 use Rattle.ados_flow.specs.declared.kinds.Kind.{Kind}
 use Rattle.ados_flow.specs.declared.kinds.Kind.TheVariants.{Script, Lines, Tick}
 use Rattle.ados_flow.specs.Frames.{FrameState, first_limit, is_script, limit_behind, limit_for, scripts_in}
+use Rattle.ados_machine.specs.Breaks.{has_script}
 use Rattle.ados_machine.specs.Sinks.{Console, sink_by, sink_in}
-use Rattle.ados_shell.specs.Stacks.{HasTaken, has_script, sink_above}
+use Rattle.ados_shell.specs.Stacks.{HasTaken, sink_above}
 use Rattle.ados_machine.specs.Settle.{newest}
+
+-- one is more than none
+pub some-run : (scripts : ℕ) → nat_lt 0 (suc scripts) ≡ true
+some-run scripts = lt-ltb 0 (suc scripts) (omega arith)
 
 -- the limit of its beginning comes back at a script's end where a script is left
 pub limit_is : (frames : List FrameState) (limit : Code) → limit_behind frames limit ≡ (if has_script frames then limit else first_limit)
-limit_is [] limit = refl
-limit_is (frame ∷ frames) limit = limit-of frame.kind (limit_is frames limit)
+limit_is frames limit = limit-of (scripts_in frames)
   where
-    limit-of : (kind : Kind) → limit_behind frames limit ≡ (if has_script frames then limit else first_limit)
-        → limit_for (if is_script kind then suc (scripts_in frames) else scripts_in frames) limit ≡ (if is_script kind || has_script frames then limit else first_limit)
-    limit-of (Script name command) h = refl
-    limit-of Lines h = h
-    limit-of (Tick before after) h = h
+    limit-of : (scripts : ℕ) → limit_for scripts limit ≡ (if nat_lt 0 scripts then limit else first_limit)
+    limit-of zero = refl
+    limit-of (suc scripts) = sym (ap (λ b. if b then limit else first_limit) (some-run scripts))
+
+-- a script runs where the newest frame is one, or one runs below it
+pub script_first : (frame : FrameState) (frames : List FrameState) → has_script (frame ∷ frames) ≡ (is_script frame.kind || has_script frames)
+script_first frame frames = by-kind frame.kind
+  where
+    by-kind : (kind : Kind) → nat_lt 0 (if is_script kind then suc (scripts_in frames) else scripts_in frames) ≡ (is_script kind || has_script frames)
+    by-kind (Script name command) = some-run (scripts_in frames)
+    by-kind Lines = refl
+    by-kind (Tick before after) = refl
 
 -- one of frames above others is a script
 pub script_append : (above below : List FrameState) → has_script (above ++ below) ≡ (has_script above || has_script below)
 script_append [] below = refl
-script_append (frame ∷ above) below = ap (λ b. is_script frame.kind || b) (script_append above below) ∙ or-over (is_script frame.kind) (has_script above) (has_script below)
+script_append (frame ∷ above) below =
+    script_first frame (above ++ below) ∙ ap (λ b. is_script frame.kind || b) (script_append above below)
+    ∙ or-over (is_script frame.kind) (has_script above) (has_script below) ∙ ap (λ b. b || has_script below) (sym (script_first frame above))
   where
     or-over : (a b c : Bool) → (a || (b || c)) ≡ ((a || b) || c)
     or-over true b c = refl

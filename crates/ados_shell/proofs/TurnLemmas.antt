@@ -1,31 +1,28 @@
 -- How a turn goes on: what is left to do from a middle of it on does what the whole does from its beginning on.
-use Rattle.std.proofs.Common.{◌≡◌, ◌∙◌, ◌++◌, ◌∷◌, [], List, ℕ, Bool, true, false, Option, None, length, nat_le, suc, ap, sym, refl, append_assoc}
+use Rattle.std.proofs.Common.{◌≡◌, ◌∙◌, ◌++◌, ◌∷◌, [], List, ℕ, Bool, true, false, length, suc, ap, sym, refl, append_assoc}
 use Rattle.std.proofs.lemmas.List.{append-nil}
 use Rattle.std.specs.Prelude.{if◌then◌else◌}
 use Rattle.ados_text.specs.Text.{Text}
 use Rattle.ados_text.specs.declared.codes.Code.{Code}
-use Rattle.ados_text.specs.declared.codes.TheConstants.Result2.{TOO_MANY_LEVELS}
 use Rattle.ados_find.specs.declared.codes.Codes.{Codes}
-use Rattle.ados_find.specs.declared.targets.Target.{Target}
-use Rattle.ados_flow.specs.declared.called.Called.{Called}
 use Rattle.ados_flow.specs.declared.kinds.Kind.{Kind}
 use Rattle.ados_flow.specs.declared.kinds.Kind.TheVariants.{Script, Lines, Tick}
-use Rattle.ados_flow.specs.Frames.{FrameState, began, frame_limit, is_over, is_ended, limit_behind, last_codes, last_line, is_early, maker, answered_frame}
+use Rattle.ados_flow.specs.Frames.{FrameState, is_over, is_ended, limit_behind, last_codes, last_line, is_early, maker, answered_frame}
 use Rattle.ados_machine.specs.declared.outs.EndReport.{EndReport}
 use Rattle.ados_machine.specs.declared.phases.Phase.TheVariants.{Ready, GoingOn}
-use Rattle.ados_machine.specs.CodeRule.{fault_line, failed_line}
+use Rattle.ados_machine.specs.CodeRule.{failed_line}
 use Rattle.ados_machine.specs.Items.{Item, Ended, noted, end_of, reports_of}
 use Rattle.ados_machine.specs.Course.{Course}
-use Rattle.ados_machine.specs.Deeds.{Answers, Calls, Jumps, Passes, Ticks, line_fault, refused}
-use Rattle.ados_machine.specs.Settled.{Said, Settled, behind, rests, told, with_limit, newest_kept, without_tick, after_end, finish, finished, passed}
-use Rattle.ados_machine.specs.Settle.{Turned, begun, by_rule, jumped_in, said_of, settle, tick_begun}
+use Rattle.ados_machine.specs.Deeds.{Passes}
+use Rattle.ados_machine.specs.Settled.{Said, Settled, behind, rests, told, with_limit, newest_kept, without_tick, after_end, finish, passed}
+use Rattle.ados_machine.specs.Settle.{Turned, by_rule, said_of}
 use Rattle.ados_shell.specs.declared.scenes.Scene.{Scene}
 use Rattle.ados_shell.specs.declared.drafts.Draft.{Draft}
 use Rattle.ados_shell.specs.Reports.{report_of}
 use Rattle.ados_shell.specs.Stacks.{frames_in}
-use Rattle.ados_shell.specs.Drafts.{GoesOn, IsReported, IsTicked, IsRuled, Settles, course_by, course_of, frames_of, held_of, here, phase_in}
+use Rattle.ados_shell.specs.Drafts.{GoesOn, IsReported, IsTicked, IsRuled, Settles, course_by, course_of, frames_of, held_of, phase_in}
 
-goes-on : (scene : Scene) (before mid after : Draft) (t t' : Turned) (rs : List EndReport)
+pub goes-on : (scene : Scene) (before mid after : Draft) (t t' : Turned) (rs : List EndReport)
     → mid.reports.items ≡ before.reports.items ++ rs
     → t'.frames ≡ t.frames → t'.phase ≡ t.phase → t'.course ≡ t.course
     → reports_of scene.number t'.log ≡ rs ++ reports_of scene.number t.log
@@ -52,10 +49,10 @@ goes-same scene before mid after t t' r e g = record {
       ∙ ap (λ x. before.reports.items ++ reports_of scene.number x.log) e;
 }
 
-then-is : {X : Type 0} (b : Bool) (x y : X) → b ≡ true → (if b then x else y) ≡ x
+pub then-is : {X : Type 0} (b : Bool) (x y : X) → b ≡ true → (if b then x else y) ≡ x
 then-is b x y e = ap (λ t. if t then x else y) e
 
-else-is : {X : Type 0} (b : Bool) (x y : X) → b ≡ false → (if b then x else y) ≡ y
+pub else-is : {X : Type 0} (b : Bool) (x y : X) → b ≡ false → (if b then x else y) ≡ y
 else-is b x y e = ap (λ t. if t then x else y) e
 
 -- a command answered: the shell has its codes, and that it failed was printed where its code reaches the limit
@@ -80,7 +77,7 @@ told-course scene before mid word codes t =
     ∙ ap (λ p. course_by scene (held_of before) before.shell.limit codes p) t.printed
 
 -- what the code rule has to work on
-abbrev said_in : Scene → Draft → Said
+abbrev pub said_in : Scene → Draft → Said
 said_in scene draft = said_of (course_of scene draft)
 
 -- the code rule ends here
@@ -132,7 +129,7 @@ abbrev pub led : FrameState → List FrameState → Codes → Said → Settled
 led last frames codes said = behind (end_of (suc (length frames)) last ∷ []) (leads last frames codes said)
 
 -- the code rule goes on from a middle, before which it gave these items
-step-ruled : (scene : Scene) (before mid after : Draft) (rs : List EndReport) (items : List Item) (settled settled' : Settled)
+pub step-ruled : (scene : Scene) (before mid after : Draft) (rs : List EndReport) (items : List Item) (settled settled' : Settled)
     → settled' ≡ behind items settled
     → ((log : List Item) → reports_of scene.number (items ++ log) ≡ rs ++ reports_of scene.number log)
     → held_of mid ≡ held_of before → mid.reports.items ≡ before.reports.items ++ rs
@@ -147,7 +144,7 @@ step-ruled scene before mid after rs items settled settled' e reported held r g 
 -- the report of a script's end
 end-script : (shell depth line : ℕ) (kind : Kind) (codes : Codes) (early : Bool) (name command : Text) (log : List Item) → kind ≡ Script name command
     → reports_of shell (Ended depth kind line codes early ∷ log)
-    ≡ record { shell = shell; name = name; last_line = line; code = codes.code; early = early } ∷ reports_of shell log
+    ≡ record { shell = shell; name = name; last_line = line; code = codes.code; early = early; broken = false } ∷ reports_of shell log
 end-script shell depth line kind codes early name command log e = ap (λ k. reports_of shell (Ended depth k line codes early ∷ log)) e
 
 -- what is said behind the end of a script
@@ -239,92 +236,3 @@ pass-ends scene before popped after frame frames there over s f g =
     ∙ ap (λ x. led frame x (last_codes frame.last) (said_in scene popped)) (sym f))
     (λ log. refl)
     s.held (s.reports ∙ sym (append-nil before.reports.items)) g
-
--- a fault's text was printed, and the code rule follows
-pub answer-goes : (scene : Scene) (before mid after : Draft) (word : List ℕ) (codes : Codes) (quits : Bool)
-    → mid.shell.frames ≡ before.shell.frames → held_of mid ≡ held_of before → mid.shell.limit ≡ before.shell.limit → mid.shell.codes ≡ before.shell.codes
-    → mid.reports.items ≡ before.reports.items
-    → mid.printed.items ≡ before.printed.items ++ fault_line word codes.result2
-    → IsRuled scene mid after (finish word codes quits (frames_of scene mid) (said_in scene mid))
-    → Settles scene before after (Answers word codes quits (course_of scene before))
-answer-goes scene before mid after word codes quits f h l c r p g =
-    let printed = before.printed.items ++ fault_line word codes.result2 in
-    let told : Course = course_by scene (held_of before) before.shell.limit before.shell.codes printed in
-    let course : course_of scene mid ≡ told =
-    ap (λ x. course_by scene x mid.shell.limit mid.shell.codes mid.printed.items) h
-    ∙ ap (λ x. course_by scene (held_of before) x mid.shell.codes mid.printed.items) l
-    ∙ ap (λ x. course_by scene (held_of before) before.shell.limit x mid.printed.items) c
-    ∙ ap (λ x. course_by scene (held_of before) before.shell.limit before.shell.codes x) p in
-    goes-same scene before mid after _ _ r
-    (ap (λ x. by_rule x (finish word codes quits (frames_of scene mid) (said_of x))) course
-    ∙ ap (λ x. by_rule told (finish word codes quits (frames_in scene.shell.now x) (said_of told))) f)
-    g
-
--- a script begins
-pub begin-goes : (scene : Scene) (before mid after : Draft) (word : List ℕ) (output : Option Target) (script : Called)
-    → frames_of scene mid ≡ began (Script script.name word) script.script before.shell.limit output ∷ frames_of scene before
-    → IsStill before mid
-    → Settles scene mid after (Passes (course_of scene mid))
-    → IsRuled scene before after (begun word output script (frames_of scene before) (said_in scene before))
-begin-goes scene before mid after word output script f s g =
-    let frames = began (Script script.name word) script.script before.shell.limit output ∷ frames_of scene before in
-    let e : by_rule (course_of scene mid) (passed (frames_of scene mid) (said_in scene mid)) ≡ by_rule (course_of scene before) (passed frames (said_in scene before)) =
-    ap (λ x. by_rule x (passed (frames_of scene mid) (said_of x))) (still-course scene before mid s)
-    ∙ ap (λ x. by_rule (course_of scene before) (passed x (said_in scene before))) f in
-    let t = by_rule (course_of scene before) (passed frames (said_in scene before)) in
-    let on : GoesOn scene before after t = goes-same scene before mid after _ t s.reports e g in
-    record { frames = on.frames; phase = on.phase; course = on.course; reports = on.reports }
-
--- a script is called where a frame more may stand
-pub call-begins : (scene : Scene) (before after : Draft) (word : List ℕ) (output : Option Target) (script : Called)
-    → nat_le frame_limit (length (frames_of scene before)) ≡ false
-    → IsRuled scene before after (begun word output script (frames_of scene before) (said_in scene before))
-    → Settles scene before after (Calls word output script (course_of scene before))
-call-begins scene before after word output script e g =
-    goes-same scene before before after _ _ refl (ap (by_rule (course_of scene before)) (sym (else-is _ _ _ e))) g
-
--- and where none may
-pub call-refused : (scene : Scene) (before after : Draft) (word : List ℕ) (output : Option Target) (script : Called)
-    → nat_le frame_limit (length (frames_of scene before)) ≡ true
-    → Settles scene before after (refused word TOO_MANY_LEVELS (course_of scene before))
-    → Settles scene before after (Calls word output script (course_of scene before))
-call-refused scene before after word output script e g =
-    goes-same scene before before after _ _ refl (ap (by_rule (course_of scene before)) (sym (then-is _ _ _ e))) g
-
--- the newest frame goes on at a line, and a command answers
-pub jump-goes : (scene : Scene) (before mid after : Draft) (word : List ℕ) (codes : Codes) (line : ℕ)
-    → frames_of scene mid ≡ jumped_in line (frames_of scene before)
-    → IsStill before mid
-    → Settles scene mid after (Answers word codes false (course_of scene mid))
-    → Settles scene before after (Jumps word codes line (course_of scene before))
-jump-goes scene before mid after word codes line f s g =
-    goes-same scene before mid after _ _ s.reports
-    (ap (λ x. by_rule x (finished word codes false (frames_of scene mid) (said_of x))) (still-course scene before mid s)
-    ∙ ap (λ x. by_rule (course_of scene before) (finished word codes false x (said_in scene before))) f)
-    g
-
--- a tick begins where a frame more may stand
-pub tick-begins : (scene : Scene) (before after : Draft) (front command rear : Text)
-    → nat_le frame_limit (length (frames_of scene before)) ≡ false
-    → IsRuled scene before after (tick_begun front command rear (frames_of scene before) (said_in scene before))
-    → Settles scene before after (if (here scene before).is_full then line_fault TOO_MANY_LEVELS (course_of scene before) else Ticks front command rear (course_of scene before))
-tick-begins scene before after front command rear e g =
-    goes-same scene before before after _ _ refl (ap (λ deed. settle deed (frames_of scene before)) (sym (else-is _ _ _ e))) g
-
--- and where none may
-pub tick-refused : (scene : Scene) (before after : Draft) (front command rear : Text)
-    → nat_le frame_limit (length (frames_of scene before)) ≡ true
-    → Settles scene before after (line_fault TOO_MANY_LEVELS (course_of scene before))
-    → Settles scene before after (if (here scene before).is_full then line_fault TOO_MANY_LEVELS (course_of scene before) else Ticks front command rear (course_of scene before))
-tick-refused scene before after front command rear e g =
-    goes-same scene before before after _ _ refl (ap (λ deed. settle deed (frames_of scene before)) (sym (then-is _ _ _ e))) g
-
--- a tick was put on
-pub tick-goes : (scene : Scene) (before after : Draft) (front command rear : Text)
-    → frames_of scene after ≡ began (Tick front rear) (command ∷ []) before.shell.limit None ∷ frames_of scene before
-    → phase_in after.shell ≡ Ready
-    → course_of scene after ≡ record (course_of scene before) { kept = [] ∷ (course_of scene before).kept }
-    → after.reports.items ≡ before.reports.items
-    → IsRuled scene before after (tick_begun front command rear (frames_of scene before) (said_in scene before))
-tick-goes scene before after front command rear f p c r =
-    record { frames = f; phase = p; course = c; reports = r ∙ sym (append-nil before.reports.items) }

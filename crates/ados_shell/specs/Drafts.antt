@@ -1,5 +1,5 @@
 -- What a turn has changed so far, by the machine's definitions.
-use Rattle.std.specs.Prelude.{◌≡◌, ℕ, [], ◌∷◌, ◌++◌, List, drop, reverse, Option, Some, None, option_map, unwrap_or}
+use Rattle.std.specs.Prelude.{◌≡◌, ℕ, [], ◌∷◌, ◌++◌, List, drop, reverse, Bool, ◌||◌, Option, Some, None, option_map, unwrap_or}
 use Rattle.ados_text.specs.Text.{Bytes, Text}
 use Rattle.ados_text.specs.declared.codes.Code.{Code}
 use Rattle.ados_find.specs.declared.changes.Change.{Change}
@@ -8,13 +8,15 @@ use Rattle.ados_find.specs.declared.settings.Setting.{Setting}
 use Rattle.ados_find.specs.declared.settings.Settings.{Settings}
 use Rattle.ados_find.specs.Changes.{changed}
 use Rattle.ados_find.specs.Settings.{with_setting}
+use Rattle.ados_find.specs.declared.outcomes.Breaking.{Breaking}
 use Rattle.ados_find.specs.declared.outcomes.Renamed.{Renamed}
 use Rattle.ados_find.specs.Shared.{SharedState, version}
 use Rattle.ados_machine.specs.declared.outs.Out.{Out}
 use Rattle.ados_machine.specs.declared.phases.Phase.{Phase}
 use Rattle.ados_machine.specs.declared.phases.Phase.TheVariants.{GoingOn}
 use Rattle.ados_flow.specs.Frames.{FrameState, limit_behind}
-use Rattle.ados_machine.specs.Items.{reports_of}
+use Rattle.ados_machine.specs.Breaks.{flags_own, kept_without}
+use Rattle.ados_machine.specs.Items.{break_of, reports_of}
 use Rattle.ados_find.specs.Parts.{Parts}
 use Rattle.ados_machine.specs.Shells.{Begun, ShellState}
 use Rattle.ados_find.specs.declared.targets.Target.{Target}
@@ -23,7 +25,7 @@ use Rattle.ados_machine.specs.NewShells.{beginning}
 use Rattle.ados_machine.specs.Deeds.{Here, Deed}
 use Rattle.ados_machine.specs.Settled.{Settled, newest_kept}
 use Rattle.ados_machine.specs.Settle.{Turned, by_rule, here_of, settle}
-use Rattle.ados_machine.specs.Step.{giving, shell_of_turn}
+use Rattle.ados_machine.specs.Step.{giving, shell_of_turn, unflagged}
 use Rattle.ados_machine.specs.World.{seen_in}
 use Rattle.ados_shell.specs.declared.scenes.Scene.{Scene}
 use Rattle.ados_shell.specs.declared.drafts.Draft.{Draft}
@@ -57,6 +59,7 @@ behind draft shell = record {
     settings = set_by draft.setting shell.parts.settings;
   };
   kept = unwrap_or (kept_in draft) shell.kept;
+  flagged = draft.flagged;
 }
 
 -- what an event gives that a draft holds
@@ -74,7 +77,7 @@ here scene draft = here_of (frames_of scene draft)
 abbrev pub parts_of : Scene → Draft → Parts
 parts_of scene draft = (behind draft.shell scene.shell.now).parts
 
--- a turn of the scene's shell begins: nothing is done yet
+-- an event of the scene's shell begins: nothing is done yet
 abbrev pub start_of : Scene → Course
 start_of scene = record {
   parts = scene.shell.now.parts;
@@ -85,7 +88,13 @@ start_of scene = record {
   renamed = None;
   begun = None;
   used = [];
+  breaking = None;
+  flagged = scene.shell.now.flagged;
 }
+
+-- a turn begins: it takes the flag away
+abbrev pub turn_start : Scene → Course
+turn_start scene = unflagged (start_of scene)
 
 -- what a turn holds that no answer changes
 pub record Held : Type 0 where
@@ -96,6 +105,8 @@ pub record Held : Type 0 where
   pub renamed : Option Renamed
   pub begun : Option Begun
   pub used : List Text
+  pub breaking : Option Breaking
+  pub flagged : Bool
 
 abbrev pub held_of : Draft → Held
 held_of draft = record {
@@ -106,6 +117,8 @@ held_of draft = record {
   renamed = option_map (λ r. r.value) draft.renamed;
   begun = option_map (λ b. b.value) draft.begun;
   used = draft.used.items;
+  breaking = draft.breaking;
+  flagged = draft.shell.flagged;
 }
 
 abbrev pub course_by : Scene → Held → Code → Codes → List ℕ → Course
@@ -124,6 +137,8 @@ course_by scene held limit codes printed = record {
   renamed = held.renamed;
   begun = held.begun;
   used = held.used;
+  breaking = held.breaking;
+  flagged = held.flagged;
 }
 
 -- what a turn hands on that sees this
@@ -141,14 +156,17 @@ pub record IsUnchanged (shell : ShellState) (draft : ShellDraft) : Type 0 where
   pub setting_is : draft.setting ≡ None
   pub kept_is : (behind draft shell).kept ≡ shell.kept
 
-pub record IsFresh (shell : ShellState) (draft : Draft) : Type 0 where
+-- nothing is changed yet, and the shell is flagged, or is not
+pub record IsFresh (shell : ShellState) (flagged : Bool) (draft : Draft) : Type 0 where
   pub shell_is : IsUnchanged shell draft.shell
+  pub flagged_is : draft.shell.flagged ≡ flagged
   pub shared_is : draft.shared ≡ None
   pub renamed_is : option_map (λ r. r.value) draft.renamed ≡ None
   pub begun_is : option_map (λ b. b.value) draft.begun ≡ None
   pub printed_is : draft.printed.items ≡ []
   pub reports_are : draft.reports.items ≡ []
   pub used_are : draft.used.items ≡ []
+  pub breaking_is : draft.breaking ≡ None
 
 -- a turn went on by what a definition leaves
 pub record GoesOn (scene : Scene) (before after : Draft) (turned : Turned) : Type 0 where
@@ -171,6 +189,7 @@ pub record IsDrafted (scene : Scene) (draft : Draft) (turned : Turned) : Type 0 
   pub shared_is : version scene.shared.now draft.shared ≡ shared_behind turned.course
   pub renamed_is : option_map (λ r. r.value) draft.renamed ≡ turned.course.renamed
   pub begun_is : option_map (λ b. b.value) draft.begun ≡ turned.course.begun
+  pub breaking_is : draft.breaking ≡ turned.course.breaking
   pub printed_is : draft.printed.items ≡ turned.course.printed
   pub reports_are : draft.reports.items ≡ reports_of scene.number turned.log
 
@@ -191,12 +210,14 @@ pub record IsTicked (scene : Scene) (mid after : Draft) (front behind_it : Text)
   pub reports : after.reports.items ≡ mid.reports.items
 
 -- what a command made was moved in
-pub record HoldsEffect (before after : Draft) (change : Option Change) (shared : Option SharedState) (renamed : Option Renamed) : Type 0 where
+pub record HoldsEffect (number : ℕ) (before after : Draft) (change : Option Change) (shared : Option SharedState) (renamed : Option Renamed) (breaking : Option Breaking) : Type 0 where
   pub frames : after.shell.frames ≡ before.shell.frames
   pub parts_are : (shell : ShellState) → (behind after.shell shell).parts ≡ changed change (behind before.shell shell).parts
   pub kept : kept_in after.shell ≡ kept_in before.shell
   pub shared_is : (old : SharedState) → version old after.shared ≡ version (version old before.shared) shared
   pub renamed_is : option_map (λ r. r.value) after.renamed ≡ renamed
+  pub breaking_is : after.breaking ≡ breaking
+  pub flagged_is : after.shell.flagged ≡ (before.shell.flagged || flags_own number breaking)
   pub begun : option_map (λ b. b.value) after.begun ≡ option_map (λ b. b.value) before.begun
   pub used : after.used.items ≡ before.used.items
   pub printed : after.printed.items ≡ before.printed.items

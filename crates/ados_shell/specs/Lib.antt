@@ -6,5 +6,7 @@ pub mod Uses
 pub mod Outputs
 pub mod Inputs
 pub mod Turnings
+pub mod Breaks
 pub mod Views
 pub mod Answerings
+pub mod Asking

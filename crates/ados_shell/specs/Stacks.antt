@@ -1,6 +1,6 @@
 -- The frames of a shell, as a turn changes them.
-use Rattle.std.specs.Prelude.{◌≡◌, ℕ, suc, ◌+◌, ◌<◌, ◌^◌, [], ◌∷◌, ◌++◌, List, Bool, false, ◌||◌, Option, Some, None, reverse, take}
-use Rattle.ados_flow.specs.Frames.{FrameState, is_script, jumped, moved}
+use Rattle.std.specs.Prelude.{◌≡◌, ℕ, suc, ◌+◌, ◌<◌, ◌^◌, [], ◌∷◌, ◌++◌, List, Option, Some, None, reverse, take}
+use Rattle.ados_flow.specs.Frames.{FrameState, jumped, moved}
 use Rattle.ados_machine.specs.Shells.{ShellState}
 use Rattle.ados_machine.specs.Sinks.{Sink, Console, Kept, To, sink_by}
 use Rattle.ados_shell.specs.declared.stacks.Sink as code
@@ -38,11 +38,6 @@ abbrev pub sink_by_way : Way → Sink → Sink
 sink_by_way ways.Below below = below
 sink_by_way ways.Kept below = Kept
 sink_by_way (ways.To target) below = To target.now
-
--- one of these frames is a script
-abbrev pub has_script : List FrameState → Bool
-has_script [] = false
-has_script (frame ∷ frames) = is_script frame.kind || has_script frames
 
 -- the newest frame's next line has a number
 abbrev pub HasRoom : List FrameState → Type 0

@@ -14,17 +14,25 @@ use Rattle.ados_shell.specs.declared.scenes.Scene.{Scene}
 use Rattle.ados_shell.specs.declared.drafts.Draft.{Draft}
 use Rattle.ados_shell.specs.declared.turnings.Turning.{Turning}
 use Rattle.ados_shell.specs.declared.turnings.Turning.TheVariants.{NotReady, Ends, Goes, Takes}
-use Rattle.ados_shell.specs.Drafts.{IsDrafted, start_of}
+use Rattle.ados_shell.specs.Drafts.{IsDrafted, turn_start}
 
 -- the first of the lines that wait, or none where none does
 abbrev pub IsFirst : Option (List ℕ) → List (List ℕ) → Type 0
 IsFirst None queue = queue ≡ []
 IsFirst (Some line) queue = queue ≡ line ∷ drop 1 queue
 
--- the machine's turn of the scene's shell in a phase, where these lines wait
-abbrev pub turning_in : Scene → Input → Phase → List (List ℕ) → machine.Turning
-turning_in scene input phase queue =
-    machine.turning (record { queue = queue; is_ended = input.is_ended }) scene.shell.now.frames (start_of scene) phase
+-- the input, where these lines wait
+abbrev pub input_with : Input → List (List ℕ) → machine.Input
+input_with input queue = record { queue = queue; is_ended = input.is_ended }
+
+-- the machine's turn of the scene's shell, where these lines wait: a flag that it finds ends its scripts
+abbrev pub turning_in : Scene → Input → List (List ℕ) → machine.Turning
+turning_in scene input queue =
+    machine.flagged_turning scene.shell.now.flagged (input_with input queue) scene.shell.now.frames (turn_start scene) scene.shell.now.phase
+
+-- the same in a phase, where it finds no flag
+abbrev pub plain_turning : Scene → Input → Phase → List (List ℕ) → machine.Turning
+plain_turning scene input phase queue = machine.turning (input_with input queue) scene.shell.now.frames (turn_start scene) phase
 
 -- a turn is that of the machine: it leaves these lines to wait, or takes the first of them
 abbrev pub IsTurning : Scene → List (List ℕ) → Turning → Draft → machine.Turning → Type 0
@@ -38,30 +46,36 @@ IsTurning scene queue _ draft _ = ⊥
 abbrev pub GivesTurning : Scene → Input → Turning → Draft → Type 0
 GivesTurning scene input turn draft =
     (queue : List (List ℕ)) → IsFirst (option_copied input.line) queue →
-    IsTurning scene queue turn draft (turning_in scene input scene.shell.now.phase queue)
+    IsTurning scene queue turn draft (turning_in scene input queue)
+
+-- the same where it finds no flag
+abbrev pub GivesPlain : Scene → Input → Turning → Draft → Type 0
+GivesPlain scene input turn draft =
+    (queue : List (List ℕ)) → IsFirst (option_copied input.line) queue →
+    IsTurning scene queue turn draft (plain_turning scene input scene.shell.now.phase queue)
 
 -- the same of a shell that waits for the answer to a prompt
 abbrev pub GivesAnswer : Scene → Asking → Input → Turning → Draft → Type 0
 GivesAnswer scene asking input turn draft =
     (queue : List (List ℕ)) → IsFirst (option_copied input.line) queue →
-    IsTurning scene queue turn draft (turning_in scene input (Waiting (ForAnswer asking)) queue)
+    IsTurning scene queue turn draft (plain_turning scene input (Waiting (ForAnswer asking)) queue)
 
 -- the same of a shell whose Run gathers
 abbrev pub GivesGathering : Scene → Gathering → Input → Turning → Draft → Type 0
 GivesGathering scene gathering input turn draft =
     (queue : List (List ℕ)) → IsFirst (option_copied input.line) queue →
-    IsTurning scene queue turn draft (turning_in scene input (Waiting (ForLines gathering)) queue)
+    IsTurning scene queue turn draft (plain_turning scene input (Waiting (ForLines gathering)) queue)
 
 -- the same of a shell that is ready
 abbrev pub GivesReady : Scene → Input → Turning → Draft → Type 0
 GivesReady scene input turn draft =
-    (queue : List (List ℕ)) → IsFirst (option_copied input.line) queue → IsTurning scene queue turn draft (turning_in scene input Ready queue)
+    (queue : List (List ℕ)) → IsFirst (option_copied input.line) queue → IsTurning scene queue turn draft (plain_turning scene input Ready queue)
 
 -- the same of a shell that is ready and runs no frame
 abbrev pub GivesConsole : Scene → Input → Turning → Draft → Type 0
 GivesConsole scene input turn draft =
     (queue : List (List ℕ)) → IsFirst (option_copied input.line) queue →
-    IsTurning scene queue turn draft (machine.console_turning queue input.is_ended (start_of scene))
+    IsTurning scene queue turn draft (machine.console_turning queue input.is_ended (turn_start scene))
 
 -- the next line of the newest frame
 abbrev pub next_of : List FrameState → Option (List ℕ)
@@ -72,7 +86,7 @@ next_of (frame ∷ frames) = slice_get frame.lines frame.position
 abbrev pub IsScriptDrafted : Scene → Draft → List FrameState → Type 0
 IsScriptDrafted scene draft [] = Unit {0}
 IsScriptDrafted scene draft (frame ∷ frames) =
-    IsDrafted scene draft (machine.frame_turned frame frames (start_of scene) (slice_get frame.lines frame.position))
+    IsDrafted scene draft (machine.frame_turned frame frames (turn_start scene) (slice_get frame.lines frame.position))
 
 -- the machine goes on, for which memory may be wanting: a refusal and a shell's end take none
 abbrev pub MayWantMemory : machine.Turning → Type 0
@@ -83,25 +97,30 @@ MayWantMemory (machine.Takes rest turned) = Unit {0}
 -- the machine goes on at a turn of the scene's shell with this input, whatever lines wait behind the first
 abbrev pub TakesTurn : Scene → Input → Type 0
 TakesTurn scene input =
-    (queue : List (List ℕ)) → IsFirst (option_copied input.line) queue → MayWantMemory (turning_in scene input scene.shell.now.phase queue)
+    (queue : List (List ℕ)) → IsFirst (option_copied input.line) queue → MayWantMemory (turning_in scene input queue)
+
+-- the same where it finds no flag
+abbrev pub TakesPlain : Scene → Input → Type 0
+TakesPlain scene input =
+    (queue : List (List ℕ)) → IsFirst (option_copied input.line) queue → MayWantMemory (plain_turning scene input scene.shell.now.phase queue)
 
 -- the same of a shell that waits for the answer to a prompt
 abbrev pub TakesAnswer : Scene → Asking → Input → Type 0
 TakesAnswer scene asking input =
-    (queue : List (List ℕ)) → IsFirst (option_copied input.line) queue → MayWantMemory (turning_in scene input (Waiting (ForAnswer asking)) queue)
+    (queue : List (List ℕ)) → IsFirst (option_copied input.line) queue → MayWantMemory (plain_turning scene input (Waiting (ForAnswer asking)) queue)
 
 -- the same of a shell whose Run gathers
 abbrev pub TakesGathering : Scene → Gathering → Input → Type 0
 TakesGathering scene gathering input =
-    (queue : List (List ℕ)) → IsFirst (option_copied input.line) queue → MayWantMemory (turning_in scene input (Waiting (ForLines gathering)) queue)
+    (queue : List (List ℕ)) → IsFirst (option_copied input.line) queue → MayWantMemory (plain_turning scene input (Waiting (ForLines gathering)) queue)
 
 -- the same of a shell that is ready
 abbrev pub TakesReady : Scene → Input → Type 0
 TakesReady scene input =
-    (queue : List (List ℕ)) → IsFirst (option_copied input.line) queue → MayWantMemory (turning_in scene input Ready queue)
+    (queue : List (List ℕ)) → IsFirst (option_copied input.line) queue → MayWantMemory (plain_turning scene input Ready queue)
 
 -- the same of a shell that is ready and runs no frame
 abbrev pub TakesConsole : Scene → Input → Type 0
 TakesConsole scene input =
     (queue : List (List ℕ)) → IsFirst (option_copied input.line) queue →
-    MayWantMemory (machine.console_turning queue input.is_ended (start_of scene))
+    MayWantMemory (machine.console_turning queue input.is_ended (turn_start scene))

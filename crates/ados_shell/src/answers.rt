@@ -41,7 +41,7 @@ impl Draft {
         ensures answering { IfOk result (λ answering. GivesReply scene.now answer.now answering self.new) }
         ensures memory { OnErr result (TakesReply scene.now answer.now) }
     {
-        self.begin_turn(scene.shell);
+        self.begin_answer(scene.shell);
         match self.reply_by(scene, answer)? {
             Answering::WrongAnswer => Ok(Answering::WrongAnswer),
             Answering::Goes => {
@@ -114,8 +114,8 @@ impl Draft {
         Ok(Answering::Goes)
     }
 
-    /// The program has started: its output is opened by its text, and the shell waits for a piece. That the output is
-    /// refused is the program's first fault.
+    /// The program has started: its output is opened by its text, and the shell waits for a piece, or for the program's end
+    /// where that was broken. That the output is refused is the program's first fault.
     fn begin_to_read(&mut self, scene: &Scene, starting: &Starting) -> Result<(), NoMemory>
         ensures { OnOk result (Settles scene.now self.old self.new
             (started_deed starting.now (course_of scene.now self.old) (opening (course_of scene.now self.old) starting.now.output))) }
@@ -124,11 +124,11 @@ impl Draft {
             Err(FsFault::NoMemory) => Err(NoMemory),
             Err(FsFault::Refused(fault)) => {
                 let child = starting.child(None, Some(fault))?;
-                self.wait(scene, Wait::ForPiece(child))
+                self.wait(scene, child.next())
             }
             Ok(target) => {
                 let child = starting.child(target, None)?;
-                self.wait(scene, Wait::ForPiece(child))
+                self.wait(scene, child.next())
             }
         }
     }
@@ -146,9 +146,10 @@ impl Draft {
     {
         match answer {
             Answer::Bytes(bytes) if is_piece(bytes) => self.take_piece(scene, child, bytes)?,
-            Answer::End => self.wait(scene, Wait::ForEnd(child.copy()?))?,
+            Answer::End => self.wait(scene, Wait::ForEnd(child.copy()?.read_out()))?,
             Answer::PipeFault => {
-                let child = child.with_fault(Result2::PIPE_FAULT)?;
+                let child = child.copy()?.read_out();
+                let child = child.with_fault(Result2::PIPE_FAULT);
                 self.wait(scene, Wait::ForEnd(child))?;
             }
             Answer::Bytes(_)
@@ -164,28 +165,29 @@ impl Draft {
         Ok(Answering::Goes)
     }
 
-    /// A piece of the program's output goes out as it comes, and the shell waits for the next; behind a fault it is
-    /// dropped.
+    /// A piece of the program's output goes out as it comes, and the shell waits for the next, or for the program's end where
+    /// that was broken; behind a fault the piece is dropped.
     fn take_piece(&mut self, scene: &Scene, child: &Child, bytes: &Octets) -> Result<(), NoMemory>
         ensures { OnOk result (Settles scene.now self.old self.new
             (piece_deed child.now bytes.now (here scene.now self.old).sink (course_of scene.now self.old) child.now.fault)) }
     {
         match child.fault {
-            Some(_) => self.wait(scene, Wait::ForPiece(child.copy()?)),
+            Some(_) => self.wait(scene, child.copy()?.with_break().next()),
             None => self.put_piece(scene, child, bytes),
         }
     }
 
-    /// A piece of the program's output is put out, and the shell waits for the next. That it does not fit is the program's
-    /// first fault; its output stays open.
+    /// A piece of the program's output is put out, and the shell waits for what comes next. That it does not fit is the
+    /// program's first fault, unless it was broken before; its output stays open.
     fn put_piece(&mut self, scene: &Scene, child: &Child, bytes: &Octets) -> Result<(), NoMemory>
         ensures { OnOk result (Settles scene.now self.old self.new
             (piece_deed child.now bytes.now (here scene.now self.old).sink (course_of scene.now self.old) None)) }
     {
         let output = child.output.as_ref();
         let codes = self.put(scene, output, bytes.copy()?, Codes::NONE)?;
-        let child = child.behind_piece(fault_in(codes))?;
-        self.wait(scene, Wait::ForPiece(child))
+        let child = child.copy()?.with_break();
+        let child = child.behind_piece(fault_in(codes));
+        self.wait(scene, child.next())
     }
 
     /// An answer for a shell that waits for the end of a program, whose command answers then.

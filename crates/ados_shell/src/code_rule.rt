@@ -129,7 +129,7 @@ impl Draft {
 
     /// The code rule: the newest frame ends where it quits, at the limit, or where no line is left,
     /// and its end is the answer of the command that made it, and so on down.
-    fn finish(
+    pub fn finish(
         &mut self,
         scene: &Scene,
         word: &[u8],
@@ -180,5 +180,6 @@ fn report_of(shell: u8, name: &Text, frame: &Frame) -> Result<EndReport, NoMemor
         last_line: frame.last_line(),
         code: frame.last_codes().code,
         early: frame.is_early(),
+        broken: false,
     })
 }

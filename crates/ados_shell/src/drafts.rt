@@ -1,14 +1,14 @@
 // What a turn has changed so far, ready to be moved in.
-ghost use Rattle.std.specs.Prelude.{◌≡◌, [], None, IfOk, OnErr, OnOk, option_map};
+ghost use Rattle.std.specs.Prelude.{◌≡◌, [], None, false, OnOk, option_map};
 ghost use Rattle.ados_find.specs.Shared.{version};
 ghost use Rattle.ados_machine.specs.Step.{giving};
 
 use crate::begun::Begun;
+use crate::breaks::flags_own;
 use crate::scenes::Scene;
-use crate::seen::Others;
 use crate::shells::Shell;
 use crate::stacks::Stack;
-use ados_find::{Change, Codes, Renamed, Setting, Shared, ShellView};
+use ados_find::{Breaking, Change, Codes, Question, Renamed, Setting, Shared};
 use ados_flow::FIRST_LIMIT;
 use ados_machine::{EndReport, Out, Phase, Request};
 use ados_ram::Place;
@@ -27,6 +27,8 @@ pub struct Draft {
     pub renamed: Option<Box<Renamed>>,
     /// The shell that is to begin.
     pub begun: Option<Box<Begun>>,
+    /// The shell that is broken.
+    pub breaking: Option<Breaking>,
     /// What is printed on the console.
     pub printed: Vec<u8>,
     /// What the launcher is asked for.
@@ -37,6 +39,9 @@ pub struct Draft {
     pub args: Args,
     /// The devices that the event used so far, with those to which they lead; it takes no memory where none was used.
     pub used: Vec<Name>,
+    /// What the cache of the shared parts may learn: what this turn, or one before it, asked for and did not find. It is
+    /// a hint, and no definition speaks of it.
+    pub asked: Option<Box<Question>>,
 }
 
 /// What a turn makes of its shell. What it did not change it does not hold.
@@ -55,6 +60,8 @@ pub struct ShellDraft {
     pub setting: Option<Setting>,
     /// What its ticks put out so far, where that changed; that of the newest is the last.
     pub kept: Option<Vec<Octets>>,
+    /// Its scripts end at its next turn.
+    pub flagged: bool,
 }
 
 // Written out, so that for whoever drops a draft it is one step, and not one for each of its parts.
@@ -65,11 +72,13 @@ impl Drop for Draft {
             shared: _shared,
             renamed: _renamed,
             begun: _begun,
+            breaking: _breaking,
             printed: _printed,
             request: _request,
             reports: _reports,
             args: _args,
             used: _used,
+            asked: _asked,
         } = self;
     }
 }
@@ -84,6 +93,7 @@ impl Drop for ShellDraft {
             directory: _directory,
             setting: _setting,
             kept: _kept,
+            flagged: _flagged,
         } = self;
     }
 }
@@ -105,29 +115,41 @@ impl Draft {
                 directory: None,
                 setting: None,
                 kept: None,
+                flagged: false,
             },
             shared: None,
             renamed: None,
             begun: None,
+            breaking: None,
             printed: Vec::new(alloc),
             request: None,
             reports: Vec::new(alloc),
             args: Args::new(alloc),
             used: Vec::new(alloc),
+            asked: None,
         }
     }
 
-    /// A turn of a shell begins: nothing is changed yet.
+    /// A turn of a shell begins: nothing is changed yet, but that its flag is taken away.
     pub fn begin_turn(&mut self, shell: &Shell)
-        ensures { IsFresh shell.now self.new }
+        ensures { IsFresh shell.now false self.new }
     {
         self.shell.begin_turn(shell);
         self.shared = None;
         self.renamed = None;
         self.begun = None;
+        self.breaking = None;
         self.printed.clear();
         self.reports.clear();
         self.used.clear();
+    }
+
+    /// A launcher's answer for a shell is taken: nothing is changed yet, and its flag stays.
+    pub fn begin_answer(&mut self, shell: &Shell)
+        ensures { IsFresh shell.now shell.now.flagged self.new }
+    {
+        self.begin_turn(shell);
+        self.shell.flagged = shell.flagged;
     }
 
     /// Nothing is printed, nothing is asked for, and no script ended.
@@ -156,11 +178,13 @@ impl Draft {
             shared: _,
             renamed: _,
             begun: _,
+            breaking: _,
             printed,
             request,
             reports,
             args: _,
             used: _,
+            asked: _,
         } = self;
         Out::giving(printed, request, reports)
     }
@@ -182,128 +206,24 @@ impl Draft {
         }
     }
 
-    /// What a command made is moved in: what it changed of the shell's parts, new shared parts, where there are any,
-    /// and what was renamed.
+    /// What a command of the shell of a number made is moved in: what it changed of the shell's parts, new shared parts,
+    /// where there are any, what was renamed, and which shell was broken. A shell that breaks itself is flagged at once.
     pub fn affect(
         &mut self,
+        number: u8,
         change: Option<Box<Change>>,
         shared: Option<Shared>,
         renamed: Option<Box<Renamed>>,
+        breaking: Option<Breaking>,
     )
         requires { IsUnset self.old }
-        ensures { HoldsEffect self.old self.new (option_map (λ c. c.value) change) shared (option_map (λ r. r.value) renamed) }
+        ensures { HoldsEffect number self.old self.new (option_map (λ c. c.value) change) shared (option_map (λ r. r.value) renamed) breaking }
     {
-        if let Some(change) = change {
-            self.shell.change(Box::into_inner(change));
-        }
+        self.shell.affect(change, flags_own(number, breaking));
         if let Some(shared) = shared {
             self.shared = Some(shared);
         }
         self.renamed = renamed;
-    }
-}
-
-impl ShellDraft {
-    ghost use Rattle.ados_find.specs.Changes.{changed_by};
-    ghost use Rattle.ados_machine.specs.Shells.{ShellState};
-    ghost use Rattle.ados_shell.specs.Drafts.{IsUnchanged, behind, phase_in};
-    ghost use Rattle.ados_machine.specs.Requests.{request_of};
-    ghost use Rattle.ados_shell.specs.Views.{seen};
-
-    /// A turn of a shell begins: nothing is changed yet.
-    fn begin_turn(&mut self, shell: &Shell)
-        ensures { IsUnchanged shell.now self.new }
-    {
-        self.frames.keep_all(shell);
-        self.phase = None;
-        self.limit = shell.limit;
-        self.codes = shell.codes;
-        self.directory = None;
-        self.setting = None;
-        self.kept = None;
-    }
-
-    /// What the shell of a number asks a launcher for behind its turn.
-    pub fn request(&self, number: u8) -> Result<Option<Request>, NoMemory>
-        ensures { IfOk result (λ request. request ≡ request_of number (phase_in self.now)) }
-    {
-        match self.phase.as_deref() {
-            None => Ok(None),
-            Some(phase) => phase.request(number),
-        }
-    }
-
-    /// What commands read of the shell as it stands, and of the shells that run.
-    pub fn view<'b>(&'b self, shell: &'b Shell, others: Others) -> ShellView<'b>
-        requires { self.now.setting ≡ None }
-        ensures { result ≡ seen (behind self.now shell.now).parts others.busy others.names others.uses }
-    {
-        let Others { busy, names, uses } = others;
-        ShellView {
-            number: shell.number,
-            directory: self.directory(shell),
-            limit: self.limit,
-            codes: self.codes,
-            settings: shell.settings(),
-            busy,
-            names,
-            uses,
-        }
-    }
-
-    /// The current directory as it stands.
-    pub fn directory<'b>(&'b self, shell: &'b Shell) -> &'b Place
-        ensures { result.now ≡ (behind self.now shell.now).parts.directory }
-    {
-        match &self.directory {
-            None => shell.directory(),
-            Some(directory) => directory,
-        }
-    }
-
-    /// A command changed one of the shell's parts.
-    fn change(&mut self, change: Change)
-        requires { self.old.setting ≡ None }
-        ensures parts { (shell : ShellState) → (behind self.new shell).parts ≡ changed_by change (behind self.old shell).parts }
-        ensures frames { self.new.frames ≡ self.old.frames }
-        ensures phase { self.new.phase ≡ self.old.phase }
-        ensures kept { self.new.kept ≡ self.old.kept }
-    {
-        match change {
-            Change::Limit(limit) => self.limit = limit,
-            Change::Directory(directory) => self.directory = Some(directory),
-            Change::Set(setting) => self.setting = Some(setting),
-        }
-    }
-
-    /// Moves in what a turn makes of its shell.
-    ///
-    /// `NoMemory` where there is no room for the frames, for a new name or for what is asked for; the shell is then as it
-    /// was.
-    pub fn move_in(&mut self, shell: &mut Shell) -> Result<(), NoMemory>
-        ensures ok { OnOk result (shell.new ≡ behind self.old shell.old) }
-        ensures err { OnErr result (shell.new ≡ shell.old) }
-    {
-        let request = self.request(shell.number)?;
-        let Stack { kept, own } = &mut self.frames;
-        shell.frames.reserve(own.len())?;
-        if let Some(setting) = self.setting.take() {
-            shell.settings.set(setting)?;
-        }
-        shell.frames.truncate(*kept);
-        let Ok(()) = shell.frames.append(own) else {
-            unreachable!();
-        };
-        shell.phase = self.phase.take();
-        shell.request = request;
-        shell.limit = self.limit;
-        shell.codes = self.codes;
-        if let Some(kept) = self.kept.take() {
-            shell.kept = kept;
-        }
-        if let Some(directory) = self.directory.take() {
-            shell.directory = directory;
-        }
-        Ok(())
+        self.breaking = breaking;
     }
 }

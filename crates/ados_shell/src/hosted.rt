@@ -107,6 +107,7 @@ impl Draft {
             program,
             args,
             output: copied(line.output.as_ref())?,
+            marked: false,
         };
         self.use_nothing(scene);
         self.wait(scene, Wait::ForStart(starting))

@@ -5,8 +5,10 @@
 mod answers;
 mod arrivals;
 mod begun;
+mod breaks;
 mod calls;
 mod carrying;
+mod children;
 mod code_rule;
 mod commands;
 mod console;
@@ -21,6 +23,7 @@ mod rows;
 mod runs;
 mod scenes;
 mod seen;
+mod shell_drafts;
 mod shells;
 mod stacks;
 mod ticks;

@@ -205,8 +205,9 @@ impl Draft {
             output,
             change,
             renamed,
+            breaking,
         } = outcome;
-        self.affect(change, shared, renamed);
+        self.affect(scene.shell.number(), change, shared, renamed, breaking);
         let answered = self.put(scene, target, output, codes)?;
         self.answer(scene, word.as_bytes(), answered, false)
     }

@@ -1,5 +1,10 @@
 // What a turn sees, and what it may take.
 
+ghost use Rattle.std.specs.Prelude.{◌≡◌, ℕ, List};
+ghost use Rattle.std.specs.Option.{option_copied};
+ghost use Rattle.ados_machine.specs.World.{has_input};
+ghost use Rattle.ados_shell.specs.Turnings.{IsFirst, input_with};
+
 use crate::commands::Commands;
 use crate::shells::Shell;
 use ados_find::Shared;
@@ -30,4 +35,16 @@ pub struct Input<'a> {
     pub line: Option<&'a Text>,
     /// No further line will come.
     pub is_ended: bool,
+}
+
+impl Input<'_> {
+    /// A line waits, or no further one will come.
+    pub fn has_lines(&self) -> bool
+        ensures { (queue : List (List ℕ)) → IsFirst (option_copied self.now.line) queue → has_input (input_with self.now queue) ≡ result }
+    {
+        match self.line {
+            Some(_) => true,
+            None => self.is_ended,
+        }
+    }
 }

@@ -30,6 +30,8 @@ pub struct Shell {
     pub(crate) settings: Settings,
     // What its ticks put out so far; that of the newest is the last.
     pub(crate) kept: Vec<Octets>,
+    // Its scripts end at its next turn.
+    pub(crate) flagged: bool,
 }
 
 // Written out, so that for whoever drops a shell it is one step, and not one for each of its parts.
@@ -45,6 +47,7 @@ impl Drop for Shell {
             codes: _codes,
             settings: _settings,
             kept: _kept,
+            flagged: _flagged,
         } = self;
     }
 }
@@ -63,6 +66,7 @@ impl Model for Shell {
       phase = phase_of (option_map (λ p. p.value) s.phase);
       parts = record { number = s.number; directory = s.directory; limit = s.limit; codes = s.codes; settings = s.settings };
       kept = reverse s.kept.items;
+      flagged = s.flagged;
     } };
 
     // What it asked for is what its phase asks for.
@@ -73,6 +77,7 @@ impl Shell {
     ghost use Rattle.ados_machine.specs.Turning.{Input};
     ghost use Rattle.ados_machine.specs.Requests.{request_of};
     ghost use Rattle.ados_machine.specs.World.{can_take, has_frame, has_input, takes_input};
+    ghost use Rattle.ados_shell.specs.Asking.{asks_for_line};
 
     /// The shell of a number in which nothing has answered yet, in the root.
     pub fn new(alloc: Global, number: u8) -> Result<Shell, NoMemory>
@@ -88,6 +93,7 @@ impl Shell {
             codes: Codes::NONE,
             settings: Settings::first(alloc, number)?,
             kept: Vec::new(alloc),
+            flagged: false,
         })
     }
 
@@ -111,6 +117,7 @@ impl Shell {
             codes: Codes::NONE,
             settings,
             kept: Vec::new(alloc),
+            flagged: false,
         })
     }
 
@@ -183,6 +190,16 @@ impl Shell {
             None | Some(Phase::Ready) => self.frames.is_empty(),
             Some(Phase::GoingOn(_)) => false,
             Some(Phase::Waiting(wait)) => wait.is_for_input(),
+        }
+    }
+
+    /// It waits for a line of its input: an answer to a prompt, or a further line of a Run.
+    pub fn asks_for_line(&self) -> bool
+        ensures { result ≡ asks_for_line self.now.phase }
+    {
+        match self.phase.as_deref() {
+            Some(Phase::Waiting(wait)) => wait.is_for_input(),
+            _ => false,
         }
     }
 

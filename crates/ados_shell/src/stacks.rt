@@ -5,7 +5,8 @@ ghost use Rattle.ados_flow.specs.Frames.{FrameState, frame_limit, limit_behind};
 ghost use Rattle.ados_machine.specs.Shells.{ShellState};
 ghost use Rattle.ados_machine.specs.Sinks.{Console, sink_in};
 ghost use Rattle.ados_machine.specs.Sinks as machine;
-ghost use Rattle.ados_shell.specs.Stacks.{has_script, sink_above, sink_by_way, sink_of};
+ghost use Rattle.ados_machine.specs.Breaks.{has_script};
+ghost use Rattle.ados_shell.specs.Stacks.{sink_above, sink_by_way, sink_of};
 
 use crate::shells::Shell;
 use ados_find::Target;
@@ -140,11 +141,18 @@ impl Stack {
     pub fn limit_behind(&self, shell: &Shell, limit: Code) -> Code
         ensures { result ≡ limit_behind (frames_in shell.now self.now) limit }
     {
-        if any_script(self.own.as_slice(), self.lent(shell)) {
+        if self.has_script(shell) {
             limit
         } else {
             FIRST_LIMIT
         }
+    }
+
+    /// A script runs in these frames.
+    pub fn has_script(&self, shell: &Shell) -> bool
+        ensures { result ≡ has_script (frames_in shell.now self.now) }
+    {
+        any_script(self.own.as_slice(), self.lent(shell))
     }
 
     /// Where the output of the newest frame's commands goes.
@@ -218,7 +226,8 @@ fn any_script(frames: &[Frame], below: &[Frame]) -> bool
 }
 
 /// One of these frames is a script.
-fn has_script(frames: &[Frame]) -> bool
+#[tactic(auto, using(crate::proofs::StackLemmas::script_first))]
+pub fn has_script(frames: &[Frame]) -> bool
     ensures { result ≡ has_script (reverse frames.now) }
 {
     match frames.split_last() {

@@ -105,7 +105,7 @@ impl ShellDraft {
     ghost use Rattle.ados_shell.specs.Drafts.{behind};
 
     /// A copy of what the ticks put out so far; that of the newest is the last.
-    fn kept_copy(&self, scene: &Scene) -> Result<Vec<Octets>, NoMemory>
+    pub fn kept_copy(&self, scene: &Scene) -> Result<Vec<Octets>, NoMemory>
         ensures { IfOk result (λ kept. reverse kept.items ≡ (behind self.now scene.now.shell.now).kept) }
     {
         match &self.kept {

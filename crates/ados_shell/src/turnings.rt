@@ -27,8 +27,8 @@ pub enum Turning {
 }
 
 impl Draft {
-    ghost use Rattle.ados_shell.specs.Drafts.{IsDrafted, start_of};
-    ghost use Rattle.ados_shell.specs.Turnings.{GivesAnswer, GivesConsole, GivesGathering, GivesReady, GivesTurning, IsScriptDrafted, TakesAnswer, TakesConsole, TakesGathering, TakesReady, TakesTurn};
+    ghost use Rattle.ados_shell.specs.Drafts.{IsDrafted, turn_start};
+    ghost use Rattle.ados_shell.specs.Turnings.{GivesAnswer, GivesConsole, GivesGathering, GivesPlain, GivesReady, GivesTurning, IsScriptDrafted, TakesAnswer, TakesConsole, TakesGathering, TakesPlain, TakesReady, TakesTurn};
 
     /// A turn of the scene's shell: where it goes on, the draft is filled with what is to be changed. Nothing else is
     /// changed, and what the draft held before is forgotten.
@@ -37,13 +37,26 @@ impl Draft {
     /// gathers takes a line, and goes on without one at the end; one that waits for a launcher takes nothing. A line whose
     /// tick has ended goes on. A shell that is
     /// ready takes the next line of its newest frame; without a frame it takes a line of its input, and ends at the end
-    /// of that.
+    /// of that. Where the shell is flagged and runs a script, its scripts end in place of all this, and no line is taken.
     ///
     /// `NoMemory` where there is none for what the turn makes, and only where the shell has something to
     /// take: its end takes none.
     pub fn turn(&mut self, scene: &Scene, input: &Input) -> Result<Turning, NoMemory>
         ensures turn { IfOk result (λ turn. GivesTurning scene.now input.now turn self.new) }
         ensures memory { OnErr result (TakesTurn scene.now input.now) }
+    {
+        let shell = scene.shell;
+        if shell.flagged && shell.has_script() {
+            self.broken_turn(scene, input)
+        } else {
+            self.plain_turn(scene, input)
+        }
+    }
+
+    /// The same where no flag is found.
+    fn plain_turn(&mut self, scene: &Scene, input: &Input) -> Result<Turning, NoMemory>
+        ensures turn { IfOk result (λ turn. GivesPlain scene.now input.now turn self.new) }
+        ensures memory { OnErr result (TakesPlain scene.now input.now) }
     {
         let shell = scene.shell;
         match &shell.phase {
@@ -68,7 +81,7 @@ impl Draft {
     /// A line whose tick has ended goes on.
     fn take_parted(&mut self, scene: &Scene, parted: &Parted) -> Result<(), NoMemory>
         ensures { OnOk result (IsDrafted scene.now self.new
-            (settle (parted_deed parted.now (here_of scene.now.shell.now.frames) (start_of scene.now)) scene.now.shell.now.frames)) }
+            (settle (parted_deed parted.now (here_of scene.now.shell.now.frames) (turn_start scene.now)) scene.now.shell.now.frames)) }
     {
         self.begin_turn(scene.shell);
         self.go_on(scene, parted)?;
@@ -120,7 +133,7 @@ impl Draft {
         line: &Text,
     ) -> Result<(), NoMemory>
         ensures { OnOk result (IsDrafted scene.now self.new
-            (settle (joined_deed gathering.now line.now (here_of scene.now.shell.now.frames).sink (start_of scene.now)) scene.now.shell.now.frames)) }
+            (settle (joined_deed gathering.now line.now (here_of scene.now.shell.now.frames).sink (turn_start scene.now)) scene.now.shell.now.frames)) }
     {
         self.begin_turn(scene.shell);
         self.join(scene, gathering, line)?;
@@ -130,7 +143,7 @@ impl Draft {
     /// No further line comes for a Run that gathers.
     fn take_no_command(&mut self, scene: &Scene, gathering: &Gathering) -> Result<(), NoMemory>
         ensures { OnOk result (IsDrafted scene.now self.new
-            (settle (gathered_deed gathering.now (here_of scene.now.shell.now.frames).sink (start_of scene.now)) scene.now.shell.now.frames)) }
+            (settle (gathered_deed gathering.now (here_of scene.now.shell.now.frames).sink (turn_start scene.now)) scene.now.shell.now.frames)) }
     {
         self.begin_turn(scene.shell);
         self.gather_no_more(scene, gathering)?;
@@ -163,7 +176,7 @@ impl Draft {
     /// The answer to a prompt is taken: the line stands for the arguments as it is.
     fn take_answer(&mut self, scene: &Scene, asking: &Asking, line: &Text) -> Result<(), NoMemory>
         ensures { OnOk result (IsDrafted scene.now self.new
-            (settle (answer_deed line.now asking.now (here_of scene.now.shell.now.frames) (start_of scene.now)) scene.now.shell.now.frames)) }
+            (settle (answer_deed line.now asking.now (here_of scene.now.shell.now.frames) (turn_start scene.now)) scene.now.shell.now.frames)) }
     {
         self.begin_turn(scene.shell);
         self.resume(scene, asking, line)?;
@@ -189,7 +202,7 @@ impl Draft {
     /// A typed line is taken.
     fn take_typed(&mut self, scene: &Scene, line: &Text) -> Result<(), NoMemory>
         ensures { OnOk result (IsDrafted scene.now self.new
-            (settle (line_deed line.now (here_of scene.now.shell.now.frames) (start_of scene.now)) scene.now.shell.now.frames)) }
+            (settle (line_deed line.now (here_of scene.now.shell.now.frames) (turn_start scene.now)) scene.now.shell.now.frames)) }
     {
         self.begin_turn(scene.shell);
         self.obey(scene, line)?;

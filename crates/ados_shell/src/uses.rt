@@ -64,9 +64,25 @@ impl Draft {
     {
         match route {
             Route::Listed => Ok(()),
-            Route::ByPath => self.use_path(scene, word),
-            Route::ToC => self.use_c(scene),
+            Route::ByPath => {
+                self.note_question(scene, &[], word);
+                self.use_path(scene, word)
+            }
+            Route::ToC => {
+                self.note_question(scene, b"C:", word);
+                self.use_c(scene)
+            }
         }
+    }
+
+    /// The cache may learn what the search of a word did not find in it.
+    fn note_question(&mut self, scene: &Scene, front: &[u8], word: &Text)
+        ensures { self.new ≡ record self.old { asked = self.new.asked } }
+    {
+        let directory = self.directory(scene);
+        self.asked = self
+            .current(scene)
+            .question(scene.alloc, directory, front, word);
     }
 
     /// ENV: is used where a line asks for a variable that is none of the shell's own.

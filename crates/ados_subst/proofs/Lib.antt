@@ -1,4 +1,5 @@
 mod LineLemmas
+mod NextLemmas
 mod ReferenceLemmas
 mod ScriptLemmas
 mod SlotLemmas

@@ -3,6 +3,7 @@ pub mod Directives
 pub mod Faults
 pub mod Lines
 pub mod Marks
+pub mod Next
 pub mod References
 pub mod Scripts
 pub mod Slots

@@ -6,6 +6,7 @@ mod directives;
 mod faults;
 mod lines;
 mod marks;
+mod next;
 mod references;
 mod scripts;
 mod slots;

@@ -1,10 +1,12 @@
 ghost use Rattle.std.specs.Prelude.{◌≡◌, ◌<◌, ◌++◌, IfOk};
+ghost use Rattle.std.specs.List.{position_or_len};
 ghost use Rattle.ados_text.specs.Text.{IsText};
-ghost use Rattle.ados_subst.specs.References.{referred};
+ghost use Rattle.ados_subst.specs.References.{is_byte, referred};
 ghost use Rattle.ados_subst.specs.Lines.{first_segment, further, meant, substituted};
 
 use crate::above::Above;
-use crate::references::{place_of, referred};
+use crate::next::{next_place, place_or_len};
+use crate::references::referred;
 use ados_text::{NoMemory, Text};
 use std::alloc::Global;
 
@@ -20,14 +22,34 @@ pub fn substituted(
 {
     let mut text = Text::new(alloc);
     let mut taken = 0;
+    let mut ket = place_or_len(above.marks.ket, line);
+    let mut dollar = place_or_len(above.marks.dollar, line);
     for place in 0..line.len() {
+        ket = next_place(above.marks.ket, line, place, ket);
+        dollar = next_place(above.marks.dollar, line, place, dollar);
         if taken > 0 {
             taken -= 1;
         } else {
-            taken = push_segment(above, process, line[place], &line[place + 1..], &mut text)?;
+            let from = place + 1;
+            let rest = Rest {
+                bytes: &line[from..],
+                ket: ket - from,
+                dollar: dollar - from,
+            };
+            taken = push_segment(above, process, line[place], rest, &mut text)?;
         }
     }
     Ok(text)
+}
+
+// What stands after a byte of a line.
+#[derive(Clone, Copy)]
+struct Rest<'a> {
+    bytes: &'a [u8],
+    // The place of its first ket; without one its length.
+    ket: usize,
+    // The place of its first dollar; without one its length.
+    dollar: usize,
 }
 
 // Adds the text of the segment that begins with a byte; gives how many of the rest belong to it.
@@ -36,20 +58,21 @@ fn push_segment(
     above: &Above,
     process: &Text,
     byte: u8,
-    rest: &[u8],
+    rest: Rest,
     text: &mut Text,
 ) -> Result<usize, NoMemory>
     requires byte { byte < 128 }
-    requires rest { IsText rest.now }
-    ensures { let segment = first_segment above.now.marks (referred above.now process.now) byte rest.now in
+    requires rest { IsText rest.bytes.now }
+    requires ket { rest.ket ≡ position_or_len (is_byte above.now.marks.ket) rest.bytes.now }
+    requires dollar { rest.dollar ≡ position_or_len (is_byte above.now.marks.dollar) rest.bytes.now }
+    ensures { let segment = first_segment above.now.marks (referred above.now process.now) byte rest.entry.bytes.now in
         IfOk result (λ count. (count ≡ further segment) × (text.new ≡ text.old ++ meant segment)) }
 {
-    if byte == above.marks.bra {
-        if let Some(ket) = place_of(above.marks.ket, rest) {
-            if let Some(value) = referred(above, process, &rest[..ket]) {
-                text.push_bytes(value)?;
-                return Ok(ket + 1);
-            }
+    if byte == above.marks.bra && rest.ket < rest.bytes.len() {
+        let name = &rest.bytes[..rest.ket];
+        if let Some(value) = referred(above, process, name, rest.dollar.min(rest.ket)) {
+            text.push_bytes(value)?;
+            return Ok(rest.ket + 1);
         }
     }
     text.push(byte)?;

@@ -1,6 +1,6 @@
 use crate::memory::{FlakyReader, FlakyWriter, NEVER};
 use crate::wrong::{Wrong, expect, expect_row};
-use ados_launch::{Counted, DriveFault, End, Listed};
+use ados_launch::{Counted, Drive, DriveFault, End, Listed};
 use ados_text::{Code, NoMemory, Result2};
 use ados_world::World;
 use std::alloc::Global;
@@ -24,7 +24,7 @@ const NONE_FAILS: Failing = Failing {
 
 // A fresh world driven by these bytes, read three at a time and written one at a time. Want of memory for the world is
 // handed on.
-#[tactic(auto, using(crate::proofs::NewPair::new_pair))]
+#[tactic(auto, using(ados_launch::proofs::NewPair::new_pair))]
 fn drive(
     alloc: Global,
     input: &[u8],
@@ -38,14 +38,12 @@ fn drive(
     let mut launcher = Listed::new(alloc, Vec::new(alloc));
     let mut reader = Counted::new(FlakyReader::new(input, 3, fails.read));
     let mut writer = Counted::new(FlakyWriter::new(text, 1, fails.write, fails.stalled_write));
-    Ok(ados_launch::drive(
+    let drive = Drive {
         alloc,
-        &mut world,
-        &mut launcher,
-        &mut reader,
-        &mut writer,
         turns,
-    ))
+        breaks: &[],
+    };
+    Ok(drive.run(&mut world, &mut launcher, &mut reader, &mut writer))
 }
 
 // How a fresh world driven so ended, none where it ended well, and how many bytes it wrote. Want of memory is

@@ -51,6 +51,32 @@ fn wide(alloc: Global) -> Result<Ram, FsFault> {
     Ok(ram)
 }
 
+// The same files without every second object of those.
+fn thinned(alloc: Global, wide: &Ram) -> Result<Ram, FsFault> {
+    let mut ram = wide.copy()?;
+    for first in 0..32_u8 {
+        for second in 0..16_u8 {
+            let place = at(alloc, &[&[b'A' + first, b'A' + 2 * second]])?;
+            match ram.delete(&Busy::none(alloc), &place) {
+                Ok(less) => ram = less,
+                Err(FsFault::Refused(_)) => {}
+                Err(FsFault::NoMemory) => return Err(FsFault::NoMemory),
+            }
+        }
+    }
+    Ok(ram)
+}
+
+// Something is at the bottom of the thousand directories, one step after another.
+fn is_reached(alloc: Global, ram: &Ram) -> Result<bool, NoMemory> {
+    let name = Name::new(Text::from_bytes(alloc, b"D")?);
+    let mut cursor = ram.below(&at(alloc, &[b"A"])?);
+    for _ in 0..999 {
+        cursor = cursor.child(&name);
+    }
+    Ok(cursor.entry().is_some() && cursor.child(&name).entry().is_none())
+}
+
 // The same files with what is at A one directory deeper.
 fn deeper(alloc: Global, ram: &Ram) -> Result<Ram, FsFault> {
     let with = ram.make_dir(&at(alloc, &[b"P"])?)?;
@@ -92,6 +118,29 @@ fn a_directory_holds_all_objects(rt: HostRuntime) -> Result<(), FsFault> {
     let ram = wide(rt.alloc())?;
     let count = ram.children(&Place::root(rt.alloc()))?.len();
     assert!(rt; count == 1_024);
+    Ok(())
+}
+
+#[test]
+fn blocks_of_a_directory_grow_and_shrink(rt: HostRuntime) -> Result<(), FsFault> {
+    let old = wide(rt.alloc())?;
+    let new = thinned(rt.alloc(), &old)?;
+    let even = at(rt.alloc(), &[b"aa"])?;
+    let odd = at(rt.alloc(), &[b"ab"])?;
+    let count = new.children(&Place::root(rt.alloc()))?.len();
+    assert!(rt; count == 514);
+    assert!(rt; old.look(&even).is_some() && new.look(&even).is_none());
+    assert!(rt; old.look(&odd).is_some() && new.look(&odd).is_some());
+    Ok(())
+}
+
+#[test]
+fn contents_end_with_what_holds_them(rt: HostRuntime) -> Result<(), FsFault> {
+    let ram = deep(rt.alloc())?;
+    let places = ram.contents(&Place::root(rt.alloc()))?;
+    assert!(rt; places.len() == 1_004);
+    assert!(rt; places[0].names().len() == 1_000 && places[999].names().len() == 1);
+    assert!(rt; is_reached(rt.alloc(), &ram)?);
     Ok(())
 }
 

@@ -1,4 +1,4 @@
-ghost use Rattle.std.specs.Prelude.{◌≡◌, IfOk, OnOk, OnErr};
+ghost use Rattle.std.specs.Prelude.{◌≡◌, true, None, IfOk, OnOk, OnErr};
 ghost use Rattle.std.specs.List.{filter};
 ghost use Rattle.std.specs.Fmt.{decimal, signed_decimal};
 ghost use Rattle.ados_text.specs.Text.{IsText};
@@ -71,6 +71,7 @@ impl Locals {
     pub fn set(&mut self, name: Name, value: Text) -> Result<(), NoMemory>
         ensures ok { OnOk result (self.new ≡ set_pair self.old name value) }
         ensures err { OnErr result (self.new ≡ self.old) }
+        ensures absent { OnErr result (value_in self.old name ≡ None) }
     {
         self.vars.set(name, value)
     }
@@ -82,6 +83,7 @@ impl Locals {
     pub fn unset(&mut self, name: &Name) -> Result<(), NoMemory>
         ensures ok { OnOk result (self.new ≡ unset_in self.old name.now) }
         ensures err { OnErr result (self.new ≡ self.old) }
+        ensures asks { OnErr result (is_of_codes name.now ≡ true) }
     {
         if is_of_codes(name) {
             let mut vars = self.vars.copy()?;

@@ -3,7 +3,7 @@ use Rattle.std.proofs.Common.{◌≡◌, ℕ, List, [], ◌∷◌, ◌++◌, Boo
 use Rattle.std.specs.Prelude.{IfSome}
 use Rattle.ados_machine.specs.declared.answers.Answer.{Answer as Reply}
 use Rattle.ados_machine.specs.declared.events.Event.{Event}
-use Rattle.ados_machine.specs.declared.events.Event.TheVariants.{Typed, EndOfInput, Turn, Answer}
+use Rattle.ados_machine.specs.declared.events.Event.TheVariants.{Typed, EndOfInput, Turn, Answer, Break}
 use Rattle.ados_machine.specs.declared.outs.Out.{Out}
 use Rattle.ados_machine.specs.declared.refusals.Refusal.{Refusal}
 use Rattle.ados_machine.specs.Given.{asked_in}
@@ -39,6 +39,7 @@ pub failed-start : (w : WorldState) (event : Event) (out : Out) → IsAnswer eve
 failed-start w (Typed line) out answer = tt
 failed-start w EndOfInput out answer = tt
 failed-start w (Turn k) out answer = tt
+failed-start w (Break k kind) out answer = tt
 failed-start w (Answer k reply) out answer = λ failure. fails-if w k reply out (shell_at w k) refl answer failure
 
 -- refused events keep the world
@@ -66,6 +67,7 @@ event-leaves : (w now : WorldState) (k : ℕ) (first : Out) (between : List Even
 event-leaves w now k first between middle (Typed line) out run refused answer = tt
 event-leaves w now k first between middle EndOfInput out run refused answer = tt
 event-leaves w now k first between middle (Turn j) out run refused answer = tt
+event-leaves w now k first between middle (Break j kind) out run refused answer = tt
 event-leaves w now k first between middle (Answer j reply) out run refused answer = λ same failure.
     (let whole = Runs-more w (Turn k ∷ between) (Ok first ∷ middle) now (Answer j reply) (Ok out) run answer in
     rw same
@@ -91,6 +93,7 @@ behind-turn : (w : WorldState) (event : Event) (out : Result Out Refusal) (event
 behind-turn w (Typed line) out events outs last answer run = tt
 behind-turn w EndOfInput out events outs last answer run = tt
 behind-turn w (Answer k reply) out events outs last answer run = tt
+behind-turn w (Break k kind) out events outs last answer run = tt
 behind-turn w (Turn k) (Err why) events outs last answer run = tt
 behind-turn w (Turn k) (Ok first) events outs last answer run =
     next-leaves w (world_after w (Ok first) (step_of w (Turn k))) k first [] [] events outs last (answer, refl) tt run

@@ -1,3 +1,5 @@
+mod BreakLemmas
+mod BrokenLemmas
 mod CarryingLemmas
 mod FillLemmas
 mod LawLemmas
@@ -5,3 +7,4 @@ mod MemoryLemmas
 mod NewShellLemmas
 mod OpenedLemmas
 mod StepLemmas
+mod TakenLemmas

@@ -7,7 +7,6 @@ use Rattle.ados_find.specs.declared.outcomes.Renamed.{Renamed}
 use Rattle.ados_flow.specs.Frames.{FrameState}
 use Rattle.ados_machine.specs.declared.events.Event.TheVariants as event
 use Rattle.ados_machine.specs.declared.refusals.Refusal.TheVariants.{NoMemory}
-use Rattle.ados_machine.specs.Carrying.{carried_by, carried_shells}
 use Rattle.ados_machine.specs.Items.{Item}
 use Rattle.ados_machine.specs.Limits.{IsSane, RunsFrame}
 use Rattle.ados_machine.specs.Numbers.{free_number}
@@ -17,11 +16,11 @@ use Rattle.ados_machine.specs.Runs.{IsAnswer}
 use Rattle.ados_machine.specs.Settle.{Turned}
 use Rattle.ados_machine.specs.Shells.{ShellState}
 use Rattle.ados_machine.specs.Stacks.{stack_of}
-use Rattle.ados_machine.specs.Step.{applied, begun_items, ended_with, is_done, left, moved_in, of_shell, queue_behind, start, turned, with_begun}
+use Rattle.ados_machine.specs.Step.{applied, begun_items, ended_with, is_done, left, moved_in, of_shell, queue_behind, start, turned, unflagged}
 use Rattle.ados_machine.specs.Turning as turning
 use Rattle.ados_machine.specs.World.{WorldState, has_frame, input_of, shell_at}
-use Rattle.ados_machine.proofs.Shells.{shells_behind, carried-free, carried-runs, found, found-carried, found-placed_other, found-set_same, free-number}
-use Rattle.ados_machine.proofs.Turnings.{TurningGoes, turning-goes}
+use Rattle.ados_machine.proofs.Shells.{shells_behind, found, found-left}
+use Rattle.ados_machine.proofs.Turnings.{TurningGoes, flagged-goes}
 use Rattle.ados_machine.proofs.Turns.{Goes}
 use Rattle.ados_shell.specs.Turnings.{MayWantMemory}
 
@@ -60,13 +59,7 @@ left-is k moved t e = rw e refl
 shell-stays : (w : WorldState) (k : ℕ) (shell : ShellState) (t : Turned) → IsSane w → shell_at w k ≡ Some shell → Goes shell.parts shell.frames t → t.log ≡ []
     → is_some (found (shells_behind w.shells k (moved_in w t) t) k) ≡ true
 shell-stays w k shell t sane here goes none =
-    let moved = moved_in w t in
-    let carried = carried_shells moved w.shells in
-    let number = free_number w.shells in
-    let there = found-carried moved w.shells k ∙ carried-runs moved (found w.shells k) shell here in
-    let then_there = found-placed_other carried t.course.begun number k (carried_by moved shell) (carried-free moved w.shells number (free-number w.shells)) there in
-    ap is_some (found-set_same (with_begun t.course.begun number carried) k (carried_by moved shell) (left k moved t) then_there)
-    ∙ left-is k moved t (runs-on w k shell t sane here goes none)
+    ap is_some (found-left w.shells k shell (moved_in w t) t here) ∙ left-is k (moved_in w t) t (runs-on w k shell t sane here goes none)
 
 -- a turn behind which the shell runs on may want memory
 may-want : (k : ℕ) (world : WorldState) (items : List (ℕ × Item)) → is_some (shell_at world k) ≡ true → memory.MayWantMemory (event.Turn k) world items
@@ -96,7 +89,9 @@ wants w k shell (turning.Takes rest t) sane here goes m =
 
 -- a turn that was accepted may want memory
 pub turn-may : (w : WorldState) (k : ℕ) (shell : ShellState) → IsSane w → shell_at w k ≡ Some shell
-    → MayWantMemory (turning.turning (input_of w k) shell.frames (start w shell) shell.phase) → IsAnswer (event.Turn k) (Err NoMemory) (turned w k (Some shell))
+    → MayWantMemory (turning.flagged_turning shell.flagged (input_of w k) shell.frames (unflagged (start w shell)) shell.phase)
+    → IsAnswer (event.Turn k) (Err NoMemory) (turned w k (Some shell))
 turn-may w k shell sane here m =
-    wants w k shell (turning.turning (input_of w k) shell.frames (start w shell) shell.phase) sane here
-    (turning-goes (input_of w k) shell.frames (start w shell) shell.phase (rw here at (sane.each k))) m
+    let course = unflagged (start w shell) in
+    wants w k shell (turning.flagged_turning shell.flagged (input_of w k) shell.frames course shell.phase) sane here
+    (flagged-goes shell.flagged (input_of w k) shell.frames course shell.phase (rw here at (sane.each k))) m

@@ -1,10 +1,14 @@
--- The laws at the calls: what a start that failed leaves, in one event and in a run, and that quiet shells are invisible.
-use Rattle.std.specs.Prelude.{◌≡◌, ℕ, List, ◌∷◌, IfSome, Result, Ok, Err}
+-- The laws at the calls: what a start that failed leaves and where scripts end at a break, in one event and in a run, and that
+-- quiet shells are invisible.
+use Rattle.std.specs.Prelude.{◌≡◌, ℕ, List, ◌∷◌, Bool, IfOk, IfSome, Result, Ok, Err}
+use Rattle.std.specs.List.{list_any}
 use Rattle.ados_machine.specs.declared.events.Event.{Event}
 use Rattle.ados_machine.specs.declared.events.Event.TheVariants.{Turn, Answer}
+use Rattle.ados_machine.specs.declared.outs.EndReport.{EndReport}
 use Rattle.ados_machine.specs.declared.outs.Out.{Out}
 use Rattle.ados_machine.specs.declared.refusals.Refusal.{Refusal}
 use Rattle.ados_machine.specs.World.{WorldState, shell_at}
+use Rattle.ados_machine.specs.Laws.{finds_flag}
 use Rattle.ados_machine.specs.Step.{step_of}
 use Rattle.ados_machine.specs.Runs.{world_after}
 use Rattle.ados_machine.specs.Starts.{IsFailure, StartFails, StartLeavesNothing}
@@ -38,6 +42,18 @@ FailedStartsLeaveNothingIn w (event ∷ events) (out ∷ outs) =
     BehindTurn w event out (world_after w out (step_of w event)) events outs
     × FailedStartsLeaveNothingIn (world_after w out (step_of w event)) events outs
 FailedStartsLeaveNothingIn w _ _ = Unit {0}
+
+-- one of these reports tells of a break
+abbrev pub tells_break : List EndReport → Bool
+tells_break reports = list_any (λ report. report.broken) reports
+
+-- each accepted event of a run ends scripts at a break exactly where it is a turn that finds the flag of its shell, in which a
+-- script runs
+abbrev pub BreaksEndScriptsIn : WorldState → List Event → List (Result Out Refusal) → Type 0
+BreaksEndScriptsIn w (event ∷ events) (out ∷ outs) =
+    IfOk out (λ given. tells_break given.reports ≡ finds_flag w event)
+    × BreaksEndScriptsIn (world_after w out (step_of w event)) events outs
+BreaksEndScriptsIn w _ _ = Unit {0}
 
 -- each shell that is quiet in a run can be taken out of it
 abbrev pub QuietShellsAreInvisibleIn : WorldState → List Event → List (Result Out Refusal) → WorldState → Type 0

@@ -12,15 +12,20 @@ use Rattle.ados_machine.specs.Step.{giving}
 use Rattle.ados_machine.specs.World.{WorldState, flatten, numbered}
 use Rattle.ados_shell.specs.declared.drafts.Draft.{Draft}
 use Rattle.ados_shell.specs.Drafts.{out_of, phase_in}
+use Rattle.ados_world.specs.Breaks.{others_broken}
 use Rattle.ados_world.specs.Endings.{codes_left, ended_left, shells_left}
 use Rattle.ados_world.specs.NewShells.{joined, new_shell}
 use Rattle.ados_world.specs.Shells.{shells_by}
 
 -- the shells behind what a turn makes of one of them, with the one that begins, at the lowest free number
-abbrev pub shells_with : ℕ → Draft → WorldState → List (Option ShellState)
-shells_with number draft w =
+abbrev pub shells_standing : ℕ → Draft → WorldState → List (Option ShellState)
+shells_standing number draft w =
     joined (new_shell (option_map (λ b. b.value) draft.begun) (free_number w.shells))
     (shells_by number draft.shell (moved_by w.shared (version w.shared draft.shared) (option_map (λ r. r.value) draft.renamed)) w.shells)
+
+-- the same where another one may be broken
+abbrev pub shells_with : ℕ → Draft → WorldState → List (Option ShellState)
+shells_with number draft w = others_broken number draft.breaking (shells_standing number draft w)
 
 -- the world behind what a turn changes: a background shell that runs no frame any more is gone, and its codes stay
 abbrev pub taken : ℕ → Draft → WorldState → WorldState

@@ -2,6 +2,7 @@
 //! The world of shells: it takes events one by one, and answers what is printed, what a launcher is asked for, and which
 //! scripts ended.
 
+mod breaks;
 mod carrying;
 mod endings;
 mod hosts;
@@ -13,7 +14,9 @@ mod shells;
 mod steps;
 mod worlds;
 
-pub use ados_machine::{Answer, Codes, EndReport, Event, Job, Out, Refusal, Reports, Request};
+pub use ados_machine::{
+    Answer, ChildState, Codes, EndReport, Event, Job, Kind, Out, Refusal, Reports, Request,
+};
 pub use ados_resident::HostEntry;
 pub use ados_shell::Draft;
 pub use hosts::{NewFault, hosts_fault};

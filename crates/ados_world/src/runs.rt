@@ -8,7 +8,7 @@ ghost use Rattle.ados_machine.specs.Reports.{reports_by, stacks_in};
 ghost use Rattle.ados_machine.specs.Stacks.{FramesHold};
 ghost use Rattle.ados_machine.specs.Trace.{own, reports_in, trace};
 ghost use Rattle.ados_machine.specs.World.{codes_at};
-ghost use Rattle.ados_world.specs.Laws.{FailedStartsLeaveNothingIn, QuietShellsAreInvisibleIn};
+ghost use Rattle.ados_world.specs.Laws.{BreaksEndScriptsIn, FailedStartsLeaveNothingIn, QuietShellsAreInvisibleIn};
 
 use crate::worlds::World;
 use ados_machine::{Event, Out, Refusal};
@@ -69,8 +69,9 @@ impl World {
     /// of outs finds no memory the world comes back unchanged.
     ///
     /// Whatever the events, each script ends early exactly at its first command whose code reaches
-    /// its limit, and the reports of the outs are the ends of scripts, in their order. Each end is that of the newest
-    /// frame of its shell, told once by the frame's own name and last record. Where a program could not be started, and
+    /// its limit, unless it is broken first, and the reports of the outs are the ends of scripts, in their order. Each end is
+    /// that of the newest frame of its shell, told once by the frame's own name and last record. Scripts end at a break exactly at
+    /// a turn that finds the flag of its shell, in which a script runs. Where a program could not be started, and
     /// that is the next event accepted behind the turn that asked, nothing is left of the attempt. A shell whose events
     /// leave what is seen of it as it was can be taken out: the others are answered the same without it. What waited and was
     /// typed is what shell 1 took, in order, followed by what waits. Each report tells the last record of its script, and the
@@ -80,6 +81,7 @@ impl World {
         ensures limits { IfOk result (λ run. LimitsHold self events.now run.outs) }
         ensures reports { IfOk result (λ run. ReportsHold self events.now run.outs) }
         ensures frames { IfOk result (λ run. FramesHold self events.now run.outs run.world) }
+        ensures breaks { IfOk result (λ run. BreaksEndScriptsIn self events.now run.outs) }
         ensures starts { IfOk result (λ run. FailedStartsLeaveNothingIn self events.now run.outs) }
         ensures quiet { IfOk result (λ run. QuietShellsAreInvisibleIn self events.now run.outs run.world) }
         ensures typed { IfOk result (λ run. self.queue ++ typed_in events.now run.outs ≡ taken_in self events.now run.outs ++ run.world.queue) }

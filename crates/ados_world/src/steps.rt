@@ -2,39 +2,45 @@
 ghost use Rattle.std.specs.Prelude.{◌≡◌, ℕ, [], drop, false, Err, IfErr, IfOk, OnErr, OnOk, is_some, true};
 ghost use Rattle.ados_machine.specs.Given.{asked_in};
 ghost use Rattle.ados_machine.specs.InUse.{asks, entry_of};
+ghost use Rattle.ados_machine.specs.Laws.{finds_flag};
 ghost use Rattle.ados_machine.specs.Limits.{IsSane};
 ghost use Rattle.ados_machine.specs.World.{is_over, shell_at};
-ghost use Rattle.ados_machine.specs.Step.{step_of, turned, answered, giving, queue_behind};
+ghost use Rattle.ados_machine.specs.Step.{step_of, turned, answered, broken, giving, queue_behind};
 ghost use Rattle.ados_machine.specs.Runs.{IsAnswer, world_after};
 ghost use Rattle.ados_machine.specs.declared.refusals.Refusal.TheVariants.{NoMemory as WantOfMemory};
+ghost use Rattle.ados_find.specs.Shared.{version};
 ghost use Rattle.ados_shell.specs.Drafts.{out_of};
-ghost use Rattle.ados_world.specs.Laws.{FailedStart};
+ghost use Rattle.ados_world.specs.Laws.{FailedStart, tells_break};
 ghost use Rattle.ados_world.specs.Shells.{IsShellNumber};
 ghost use Rattle.ados_world.specs.Steps.{answering, asked_by, ended_world, taken};
 
+use crate::breaks::{break_number, break_other, breaks_by};
 use crate::carrying::moved_by;
 use crate::endings::{end, end_done};
 use crate::new_shells::{join, new_shell};
 use crate::shells::change_shell;
 use crate::worlds::World;
-use ados_find::Codes;
-use ados_machine::{Answer, Event, Out, Refusal};
+use ados_find::{Codes, Question, Shared};
+use ados_machine::{Answer, Event, Kind, Out, Refusal};
 use ados_shell::{Answering, Draft, Turning};
 use ados_text::{NoMemory, Text};
+use std::alloc::Global;
 
 impl World {
     /// Takes one event, or refuses it and stays as it was.
     ///
-    /// Refusals come in the order of their enum; the first six, an accepted end of input and the end of a shell take
-    /// no memory. An answer that a start has failed changes the codes of the shell that asked, and what these change:
+    /// Refusals come in the order of their enum; the first six, an accepted end of input, a break and the end of a shell take
+    /// no memory. A break is refused by `Over` and `NoSuchShell` alone. An answer that a start has failed changes the codes of the shell that asked, and what these change:
     /// what all shells share, the other shells and the input stay. What is given as request is what the event's shell waits
-    /// for then, and none behind a typed line or the end of input. A resident entry stays in use from the start of its program
+    /// for then, and none behind a typed line, the end of input or a break. A report tells of a break exactly where the event is a
+    /// turn that finds the flag of its shell, in which a script runs. A resident entry stays in use from the start of its program
     /// to the answer that ends it.
     pub fn step(&mut self, event: &Event) -> Result<Out, Refusal>
         ensures answer { IsAnswer event.now result (step_of self.old event.now) }
         ensures world { self.new ≡ world_after self.old result (step_of self.old event.now) }
         ensures failed_start { OnOk result (FailedStart self.old event.now self.new) }
         ensures request { IfOk result (λ out. out.request ≡ asked_in self.new event.now) }
+        ensures breaks { IfOk result (λ out. tells_break out.reports ≡ finds_flag self.old event.now) }
         ensures entries { OnOk result ((k : ℕ) → asks self.old k ≡ true → asks self.new k ≡ true → entry_of self.new k ≡ entry_of self.old k) }
     {
         let mut draft = Draft::new(self.alloc);
@@ -62,6 +68,10 @@ impl World {
             }
             Event::Turn(number) => self.turn(*number, draft),
             Event::Answer(number, answer) => self.answer(*number, answer, draft),
+            Event::Break(number, kind) => {
+                draft.give_nothing();
+                self.break_shell(*number, *kind)
+            }
         }
     }
 
@@ -119,6 +129,20 @@ impl World {
         }
     }
 
+    fn break_shell(&mut self, number: u8, kind: Kind) -> Result<(), Refusal>
+        requires { is_over self.old ≡ false }
+        ensures answer { IsAnswer (Event.Break number kind) (answering (giving [] None []) result) (broken self.old number kind (shell_at self.old number)) }
+        ensures world { self.new ≡ world_after self.old (answering (giving [] None []) result) (broken self.old number kind (shell_at self.old number)) }
+    {
+        // By this a break knows what holds of every world, as a turn does.
+        let _ = &self.alloc;
+        if self.shell(number).is_none() {
+            return Err(Refusal::NoSuchShell);
+        }
+        break_number(&mut self.shells, number as usize, breaks_by(kind));
+        Ok(())
+    }
+
     /// Moves in what a turn changes that took the first line of its input.
     fn take_typed(&mut self, number: u8, draft: &mut Draft) -> Result<(), Refusal>
         requires number { IsShellNumber number }
@@ -136,8 +160,8 @@ impl World {
         Ok(())
     }
 
-    /// Moves in what a turn, or an answer, changes: the shell that it makes stands at its number, and the turn's own shell ends where
-    /// it is a background shell that runs no frame any more.
+    /// Moves in what a turn, or an answer, changes: the shell that it makes stands at its number, the shell that it broke is broken,
+    /// and the turn's own shell ends where it is a background shell that runs no frame any more.
     fn take(&mut self, number: u8, draft: &mut Draft) -> Result<(), Refusal>
         requires number { IsShellNumber number }
         requires runs { is_some (shell_at self.old number) ≡ true }
@@ -162,11 +186,9 @@ impl World {
             return Err(Refusal::NoMemory);
         };
         join(&mut self.shells, begun);
+        break_other(&mut self.shells, number, draft.breaking);
         end_done(&mut self.shells, &mut self.ended, number);
-        match draft.shared.take() {
-            None => {}
-            Some(new) => self.shared = new,
-        }
+        renew(self.alloc, &mut self.shared, draft.shared.take(), draft.asked.take());
         Ok(())
     }
 
@@ -188,5 +210,24 @@ impl World {
         ensures { self.new ≡ ended_world number codes self.old }
     {
         end(&mut self.shells, &mut self.ended, number, codes);
+    }
+}
+
+// The shared parts become new ones, where there are any; else their cache learns what was asked.
+fn renew(alloc: Global, shared: &mut Shared, new: Option<Shared>, asked: Option<Box<Question>>)
+    ensures { shared.new ≡ version shared.old new }
+{
+    match new {
+        None => learn(alloc, shared, asked),
+        Some(new) => *shared = new,
+    }
+}
+
+/// The cache of the shared parts, which the event left as they were, learns what it was asked for.
+fn learn(alloc: Global, shared: &mut Shared, asked: Option<Box<Question>>)
+    ensures { shared.new ≡ shared.old }
+{
+    if let Some(asked) = asked {
+        shared.learn(alloc, &asked.path, &asked.directory);
     }
 }

@@ -3,6 +3,7 @@ ghost use Rattle.std.specs.Prelude.{◌≡◌, IfOk, OnSome};
 ghost use Rattle.std.specs.Option.{option_copied};
 ghost use Rattle.ados_world.specs.Hosts.{Answers, hosts_fault};
 ghost use Rattle.ados_world.specs.Shells.{IsShellNumber};
+ghost use Rattle.ados_machine.specs.Children.{child_in};
 ghost use Rattle.ados_machine.specs.Limits.{IsSane};
 ghost use Rattle.ados_machine.specs.World.{fresh_world, shell_at, is_over, is_ready, wants_line, codes_at, ended_at, running, pending_of};
 
@@ -10,7 +11,7 @@ use crate::hosts::{NewFault, hosts_fault};
 use crate::shells::{any_runs, find_shell, no_shells, taken};
 use ados_assign::Assigns;
 use ados_find::{Codes, Shared};
-use ados_machine::Request;
+use ados_machine::{ChildState, Request};
 use ados_ram::Ram;
 use ados_resident::{HostEntry, Hosts, Residents};
 use ados_shell::{Commands, Scene, Shell};
@@ -138,6 +139,16 @@ impl World {
         match self.shell(number) {
             None => None,
             Some(shell) => shell.request(),
+        }
+    }
+
+    /// How far the program of the host is that the shell of this number started.
+    pub fn child(&self, number: u8) -> ChildState
+        ensures { result ≡ child_in self.now number }
+    {
+        match self.shell(number) {
+            None => ChildState::Closed,
+            Some(shell) => shell.child(),
         }
     }
 

@@ -1,2 +1,1 @@
 pub mod RefusalLemmas
-mod NewPair

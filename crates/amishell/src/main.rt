@@ -11,7 +11,7 @@ mod files;
 mod reading;
 mod request;
 
-use ados_launch::{Counted, Host, Launcher, Listed, Source, drive};
+use ados_launch::{Counted, Drive, Host, Launcher, Listed, Source};
 use ados_text::{Code, Text};
 use ados_world::{HostEntry, NewFault, World};
 use faults::Fault;
@@ -82,7 +82,12 @@ fn run_typed<R: AllocGlobal + Files + Input + Print + Processes>(
         return Err(Fault::Memory);
     };
     let mut reader = Counted::new(rt.reader());
-    play(rt, hosts.as_slice(), &mut launcher, &mut reader, turns)
+    let drive = Drive {
+        alloc: rt.alloc(),
+        turns,
+        breaks: &[],
+    };
+    play(rt, hosts.as_slice(), &mut launcher, &mut reader, drive)
 }
 
 // Runs the recording in a file, and gives the exit status.
@@ -90,24 +95,29 @@ fn replay<R: AllocGlobal + Files + Print>(rt: &R, file: &str) -> Result<u8, Faul
     let recording = files::recording_in(rt, file)?;
     let mut launcher = Listed::new(rt.alloc(), recording.answers);
     let mut reader = Counted::new(recording.typed.as_slice());
+    let drive = Drive {
+        alloc: rt.alloc(),
+        turns: reading::TURNS,
+        breaks: recording.breaks.as_slice(),
+    };
     play(
         rt,
         recording.hosts.as_slice(),
         &mut launcher,
         &mut reader,
-        reading::TURNS,
+        drive,
     )
 }
 
 // Runs a reader's lines in a world with these programs of the host, which a new launcher starts, and gives the exit status
 // that they leave.
-#[tactic(auto, using(crate::proofs::NewPair::new_pair))]
+#[tactic(auto, using(ados_launch::proofs::NewPair::new_pair))]
 fn play<R: AllocGlobal + Print, L: Launcher, S: Source>(
     rt: &R,
     hosts: &[HostEntry],
     launcher: &mut L,
     reader: &mut S,
-    turns: u64,
+    drive: Drive,
 ) -> Result<u8, Fault>
     requires reader { S.faults reader.old < 2 ^ 64 - 1 }
     requires launcher { L.calls launcher.old ≡ [] }
@@ -120,7 +130,7 @@ fn play<R: AllocGlobal + Print, L: Launcher, S: Source>(
         Err(_) => unreachable!(),
     };
     let mut writer = Counted::new(io::writer(rt));
-    let end = drive(rt.alloc(), &mut world, launcher, reader, &mut writer, turns)?;
+    let end = drive.run(&mut world, launcher, reader, &mut writer)?;
     Ok(status(end.code))
 }
 

@@ -1,4 +1,4 @@
-use Rattle.std.proofs.Common.{◌≡◌, ◌∙◌, sym}
+use Rattle.std.proofs.Common.{◌∙◌, sym}
 use Rattle.ados_find.proofs.SearchLemmas.{found-before, found-behind}
 use Rattle.ados_find.proofs.search.seek.Goals as goal
 

@@ -1,4 +1,4 @@
-use Rattle.std.proofs.Common.{rules, arith, ◌≡◌, ◌≤◌, ◌-◌, ◌++◌, ◌∷◌, [], length, Some, None, true, is_some, refl}
+use Rattle.std.proofs.Common.{rules, arith, ◌≡◌, ◌<◌, ◌≤◌, ◌-◌, ◌++◌, ◌∷◌, [], length, Some, None, true, is_some, refl}
 use Rattle.ados_machine.specs.Numbers.{free_number}
 use Rattle.ados_machine.specs.Whole.{opened}
 use Rattle.ados_machine.specs.World.{codes_at, shell_at}
@@ -26,11 +26,11 @@ next_event-requires-clause-number g c =
 pub loop-events-preserved : goal.loop-events-preserved
 loop-events-preserved g c =
     let runs : is_some (shell_at c.loop-events.world c.in-Ok-Some.number) ≡ true = search rules in
-    let grown : c.extend_from_slice.new.self.items ≡ c.loop-events.out.items ++ (out_of c.next_event.new.draft).bytes = search rules in
+    let grown : c.append.new.out.items ≡ c.loop-events.out.items ++ (out_of c.next_event.new.draft).bytes = search rules in
     record {
       agrees = c.in_default-next_event.ensures.agrees;
       going = going-more c.in-Ok-Some.number c.args.world.now c.args.line.now c.args.turns c.loop-events.events (g.L.Launcher.is_full c.loop-events.launcher) (g.L.Launcher.is_full c.next_event.new.launcher)
-          c.loop-events.world c.next_event.new.world c.args.out.now.items c.loop-events.out.items c.extend_from_slice.new.self.items
+          c.loop-events.world c.next_event.new.world c.args.out.now.items c.loop-events.out.items c.append.new.out.items
           (g.L.Launcher.calls c.args.launcher.now) (g.L.Launcher.calls c.loop-events.launcher) (g.L.Launcher.calls c.next_event.new.launcher) (out_of c.next_event.new.draft)
           c.loop-events.invariant.going c.next_event.ensures.stays runs c.in_default-next_event.ensures.event grown;
     }
@@ -84,10 +84,11 @@ returns-then-is_err-clause-fault g c =
     let good : opening_fault c.args.world.now c.args.line.now ≡ None = search rules in
     let free : free_number c.args.world.now.shells ≡ Some c.in-Ok-Some.number = search rules in
     let runs : is_some (shell_at c.loop-events.world c.in-Ok-Some.number) ≡ true = search rules in
-    let kept : c.extend_from_slice.new.self.items ≡ c.loop-events.out.items = search rules in
+    let kept : c.append.new.out.items ≡ c.loop-events.out.items = search rules in
     let bytes : c.into_out.result.bytes ≡ (out_of c.next_event.new.draft).bytes = search rules in
+    let some : 0 < length c.into_out.result.bytes = search rules in
     rw kept
     (stands-unwritten c.in-Ok-Some.number c.args.world.now c.args.line.now c.args.turns c.loop-events.events (g.L.Launcher.is_full c.loop-events.launcher) (g.L.Launcher.is_full c.next_event.new.launcher)
     c.loop-events.world c.next_event.new.world c.args.out.now.items c.loop-events.out.items
     (g.L.Launcher.calls c.args.launcher.now) (g.L.Launcher.calls c.loop-events.launcher) (g.L.Launcher.calls c.next_event.new.launcher) (out_of c.next_event.new.draft) _
-    c.loop-events.invariant.going good free c.next_event.ensures.stays runs c.loop-events-test.true c.in_default-next_event.ensures.event refl refl refl bytes)
+    c.loop-events.invariant.going good free c.next_event.ensures.stays runs c.loop-events-test.true c.in_default-next_event.ensures.event refl refl refl bytes some)

@@ -1,6 +1,6 @@
 use Rattle.std.proofs.Common.{rules, arith}
 use Rattle.ados_machine.specs.World.{pending_of}
-use Rattle.ados_launch.specs.Schedule.{asks_further}
+use Rattle.ados_launch.specs.Rounds.{asks_further}
 use Rattle.ados_launch.proofs.Waits.{filled-more}
 use Rattle.ados_launch.proofs.children.open_children.Goals as goal
 

@@ -1,7 +1,7 @@
 use Rattle.std.proofs.Common.{◌≡◌, ℕ, get_or, false, nat_lt, length}
 use Rattle.std.specs.Prelude.{if◌then◌else◌}
 use Rattle.ados_machine.specs.World.{pending_of}
-use Rattle.ados_launch.specs.Schedule.{asks_further}
+use Rattle.ados_launch.specs.Rounds.{asks_further}
 use Rattle.ados_launch.proofs.children.open_children.Given as goal
 
 abbrev pub invariant-loop-number : goal.invariant-loop-number

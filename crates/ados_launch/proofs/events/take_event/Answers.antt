@@ -4,15 +4,19 @@ use Rattle.ados_shell.specs.Drafts.{out_of}
 use Rattle.ados_launch.proofs.Accepts.{turn-accepted}
 use Rattle.ados_launch.proofs.Agreeing.{given-agrees, answers-agree, answers-whole}
 use Rattle.ados_launch.proofs.Places.{comes-turn}
-use Rattle.ados_launch.proofs.Taking.{took-at-turn, took-at-answer, dropped-at-answer}
+use Rattle.ados_launch.proofs.Taking.{took-at-lines, took-at-turn, took-at-answer, dropped-at-answer}
 use Rattle.ados_launch.proofs.events.take_event.Goals as goal
 
 pub give-requires : goal.give-requires
 give-requires g c = turn-accepted c.args.world.now c.args.place (sym (comes-turn c.args.world.now c.args.place (omega arith) (omega arith)) ∙ c.requires.due)
 
+pub returns-then-place-lt1-clause-took : goal.returns-then-place-lt1-clause-took
+returns-then-place-lt1-clause-took g c =
+    took-at-lines c.args.world.now _ _ _ (g.L.Launcher.is_full c.args.launcher.now) (g.L.Launcher.calls c.args.launcher.now) c.args.place c.take_next_line.new.draft.printed.items c.take_next_line.result (omega arith) c.take_next_line.ensures.took
+
 pub returns-then-place-lt21-clause-took : goal.returns-then-place-lt21-clause-took
 returns-then-place-lt21-clause-took g c =
-    took-at-turn c.args.world.now _ _ (g.L.Launcher.is_full c.args.launcher.now) (g.L.Launcher.calls c.args.launcher.now) c.args.place (out_of c.give.new.draft) c.give.result c.give.ensures.answer c.give.ensures.world
+    took-at-turn c.args.world.now _ _ (g.L.Launcher.is_full c.args.launcher.now) (g.L.Launcher.calls c.args.launcher.now) c.args.place (out_of c.give.new.draft) c.give.result (omega arith) (omega arith) c.give.ensures.answer c.give.ensures.world
 
 pub returns-then-place-lt21-clause-agrees : goal.returns-then-place-lt21-clause-agrees
 returns-then-place-lt21-clause-agrees g c =

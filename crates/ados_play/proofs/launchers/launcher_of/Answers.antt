@@ -1,5 +1,4 @@
 use Rattle.std.proofs.Common.{rules, ap, ◌∙◌}
-use Rattle.ados_machine.specs.Children.{child_asked}
 use Rattle.ados_launcher.specs.Lives.{life_in}
 use Rattle.ados_play.proofs.Reopened.{one-more, reopened}
 use Rattle.ados_play.proofs.launchers.launcher_of.Goals as goal
@@ -7,7 +6,7 @@ use Rattle.ados_play.proofs.launchers.launcher_of.Goals as goal
 pub loop-number-preserved : goal.loop-number-preserved
 loop-number-preserved c =
     one-more c.args.world.now c.loop-number.launcher.calls c.reopen.new.launcher.calls c.loop-number.number c.loop-number.invariant
-    (c.in_ok-reopen.ensures.own ∙ ap (λ request. life_in (child_asked request)) c.pending.ensures.request) c.in_ok-reopen.ensures.others
+    (c.in_ok-reopen.ensures.own ∙ ap life_in c.child.ensures) c.in_ok-reopen.ensures.others
 
 pub returns : goal.returns
 returns c =

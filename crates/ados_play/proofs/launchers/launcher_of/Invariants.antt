@@ -1,10 +1,9 @@
 use Rattle.std.proofs.Common.{◌≡◌, ℕ, nat_lt}
 use Rattle.std.specs.Prelude.{if◌then◌else◌}
-use Rattle.ados_machine.specs.Children.{child_asked}
-use Rattle.ados_machine.specs.World.{pending_of}
+use Rattle.ados_machine.specs.Children.{child_in}
 use Rattle.ados_launcher.specs.Lives.{Between, life_in, life_of}
 use Rattle.ados_play.proofs.launchers.launcher_of.Given as goal
 
--- the children of the numbers so far are as far as their shells ask, and no other is open
+-- the children of the numbers so far are as far as the world has them, and no other is open
 abbrev pub invariant-loop-number : goal.invariant-loop-number
-invariant-loop-number l = (k : ℕ) → life_of k l.launcher.calls ≡ (if nat_lt k l.number then life_in (child_asked (pending_of l.world k)) else Between)
+invariant-loop-number l = (k : ℕ) → life_of k l.launcher.calls ≡ (if nat_lt k l.number then life_in (child_in l.world k) else Between)

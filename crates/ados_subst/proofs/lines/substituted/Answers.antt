@@ -11,17 +11,23 @@ loop-place-preserved c =
     let r = referred c.args.above.now c.args.process.now in
     elim c.if-taken-gt0.branch [
       | then-taken-gt0 w ↦
-          rw (w.text-is, w.taken-is)
-          (taken-one m r _ _ _ _ c.args.line.now w.if-taken-gt0.true c.loop-place-test.true c.loop-place.invariant)
+          rw (w.text-is, w.taken-is) (
+            taken-one m r _ _ _ _ c.args.line.now w.if-taken-gt0.true c.loop-place-test.true c.loop-place.invariant.0,
+            c.next_place-ket.ensures.value,
+            c.next_place-dollar.ensures.value,
+          )
       | else-taken-gt0+in_ok-taken w ↦
-          rw (w.text-is, w.taken-is)
-          (segment-put m r _ _ _ _ _ _ c.args.line.now _ c.loop-place-test.true
-          (take_rest c.args.line.now (c.loop-place.place + 1))
-          (omega (arith, w.if-taken-gt0.false)) c.loop-place.invariant w.in_ok-taken.ensures.0 w.in_ok-taken.ensures.1)
+          rw (w.text-is, w.taken-is) (
+            segment-put m r _ _ _ _ _ _ c.args.line.now _ c.loop-place-test.true
+                (take_rest c.args.line.now (c.loop-place.place + 1))
+                (omega (arith, w.if-taken-gt0.false)) c.loop-place.invariant.0 w.in_ok-taken.ensures.0 w.in_ok-taken.ensures.1,
+            c.next_place-ket.ensures.value,
+            c.next_place-dollar.ensures.value,
+          )
     ]
 
 pub returns : goal.returns
 returns c =
     let m = c.args.above.now.marks in
     let r = referred c.args.above.now c.args.process.now in
-    all-put m r _ _ _ _ _ c.loop-place-test.false c.loop-place.invariant
+    all-put m r _ _ _ _ _ c.loop-place-test.false c.loop-place.invariant.0

@@ -1,20 +1,30 @@
-use Rattle.std.proofs.Common.{◌≡◌, ◌∙◌, ◌++◌, ◌∷◌, [], ℕ, List, sym, ap, subst, refl, true, Bool}
+use Rattle.std.proofs.Common.{suc, ◌≡◌, ◌∙◌, ◌++◌, ◌∷◌, [], ℕ, List, length, slice_index_or, sym, ap, subst, refl, true, Bool, arith}
 use Rattle.std.proofs.lemmas.List.{append-nil, map-append}
 use Rattle.ados_text.specs.Text.{folded}
 use Rattle.ados_ram.specs.declared.entries.Entry.{Entry}
 use Rattle.ados_ram.specs.Place.{Key, key_of}
-use Rattle.ados_ram.specs.Tree.{AllSubtrees, rows_to}
+use Rattle.ados_ram.specs.Tree.{Kid, Kids, AllSubtrees, flatten, rows_to}
 use Rattle.ados_ram.specs.Rows.{rows_within}
-use Rattle.ados_ram.proofs.WalkLemmas.{gathered, rows_in}
+use Rattle.ados_ram.proofs.WalkLemmas.{gathered, fewer, rows_in}
 use Rattle.ados_ram.proofs.branches.Branch.+add_rows.Goals as goal
 use Rattle.ados_ram.proofs.branches.Branch.+add_rows.Goals.{then-all+in_ok-add_rows, else-all}
+
+pub add_rows-requires : goal.add_rows-requires
+add_rows-requires t c =
+    let ks = c.deref-kid-items.result.now in
+    let own : ks ≡ c.self.inside.node.value.kids = c.deref-kid-items.ensures.value ∙ c.in_ok-each.ensures ∙ rw (c.deref.ensures) refl in
+    let at : length c.kid-item.result.1 ≡ length (slice_index_or ks c.loop-kid.kid-index c.kid-item.result).1 = ap (λ (k : Kid). length k.1) c.kid-item.is in
+    let less = fewer ks c.loop-kid.kid-index c.kid-item.result c.loop-kid-test.true in
+    let same : length (flatten ks) ≡ length (flatten c.self.inside.node.value.kids) = ap (λ (x : Kids). length (flatten x)) own in
+    let all : suc (length (flatten c.self.inside.node.value.kids)) ≡ length c.args.self.now.1 = ap (λ (k : Kid). length k.1) c.self.view_is in
+    omega (arith, c.decreases)
 
 pub loop-kid-preserved : goal.loop-kid-preserved
 loop-kid-preserved t c =
     let key = key_of c.args.place.now in
     let ks = c.deref-kid-items.result.now in
     let k = c.kid-item.result in
-    let own : ks ≡ c.self.inside.node.value.kids.items = c.deref-kid-items.ensures.value ∙ rw (c.deref.ensures) refl in
+    let own : ks ≡ c.self.inside.node.value.kids = c.deref-kid-items.ensures.value ∙ c.in_ok-each.ensures ∙ rw (c.deref.ensures) refl in
     let all : AllSubtrees ks = subst AllSubtrees (sym own) c.self.invariant.all in
     let place : key_of c.in_ok-at.at ≡ key ++ k.0 ∷ [] =
     ap key_of c.in_ok-at.ensures ∙ ap (λ (p : Key). key_of (p ++ c.in_ok-copy-2.field-0 ∷ [])) c.in_ok-copy.ensures ∙ map-append folded c.args.place.now (c.in_ok-copy-2.field-0 ∷ [])

@@ -16,15 +16,15 @@ returns-in_default t c = from_none c.args.names.now c.args.self.now.1 c.in_defau
 
 pub returns-in-None : goal.returns-in-None
 returns-in-None t c =
-    let kid : rows_at (option_copied c.kid_at.result) ≡ rows_found (find name_cmp (folded c.in-Some.name.now) c.self.inside.node.value.kids.items) = c.kid_at.ensures ∙ rw (c.deref-2.ensures.value, c.deref.ensures) refl in
-    let none : rows_at None ≡ rows_at (option_copied c.kid_at.result) = sym (ap (λ o. rows_at (option_copied o)) c.in-None.is) in
-    sym (from_kid c.self.inside.node.value.entry c.self.inside.node.value.kids.items c.args.self.now.1 (folded c.in-Some.name.now) (key_of c.in-Some.rest.now) (key_of c.args.names.now) (ap (λ (k : Kid). k.1) c.self.view_is) c.self.invariant.sorted (ap key_of c.in-Some.ensures.cases.0)
+    let kid : rows_at (option_copied c.find.result) ≡ rows_found (find name_cmp (folded c.in-Some.name.now) c.self.inside.node.value.kids) = c.find.ensures.rows ∙ rw (c.deref.ensures) refl in
+    let none : rows_at None ≡ rows_at (option_copied c.find.result) = sym (ap (λ o. rows_at (option_copied o)) c.in-None.is) in
+    sym (from_kid c.self.inside.node.value.head.value.entry c.self.inside.node.value.kids c.args.self.now.1 (folded c.in-Some.name.now) (key_of c.in-Some.rest.now) (key_of c.args.names.now) (ap (λ (k : Kid). k.1) c.self.view_is) c.self.invariant.sorted (ap key_of c.in-Some.ensures.cases.0)
     ∙ ap (rows_from (key_of c.in-Some.rest.now)) (sym (none ∙ kid)))
 
-pub returns-in-Some-kid_at : goal.returns-in-Some-kid_at
-returns-in-Some-kid_at t c =
-    let kid : rows_at (option_copied c.kid_at.result) ≡ rows_found (find name_cmp (folded c.in-Some.name.now) c.self.inside.node.value.kids.items) = c.kid_at.ensures ∙ rw (c.deref-2.ensures.value, c.deref.ensures) refl in
-    let some : rows_at (Some c.in-Some-kid_at.kid.now) ≡ rows_at (option_copied c.kid_at.result) = sym (ap (λ o. rows_at (option_copied o)) c.in-Some-kid_at.is) in
+pub returns-in-Some-find : goal.returns-in-Some-find
+returns-in-Some-find t c =
+    let kid : rows_at (option_copied c.find.result) ≡ rows_found (find name_cmp (folded c.in-Some.name.now) c.self.inside.node.value.kids) = c.find.ensures.rows ∙ rw (c.deref.ensures) refl in
+    let some : rows_at (Some c.in-Some-find.kid.now) ≡ rows_at (option_copied c.find.result) = sym (ap (λ o. rows_at (option_copied o)) c.in-Some-find.is) in
     c.at.ensures
-    ∙ sym (from_kid c.self.inside.node.value.entry c.self.inside.node.value.kids.items c.args.self.now.1 (folded c.in-Some.name.now) (key_of c.in-Some.rest.now) (key_of c.args.names.now) (ap (λ (k : Kid). k.1) c.self.view_is) c.self.invariant.sorted (ap key_of c.in-Some.ensures.cases.0)
+    ∙ sym (from_kid c.self.inside.node.value.head.value.entry c.self.inside.node.value.kids c.args.self.now.1 (folded c.in-Some.name.now) (key_of c.in-Some.rest.now) (key_of c.args.names.now) (ap (λ (k : Kid). k.1) c.self.view_is) c.self.invariant.sorted (ap key_of c.in-Some.ensures.cases.0)
     ∙ ap (rows_from (key_of c.in-Some.rest.now)) (sym (some ∙ kid)))

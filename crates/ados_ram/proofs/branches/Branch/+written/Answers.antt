@@ -11,20 +11,20 @@ use Rattle.ados_ram.proofs.branches.Branch.+written.Goals as goal
 
 pub returns-in-None : goal.returns-in-None
 returns-in-None t c =
-    let kid : rows_at (option_copied c.kid_at.result) ≡ rows_found (find name_cmp (folded c.in-Some.name.now) c.self.inside.node.value.kids.items) = c.kid_at.ensures ∙ rw (c.deref-2.ensures.value, c.deref.ensures) refl in
-    let none : rows_at None ≡ rows_at (option_copied c.kid_at.result) = sym (ap (λ o. rows_at (option_copied o)) c.in-None.is) in
+    let kid : rows_at (option_copied c.find.result) ≡ rows_found (find name_cmp (folded c.in-Some.name.now) c.self.inside.node.value.kids) = c.find.ensures.rows ∙ rw (c.deref.ensures) refl in
+    let none : rows_at None ≡ rows_at (option_copied c.find.result) = sym (ap (λ o. rows_at (option_copied o)) c.in-None.is) in
     let all : rows_written c.args.self.now.1 [] c.args.names.now ≡ c.args.names.now =
-    written_as_asked c.self.inside.node.value.entry c.in-Some.name.now c.self.inside.node.value.kids.items c.args.self.now.1 c.in-Some.rest.now c.args.names.now (ap (λ (k : Kid). k.1) c.self.view_is) c.self.invariant.sorted c.in-Some.ensures.cases.0 (none ∙ kid) in
+    written_as_asked c.self.inside.node.value.head.value.entry c.in-Some.name.now c.self.inside.node.value.kids c.args.self.now.1 c.in-Some.rest.now c.args.names.now (ap (λ (k : Kid). k.1) c.self.view_is) c.self.invariant.sorted c.in-Some.ensures.cases.0 (none ∙ kid) in
     if_ok c.joined.result (λ place is. is ∙ ap (λ (r : Place). c.args.written ++ r) (sym all)) c.joined.ensures
 
-pub returns-in_ok-with-in-Some-kid_at : goal.returns-in_ok-with-in-Some-kid_at
-returns-in_ok-with-in-Some-kid_at t c =
-    let kid : rows_at (option_copied c.kid_at.result) ≡ rows_found (find name_cmp (folded c.in-Some.name.now) c.self.inside.node.value.kids.items) = c.kid_at.ensures ∙ rw (c.deref-2.ensures.value, c.deref.ensures) refl in
-    let some : rows_at (Some c.in-Some-kid_at.kid.now) ≡ rows_at (option_copied c.kid_at.result) = sym (ap (λ o. rows_at (option_copied o)) c.in-Some-kid_at.is) in
+pub returns-in_ok-with-in-Some-find : goal.returns-in_ok-with-in-Some-find
+returns-in_ok-with-in-Some-find t c =
+    let kid : rows_at (option_copied c.find.result) ≡ rows_found (find name_cmp (folded c.in-Some.name.now) c.self.inside.node.value.kids) = c.find.ensures.rows ∙ rw (c.deref.ensures) refl in
+    let some : rows_at (Some c.in-Some-find.kid.now) ≡ rows_at (option_copied c.find.result) = sym (ap (λ o. rows_at (option_copied o)) c.in-Some-find.is) in
     let name = c.entry.result.now.name in
-    let all : rows_written c.args.self.now.1 [] c.args.names.now ≡ name ∷ rows_written c.in-Some-kid_at.kid.now.1 [] c.in-Some.rest.now =
-    written_on c.self.inside.node.value.entry c.in-Some.name.now c.self.inside.node.value.kids.items c.args.self.now.1 c.in-Some-kid_at.kid.now.1 c.in-Some.rest.now c.args.names.now c.entry.result.now (ap (λ (k : Kid). k.1) c.self.view_is) c.self.invariant.sorted c.in-Some.ensures.cases.0 (some ∙ kid) c.entry.ensures in
-    let with : c.in_ok-with-in-Some-kid_at.field-0 ≡ c.args.written ++ name ∷ [] = c.in_ok-with-in-Some-kid_at.ensures ∙ ap (λ (p : Place). p ++ c.in_ok-copy-in-Some-kid_at.field-0 ∷ []) c.written.view_is ∙ ap (λ (n : List ℕ). c.args.written ++ n ∷ []) c.in_ok-copy-in-Some-kid_at.ensures in
-    if_ok c.written-in-Some-kid_at.result
-    (λ place is. is ∙ ap (λ (p : Place). p ++ rows_written c.in-Some-kid_at.kid.now.1 [] c.in-Some.rest.now) with ∙ append_assoc c.args.written (name ∷ []) (rows_written c.in-Some-kid_at.kid.now.1 [] c.in-Some.rest.now) ∙ ap (λ (r : Place). c.args.written ++ r) (sym all))
-    c.written-in-Some-kid_at.ensures
+    let all : rows_written c.args.self.now.1 [] c.args.names.now ≡ name ∷ rows_written c.in-Some-find.kid.now.1 [] c.in-Some.rest.now =
+    written_on c.self.inside.node.value.head.value.entry c.in-Some.name.now c.self.inside.node.value.kids c.args.self.now.1 c.in-Some-find.kid.now.1 c.in-Some.rest.now c.args.names.now c.entry.result.now (ap (λ (k : Kid). k.1) c.self.view_is) c.self.invariant.sorted c.in-Some.ensures.cases.0 (some ∙ kid) c.entry.ensures in
+    let with : c.in_ok-with-in-Some-find.field-0 ≡ c.args.written ++ name ∷ [] = c.in_ok-with-in-Some-find.ensures ∙ ap (λ (p : Place). p ++ c.in_ok-copy-in-Some-find.field-0 ∷ []) c.written.view_is ∙ ap (λ (n : List ℕ). c.args.written ++ n ∷ []) c.in_ok-copy-in-Some-find.ensures in
+    if_ok c.written-in-Some-find.result
+    (λ place is. is ∙ ap (λ (p : Place). p ++ rows_written c.in-Some-find.kid.now.1 [] c.in-Some.rest.now) with ∙ append_assoc c.args.written (name ∷ []) (rows_written c.in-Some-find.kid.now.1 [] c.in-Some.rest.now) ∙ ap (λ (r : Place). c.args.written ++ r) (sym all))
+    c.written-in-Some-find.ensures

@@ -1,4 +1,5 @@
 use Rattle.std.proofs.Common.{◌≡◌, ◌++◌, ℕ, List, None, sym, ap, ◌∙◌, subst, length-append}
+use Rattle.std.specs.FinMap as map
 use Rattle.ados_ram.specs.Place.{key_of, last_name}
 use Rattle.ados_ram.specs.Files.{Files, AreFiles}
 use Rattle.ados_ram.specs.FileOperations.{write_as_of, write_fault}
@@ -11,15 +12,19 @@ with_bytes-requires-clause-files c =
     let name = last_name c.args.place.now in
     let bytes = c.args.kept.now ++ c.args.more.now in
     let free : write_fault c.is_output-open.result c.self.inside.table (key_of c.args.place.now) name bytes ≡ None =
-    ap (λ (k : List (List ℕ)). write_fault c.is_output-open.result c.self.inside.table (key_of k) name bytes) (sym c.names-2.ensures)
+    ap (λ (k : List (List ℕ)). write_fault c.is_output-open.result c.self.inside.table (key_of k) name bytes) (sym c.names-3.ensures)
     ∙ sym (c.write_refusal.ensures name bytes (length-append c.args.kept.now c.args.more.now)) ∙ c.in-None.is in
     subst (λ (m : Files). AreFiles (write_as_of m (key_of c.args.place.now) name bytes c.args.bits)) c.self.view_is (written_files c.is_output-open.result (key_of c.args.place.now) name bytes c.args.bits c.self.invariant free)
+
+pub with_bytes-requires-clause-old : goal.with_bytes-requires-clause-old
+with_bytes-requires-clause-old c =
+    c.find-old.ensures ∙ ap (λ (k : List (List ℕ)). map.get c.self.inside.table (key_of k)) c.names.ensures ∙ ap (λ (m : Files). map.get m (key_of c.args.place.now)) c.self.view_is
 
 pub with_bytes-requires-clause-root : goal.with_bytes-requires-clause-root
 with_bytes-requires-clause-root c =
     let name = last_name c.args.place.now in
     let bytes = c.args.kept.now ++ c.args.more.now in
     let free : write_fault c.is_output-open.result c.self.inside.table (key_of c.args.place.now) name bytes ≡ None =
-    ap (λ (k : List (List ℕ)). write_fault c.is_output-open.result c.self.inside.table (key_of k) name bytes) (sym c.names-2.ensures)
+    ap (λ (k : List (List ℕ)). write_fault c.is_output-open.result c.self.inside.table (key_of k) name bytes) (sym c.names-3.ensures)
     ∙ sym (c.write_refusal.ensures name bytes (length-append c.args.kept.now c.args.more.now)) ∙ c.in-None.is in
     written-inside c.self.inside.table c.is_output-open.result (key_of c.args.place.now) name bytes c.self.invariant free

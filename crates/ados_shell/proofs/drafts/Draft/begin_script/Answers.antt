@@ -3,7 +3,7 @@ use Rattle.std.proofs.lemmas.Result.{on_ok_weaker}
 use Rattle.ados_flow.specs.declared.kinds.Kind.TheVariants.{Script}
 use Rattle.ados_flow.specs.Frames.{began}
 use Rattle.ados_shell.specs.Drafts.{frames_of}
-use Rattle.ados_shell.proofs.TurnLemmas.{begin-goes}
+use Rattle.ados_shell.proofs.DeedLemmas.{begin-goes}
 use Rattle.ados_shell.proofs.drafts.Draft.begin_script.Goals as goal
 
 pub returns : goal.returns

@@ -11,6 +11,7 @@ use Rattle.ados_machine.proofs.Traces.{frames-hold, limits-hold}
 use Rattle.ados_machine.proofs.Ends.{reports-hold}
 use Rattle.ados_machine.proofs.Erased.{quiet-shells}
 use Rattle.ados_world.proofs.LawLemmas.{starts-leave-nothing}
+use Rattle.ados_world.proofs.BrokenLemmas.{breaks-end-in}
 use Rattle.ados_world.proofs.worlds.World.run.Goals as goal
 
 pub loop-event-preserved : goal.loop-event-preserved
@@ -75,3 +76,9 @@ returns-clause-codes c =
     let run : Runs c.args.self c.args.events.now c.loop-event.outs.items c.loop-event.self = rw all at c.loop-event.invariant.run in
     let all_codes : HasAllCodes c.args.self = rw (← c.self.view_is) (search rules) in
     rw c.from_vec.ensures (last-codes-stay c.args.self c.args.events.now c.loop-event.outs.items c.loop-event.self run (rw c.self.view_is at c.self.invariant) all_codes)
+
+pub returns-clause-breaks : goal.returns-clause-breaks
+returns-clause-breaks c =
+    let all : take c.loop-event.event-index c.args.events.now ≡ c.args.events.now = grind (arith, common_steps) in
+    let run : Runs c.args.self c.args.events.now c.loop-event.outs.items c.loop-event.self = rw all at c.loop-event.invariant.run in
+    rw c.from_vec.ensures (breaks-end-in c.args.self c.args.events.now c.loop-event.outs.items c.loop-event.self run)

@@ -1,4 +1,5 @@
 use Rattle.ados_world.proofs.LawLemmas.{failed-start, step-gives, step-keeps-entries}
+use Rattle.ados_world.proofs.BrokenLemmas.{step-told}
 use Rattle.ados_world.proofs.worlds.World.step.Goals as goal
 
 pub returns-clause-failed_start : goal.returns-clause-failed_start
@@ -12,3 +13,7 @@ returns-clause-request c =
 pub returns-clause-entries : goal.returns-clause-entries
 returns-clause-entries c =
     rw c.in_ok-step_into.ensures.world (step-keeps-entries c.args.self.now c.args.event.now _ c.in_ok-step_into.ensures.answer)
+
+pub returns-clause-breaks : goal.returns-clause-breaks
+returns-clause-breaks c =
+    rw c.into_out.ensures (step-told c.args.self.now c.args.event.now _ c.in_ok-step_into.ensures.answer)

@@ -3,7 +3,8 @@ use Rattle.ados_machine.specs.World.{input_of}
 use Rattle.ados_machine.specs.declared.events.Event.TheVariants as event
 use Rattle.ados_shell.specs.declared.turnings.Turning.{Turning}
 use Rattle.ados_shell.specs.Turnings.{GivesTurning}
-use Rattle.ados_world.proofs.StepLemmas.{Shows, answered, answers, goes-wants, sane-behind, sane-taken, takes-wants, turn-ends, turn-goes, turn-takes, turn-wants}
+use Rattle.ados_world.proofs.TakenLemmas.{Shows}
+use Rattle.ados_world.proofs.StepLemmas.{answered, answers, goes-wants, sane-behind, sane-taken, takes-wants, turn-ends, turn-goes, turn-refused, turn-takes, turn-wants}
 use Rattle.ados_world.proofs.worlds.World.turn.Goals as goal
 
 pub end_shell-requires-clause-sane : goal.end_shell-requires-clause-sane
@@ -145,3 +146,19 @@ returns-in-Ok-Takes-clause-world c =
     answers w _ c.take_typed.new.self _ _ c.take_typed.result _
     (turn-takes w k shell c.scene.result c.input.result c.turn.new.self shows c.input.ensures.is_ended (given (input_of w k).queue c.input.ensures.line))
     c.take_typed.ensures.world c.take_typed.ensures.unchanged
+
+pub returns-in-Ok-NotReady-clause-answer : goal.returns-in-Ok-NotReady-clause-answer
+returns-in-Ok-NotReady-clause-answer c =
+    let w = c.args.self.now in
+    let k = c.args.number in
+    let shell = c.in-Some.shell.now in
+    let shows : Shows w k shell c.scene.result = record {
+      here = sym c.in-Some.ensures.shell;
+      number_is = c.scene.ensures.number;
+      shell_is = c.scene.ensures.shell;
+      shells_are = c.scene.ensures.shells;
+      shared_is = c.scene.ensures.shared;
+    } in
+    let P : Turning → Type 0 = λ t. GivesTurning c.scene.result c.input.result t c.turn.new.self in
+    let given = subst P c.in-Ok-NotReady.field-0-is c.in-Ok-NotReady.ensures.turn in
+    turn-refused w k shell c.scene.result c.input.result c.turn.new.self shows c.input.ensures.is_ended (given (input_of w k).queue c.input.ensures.line)

@@ -1,0 +1,25 @@
+-- The cache: paths whose places are known, each as resolving gives it.
+use Rattle.std.specs.Prelude.{◌≡◌, List, ◌∷◌, Ok}
+use Rattle.std.specs.List.{All, Contains}
+use Rattle.ados_text.specs.Text.{Text}
+use Rattle.ados_names.specs.Path.{path_of}
+use Rattle.ados_ram.specs.Place.{Place}
+use Rattle.ados_ram.specs.Files.{Files}
+use Rattle.ados_assign.specs.Assigns.{AssignMap}
+use Rattle.ados_assign.specs.Resolve.{Resolved, by_path, resolved}
+use Rattle.ados_find.specs.declared.cache.Known.{Known}
+
+-- where the path of a text leads from a directory
+abbrev pub text_resolved : AssignMap → Files → Place → Text → Resolved
+text_resolved assigns files directory text = by_path (resolved assigns files directory) (path_of text)
+
+-- a pair is what resolving gives
+abbrev pub IsResolved : AssignMap → Files → Known → Type 0
+IsResolved assigns files known = text_resolved assigns files known.directory known.path ≡ Ok known.place
+
+abbrev pub AreResolved : AssignMap → Files → List Known → Type 0
+AreResolved assigns files pairs = All (IsResolved assigns files) pairs
+
+-- what is known after a pair came: it was known before, or is the pair
+unfoldable pub IsKept : List Known → Known → List Known → Type 0
+IsKept old pair new = All (Contains (pair ∷ old)) new

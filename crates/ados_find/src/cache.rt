@@ -1,0 +1,149 @@
+// The cache of resolved paths.
+ghost use Rattle.std.specs.Prelude.{◌≡◌, [], ◌++◌, IfSome, IsTrue};
+ghost use Rattle.ados_find.specs.Cache.{IsKept};
+
+use ados_ram::Place;
+use ados_text::{Name, Text};
+use std::alloc::Global;
+use std::marker::Model;
+
+// So many paths are known at most.
+const MOST: usize = 64;
+
+/// A path, as it was written, and the place to which it leads from a directory.
+#[derive(Drop)]
+pub struct Known {
+    pub directory: Place,
+    pub path: Text,
+    pub place: Place,
+}
+
+impl Known {
+    /// What is known of a path, written like this one; there is none if there is no memory for it.
+    pub fn of(directory: &Place, path: &Text, place: Place) -> Option<Known>
+        ensures { IfSome result (λ known. known ≡ record { directory = directory.now; path = path.now; place = place }) }
+    {
+        match (directory.copy(), path.copy()) {
+            (Ok(directory), Ok(path)) => Some(Known {
+                directory,
+                path,
+                place,
+            }),
+            _ => None,
+        }
+    }
+
+    /// The path is a word behind these bytes, from this directory, all spelled alike.
+    pub fn is(&self, directory: &Place, front: &[u8], word: &Text) -> bool
+        ensures directory { IsTrue result → self.now.directory ≡ directory.now }
+        ensures path { IsTrue result → self.now.path ≡ front.now ++ word.now }
+    {
+        is_joined(self.path.as_bytes(), front, word.as_bytes())
+            && are_spelled(self.directory.names(), directory.names())
+    }
+}
+
+// The bytes are these two, one behind the other.
+fn is_joined(bytes: &[u8], front: &[u8], word: &[u8]) -> bool
+    ensures { IsTrue result → bytes.now ≡ front.now ++ word.now }
+{
+    match bytes.split_at_checked(front.len()) {
+        None => false,
+        Some((start, end)) => start == front && end == word,
+    }
+}
+
+// The names are the same, letter for letter.
+fn are_spelled(names: &[Name], others: &[Name]) -> bool
+    ensures { IsTrue result → names.now ≡ others.now }
+{
+    match (names.split_first(), others.split_first()) {
+        (None, None) => true,
+        (Some((name, names)), Some((other, others))) => {
+            is_spelled(name, other) && are_spelled(names, others)
+        }
+        _ => false,
+    }
+}
+
+fn is_spelled(name: &Name, other: &Name) -> bool
+    ensures { IsTrue result → name.now ≡ other.now }
+{
+    name.text().as_bytes() == other.text().as_bytes()
+}
+
+/// The paths whose places are known in one version of the files and assigns.
+#[derive(Drop)]
+pub struct Cache {
+    // There is none where nothing is known, so that an empty cache is small to move.
+    known: Option<Box<Vec<Known>>>,
+}
+
+impl Model for Cache {
+    ghost use Rattle.std.specs.Prelude.{[], List, option_map, unwrap_or};
+    ghost use Rattle.ados_find.specs.declared.cache.Known.{Known};
+
+    ghost Value = { List Known };
+
+    ghost view = { λ c. unwrap_or (option_map (λ pairs. pairs.value.items) c.known) [] };
+}
+
+impl Cache {
+    /// Nothing is known; it takes no memory.
+    pub fn new() -> Cache
+        ensures { result ≡ [] }
+    {
+        Cache { known: None }
+    }
+
+    /// The pairs that are known.
+    pub fn as_slice(&self) -> &[Known]
+        ensures { result.now ≡ self.now }
+    {
+        match &self.known {
+            None => &[],
+            Some(pairs) => pairs.as_slice(),
+        }
+    }
+
+    /// Keeps a pair, where there is memory for it; where the cache is full the others are forgotten.
+    #[tactic(auto, using(crate::proofs::CacheLemmas::kept_none))]
+    pub fn keep(&mut self, alloc: Global, pair: Known)
+        ensures { IsKept self.old pair self.new }
+    {
+        match self.known.take() {
+            Some(pairs) => self.known = Some(pushed(pairs, pair)),
+            None => self.known = first(alloc, pair),
+        }
+    }
+}
+
+// A pair alone, where there is memory for it.
+fn first(alloc: Global, pair: Known) -> Option<Box<Vec<Known>>>
+    ensures { IfSome result (λ pairs. IsKept [] pair pairs.value.items) }
+{
+    let pairs = Box::new(alloc, Vec::new(alloc)).ok()?;
+    Some(pushed(pairs, pair))
+}
+
+// Pairs with one more, where there is memory for it. If they are as many as can be, it takes the place of all.
+#[tactic(auto, using(crate::proofs::CacheLemmas::kept_anew))]
+fn pushed(pairs: Box<Vec<Known>>, pair: Known) -> Box<Vec<Known>>
+    ensures { IsKept pairs.value.items pair result.value.items }
+{
+    let mut pairs = pairs;
+    if pairs.len() < MOST {
+        push(&mut pairs, pair);
+        return pairs;
+    }
+    pairs.clear();
+    push(&mut pairs, pair);
+    pairs
+}
+
+// A pair more, where there is memory for it.
+fn push(pairs: &mut Vec<Known>, pair: Known)
+    ensures { IsKept pairs.old.items pair pairs.new.items }
+{
+    let _ = pairs.push(pair);
+}

@@ -1,0 +1,49 @@
+// What the cache may learn.
+use crate::shared::Shared;
+use ados_ram::Place;
+use ados_text::Text;
+use std::alloc::Global;
+
+/// A path that the cache was asked for and does not know: as it was written, and from which directory.
+#[derive(Drop)]
+pub struct Question {
+    pub directory: Place,
+    pub path: Text,
+}
+
+impl Shared {
+    /// What the cache may learn, so that a word which is sought in a directory, and then behind these bytes, is found
+    /// sooner: the first of these two paths that it does not know. There is none if it knows both or may not know it, or
+    /// if there is no memory for the question. No contract sees the cache.
+    pub fn question(
+        &self,
+        alloc: Global,
+        directory: &Place,
+        front: &[u8],
+        word: &Text,
+    ) -> Option<Box<Question>> {
+        let path = self.unknown_path(alloc, directory, front, word)?;
+        if !self.goes_from_one(&path) {
+            return None;
+        }
+        let directory = directory.copy().ok()?;
+        Box::new(alloc, Question { directory, path }).ok()
+    }
+
+    // The first of the two paths that the cache does not know.
+    fn unknown_path(
+        &self,
+        alloc: Global,
+        directory: &Place,
+        front: &[u8],
+        word: &Text,
+    ) -> Option<Text> {
+        if !self.knows(word, directory) {
+            return word.copy().ok();
+        }
+        if self.known(directory, front, word).is_some() {
+            return None;
+        }
+        Text::from_bytes(alloc, front).ok()?.join(word).ok()
+    }
+}

@@ -1,0 +1,90 @@
+-- The rounds in which events come, by their places. At place 0 a line is read as long as one is wanted. At places 1 to 20
+-- the shells take their turns, at places 21 to 40 their starts are answered, and at places 41 to 60 their reads and waits, each
+-- shell when its place comes. A shell that had an answer in a round is answered no second read or wait in it.
+use Rattle.std.specs.Prelude.{◌≡◌, ℕ, zero, suc, ◌+◌, ◌-◌, ◌≤◌, List, Option, Some, None, Bool, true, false, not, ◌&&◌, nat_lt, get_or, slice_set, if◌then◌else◌}
+use Rattle.std.proofs.Math.ListN.{replicate}
+use Rattle.std.specs.List.{find, range_with_len}
+use Rattle.std.specs.Option.{option_or}
+use Rattle.ados_machine.specs.declared.requests.Request.{Request}
+use Rattle.ados_machine.specs.declared.requests.Request.TheVariants.{Start, Read, Wait}
+use Rattle.ados_machine.specs.World.{WorldState, is_ready, pending_of, wants_line}
+use Rattle.ados_launch.specs.declared.rounds.Due.{Due}
+use Rattle.ados_launch.specs.declared.rounds.Round.{Round}
+
+-- a start is asked for
+abbrev pub asks_start : Option Request → Bool
+asks_start None = false
+asks_start (Some (Start job)) = true
+asks_start (Some (Read k)) = false
+asks_start (Some (Wait k)) = false
+
+-- a read or a wait is asked for
+abbrev pub asks_further : Option Request → Bool
+asks_further None = false
+asks_further (Some (Start job)) = false
+asks_further (Some (Read k)) = true
+asks_further (Some (Wait k)) = true
+
+-- something may come at this place
+abbrev pub comes : WorldState → ℕ → Bool
+comes w place =
+    if nat_lt place 1 then wants_line w else
+    (if nat_lt place 21 then is_ready w place else
+    (if nat_lt place 41 then asks_start (pending_of w (place - 20)) else asks_further (pending_of w (place - 40))))
+
+-- it is due, but for a read or a wait of a shell that had an answer in this round
+abbrev pub is_due : WorldState → List Bool → ℕ → Bool
+is_due w answered place = comes w place && not (nat_lt 40 place && get_or answered (place - 40) false)
+
+-- a round begins
+abbrev pub none_answered : List Bool
+none_answered = replicate 21 false
+
+abbrev pub first_round : Round
+first_round = record { place = 0; answered = none_answered }
+
+-- the place of the next event in this round, and in the next one
+abbrev pub in_this_round : Round → WorldState → Option ℕ
+in_this_round round w = find (is_due w round.answered) (range_with_len round.place (61 - round.place))
+
+abbrev pub in_next_round : WorldState → Option ℕ
+in_next_round w = find (is_due w none_answered) (range_with_len 0 61)
+
+-- the place of the next event: between two events the world stays as it is
+abbrev pub due : Round → WorldState → Option ℕ
+due round w = option_or (in_this_round round w) (in_next_round w)
+
+-- which shells had an answer in the round of the next event
+abbrev pub answered_if : Option ℕ → List Bool → List Bool
+answered_if None answered = none_answered
+answered_if (Some place) answered = answered
+
+abbrev pub answered_by : Round → WorldState → List Bool
+answered_by round w = answered_if (in_this_round round w) round.answered
+
+-- the place from which a round goes on: lines are read as long as they are wanted
+abbrev pub place_behind : ℕ → ℕ
+place_behind zero = 0
+place_behind (suc k) = suc k + 1
+
+-- the shell has had an answer whose place this is
+abbrev pub marked : ℕ → List Bool → List Bool
+marked place answered =
+    if nat_lt place 21 then answered else
+    (if nat_lt place 41 then slice_set answered (place - 20) true else slice_set answered (place - 40) true)
+
+-- where the round stands behind what came at a place
+abbrev pub round_behind : Round → WorldState → ℕ → Round
+round_behind round w place = record { place = place_behind place; answered = marked place (answered_by round w) }
+
+-- where it stands behind what was found to be due, in this round or as the first of another
+abbrev pub passed_round : Round → Due → Round
+passed_round round found = record { place = place_behind found.place; answered = marked found.place (if found.begins then none_answered else round.answered) }
+
+-- at some place something may come
+abbrev pub IsRunning : WorldState → Type 0
+IsRunning w = (place : ℕ) × (place ≤ 60) × (comes w place ≡ true)
+
+-- nothing may come at any place: no line is wanted, no shell is ready, and none asks for anything
+abbrev pub IsIdle : WorldState → Type 0
+IsIdle w = (place : ℕ) → place ≤ 60 → comes w place ≡ false

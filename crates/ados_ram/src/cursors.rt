@@ -1,0 +1,59 @@
+// Cursors: places in the files from which one goes on.
+ghost use Rattle.std.specs.Prelude.{◌≡◌, ◌∷◌, []};
+ghost use Rattle.std.specs.Option.{option_copied};
+ghost use Rattle.std.specs.FinMap as map;
+ghost use Rattle.ados_text.specs.Text.{folded};
+ghost use Rattle.ados_ram.specs.Place.{place_cmp};
+ghost use Rattle.ados_ram.specs.Tree.{rows_at, rows_from};
+
+use crate::branches::Branch;
+use crate::entries::Entry;
+use ados_text::Name;
+use std::marker::Model;
+use std::slice;
+
+/// A place in one version of the files, seen as what stands at it and below it, by the ways from there. There may be
+/// nothing.
+#[derive(Drop)]
+pub struct Cursor<'a> {
+    branch: Option<&'a Branch>,
+}
+
+impl<'a> Model for Cursor<'a> {
+    ghost use Rattle.std.specs.Option.{option_copied};
+    ghost use Rattle.ados_ram.specs.Files.{Rows};
+    ghost use Rattle.ados_ram.specs.Tree.{rows_at};
+
+    ghost Value = { Rows };
+
+    ghost view = { λ c. rows_at (option_copied c.branch) };
+}
+
+impl<'a> Cursor<'a> {
+    /// The place of a branch, or one at which nothing stands.
+    pub fn new(branch: Option<&'a Branch>) -> Cursor<'a>
+        ensures { result ≡ rows_at (option_copied branch.entry) }
+    {
+        Cursor { branch }
+    }
+
+    /// What stands at the place. Takes no memory.
+    pub fn entry(&self) -> Option<&'a Entry>
+        ensures { option_copied result ≡ map.find place_cmp [] self.now }
+    {
+        match self.branch {
+            None => None,
+            Some(branch) => Some(branch.entry()),
+        }
+    }
+
+    /// The place of a name in this one. Takes no memory.
+    pub fn child(&self, name: &Name) -> Cursor<'a>
+        ensures { result ≡ rows_from (folded name.now ∷ []) self.now }
+    {
+        match self.branch {
+            None => Cursor::new(None),
+            Some(branch) => Cursor::new(branch.at(slice::from_ref(name))),
+        }
+    }
+}

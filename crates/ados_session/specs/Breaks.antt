@@ -1,0 +1,46 @@
+-- The breaks that a recording writes.
+use Rattle.std.specs.Prelude.{ℕ, ℤ, pos, nat_le, Bool, true, ◌&&◌, List, [], ◌∷◌, Option, Some, None, codes, if◌then◌else◌}
+use Rattle.std.specs.Option.{option_map_or}
+use Rattle.std.specs.Str.{bytes_eq}
+use Rattle.ados_text.specs.Number.{is_negative, number_of}
+use Rattle.ados_text.specs.Text.{Text}
+use Rattle.ados_machine.specs.declared.events.BreakAt.{BreakAt}
+use Rattle.ados_machine.specs.declared.events.Kind.{Kind}
+use Rattle.ados_machine.specs.declared.events.Kind.TheVariants.{C, D}
+use Rattle.ados_session.specs.Parts.{parted}
+
+-- the number that digits write, from 1 to the most
+abbrev pub number_up_to : ℕ → Option ℤ → Option ℕ
+number_up_to most (Some (pos n)) = if nat_le 1 n && nat_le n most then Some n else None
+number_up_to most number = None
+
+abbrev pub number_in : ℕ → Text → Option ℕ
+number_in most digits = if is_negative digits then None else number_up_to most (number_of digits)
+
+-- the kind of a break
+abbrev pub kind_of : Text → Option Kind
+kind_of word = if bytes_eq word (codes "C") then Some C else (if bytes_eq word (codes "D") then Some D else None)
+
+abbrev pub break_by : Option ℕ → Option ℕ → Option Kind → Option BreakAt
+break_by (Some event) (Some shell) (Some kind) = Some (record { event = event; shell = shell; kind = kind })
+break_by event shell kind = None
+
+-- the break of a text, by its three words: the number of an event, that of a shell, and the kind
+abbrev pub break_behind : Text → Text → Option BreakAt
+break_behind event rest = option_map_or (λ p. break_by (number_in 1_000_000_000 event) (number_in 20 p.0) (kind_of p.1)) (parted rest) None
+
+abbrev pub break_of : Text → Option BreakAt
+break_of text = option_map_or (λ p. break_behind p.0 p.1) (parted text) None
+
+-- from this number on the numbers of events do not fall
+abbrev pub rise_from : ℕ → List BreakAt → Bool
+rise_from least [] = true
+rise_from least (at ∷ breaks) = nat_le least at.event && rise_from at.event breaks
+
+abbrev pub are_rising : List BreakAt → Bool
+are_rising breaks = rise_from 0 breaks
+
+-- the number of the last event, or the least where there is none
+abbrev pub last_event : ℕ → List BreakAt → ℕ
+last_event least [] = least
+last_event least (at ∷ breaks) = last_event at.event breaks

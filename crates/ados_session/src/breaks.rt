@@ -1,0 +1,87 @@
+// The breaks that a recording writes.
+ghost use Rattle.std.specs.Prelude.{◌≡◌, ◌++◌, ◌∷◌, [], true, IfOk};
+ghost use Rattle.ados_text.specs.Text.{IsText};
+ghost use Rattle.ados_session.specs.Breaks.{are_rising, break_of, kind_of, last_event, number_in};
+
+use crate::parts::parted;
+use ados_machine::BreakAt;
+use ados_text::{NoMemory, number_in};
+use ados_world::Kind;
+
+// The last event that a break may name.
+const EVENTS: u64 = 1_000_000_000;
+
+// The last number of a shell.
+const SHELLS: u8 = 20;
+
+/// The break that a text writes, where it writes one: the number of an event, that of a shell, and `C` or `D`.
+pub fn break_of(text: &[u8]) -> Option<BreakAt>
+    requires { IsText text.now }
+    ensures { result ≡ break_of text.now }
+{
+    let (event, rest) = parted(text)?;
+    let (shell, kind) = parted(rest)?;
+    Some(BreakAt {
+        event: event_in(event)?,
+        shell: shell_in(shell)?,
+        kind: kind_of(kind)?,
+    })
+}
+
+/// Adds a break; `false` where it names an earlier event than the one before it.
+pub fn add_break(breaks: &mut Vec<BreakAt>, at: BreakAt) -> Result<bool, NoMemory>
+    requires { are_rising breaks.old.items ≡ true }
+    ensures rising { IfOk result (λ is_rising. is_rising ≡ are_rising (breaks.old.items ++ at ∷ [])) }
+    ensures breaks { IfOk result (λ _. breaks.new.items ≡ breaks.old.items ++ at ∷ []) }
+{
+    let is_rising = last_event(breaks.as_slice()) <= at.event;
+    breaks.push(at)?;
+    Ok(is_rising)
+}
+
+// The event that the last break names, 0 where there is none.
+fn last_event(breaks: &[BreakAt]) -> u64
+    ensures { result ≡ last_event 0 breaks.now }
+{
+    match breaks {
+        [.., last] => last.event,
+        [] => 0,
+    }
+}
+
+// The number of an event.
+fn event_in(digits: &[u8]) -> Option<u64>
+    ensures { result ≡ number_in 1_000_000_000 digits.now }
+{
+    if matches!(digits, [b'-', ..]) {
+        return None;
+    }
+    number_in(digits)
+        .and_then(|number| u64::try_from(number).ok())
+        .filter(|number| (1..=EVENTS).contains(number))
+}
+
+// The number of a shell.
+fn shell_in(digits: &[u8]) -> Option<u8>
+    ensures { result ≡ number_in 20 digits.now }
+{
+    if matches!(digits, [b'-', ..]) {
+        return None;
+    }
+    number_in(digits)
+        .and_then(|number| u8::try_from(number).ok())
+        .filter(|number| (1..=SHELLS).contains(number))
+}
+
+// The kind of a break.
+fn kind_of(word: &[u8]) -> Option<Kind>
+    ensures { result ≡ kind_of word.now }
+{
+    if word == b"C".as_slice() {
+        Some(Kind::C)
+    } else if word == b"D".as_slice() {
+        Some(Kind::D)
+    } else {
+        None
+    }
+}

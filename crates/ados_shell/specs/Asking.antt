@@ -1,0 +1,11 @@
+-- A shell that waits for a line of its input.
+use Rattle.std.specs.Prelude.{Bool, true, false}
+use Rattle.ados_machine.specs.declared.phases.Phase.{Phase}
+use Rattle.ados_machine.specs.declared.phases.Phase.TheVariants.{Ready, GoingOn, Waiting}
+use Rattle.ados_machine.specs.World.{is_for_input}
+
+-- it waits for an answer to a prompt, or for a further line of a Run
+abbrev pub asks_for_line : Phase → Bool
+asks_for_line Ready = false
+asks_for_line (GoingOn parted) = false
+asks_for_line (Waiting wait) = is_for_input wait

@@ -1,0 +1,134 @@
+// What a turn makes of its shell, ready to be moved in.
+ghost use Rattle.std.specs.Prelude.{◌≡◌, ◌||◌, None, false, option_map, IfOk, OnErr, OnOk};
+
+use crate::drafts::ShellDraft;
+use crate::seen::Others;
+use crate::shells::Shell;
+use crate::stacks::Stack;
+use ados_find::{Change, ShellView};
+use ados_machine::Request;
+use ados_ram::Place;
+use ados_text::NoMemory;
+
+impl ShellDraft {
+    ghost use Rattle.ados_find.specs.Changes.{changed, changed_by};
+    ghost use Rattle.ados_machine.specs.Shells.{ShellState};
+    ghost use Rattle.ados_shell.specs.Drafts.{IsUnchanged, behind, phase_in};
+    ghost use Rattle.ados_machine.specs.Requests.{request_of};
+    ghost use Rattle.ados_shell.specs.Views.{seen};
+
+    /// A turn of a shell begins: nothing is changed yet, but that its flag is taken away.
+    pub(crate) fn begin_turn(&mut self, shell: &Shell)
+        ensures unchanged { IsUnchanged shell.now self.new }
+        ensures flag { self.new.flagged ≡ false }
+    {
+        self.frames.keep_all(shell);
+        self.phase = None;
+        self.limit = shell.limit;
+        self.codes = shell.codes;
+        self.directory = None;
+        self.setting = None;
+        self.kept = None;
+        self.flagged = false;
+    }
+
+    /// What the shell of a number asks a launcher for behind its turn.
+    pub fn request(&self, number: u8) -> Result<Option<Request>, NoMemory>
+        ensures { IfOk result (λ request. request ≡ request_of number (phase_in self.now)) }
+    {
+        match self.phase.as_deref() {
+            None => Ok(None),
+            Some(phase) => phase.request(number),
+        }
+    }
+
+    /// What commands read of the shell as it stands, and of the shells that run.
+    pub fn view<'b>(&'b self, shell: &'b Shell, others: Others) -> ShellView<'b>
+        requires { self.now.setting ≡ None }
+        ensures { result ≡ seen (behind self.now shell.now).parts others.busy others.names others.uses }
+    {
+        let Others { busy, names, uses } = others;
+        ShellView {
+            number: shell.number,
+            directory: self.directory(shell),
+            limit: self.limit,
+            codes: self.codes,
+            settings: shell.settings(),
+            busy,
+            names,
+            uses,
+        }
+    }
+
+    /// The current directory as it stands.
+    pub fn directory<'b>(&'b self, shell: &'b Shell) -> &'b Place
+        ensures { result.now ≡ (behind self.now shell.now).parts.directory }
+    {
+        match &self.directory {
+            None => shell.directory(),
+            Some(directory) => directory,
+        }
+    }
+
+    /// A command changed one of the shell's parts, or none, and may have flagged the shell.
+    pub(crate) fn affect(&mut self, change: Option<Box<Change>>, flags: bool)
+        requires { self.old.setting ≡ None }
+        ensures parts { (shell : ShellState) → (behind self.new shell).parts ≡ changed (option_map (λ c. c.value) change) (behind self.old shell).parts }
+        ensures frames { self.new.frames ≡ self.old.frames }
+        ensures kept { self.new.kept ≡ self.old.kept }
+        ensures flag { self.new.flagged ≡ (self.old.flagged || flags) }
+    {
+        if let Some(change) = change {
+            self.change(Box::into_inner(change));
+        }
+        self.flagged |= flags;
+    }
+
+    /// A command changed one of the shell's parts.
+    pub(crate) fn change(&mut self, change: Change)
+        requires { self.old.setting ≡ None }
+        ensures parts { (shell : ShellState) → (behind self.new shell).parts ≡ changed_by change (behind self.old shell).parts }
+        ensures frames { self.new.frames ≡ self.old.frames }
+        ensures phase { self.new.phase ≡ self.old.phase }
+        ensures kept { self.new.kept ≡ self.old.kept }
+        ensures flag { self.new.flagged ≡ self.old.flagged }
+    {
+        match change {
+            Change::Limit(limit) => self.limit = limit,
+            Change::Directory(directory) => self.directory = Some(directory),
+            Change::Set(setting) => self.setting = Some(setting),
+        }
+    }
+
+    /// Moves in what a turn makes of its shell.
+    ///
+    /// `NoMemory` where there is no room for the frames, for a new name or for what is asked for; the shell is then as it
+    /// was.
+    pub fn move_in(&mut self, shell: &mut Shell) -> Result<(), NoMemory>
+        ensures ok { OnOk result (shell.new ≡ behind self.old shell.old) }
+        ensures err { OnErr result (shell.new ≡ shell.old) }
+    {
+        let request = self.request(shell.number)?;
+        let Stack { kept, own } = &mut self.frames;
+        shell.frames.reserve(own.len())?;
+        if let Some(setting) = self.setting.take() {
+            shell.settings.set(setting)?;
+        }
+        shell.frames.truncate(*kept);
+        let Ok(()) = shell.frames.append(own) else {
+            unreachable!();
+        };
+        shell.phase = self.phase.take();
+        shell.request = request;
+        shell.limit = self.limit;
+        shell.codes = self.codes;
+        shell.flagged = self.flagged;
+        if let Some(kept) = self.kept.take() {
+            shell.kept = kept;
+        }
+        if let Some(directory) = self.directory.take() {
+            shell.directory = directory;
+        }
+        Ok(())
+    }
+}

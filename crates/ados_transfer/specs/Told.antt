@@ -1,0 +1,27 @@
+-- Files and directories that are to stand in the Shell's world when the script begins.
+use Rattle.std.specs.Prelude.{Bool, true, false, ◌&&◌, not, Option, Some, None, List}
+use Rattle.std.specs.Bool.{beq}
+use Rattle.std.specs.FinMap as map
+use Rattle.std.specs.Str.{bytes_eq}
+use Rattle.ados_text.specs.Text.{Bytes}
+use Rattle.ados_ram.specs.declared.entries.Entry.{Entry}
+use Rattle.ados_ram.specs.Entry.{is_directory, bytes_of}
+use Rattle.ados_ram.specs.Files.{Files}
+use Rattle.ados_ram.specs.Place.{key_of}
+use Rattle.ados_transfer.specs.declared.told.Content.{Content}
+use Rattle.ados_transfer.specs.declared.told.Content.TheVariants.{Directory, File}
+use Rattle.ados_transfer.specs.declared.told.Told.{Told}
+
+-- the entry is a file with these bytes, with bit s or without
+abbrev pub holds_file : Entry → Bytes → Bool → Bool
+holds_file entry bytes script = not (is_directory entry) && (bytes_eq (bytes_of entry) bytes && beq entry.bits.script script)
+
+-- what stands at a place is what was told
+abbrev pub holds : Option Entry → Content → Bool
+holds None content = false
+holds (Some entry) Directory = is_directory entry
+holds (Some entry) (File bytes script) = holds_file entry bytes script
+
+-- it stands in the files as it was told
+abbrev pub is_as_told : Files → Told → Bool
+is_as_told files told = holds (map.get files (key_of told.place)) told.content

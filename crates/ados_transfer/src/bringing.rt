@@ -1,0 +1,173 @@
+//! The files and folders of this machine that are brought in.
+
+use crate::faults::{TransferFault, named};
+use crate::paths::{base_name, name_of, place_in, step_into};
+use crate::plan::{FILE_BYTES, Plan, file_of};
+use crate::script::shell_script;
+use ados_ram::{Place, Ram};
+use std::alloc::Global;
+use std::io::Read;
+use std::os::unix::fs::PermissionsExt;
+use std::rt::Files;
+use std::{fs, io};
+
+// A walk looks at no more files and folders than this: the Shell holds 1,024 at most.
+const WALK: usize = 4096;
+
+/// Adds what words of `--bring` name, as `PATH` or `PATH=NAME`, to what is brought in.
+pub fn bring<R: AllocGlobal + Files + Clone + Drop>(
+    rt: &R,
+    files: &Ram,
+    words: &str,
+    plan: &mut Plan,
+) -> Result<(), TransferFault> {
+    let (path, name) = parted(rt, words);
+    let Ok(found) = fs::metadata(rt, path) else {
+        return Err(named(rt.alloc(), path, TransferFault::CannotRead));
+    };
+    let place = target(rt, path, name, found.is_dir())?;
+    walk(rt, files, path, place, plan)
+}
+
+/// Adds a script of this machine to what is brought in, as a file in S:, and gives its place.
+pub fn bring_script<R: AllocGlobal + Files>(
+    rt: &R,
+    files: &Ram,
+    path: &str,
+    plan: &mut Plan,
+) -> Result<Place, TransferFault> {
+    let alloc = rt.alloc();
+    let own = base_name(rt, path)?;
+    let place = place_in(alloc, "S:")?.with(name_of(alloc, own.as_str(), path)?)?;
+    let bytes = read_file(rt, path)?;
+    let script = shell_script(alloc, bytes.as_slice())?;
+    plan.add_file(files, place.copy()?, file_of(script, false), path)?;
+    Ok(place)
+}
+
+// The path and the name of `PATH=NAME`. A path that is there is a path as a whole.
+fn parted<'a, R: Files>(rt: &R, words: &'a str) -> (&'a str, Option<&'a str>) {
+    if fs::metadata(rt, words).is_ok() {
+        return (words, None);
+    }
+    match words.rsplit_once('=') {
+        Some((path, name)) => (path, Some(name)),
+        None => (words, None),
+    }
+}
+
+// Where a file or a folder is to stand.
+fn target<R: AllocGlobal + Files>(
+    rt: &R,
+    path: &str,
+    name: Option<&str>,
+    is_folder: bool,
+) -> Result<Place, TransferFault> {
+    let alloc = rt.alloc();
+    let own = base_name(rt, path)?;
+    let Some(name) = name else {
+        return Ok(Place::root(alloc).with(name_of(alloc, own.as_str(), path)?)?);
+    };
+    let place = place_in(alloc, name)?;
+    if !is_folder && (name.ends_with(':') || name.ends_with('/')) {
+        return Ok(place.with(name_of(alloc, own.as_str(), path)?)?);
+    }
+    Ok(place)
+}
+
+// Adds a file, or a folder with all that is in it.
+fn walk<R: AllocGlobal + Files + Clone + Drop>(
+    rt: &R,
+    files: &Ram,
+    path: &str,
+    place: Place,
+    plan: &mut Plan,
+) -> Result<(), TransferFault> {
+    let mut left = Vec::new(rt.alloc());
+    left.push((String::from_str(rt.alloc(), path)?, place))?;
+    for _ in 0..WALK {
+        let Some(below) = left.pop() else {
+            return Ok(());
+        };
+        add_one(rt, files, below, plan, &mut left)?;
+    }
+    Err(named(rt.alloc(), path, TransferFault::ManyObjects))
+}
+
+// Adds a file, or a folder, of which what is in it is left then.
+fn add_one<R: AllocGlobal + Files + Clone + Drop>(
+    rt: &R,
+    files: &Ram,
+    below: (String, Place),
+    plan: &mut Plan,
+    left: &mut Vec<(String, Place)>,
+) -> Result<(), TransferFault> {
+    let (path, place) = below;
+    let Ok(found) = fs::metadata(rt, path.as_str()) else {
+        return Err(TransferFault::CannotRead(path));
+    };
+    if found.is_dir() {
+        push_children(rt, path.as_str(), &place, left)?;
+        return plan.add_directory(files, place, path.as_str());
+    }
+    let is_script = found.permissions().mode() & 0o111 != 0;
+    let bytes = read_file(rt, path.as_str())?;
+    plan.add_file(files, place, file_of(bytes, is_script), path.as_str())
+}
+
+// Adds what is in a folder to what is left of a walk, the last by its name first.
+fn push_children<R: AllocGlobal + Files + Clone + Drop>(
+    rt: &R,
+    path: &str,
+    place: &Place,
+    left: &mut Vec<(String, Place)>,
+) -> Result<(), TransferFault> {
+    let alloc = rt.alloc();
+    let mut names = match names_in(rt, path) {
+        Ok(names) => names,
+        Err(_) => return Err(named(alloc, path, TransferFault::CannotRead)),
+    };
+    names.sort()?;
+    for name in names.iter().rev() {
+        let below = step_into(alloc, path, name.as_str())?;
+        let place = place
+            .copy()?
+            .with(name_of(alloc, name.as_str(), below.as_str())?)?;
+        left.push((below, place))?;
+    }
+    Ok(())
+}
+
+// The names in a folder.
+fn names_in<R: AllocGlobal + Files + Clone + Drop>(rt: &R, path: &str) -> io::Result<Vec<String>> {
+    let mut names = Vec::new(rt.alloc());
+    for entry in fs::read_dir(rt, path)? {
+        names.push(String::from_str(rt.alloc(), entry?.file_name())?)?;
+    }
+    Ok(names)
+}
+
+// The bytes of a file that the Shell can hold.
+fn read_file<R: AllocGlobal + Files>(rt: &R, path: &str) -> Result<Vec<u8>, TransferFault> {
+    match bytes_of(rt, path, FILE_BYTES) {
+        Ok(bytes) if bytes.len() <= FILE_BYTES => Ok(bytes),
+        Ok(_) => Err(named(rt.alloc(), path, TransferFault::LargeFile)),
+        Err(error) => Err(not_read(rt.alloc(), path, &error)),
+    }
+}
+
+/// The bytes of a file, and of a longer one one more than the limit.
+pub fn bytes_of<R: AllocGlobal + Files>(rt: &R, path: &str, limit: usize) -> io::Result<Vec<u8>> {
+    let mut bytes = Vec::new(rt.alloc());
+    let most = (limit as u64).saturating_add(1);
+    fs::open(rt, path)?.take(most).read_to_end(&mut bytes)?;
+    Ok(bytes)
+}
+
+// The fault of a file that is not read.
+fn not_read(alloc: Global, path: &str, error: &io::Error) -> TransferFault {
+    if error.kind() == io::ErrorKind::OutOfMemory {
+        return TransferFault::NoMemory;
+    }
+    named(alloc, path, TransferFault::CannotRead)
+}

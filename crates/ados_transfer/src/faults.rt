@@ -1,0 +1,67 @@
+use ados_text::NoMemory;
+use std::alloc::{AllocError, AllocFailed, Global};
+use thiserror::Error;
+
+/// Why files are not brought in or taken, or a line is not typed.
+#[derive(Debug, Drop, Error)]
+pub enum TransferFault {
+    /// The file or folder of this name cannot be read.
+    #[error("cannot read {0}")]
+    CannotRead(String),
+    /// The words have a byte past ASCII.
+    #[error("not ASCII: {0}")]
+    NotAscii(String),
+    /// The words of a typed line hold a newline.
+    #[error("more than one line: {0}")]
+    ManyLines(String),
+    /// The name is none of the Shell's files.
+    #[error("bad name for the Shell: {0}")]
+    BadName(String),
+    /// A file or folder would have the name of another one, where case is ignored.
+    #[error("name is taken twice: {0}")]
+    Twice(String),
+    /// The file has more bytes than one may have.
+    #[error("more than 65536 bytes: {0}")]
+    LargeFile(String),
+    /// With this file there are more bytes than all may have.
+    #[error("more than 1048576 bytes in all, with {0}")]
+    ManyBytes(String),
+    /// With this one there are more files and folders than there may be.
+    #[error("more than 1024 files and folders, with {0}")]
+    ManyObjects(String),
+    /// The line that is typed for this would have more bytes than one may have.
+    #[error("more than 512 bytes in the line for {0}")]
+    LongLine(String),
+    /// The object of this name cannot be taken.
+    #[error("cannot take {0}")]
+    CannotTake(String),
+    /// There was no memory.
+    #[error("out of memory")]
+    NoMemory,
+}
+
+impl From<NoMemory> for TransferFault {
+    fn from(_e: NoMemory) -> TransferFault {
+        TransferFault::NoMemory
+    }
+}
+
+impl From<AllocError> for TransferFault {
+    fn from(_e: AllocError) -> TransferFault {
+        TransferFault::NoMemory
+    }
+}
+
+impl<T: Drop> From<AllocFailed<T>> for TransferFault {
+    fn from(_e: AllocFailed<T>) -> TransferFault {
+        TransferFault::NoMemory
+    }
+}
+
+/// A fault that names something.
+pub fn named<F: Fn(String) -> TransferFault>(alloc: Global, name: &str, fault: F) -> TransferFault {
+    match String::from_str(alloc, name) {
+        Ok(name) => fault(name),
+        Err(_) => TransferFault::NoMemory,
+    }
+}

@@ -1,0 +1,97 @@
+//! Paths of this machine, and places of the Shell's files.
+
+use crate::faults::{TransferFault, named};
+use ados_names::{NameFault, Path, Step, is_name};
+use ados_ram::Place;
+use ados_text::{Name, Text, TextFault};
+use std::alloc::Global;
+use std::fs;
+use std::rt::Files;
+
+/// The name that a file or a folder of this machine has.
+pub fn base_name<R: AllocGlobal + Files>(rt: &R, path: &str) -> Result<String, TransferFault> {
+    let last = last_piece(path);
+    if !matches!(last, "" | "." | "..") {
+        return Ok(String::from_str(rt.alloc(), last)?);
+    }
+    match fs::canonicalize(rt, path) {
+        Ok(whole) => Ok(String::from_str(rt.alloc(), last_piece(whole.as_path().as_str()))?),
+        Err(_) => Err(named(rt.alloc(), path, TransferFault::CannotRead)),
+    }
+}
+
+/// What stands after the last slash of a path, but for slashes at its end.
+pub fn last_piece(path: &str) -> &str {
+    let path = path.trim_end_matches('/');
+    match path.rsplit_once('/') {
+        Some((_, last)) => last,
+        None => path,
+    }
+}
+
+/// The path of a name in a folder.
+pub fn step_into(alloc: Global, folder: &str, name: &str) -> Result<String, TransferFault> {
+    let mut path = String::from_str(alloc, folder)?;
+    if !folder.is_empty() && !folder.ends_with('/') {
+        path.push('/')?;
+    }
+    path.push_str(name)?;
+    Ok(path)
+}
+
+/// A name of this machine as one of the Shell's files; `path` is what a fault names.
+pub fn name_of(alloc: Global, name: &str, path: &str) -> Result<Name, TransferFault> {
+    match Text::of(alloc, name.as_bytes()) {
+        Ok(text) if is_name(&text) => Ok(Name::new(text)),
+        Err(TextFault::NoMemory) => Err(TransferFault::NoMemory),
+        _ => Err(named(alloc, path, TransferFault::BadName)),
+    }
+}
+
+/// The place that a path of the Shell's files names at the beginning, from the root.
+pub fn place_in(alloc: Global, path: &str) -> Result<Place, TransferFault> {
+    let text = ascii(alloc, path)?;
+    let parsed = match Path::parse(alloc, &text) {
+        Ok(parsed) => parsed,
+        Err(NameFault::NoMemory) => return Err(TransferFault::NoMemory),
+        Err(NameFault::Invalid) => return Err(named(alloc, path, TransferFault::BadName)),
+    };
+    let mut place = match first_directory(alloc, parsed.device())? {
+        Some(place) => place,
+        None => return Err(named(alloc, path, TransferFault::BadName)),
+    };
+    for step in parsed.steps() {
+        match step {
+            Step::Name(name) => place = place.with(Name::new(name.copy()?))?,
+            Step::Up => return Err(named(alloc, path, TransferFault::BadName)),
+        }
+    }
+    Ok(place)
+}
+
+// The directory for which a device stands at the beginning.
+fn first_directory(alloc: Global, device: Option<&Text>) -> Result<Option<Place>, TransferFault> {
+    let root = Place::root(alloc);
+    let Some(device) = device else {
+        return Ok(Some(root));
+    };
+    if device.as_bytes().is_empty() || device.is("RAM") || device.is("Ram Disk") {
+        return Ok(Some(root));
+    }
+    for (name, directory) in [("C", "C"), ("S", "S"), ("T", "T"), ("ENV", "Env")] {
+        if device.is(name) {
+            let directory = Text::from_bytes(alloc, directory.as_bytes())?;
+            return Ok(Some(root.with(Name::new(directory))?));
+        }
+    }
+    Ok(None)
+}
+
+/// A word as a text.
+pub fn ascii(alloc: Global, word: &str) -> Result<Text, TransferFault> {
+    match Text::of(alloc, word.as_bytes()) {
+        Ok(text) => Ok(text),
+        Err(TextFault::NoMemory) => Err(TransferFault::NoMemory),
+        Err(_) => Err(named(alloc, word, TransferFault::NotAscii)),
+    }
+}

@@ -1,0 +1,136 @@
+//! What is to be brought in: files and directories, within the limits of the Shell's files.
+
+use crate::faults::{TransferFault, named};
+use crate::told::{Content, Told};
+use ados_ram::{Place, Ram};
+use ados_text::Octets;
+use std::alloc::Global;
+
+/// The longest file.
+pub const FILE_BYTES: usize = 65_536;
+
+// How many bytes all files may have.
+const ALL_BYTES: usize = 1_048_576;
+
+// How many objects there may be beside the root.
+const OBJECTS: usize = 1024;
+
+// The longest path.
+const PATH_BYTES: usize = 255;
+
+/// Files and directories to be brought in, each after the directory in which it is.
+#[derive(Drop)]
+pub struct Plan {
+    alloc: Global,
+    told: Vec<Told>,
+    bytes: usize,
+    objects: usize,
+}
+
+impl Plan {
+    /// Nothing to be brought in yet, beside the files that are there.
+    pub fn new(alloc: Global, files: &Ram) -> Result<Plan, TransferFault> {
+        let places = files.contents(&Place::root(alloc))?;
+        let mut bytes = 0usize;
+        for place in &places {
+            if let Some(entry) = files.look(place) {
+                bytes = bytes.saturating_add(entry.bytes().len());
+            }
+        }
+        Ok(Plan {
+            alloc,
+            told: Vec::new(alloc),
+            bytes,
+            objects: places.len(),
+        })
+    }
+
+    /// What is to be brought in.
+    pub fn told(&self) -> &[Told] {
+        self.told.as_slice()
+    }
+
+    /// Adds a directory, if it is not there; `path` is what a fault names.
+    pub fn add_directory(
+        &mut self,
+        files: &Ram,
+        place: Place,
+        path: &str,
+    ) -> Result<(), TransferFault> {
+        for depth in 1..place.names().len() {
+            let above = Place::root(self.alloc).joined(&place.names()[..depth])?;
+            self.add_one(files, above, path)?;
+        }
+        self.add_one(files, place, path)
+    }
+
+    /// Adds a file, and the directories above it that are not there.
+    pub fn add_file(
+        &mut self,
+        files: &Ram,
+        place: Place,
+        content: Content,
+        path: &str,
+    ) -> Result<(), TransferFault> {
+        if let Some(above) = place.copy()?.parent() {
+            self.add_directory(files, above, path)?;
+        }
+        if self.kind(files, &place).is_some() {
+            return Err(named(self.alloc, path, TransferFault::Twice));
+        }
+        self.add(place, content, path)
+    }
+
+    // Adds a directory in one that is there.
+    fn add_one(&mut self, files: &Ram, place: Place, path: &str) -> Result<(), TransferFault> {
+        match self.kind(files, &place) {
+            Some(true) => Ok(()),
+            Some(false) => Err(named(self.alloc, path, TransferFault::Twice)),
+            None => self.add(place, Content::Directory, path),
+        }
+    }
+
+    // Whether a directory is at a place, or will be; `None` where nothing is.
+    fn kind(&self, files: &Ram, place: &Place) -> Option<bool> {
+        if let Some(entry) = files.look(place) {
+            return Some(entry.is_directory());
+        }
+        let told = self.told.iter().find(|told| told.place == *place)?;
+        Some(matches!(told.content, Content::Directory))
+    }
+
+    fn add(&mut self, place: Place, content: Content, path: &str) -> Result<(), TransferFault> {
+        let size = size_of(&content);
+        if place.path(self.alloc)?.as_bytes().len() > PATH_BYTES {
+            return Err(named(self.alloc, path, TransferFault::BadName));
+        }
+        if size > FILE_BYTES {
+            return Err(named(self.alloc, path, TransferFault::LargeFile));
+        }
+        if size > ALL_BYTES.saturating_sub(self.bytes) {
+            return Err(named(self.alloc, path, TransferFault::ManyBytes));
+        }
+        if self.objects >= OBJECTS {
+            return Err(named(self.alloc, path, TransferFault::ManyObjects));
+        }
+        self.bytes = self.bytes.saturating_add(size);
+        self.objects += 1;
+        self.told.push(Told { place, content })?;
+        Ok(())
+    }
+}
+
+fn size_of(content: &Content) -> usize {
+    match content {
+        Content::Directory => 0,
+        Content::File { bytes, .. } => bytes.as_bytes().len(),
+    }
+}
+
+/// A file of these bytes.
+pub fn file_of(bytes: Vec<u8>, is_script: bool) -> Content {
+    Content::File {
+        bytes: Octets::from_vec(bytes),
+        is_script,
+    }
+}

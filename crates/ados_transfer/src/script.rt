@@ -1,0 +1,37 @@
+//! A script of this machine as one of the Shell.
+
+use std::alloc::{AllocError, Global};
+
+/// The bytes of a script as the Shell reads it: a first line `#!..` is a comment, and a CR before a newline is left out.
+///
+/// Where a directive stands in the second line the comment is `. ..`, since a script has directives if its first line
+/// is one; else it is `; ..`.
+pub fn shell_script(alloc: Global, bytes: &[u8]) -> Result<Vec<u8>, AllocError> {
+    let mut script = Vec::with_capacity(alloc, bytes.len())?;
+    let mut rest = bytes;
+    if let Some(first) = bytes.strip_prefix(b"#!") {
+        script.extend_from_slice(comment_sign(first))?;
+        rest = first;
+    }
+    push_lines(&mut script, rest)?;
+    Ok(script)
+}
+
+// How the comment begins that stands for a line `#!`, by what stands after these two bytes.
+fn comment_sign(rest: &[u8]) -> &'static [u8] {
+    let end = rest.iter().position(|byte| *byte == b'\n');
+    match end {
+        Some(end) if rest[end..].starts_with(b"\n.") => b". ",
+        _ => b"; ",
+    }
+}
+
+// Adds bytes without each CR that stands before a newline.
+fn push_lines(script: &mut Vec<u8>, bytes: &[u8]) -> Result<(), AllocError> {
+    for place in 0..bytes.len() {
+        if !bytes[place..].starts_with(b"\r\n") {
+            script.push(bytes[place])?;
+        }
+    }
+    Ok(())
+}

@@ -1,0 +1,265 @@
+//! What is written out at the end: files and directories of the Shell, as files and folders of this machine.
+
+use crate::faults::{TransferFault, named};
+use crate::paths::{ascii, last_piece, step_into};
+use ados_assign::Assigns;
+use ados_names::Path;
+use ados_ram::{Entry, Place, Ram};
+use ados_text::Name;
+use std::alloc::Global;
+use std::fs::{File, Metadata, OpenOptions};
+use std::io::{ErrorKind, Write};
+use std::rt::Files;
+use std::{fs, io};
+
+// So many names are tried for the file that is written beside.
+const TRIES: u32 = 100;
+
+/// Writes what words of `--take` name, as `NAME` or `NAME=PATH`.
+///
+/// A file is written whole or not at all. Nothing is written outside the folder that is given.
+pub fn take<R: AllocGlobal + Files>(
+    rt: &R,
+    files: &Ram,
+    assigns: &Assigns,
+    words: &str,
+) -> Result<(), TransferFault> {
+    let (name, path) = parted(rt.alloc(), files, assigns, words)?;
+    let Some(place) = place_of(rt.alloc(), files, assigns, name)? else {
+        return Err(not_taken(rt.alloc(), words));
+    };
+    let Some(entry) = files.look(&place) else {
+        return Err(not_taken(rt.alloc(), words));
+    };
+    let own = own_name(rt.alloc(), entry)?;
+    let taken = if entry.is_directory() {
+        take_directory(rt, files, &place, path.unwrap_or(own.as_str()))
+    } else {
+        take_file(rt, entry, path, own.as_str())
+    };
+    match taken {
+        Ok(()) => Ok(()),
+        Err(error) if error.kind() == ErrorKind::OutOfMemory => Err(TransferFault::NoMemory),
+        Err(_) => Err(not_taken(rt.alloc(), words)),
+    }
+}
+
+fn not_taken(alloc: Global, words: &str) -> TransferFault {
+    named(alloc, words, TransferFault::CannotTake)
+}
+
+// The name and the path of `NAME=PATH`. A name that is there is a name as a whole.
+fn parted<'a>(
+    alloc: Global,
+    files: &Ram,
+    assigns: &Assigns,
+    words: &'a str,
+) -> Result<(&'a str, Option<&'a str>), TransferFault> {
+    if let Some(place) = place_of(alloc, files, assigns, words)? {
+        if files.look(&place).is_some() {
+            return Ok((words, None));
+        }
+    }
+    match words.split_once('=') {
+        Some((name, path)) => Ok((name, Some(path))),
+        None => Ok((words, None)),
+    }
+}
+
+// The place to which a name leads from the root.
+fn place_of(
+    alloc: Global,
+    files: &Ram,
+    assigns: &Assigns,
+    name: &str,
+) -> Result<Option<Place>, TransferFault> {
+    let text = ascii(alloc, name)?;
+    let Ok(path) = Path::parse(alloc, &text) else {
+        return Ok(None);
+    };
+    let root = Place::root(alloc);
+    match assigns.resolve(&path, &root, files) {
+        Ok(place) => Ok(Some(place)),
+        Err(_) => Ok(None),
+    }
+}
+
+// The name under which an object is written out: its own, and `.` for the root.
+fn own_name(alloc: Global, entry: &Entry) -> Result<String, TransferFault> {
+    match std::str::from_utf8(entry.name.text().as_bytes()) {
+        Ok(name) if !name.is_empty() => Ok(String::from_str(alloc, name)?),
+        _ => Ok(String::from_str(alloc, ".")?),
+    }
+}
+
+// Writes a file to a path, or into the folder that is there, or into this folder.
+fn take_file<R: AllocGlobal + Files>(
+    rt: &R,
+    entry: &Entry,
+    path: Option<&str>,
+    own: &str,
+) -> io::Result<()> {
+    let Some(path) = path else {
+        checked(own)?;
+        return write_whole(rt, ".", own, entry.bytes());
+    };
+    if path.ends_with('/') || is_folder(rt, path) {
+        checked(own)?;
+        fs::create_dir_all(rt, path)?;
+        return write_whole(rt, path, own, entry.bytes());
+    }
+    let name = last_piece(path);
+    checked(name)?;
+    let folder = match path.strip_suffix(name) {
+        None | Some("") => ".",
+        Some(folder) => folder,
+    };
+    fs::create_dir_all(rt, folder)?;
+    write_whole(rt, folder, name, entry.bytes())
+}
+
+fn is_folder<R: Files>(rt: &R, path: &str) -> bool {
+    match fs::metadata(rt, path) {
+        Ok(found) => found.is_dir(),
+        Err(_) => false,
+    }
+}
+
+// A name that means another folder is refused.
+fn checked(name: &str) -> io::Result<()> {
+    if matches!(name, "" | "." | "..") {
+        return Err(io::Error::from(ErrorKind::InvalidInput));
+    }
+    Ok(())
+}
+
+// Writes what is in a directory into a folder. What cannot be written is left out, and the last fault is told.
+fn take_directory<R: AllocGlobal + Files>(
+    rt: &R,
+    files: &Ram,
+    directory: &Place,
+    folder: &str,
+) -> io::Result<()> {
+    if folder == ".." {
+        return Err(io::Error::from(ErrorKind::InvalidInput));
+    }
+    fs::create_dir_all(rt, folder)?;
+    let Ok(places) = files.contents(directory) else {
+        return Err(no_memory());
+    };
+    let mut taken = Ok(());
+    for place in &places {
+        if let Err(error) = take_one(rt, files, directory, place, folder) {
+            taken = Err(error);
+        }
+    }
+    taken
+}
+
+// Writes an object that is below a directory into the directory's folder.
+fn take_one<R: AllocGlobal + Files>(
+    rt: &R,
+    files: &Ram,
+    directory: &Place,
+    place: &Place,
+    folder: &str,
+) -> io::Result<()> {
+    match (files.look(place), files.written(place)) {
+        (Some(entry), Ok(place)) => { take_below(rt, folder, place.names_behind(directory), entry) }
+        (None, _) => Ok(()),
+        (_, Err(_)) => Err(no_memory()),
+    }
+}
+
+// Writes an object that is below a directory, by the names that lead down to it.
+fn take_below<R: AllocGlobal + Files>(
+    rt: &R,
+    folder: &str,
+    names: &[Name],
+    entry: &Entry,
+) -> io::Result<()> {
+    let [above @ .., last] = names else {
+        return Ok(());
+    };
+    let mut path = String::from_str(rt.alloc(), folder)?;
+    for name in above {
+        path = enter(rt, path.as_str(), name)?;
+    }
+    if entry.is_directory() {
+        enter(rt, path.as_str(), last)?;
+        return Ok(());
+    }
+    let name = spelled(last)?;
+    checked(name)?;
+    write_whole(rt, path.as_str(), name, entry.bytes())
+}
+
+// The path of a folder in a folder; it is made if it is not there. One that is a link is refused.
+fn enter<R: AllocGlobal + Files>(rt: &R, folder: &str, name: &Name) -> io::Result<String> {
+    let name = spelled(name)?;
+    checked(name)?;
+    let path = joined(rt.alloc(), folder, name)?;
+    match fs::symlink_metadata(rt, path.as_str()) {
+        Ok(found) if found.is_dir() => Ok(path),
+        Ok(_) => Err(io::Error::from(ErrorKind::NotADirectory)),
+        Err(error) if error.kind() == ErrorKind::NotFound => {
+            fs::create_dir(rt, path.as_str())?;
+            Ok(path)
+        }
+        Err(error) => Err(error),
+    }
+}
+
+// A name as std's calls take it: ASCII is always UTF-8.
+fn spelled(name: &Name) -> io::Result<&str> {
+    match std::str::from_utf8(name.text().as_bytes()) {
+        Ok(name) => Ok(name),
+        Err(_) => Err(io::Error::from(ErrorKind::InvalidInput)),
+    }
+}
+
+fn joined(alloc: Global, folder: &str, name: &str) -> io::Result<String> {
+    match step_into(alloc, folder, name) {
+        Ok(path) => Ok(path),
+        Err(_) => Err(no_memory()),
+    }
+}
+
+fn no_memory() -> io::Error {
+    io::Error::from(ErrorKind::OutOfMemory)
+}
+
+// Writes a file of a name in a folder: a file beside it, which then takes the name.
+fn write_whole<R: AllocGlobal + Files>(
+    rt: &R,
+    folder: &str,
+    name: &str,
+    bytes: &[u8],
+) -> io::Result<()> {
+    let target = joined(rt.alloc(), folder, name)?;
+    let (beside, mut file) = open_beside(rt, folder)?;
+    let written = file.write_all(bytes);
+    drop(file);
+    let moved = match written {
+        Ok(()) => fs::rename(rt, beside.as_str(), target.as_str()),
+        Err(error) => Err(error),
+    };
+    if moved.is_err() {
+        let _ = fs::remove_file(rt, beside.as_str());
+    }
+    moved
+}
+
+// A new file in a folder, with its path.
+fn open_beside<R: AllocGlobal + Files>(rt: &R, folder: &str) -> io::Result<(String, R::File)> {
+    for number in 0..TRIES {
+        let name = format!(in rt.alloc(); ".amishell-execute.{number}")?;
+        let path = joined(rt.alloc(), folder, name.as_str())?;
+        match File::create_new(rt, path.as_str()) {
+            Ok(file) => return Ok((path, file)),
+            Err(error) if error.kind() == ErrorKind::AlreadyExists => {}
+            Err(error) => return Err(error),
+        }
+    }
+    Err(io::Error::from(ErrorKind::AlreadyExists))
+}

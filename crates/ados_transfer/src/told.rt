@@ -1,0 +1,60 @@
+//! Files and directories that are to stand in the Shell's world when the script begins.
+ghost use Rattle.std.specs.Prelude.{◌≡◌};
+ghost use Rattle.std.specs.List.{list_all};
+ghost use Rattle.std.specs.Option.{option_copied};
+ghost use Rattle.ados_transfer.specs.Told.{is_as_told, holds, holds_file};
+
+use ados_ram::{Entry, Place, Ram};
+use ados_text::Octets;
+
+/// What is to stand at a place.
+#[derive(Drop)]
+pub struct Told {
+    /// Where.
+    pub place: Place,
+    /// What.
+    pub content: Content,
+}
+
+/// A directory or a file.
+#[derive(Drop)]
+pub enum Content {
+    /// A directory.
+    Directory,
+    /// A file with these bytes, with bit s or without.
+    File { bytes: Octets, is_script: bool },
+}
+
+/// Each of them stands in the files as it was told.
+pub fn are_as_told(files: &Ram, told: &[Told]) -> bool
+    ensures { result ≡ list_all (is_as_told files.now) told.now }
+{
+    told.iter().all(|one| is_as_told(files, one))
+}
+
+// It stands in the files as it was told.
+fn is_as_told(files: &Ram, told: &Told) -> bool
+    ensures { result ≡ is_as_told files.now told.now }
+{
+    holds(files.look(&told.place), &told.content)
+}
+
+// What stands at a place is what was told.
+fn holds(entry: Option<&Entry>, content: &Content) -> bool
+    ensures { result ≡ holds (option_copied entry.entry) content.now }
+{
+    let Some(entry) = entry else {
+        return false;
+    };
+    match content {
+        Content::Directory => entry.is_directory(),
+        Content::File { bytes, is_script } => holds_file(entry, bytes, *is_script),
+    }
+}
+
+// The entry is a file with these bytes, with bit s or without.
+fn holds_file(entry: &Entry, bytes: &Octets, is_script: bool) -> bool
+    ensures { result ≡ holds_file entry.now bytes.now is_script }
+{
+    !entry.is_directory() && entry.bytes() == bytes.as_bytes() && entry.bits.script == is_script
+}

@@ -1,0 +1,131 @@
+//! Texts as words of a typed line.
+ghost use Rattle.std.specs.Prelude.{◌≡◌, ◌<◌, ◌++◌, ◌∷◌, [], List, ℕ, Bool, length, map, true, false, IfOk, OnOk, if◌then◌else◌};
+ghost use Rattle.std.specs.List.{list_all};
+ghost use Rattle.ados_text.specs.Text.{IsText};
+ghost use Rattle.ados_transfer.specs.Words.{equal_signs, escaped, has_plain_ends, inside, is_bare, is_first_sign, is_plain, is_starred, quoted, word_of, IsApart, ReadsAs};
+
+use ados_text::{NoMemory, Text};
+
+// The signs that a line reads as themselves outside quotes.
+const PLAIN_SIGNS: &[u8] = b"_.,:/#?%~()|'@!^&+-=";
+
+/// Adds a blank to a line, and a text as a word that is read as just this text.
+///
+/// It is quoted, unless `quotes` is false and it means itself as it stands: so it may be the name of an option of
+/// `.KEY`, or set one by `=`. What comes after it has to begin with a blank.
+pub fn push_word(line: &mut Text, text: &Text, quotes: bool) -> Result<(), NoMemory>
+    ensures line { OnOk result (line.new ≡ line.old ++ 32 ∷ word_of quotes text.now) }
+    // Whatever stands after it: the word is the next one of the line, and its value is the text.
+    ensures reads { OnOk result ((after : List ℕ) → IsApart after → ReadsAs false (line.new ++ after) (length line.old) (length line.new) text.now) }
+    // In quotes it is one item too where `=` is one of its own.
+    ensures item { OnOk result (quotes ≡ true → (after : List ℕ) → ReadsAs true (line.new ++ after) (length line.old) (length line.new) text.now) }
+{
+    line.push(b' ')?;
+    push_written(line, text, quotes)
+}
+
+// Adds a text as it is written as a word.
+fn push_written(line: &mut Text, text: &Text, quotes: bool) -> Result<(), NoMemory>
+    ensures line { OnOk result (line.new ≡ line.old ++ word_of quotes text.now) }
+    ensures text { IsText text.now }
+{
+    let bytes = text.as_bytes();
+    if !quotes && is_bare(bytes) {
+        line.push_bytes(bytes)
+    } else {
+        push_quoted(line, bytes)
+    }
+}
+
+// Adds a text in quotes.
+fn push_quoted(line: &mut Text, text: &[u8]) -> Result<(), NoMemory>
+    requires { IsText text.now }
+    ensures { OnOk result (line.new ≡ line.old ++ quoted text.now) }
+{
+    line.push(b'"')?;
+    push_inside(line, text)?;
+    line.push(b'"')
+}
+
+// Adds a text as it is written inside quotes.
+fn push_inside(line: &mut Text, text: &[u8]) -> Result<(), NoMemory>
+    requires { IsText text.now }
+    ensures { OnOk result (line.new ≡ line.old ++ inside text.now) }
+{
+    for byte in text {
+        push_escaped(line, *byte)?;
+    }
+    Ok(())
+}
+
+// Adds a byte as it is written inside quotes.
+fn push_escaped(line: &mut Text, byte: u8) -> Result<(), NoMemory>
+    requires { byte < 128 }
+    ensures { OnOk result (line.new ≡ line.old ++ escaped byte) }
+{
+    match byte {
+        b'\n' => line.push_bytes(b"*N"),
+        27 => line.push_bytes(b"*E"),
+        byte => push_printed(line, byte),
+    }
+}
+
+// Adds a byte other than a newline and the byte 27.
+fn push_printed(line: &mut Text, byte: u8) -> Result<(), NoMemory>
+    requires { byte < 128 }
+    ensures { OnOk result (line.new ≡ line.old ++ (if is_starred byte then 42 ∷ byte ∷ [] else byte ∷ [])) }
+{
+    if is_starred(byte) {
+        line.push(b'*')?;
+    }
+    line.push(byte)
+}
+
+// The byte means something of its own inside quotes.
+fn is_starred(byte: u8) -> bool
+    ensures { result ≡ is_starred byte }
+{
+    matches!(byte, b'"' | b'*' | b'$' | b'`')
+}
+
+// The text means itself outside quotes.
+fn is_bare(text: &[u8]) -> bool
+    ensures { result ≡ is_bare text.now }
+{
+    has_plain_ends(text) && are_plain(text) && equal_signs(text) < 2
+}
+
+// The text is not empty, and can begin and end a word without quotes.
+fn has_plain_ends(text: &[u8]) -> bool
+    ensures { result ≡ has_plain_ends text.now }
+{
+    !text.is_empty() && !is_first_sign(text[0]) && text[text.len() - 1] != b'='
+}
+
+// Each byte means itself outside quotes.
+fn are_plain(text: &[u8]) -> bool
+    ensures { result ≡ list_all is_plain text.now }
+{
+    text.iter().all(|byte| is_plain(*byte))
+}
+
+// How many equal signs stand in a text.
+fn equal_signs(text: &[u8]) -> usize
+    ensures { result ≡ equal_signs text.now }
+{
+    text.iter().filter(|byte| **byte == b'=').count()
+}
+
+// A word does not begin with this byte without quotes.
+fn is_first_sign(byte: u8) -> bool
+    ensures { result ≡ is_first_sign byte }
+{
+    matches!(byte, b'?' | b'+' | b'=')
+}
+
+// The byte means itself outside quotes.
+fn is_plain(byte: u8) -> bool
+    ensures { result ≡ is_plain byte }
+{
+    byte.is_ascii_alphanumeric() || PLAIN_SIGNS.contains(&byte)
+}

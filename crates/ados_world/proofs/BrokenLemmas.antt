@@ -1,0 +1,135 @@
+-- Reports tell of a break exactly where a turn finds a flag.
+use Rattle.std.proofs.Common.{◌≡◌, ◌∙◌, ◌++◌, ℕ, zero, suc, List, [], ◌∷◌, length, Bool, true, false, ◌&&◌, Option, Some, None, Result, Ok, Err, refl, sym, ap, inl, inr}
+use Rattle.std.specs.Prelude.{IfOk, nat_lt}
+use Rattle.std.proofs.lemmas.Bool.{and_parts, cases_Bool}
+use Rattle.std.proofs.lemmas.List.{append-nil}
+use Rattle.ados_find.specs.declared.codes.Codes.{Codes}
+use Rattle.ados_flow.specs.declared.kinds.Kind.{Kind}
+use Rattle.ados_flow.specs.declared.kinds.Kind.TheVariants.{Script, Lines, Tick}
+use Rattle.ados_flow.specs.Frames.{FrameState, is_script, last_line, scripts_in}
+use Rattle.ados_machine.specs.declared.events.Event.{Event}
+use Rattle.ados_machine.specs.declared.events.Event.TheVariants.{Typed, EndOfInput, Turn, Answer, Break}
+use Rattle.ados_machine.specs.declared.outs.Out.{Out}
+use Rattle.ados_machine.specs.declared.refusals.Refusal.{Refusal}
+use Rattle.ados_machine.specs.Breaks.{has_script, kept_without}
+use Rattle.ados_machine.specs.Course.{Course}
+use Rattle.ados_machine.specs.Items.{Item, Began, Answered, Ended, Broke, break_of, reports_of}
+use Rattle.ados_machine.specs.Laws.{finds_flag, has_break, is_breakable}
+use Rattle.ados_machine.specs.Runs.{IsAnswer, Runs, world_after}
+use Rattle.ados_machine.specs.Settled.{Said, Settled, after_break, behind, broken_off}
+use Rattle.ados_machine.specs.Shells.{ShellState}
+use Rattle.ados_machine.specs.Step.{Response, Refused, Accepted, applied, happened, start, step_of, turned, unflagged}
+use Rattle.ados_machine.specs.Trace.{ends_in, trace}
+use Rattle.ados_machine.specs.Turning.{Input, Turning, Refuses, Ends, Takes, flagged_turning, in_place_of, turning}
+use Rattle.ados_machine.specs.World.{WorldState, input_of, is_over, shell_at}
+use Rattle.ados_machine.proofs.BreakLemmas.{breaks-end}
+use Rattle.ados_machine.proofs.Ends.{reports-hold}
+use Rattle.ados_world.specs.Laws.{BreaksEndScriptsIn, tells_break}
+
+-- where no frame ended at a break no end tells of one
+ends-whole : (items : List (ℕ × Item)) → has_break items ≡ false → tells_break (ends_in items) ≡ false
+ends-whole [] e = refl
+ends-whole ((k, Began depth kind limit) ∷ items) e = ends-whole items e
+ends-whole ((k, Answered depth entry) ∷ items) e = ends-whole items e
+ends-whole ((k, Ended depth (Script name command) line codes early) ∷ items) e = ends-whole items e
+ends-whole ((k, Ended depth Lines line codes early) ∷ items) e = ends-whole items e
+ends-whole ((k, Ended depth (Tick before after) line codes early) ∷ items) e = ends-whole items e
+ends-whole ((k, Broke depth kind line) ∷ items) e = cc
+
+-- the end of a script at a break is told
+told-first : (k depth : ℕ) (kind : Kind) (line : ℕ) (log : List Item) → is_script kind ≡ true →
+    tells_break (reports_of k (Broke depth kind line ∷ log)) ≡ true
+told-first k depth (Script name command) line log e = refl
+told-first k depth Lines line log e = cc
+told-first k depth (Tick before after) line log e = cc
+
+told-later : (k depth : ℕ) (kind : Kind) (line : ℕ) (log : List Item) → tells_break (reports_of k log) ≡ true →
+    tells_break (reports_of k (Broke depth kind line ∷ log)) ≡ true
+told-later k depth (Script name command) line log e = refl
+told-later k depth Lines line log e = e
+told-later k depth (Tick before after) line log e = e
+
+-- so where a script runs below a frame
+below-told : (k depth : ℕ) (frame : FrameState) (frames : List FrameState) (said : Said) (n : ℕ) (further : Settled) → nat_lt 0 n ≡ true →
+    tells_break (reports_of k further.log) ≡ true →
+    tells_break (reports_of k (behind (break_of depth frame ∷ []) (after_break n frame.kind frame.limit further frames said)).log) ≡ true
+below-told k depth frame frames said zero further e told = cc
+below-told k depth frame frames said (suc n) further e told = told-later k depth frame.kind _ further.log told
+
+-- a break of frames of which one is a script is told
+broken-told : (k : ℕ) (frames : List FrameState) (said : Said) → has_script frames ≡ true → tells_break (reports_of k (broken_off frames said).log) ≡ true
+broken-told k [] said e = cc
+broken-told k (frame ∷ frames) said e =
+    let inner = record said { kept = kept_without frame.kind said.kept } in
+    elim (cases_Bool (is_script frame.kind)) [
+      | inl script ↦ told-first k (suc (length frames)) frame.kind (last_line frame.last) _ script
+      | inr other ↦ (let some : has_script frames ≡ true = rw other at e in
+          below-told k (suc (length frames)) frame frames said (scripts_in frames) (broken_off frames inner) some (broken-told k frames inner some))
+    ]
+
+-- so a turn that finds a flag tells it, where frames end
+abbrev Tells : Response → Type 0
+Tells (Refused why) = Unit {0}
+Tells (Accepted world out items) = has_break items ≡ true → tells_break out.reports ≡ true
+
+place-tells : (w : WorldState) (k : ℕ) (codes : Codes) (event : Turning) (input : Input) (frames : List FrameState) (course : Course) →
+    has_script frames ≡ true → Tells (applied w k codes (in_place_of event input frames course))
+place-tells w k codes (Refuses why) input frames course e = tt
+place-tells w k codes Ends input frames course e = λ none. cc
+place-tells w k codes (Takes queue t) input frames course e = λ some. broken-told k frames _ e
+
+turn-tells : (w : WorldState) (k : ℕ) (o : Option ShellState) → is_breakable o ≡ true → Tells (turned w k o)
+turn-tells w k None e = cc
+turn-tells w k (Some shell) e =
+    let course = unflagged (start w shell) in
+    rw e
+    (place-tells w k shell.parts.codes (turning (input_of w k) shell.frames course shell.phase) (input_of w k) shell.frames course
+    (and_parts shell.flagged (has_script shell.frames) e).1)
+
+step-tells : (w : WorldState) (k : ℕ) → is_breakable (shell_at w k) ≡ true → Tells (step_of w (Turn k))
+step-tells w k e =
+    elim (cases_Bool (is_over w)) [
+      | inl over ↦ rw over tt
+      | inr left ↦ rw left (turn-tells w k (shell_at w k) e)
+    ]
+
+event-tells : (w : WorldState) (event : Event) → finds_flag w event ≡ true → Tells (step_of w event)
+event-tells w (Typed line) e = cc
+event-tells w EndOfInput e = cc
+event-tells w (Turn k) e = step-tells w k e
+event-tells w (Answer k reply) e = cc
+event-tells w (Break k kind) e = cc
+
+-- the reports of an event are the ends among what it leaves in the trace
+reports-are : (w : WorldState) (event : Event) (world : WorldState) (out : Out) (items : List (ℕ × Item)) →
+    step_of w event ≡ Accepted world out items → out.reports ≡ ends_in items
+reports-are w event world out items is =
+    let answer : IsAnswer event (Ok out) (step_of w event) = rw is refl in
+    let held = reports-hold w (event ∷ []) (Ok out ∷ []) (world_after w (Ok out) (step_of w event)) (answer, refl) in
+    sym (append-nil out.reports) ∙ (rw is at held) ∙ ap ends_in (append-nil items)
+
+-- an accepted event tells of a break exactly where it finds a flag
+breaks-told : (w : WorldState) (event : Event) (world : WorldState) (out : Out) (items : List (ℕ × Item)) →
+    step_of w event ≡ Accepted world out items → tells_break out.reports ≡ finds_flag w event
+breaks-told w event world out items is =
+    let ends = breaks-end w event world out items is in
+    elim (cases_Bool (finds_flag w event)) [
+      | inl found ↦ (let tells : Tells (Accepted world out items) = rw is at (event-tells w event found) in tells (ends ∙ found) ∙ sym found)
+      | inr none ↦ ap tells_break (reports-are w event world out items is) ∙ ends-whole items (ends ∙ none) ∙ sym none
+    ]
+
+event-told : (w : WorldState) (event : Event) (out : Result Out Refusal) (r : Response) → step_of w event ≡ r → IsAnswer event out r →
+    IfOk out (λ given. tells_break given.reports ≡ finds_flag w event)
+event-told w event (Err why) r is answer = tt
+event-told w event (Ok out) (Refused why) is answer = absurd answer
+event-told w event (Ok out) (Accepted world given items) is answer = rw answer (breaks-told w event world given items is)
+
+pub step-told : (w : WorldState) (event : Event) (out : Out) → IsAnswer event (Ok out) (step_of w event) → tells_break out.reports ≡ finds_flag w event
+step-told w event out answer = event-told w event (Ok out) (step_of w event) refl answer
+
+pub breaks-end-in : (w : WorldState) (events : List Event) (outs : List (Result Out Refusal)) (last : WorldState) → Runs w events outs last →
+    BreaksEndScriptsIn w events outs
+breaks-end-in w [] outs last run = tt
+breaks-end-in w (event ∷ events) [] last run = tt
+breaks-end-in w (event ∷ events) (out ∷ outs) last run =
+    (event-told w event out (step_of w event) refl run.0, breaks-end-in (world_after w out (step_of w event)) events outs last run.1)

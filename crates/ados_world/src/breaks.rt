@@ -1,0 +1,53 @@
+// Breaks of shells.
+ghost use Rattle.std.specs.Prelude.{◌≡◌, ◌<◌};
+ghost use Rattle.std.specs.List.{slice_get, slice_set};
+ghost use Rattle.ados_machine.specs.Breaks.{breaks_by, broken_number, broken_place};
+ghost use Rattle.ados_machine.specs.World.{flatten};
+ghost use Rattle.ados_world.specs.Breaks.{others_broken};
+
+use ados_find::{Breaking, Breaks};
+use ados_machine::Kind;
+use ados_shell::Shell;
+
+/// What a break of a kind does: one by C marks, and one by D flags.
+pub fn breaks_by(kind: Kind) -> Breaks
+    ensures { result ≡ breaks_by kind }
+{
+    Breaks {
+        marks: kind == Kind::C,
+        flags: kind == Kind::D,
+    }
+}
+
+/// The shell of a number is broken, where one runs.
+pub fn break_number(shells: &mut [Option<Shell>; 20], number: usize, breaks: Breaks)
+    ensures { shells.new ≡ broken_number breaks number shells.old }
+{
+    match number {
+        1..=20 => break_place(shells, number - 1, breaks),
+        _ => {}
+    }
+}
+
+/// The shell at a place is broken, where one runs.
+fn break_place(shells: &mut [Option<Shell>; 20], place: usize, breaks: Breaks)
+    requires { place < 20 }
+    ensures { shells.new ≡ slice_set shells.old place (broken_place breaks (flatten (slice_get shells.old place))) }
+{
+    match &mut shells[place] {
+        None => {}
+        Some(shell) => shell.break_by(breaks),
+    }
+}
+
+/// The shell that a command broke is broken, unless it is the command's own, which has this number.
+pub fn break_other(shells: &mut [Option<Shell>; 20], number: u8, breaking: Option<Breaking>)
+    ensures { shells.new ≡ others_broken number breaking shells.old }
+{
+    match breaking {
+        Some(breaking) if breaking.shell != number as usize => {
+            break_number(shells, breaking.shell, breaking.breaks)
+        }
+        _ => {}
+    }
+}

@@ -1,0 +1,2 @@
+pub mod Prompting
+pub mod Status

@@ -1,0 +1,109 @@
+//! The program's command line, in `clap`'s words.
+
+use clap::{Arg, ArgAction, ArgMatches, Command, Error};
+use std::alloc::{AllocError, Global};
+use std::convert::AsStr;
+
+const VERSION: &str = "1.0";
+
+const ABOUT: &str =
+    "Runs an Amiga command script of this machine by the Shell of the Amiga (AmigaDOS Release 2)";
+
+const USAGE: &str = "amishell-execute [OPTIONS] [--] SCRIPT [ARGS]..";
+
+const MORE: &str =
+    "SCRIPT stands as a file in S: and is called by Execute with ARGS. What it asks for is read from standard
+input, a line each time. Files live in memory, and are gone at the end but for those that are taken.
+The exit status is the script's code, or 20 where that is no status and after a fault, which is a line
+on standard error.";
+
+const HOSTS: &str =
+    "A file of the programs of the host that are commands, a line for each: the command's name, blanks,
+and the program's path [default: the file that AMISHELL_HOSTS names, if it is set]";
+
+const HOST: &str =
+    "One more command that is a program of the host; without =PROGRAM the program has the command's name.
+May be given again";
+
+const COMMON: &str =
+    "Adds stand-ins for commands of Release 2 that the Shell leaves out, as Date, Wait and Sort: those of
+the nearest folder share/amishell above that of this program";
+
+const BRING: &str =
+    "Brings a file or a folder of this machine into the files: into RAM: under its own name, or to NAME. A
+file that may be executed gets bit s. May be given again";
+
+const TAKE: &str =
+    "Writes a file or a directory of the files out at the end: into this folder under its own name, or to
+PATH. May be given again";
+
+const TYPE: &str = "A line that is typed before the script. May be given again";
+
+const QUOTE: &str = "Quotes each of ARGS, so that none is the name of an option of .KEY";
+
+const TURNS: &str =
+    "How many events and long lines are taken at most, 1 to 1000000000, not counted those that bring files
+in [default: 1000000]";
+
+const SCRIPT: &str = "The script, a file of this machine, and its arguments";
+
+/// The matches of the words after the program's name, or `clap`'s error.
+pub fn matches_of_words<'a, S: AsStr>(
+    alloc: Global,
+    words: &'a [S],
+) -> Result<ArgMatches<'a>, Error> {
+    command(alloc)?.try_get_matches_from(words)
+}
+
+// `amishell-execute` with its options.
+fn command<'a>(alloc: Global) -> Result<Command<'a>, AllocError> {
+    let script = Arg::new(alloc, "script")
+        .value_name("SCRIPT [ARGS]")
+        .help(SCRIPT)
+        .num_args(1..)
+        .required(true)
+        .trailing_var_arg(true)
+        .action(ArgAction::Append);
+    Command::new(alloc, "amishell-execute")
+        .about(ABOUT)
+        .version(VERSION)
+        .after_help(MORE)
+        .no_binary_name(true)
+        .bin_name("amishell-execute")?
+        .override_usage(USAGE)
+        .arg(text_option(alloc, "hosts", "FILE", HOSTS))?
+        .arg(list_option(alloc, "host", "NAME=PROGRAM", HOST))?
+        .arg(flag(alloc, "common", COMMON))?
+        .arg(list_option(alloc, "bring", "PATH[=NAME]", BRING))?
+        .arg(list_option(alloc, "take", "NAME[=PATH]", TAKE))?
+        .arg(list_option(alloc, "type", "LINE", TYPE))?
+        .arg(flag(alloc, "quote", QUOTE))?
+        .arg(text_option(alloc, "turns", "N", TURNS))?
+        .arg(script)
+}
+
+// An option with a value.
+fn text_option<'a>(alloc: Global, name: &'a str, value: &'a str, help: &'a str) -> Arg<'a> {
+    Arg::new(alloc, name)
+        .long(name)
+        .value_name(value)
+        .help(help)
+        .action(ArgAction::Set)
+}
+
+// An option with a value, which may be given again.
+fn list_option<'a>(alloc: Global, name: &'a str, value: &'a str, help: &'a str) -> Arg<'a> {
+    Arg::new(alloc, name)
+        .long(name)
+        .value_name(value)
+        .help(help)
+        .action(ArgAction::Append)
+}
+
+// An option without a value.
+fn flag<'a>(alloc: Global, name: &'a str, help: &'a str) -> Arg<'a> {
+    Arg::new(alloc, name)
+        .long(name)
+        .help(help)
+        .action(ArgAction::SetTrue)
+}

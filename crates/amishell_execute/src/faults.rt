@@ -1,0 +1,79 @@
+//! Why the program ends with a line on standard error.
+
+use ados_launch::DriveFault;
+use ados_text::NoMemory;
+use ados_transfer::TransferFault;
+use std::alloc::{AllocError, AllocFailed, Global};
+use thiserror::Error;
+
+/// What that line says.
+#[derive(Debug, Drop, Error)]
+pub enum Fault {
+    /// The words are no command line of the program.
+    #[error("bad command line")]
+    BadLine,
+    /// The file of this name cannot be read.
+    #[error("cannot read {0}")]
+    CannotRead(String),
+    /// The line of this number, from 1, is the first at fault in the file of hosts.
+    #[error("bad host at line {0}")]
+    BadHost(usize),
+    /// These are words of `--host` that name no program, or a command that is there already; or there are too many.
+    #[error("bad host {0}")]
+    BadHostWords(String),
+    /// There are more commands that are programs of the host than there may be beside the one that brings files in.
+    #[error("more than 63 hosts")]
+    ManyHosts,
+    /// A command has the name of the one that brings files in.
+    #[error("amishell-bring is a name of the program's own")]
+    OwnName,
+    /// A file is not brought in or not taken, or a line is not typed.
+    #[error("{0}")]
+    Transfer(#[from] TransferFault),
+    /// The files do not stand in the Shell's world as they were brought.
+    #[error("the files cannot be brought in")]
+    NotBrought,
+    /// There was no memory.
+    #[error("out of memory")]
+    Memory,
+    /// The help could not be written.
+    #[error("write fault")]
+    Write,
+    /// The run stopped before its end.
+    #[error("{0}")]
+    Drive(#[from] DriveFault),
+}
+
+impl From<NoMemory> for Fault {
+    fn from(_e: NoMemory) -> Fault {
+        Fault::Memory
+    }
+}
+
+impl From<AllocError> for Fault {
+    fn from(_e: AllocError) -> Fault {
+        Fault::Memory
+    }
+}
+
+impl<T: Drop> From<AllocFailed<T>> for Fault {
+    fn from(_e: AllocFailed<T>) -> Fault {
+        Fault::Memory
+    }
+}
+
+/// The fault of a file that cannot be read.
+pub fn cannot_read(alloc: Global, path: &str) -> Fault {
+    match String::from_str(alloc, path) {
+        Ok(path) => Fault::CannotRead(path),
+        Err(_) => Fault::Memory,
+    }
+}
+
+/// The fault of words that name no program of the host.
+pub fn bad_host(alloc: Global, words: &str) -> Fault {
+    match String::from_str(alloc, words) {
+        Ok(words) => Fault::BadHostWords(words),
+        Err(_) => Fault::Memory,
+    }
+}

@@ -1,0 +1,158 @@
+//! The commands that are programs of the host.
+
+use crate::faults::{Fault, bad_host, cannot_read};
+use crate::request::Options;
+use ados_session::{FileFault, read_hosts};
+use ados_text::Text;
+use ados_transfer::{BRING, ascii, bytes_of, last_piece, step_into};
+use ados_world::{HostEntry, NewFault, hosts_fault};
+use std::alloc::Global;
+use std::io::ErrorKind;
+use std::rt::{Env, Files};
+use std::{env, fs};
+
+// How many bytes a file of hosts may have.
+const HOSTS_BYTES: usize = 65_536;
+
+// The variable of the environment that names a file of hosts.
+const VARIABLE: &str = "AMISHELL_HOSTS";
+
+// The file of the stand-ins, in a folder above the program's folder.
+const COMMON: &str = "share/amishell/common";
+
+// So many folders above the program's are looked at.
+const FOLDERS_ABOVE: usize = 4;
+
+/// The commands that the options name: the one that brings in, those of the file of hosts, those of `--host`, and those
+/// stand-ins whose names are free.
+pub fn hosts_for<R: AllocGlobal + Files + Env>(
+    rt: &R,
+    options: &Options<'_>,
+) -> Result<Vec<HostEntry>, Fault> {
+    let mut hosts = Vec::new(rt.alloc());
+    add_file(rt, options.hosts, &mut hosts)?;
+    for words in &options.host {
+        add_words(rt.alloc(), words, &mut hosts)?;
+    }
+    let bring = HostEntry {
+        name: Text::from_bytes(rt.alloc(), BRING)?,
+        program: Text::from_bytes(rt.alloc(), BRING)?,
+    };
+    hosts.push(bring)?;
+    match hosts_fault(hosts.as_slice()) {
+        None => {}
+        Some(NewFault::TooMany) => return Err(Fault::ManyHosts),
+        Some(_) => return Err(Fault::OwnName),
+    }
+    if options.common {
+        add_common(rt, &mut hosts)?;
+    }
+    Ok(hosts)
+}
+
+// Adds a command; `false` where a world can't be made with it, and then it is left out.
+fn add(hosts: &mut Vec<HostEntry>, host: HostEntry) -> Result<bool, Fault> {
+    hosts.push(host)?;
+    if hosts_fault(hosts.as_slice()).is_some() {
+        hosts.pop();
+        return Ok(false);
+    }
+    Ok(true)
+}
+
+// Adds the commands of the file of hosts, which the options or the environment name.
+fn add_file<R: AllocGlobal + Files + Env>(
+    rt: &R,
+    file: Option<&str>,
+    hosts: &mut Vec<HostEntry>,
+) -> Result<(), Fault> {
+    if let Some(file) = file {
+        return add_lines(rt, file, hosts);
+    }
+    match env::var(rt, VARIABLE) {
+        Ok(file) if !file.is_empty() => add_lines(rt, file.as_str(), hosts),
+        _ => Ok(()),
+    }
+}
+
+fn add_lines<R: AllocGlobal + Files>(
+    rt: &R,
+    file: &str,
+    hosts: &mut Vec<HostEntry>,
+) -> Result<(), Fault> {
+    for host in read_file(rt, file)? {
+        let _ = add(hosts, host)?;
+    }
+    Ok(())
+}
+
+// The commands that a file names.
+fn read_file<R: AllocGlobal + Files>(rt: &R, file: &str) -> Result<Vec<HostEntry>, Fault> {
+    let bytes = match bytes_of(rt, file, HOSTS_BYTES) {
+        Ok(bytes) => bytes,
+        Err(error) if error.kind() == ErrorKind::OutOfMemory => return Err(Fault::Memory),
+        Err(_) => return Err(cannot_read(rt.alloc(), file)),
+    };
+    if bytes.len() > HOSTS_BYTES {
+        return Err(cannot_read(rt.alloc(), file));
+    }
+    match read_hosts(rt.alloc(), bytes.as_slice()) {
+        Ok(hosts) => Ok(hosts),
+        Err(FileFault::BadLine(line)) => Err(Fault::BadHost(line)),
+        Err(FileFault::NoMemory) => Err(Fault::Memory),
+    }
+}
+
+// Adds the command of words of `--host`, which are `NAME` or `NAME=PROGRAM`.
+fn add_words(alloc: Global, words: &str, hosts: &mut Vec<HostEntry>) -> Result<(), Fault> {
+    let (name, program) = words.split_once('=').unwrap_or((words, words));
+    let host = HostEntry {
+        name: ascii(alloc, name)?,
+        program: ascii(alloc, program)?,
+    };
+    if program.is_empty() || !add(hosts, host)? {
+        return Err(bad_host(alloc, words));
+    }
+    Ok(())
+}
+
+// Adds the stand-ins. Their programs are in the folder of their file.
+fn add_common<R: AllocGlobal + Files>(rt: &R, hosts: &mut Vec<HostEntry>) -> Result<(), Fault> {
+    let file = common_file(rt)?;
+    let folder = file
+        .as_str()
+        .strip_suffix(last_piece(file.as_str()))
+        .unwrap_or("");
+    for host in read_file(rt, file.as_str())? {
+        let program = match std::str::from_utf8(host.program.as_bytes()) {
+            Ok(program) => step_into(rt.alloc(), folder, program)?,
+            Err(_) => return Err(Fault::Memory),
+        };
+        let stand_in = HostEntry {
+            name: host.name,
+            program: ascii(rt.alloc(), program.as_str())?,
+        };
+        let _ = add(hosts, stand_in)?;
+    }
+    Ok(())
+}
+
+// The file of the stand-ins, in the nearest folder above this program that has it.
+fn common_file<R: AllocGlobal + Files>(rt: &R) -> Result<String, Fault> {
+    let Ok(program) = env::current_exe(rt) else {
+        return Err(cannot_read(rt.alloc(), COMMON));
+    };
+    let path = program.as_path().as_str();
+    let mut folder = String::from_str(
+        rt.alloc(),
+        path.strip_suffix(last_piece(path)).unwrap_or(""),
+    )?;
+    for _ in 0..FOLDERS_ABOVE {
+        folder = step_into(rt.alloc(), folder.as_str(), "..")?;
+        let file = step_into(rt.alloc(), folder.as_str(), COMMON)?;
+        if fs::metadata(rt, file.as_str()).is_ok() {
+            return Ok(file);
+        }
+    }
+    Err(cannot_read(rt.alloc(), COMMON))
+}

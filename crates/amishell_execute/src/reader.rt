@@ -1,0 +1,236 @@
+//! The reader of a run: the prepared lines, a line of standard input each time that the Shell asks, and then the end.
+ghost use Rattle.std.specs.Prelude.{◌≡◌, ◌<◌, ◌≤◌, ◌^◌, ◌-◌, ◌+◌, length, true, false, None, IfOk};
+ghost use Rattle.std.specs.Io.{ReadsAtMost};
+ghost use Rattle.std.specs.Io.KnownBytes.{ReadConsumes};
+ghost use Rattle.ados_launch.specs.Faults.{CountsFault};
+ghost use Rattle.amishell_execute.specs.Prompting.{IsBrought};
+
+use ados_launch::Source;
+use ados_text::Text;
+use ados_transfer::{Told, are_as_told};
+use ados_world::World;
+use std::io;
+use std::io::{Error, ErrorKind, Read};
+use std::marker::Model;
+
+/// What the next reads give.
+#[derive(Clone, Copy)]
+enum Next<'a> {
+    // What is left of a prepared line.
+    Line(&'a [u8]),
+    // The newline after a prepared line.
+    Newline,
+    // A line of standard input.
+    Input,
+    // Nothing, since all is read.
+    End,
+    // An error, since the files are not as they were told.
+    Refused,
+}
+
+/// A reader that chooses by the world what it gives.
+#[derive(Drop)]
+pub struct Prompter<'a, I: Read> {
+    told: &'a [Told],
+    lines: &'a [Text],
+    bringing: usize,
+    given: usize,
+    is_ready: bool,
+    next: Next<'a>,
+    input: I,
+    faults: u64,
+}
+
+impl<'a, I: Read> Model for Prompter<'a, I> {
+    ghost use Rattle.std.specs.Prelude.{◌≡◌, ◌≤◌, false};
+    ghost use Rattle.amishell_execute.specs.Prompting.{PrompterView};
+
+    ghost Value = { PrompterView };
+
+    ghost view = { λ p. record { told = p.told.now; bringing = p.bringing; given = p.given; is_ready = p.is_ready; faults = p.faults } };
+
+    // no line after those that bring in was given before the files were looked at
+    ghost invariant = { λ p. p.is_ready ≡ false → p.given ≤ p.bringing };
+}
+
+impl<'a, I: Read> Prompter<'a, I> {
+    /// A reader of these lines, of which so many bring these files in, and of this input.
+    pub fn new(told: &'a [Told], lines: &'a [Text], bringing: usize, input: I) -> Prompter<'a, I>
+        ensures told { result.told ≡ told.entry.now }
+        ensures ready { result.is_ready ≡ false }
+        ensures bringing { result.bringing ≡ bringing }
+        ensures faults { result.faults ≡ 0 }
+    {
+        Prompter {
+            told,
+            lines,
+            bringing,
+            given: 0,
+            is_ready: false,
+            next: Next::End,
+            input,
+            faults: 0,
+        }
+    }
+
+    /// The files were not as they were told when the script was to begin.
+    pub fn is_refused(&self) -> bool {
+        matches!(self.next, Next::Refused)
+    }
+
+    /// Chooses by the world that is about to take a line what comes next: a line of standard input where the Shell asks, or
+    /// the next prepared line, or the end.
+    pub fn choose(&mut self, world: &World)
+        // The first line after those that bring in is given only once each file and directory is there as it was told.
+        ensures begins { self.old.is_ready ≡ false → self.new.is_ready ≡ true → IsBrought world.now self.old.told }
+        ensures waits { self.new.is_ready ≡ false → self.new.given ≤ self.new.bringing }
+        ensures told { self.new.told ≡ self.old.told }
+        ensures bringing { self.new.bringing ≡ self.old.bringing }
+        ensures faults { self.new.faults ≡ self.old.faults }
+    {
+        if asks_for_line(world) {
+            self.next = Next::Input;
+            return;
+        }
+        self.look(world);
+        self.take_line();
+    }
+
+    // Looks whether the files are as they were told, once all lines were given that bring them in.
+    fn look(&mut self, world: &World)
+        ensures begins { self.old.is_ready ≡ false → self.new.is_ready ≡ true → IsBrought world.now self.old.told }
+        ensures stays { self.old.is_ready ≡ true → self.new.is_ready ≡ true }
+        ensures told { self.new.told ≡ self.old.told }
+        ensures bringing { self.new.bringing ≡ self.old.bringing }
+        ensures given { self.new.given ≡ self.old.given }
+        ensures faults { self.new.faults ≡ self.old.faults }
+    {
+        if self.is_ready || self.given < self.bringing {
+            return;
+        }
+        self.is_ready = are_as_told(world.files(), self.told);
+    }
+
+    // The next prepared line, or the end. A line after those that bring in needs the files.
+    fn take_line(&mut self)
+        ensures told { self.new.told ≡ self.old.told }
+        ensures bringing { self.new.bringing ≡ self.old.bringing }
+        ensures ready { self.new.is_ready ≡ self.old.is_ready }
+        ensures faults { self.new.faults ≡ self.old.faults }
+    {
+        if !self.is_ready && self.given >= self.bringing {
+            self.next = Next::Refused;
+            return;
+        }
+        match self.lines.get(self.given) {
+            Some(line) => {
+                self.given += 1;
+                self.next = line_of(line.as_bytes());
+            }
+            None => self.next = Next::End,
+        }
+    }
+
+    // Reads what was chosen.
+    fn give(&mut self, buffer: &mut [u8]) -> io::Result<usize>
+        ensures bound { ReadsAtMost result buffer.new }
+        ensures told { self.new.told ≡ self.old.told }
+        ensures bringing { self.new.bringing ≡ self.old.bringing }
+        ensures given { self.new.given ≡ self.old.given }
+        ensures ready { self.new.is_ready ≡ self.old.is_ready }
+        ensures faults { self.new.faults ≡ self.old.faults }
+    {
+        match self.next {
+            Next::Line(bytes) => {
+                let length = copy_front(bytes, buffer);
+                self.next = line_of(&bytes[length..]);
+                Ok(length)
+            }
+            Next::Newline => {
+                self.next = Next::End;
+                Ok(copy_front(b"\n", buffer))
+            }
+            Next::Input => self.give_input(buffer),
+            Next::End => Ok(0),
+            Next::Refused => Err(Error::from(ErrorKind::Other)),
+        }
+    }
+
+    // Reads standard input up to a newline. At its end an empty line is read where prepared lines are left, since the
+    // end of the Shell's input would be before them.
+    fn give_input(&mut self, buffer: &mut [u8]) -> io::Result<usize>
+        ensures bound { ReadsAtMost result buffer.new }
+        ensures told { self.new.told ≡ self.old.told }
+        ensures bringing { self.new.bringing ≡ self.old.bringing }
+        ensures given { self.new.given ≡ self.old.given }
+        ensures ready { self.new.is_ready ≡ self.old.is_ready }
+        ensures faults { self.new.faults ≡ self.old.faults }
+    {
+        let count = read_line(&mut self.input, buffer)?;
+        if count == 0 && self.given < self.lines.len() {
+            return Ok(copy_front(b"\n", buffer));
+        }
+        Ok(count)
+    }
+}
+
+// What is left of a prepared line, or its newline.
+fn line_of(bytes: &[u8]) -> Next<'_> {
+    if bytes.is_empty() {
+        Next::Newline
+    } else {
+        Next::Line(bytes)
+    }
+}
+
+// Copies as many bytes as there is room for, and gives their number.
+fn copy_front(bytes: &[u8], buffer: &mut [u8]) -> usize
+    ensures { (result ≤ length bytes.now) × (result ≤ length buffer.new) × (length buffer.new ≡ length buffer.old) }
+{
+    let length = bytes.len().min(buffer.len());
+    buffer[..length].copy_from_slice(&bytes[..length]);
+    length
+}
+
+// Reads up to a newline, the end, or as much as there is room for. No byte after the newline is read.
+fn read_line<I: Read>(input: &mut I, buffer: &mut [u8]) -> io::Result<usize>
+    ensures { ReadsAtMost result buffer.new }
+{
+    for place in 0..buffer.len() {
+        if input.read(&mut buffer[place..place + 1])? == 0 {
+            return Ok(place);
+        }
+        if buffer[place] == b'\n' {
+            return Ok(place + 1);
+        }
+    }
+    Ok(buffer.len())
+}
+
+impl<I: Read> Source for Prompter<'_, I> {
+    ghost left = { λ _. None };
+
+    ghost faults = { λ p. p.faults };
+
+    fn heed(&mut self, world: &World) {
+        self.choose(world);
+    }
+
+    fn read(&mut self, buffer: &mut [u8]) -> io::Result<usize> {
+        match self.give(buffer) {
+            Ok(count) => Ok(count),
+            Err(error) => {
+                self.faults += 1;
+                Err(error)
+            }
+        }
+    }
+}
+
+// Shell 1 waits for a line: for an answer, or for more of a Run.
+fn asks_for_line(world: &World) -> bool {
+    match world.shell(1) {
+        Some(shell) => shell.asks_for_line(),
+        None => false,
+    }
+}

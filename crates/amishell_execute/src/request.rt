@@ -1,0 +1,39 @@
+//! What a command line asks for.
+
+use ados_text::Text;
+
+/// What the program is to do.
+#[derive(Drop)]
+pub struct Options<'a> {
+    /// The file of the programs of the host that are commands.
+    pub hosts: Option<&'a str>,
+    /// Further commands, each as `NAME` or `NAME=PROGRAM`.
+    pub host: Vec<&'a str>,
+    /// The stand-ins are commands too.
+    pub common: bool,
+    /// What is brought in, each as `PATH` or `PATH=NAME`.
+    pub bring: Vec<&'a str>,
+    /// What is taken out, each as `NAME` or `NAME=PATH`.
+    pub take: Vec<&'a str>,
+    /// The lines that are typed before the script.
+    pub typed: Vec<&'a str>,
+    /// Each argument is quoted.
+    pub quote: bool,
+    /// So many events and long lines are taken at most.
+    pub turns: u64,
+    /// The script's file.
+    pub script: &'a str,
+    /// Its arguments.
+    pub args: Vec<&'a str>,
+}
+
+/// Why the words ask for nothing.
+#[derive(Drop)]
+pub enum Refused {
+    /// They are no command line of the program.
+    BadLine,
+    /// They ask for help or for the version, which is this text.
+    Help(Text),
+    /// There was no memory to read them.
+    NoMemory,
+}
