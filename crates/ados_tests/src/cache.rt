@@ -123,13 +123,18 @@ fn other_residents_begin_anew(rt: HostRuntime) -> Result<(), Wrong> {
     )
 }
 
-// What may not be learned: a path that leads nowhere, and one behind several directories or a text.
-fn stays_unknown(alloc: Global, path: &str) -> Result<bool, Wrong> {
+// The directories S and T, in this order.
+fn both(alloc: Global) -> Result<Places, NoMemory> {
     let mut places = Vec::new(alloc);
     places.push(at(alloc, "S")?)?;
     places.push(at(alloc, "T")?)?;
+    Ok(Places::from_vec(places))
+}
+
+// What may not be learned: a path that leads nowhere, and one behind several directories or a text.
+fn stays_unknown(alloc: Global, path: &str) -> Result<bool, Wrong> {
     let assigns = bound(alloc, "S")?
-        .set(name(alloc, "M")?, Binding::Dirs(Places::from_vec(places)))?
+        .set(name(alloc, "M")?, Binding::Dirs(both(alloc)?))?
         .set(name(alloc, "P")?, Binding::Path(text(alloc, "S:")?))?
         .set(name(alloc, "D")?, Binding::Defer(text(alloc, "S:")?))?;
     let mut shared = with_directory(alloc)?.with_assigns(assigns)?;
@@ -158,17 +163,51 @@ fn learning_refuses_nothing(rt: HostRuntime) -> Result<(), Wrong> {
     expect(refuses_nothing(rt.alloc())?, "X:y and X:z")
 }
 
-// So many more paths than are kept at once: the last is known, and each leads where it did.
-fn learns_many(alloc: Global) -> Result<bool, Wrong> {
+// The path of a letter, as `X:a`.
+fn lettered(alloc: Global, letter: u8) -> Result<Text, NoMemory> {
+    Text::from_bytes(alloc, &[b'X', b':', letter])
+}
+
+// What is shared where the paths of the letters from `;` on were learned, one after another; that of the end was not.
+fn learned_up_to(alloc: Global, end: u8) -> Result<Shared, FsFault> {
     let mut shared = with_directory(alloc)?;
-    for letter in 0..80_u8 {
-        let path = Text::from_bytes(alloc, &[b'X', b':', b'0' + letter])?;
+    for letter in b';'..end {
+        let path = lettered(alloc, letter)?;
         shared.learn(alloc, &path, &Place::root(alloc));
     }
-    Ok(!knows(alloc, &shared, "X:0")? && leads(alloc, &shared, "X:0", "S/0")?)
+    Ok(shared)
+}
+
+// All of these are known.
+fn knows_each(alloc: Global, shared: &Shared, end: u8) -> Result<bool, NoMemory> {
+    for letter in b';'..end {
+        if !shared.knows(&lettered(alloc, letter)?, &Place::root(alloc)) {
+            return Ok(false);
+        }
+    }
+    Ok(true)
+}
+
+// From `;` up to `z` there are 64 letters.
+fn knows_all(alloc: Global) -> Result<bool, Wrong> {
+    let shared = learned_up_to(alloc, b'{')?;
+    Ok(knows_each(alloc, &shared, b'{')? && leads(alloc, &shared, "X:z", "S/z")?)
 }
 
 #[test]
-fn the_first_of_many_is_forgotten(rt: HostRuntime) -> Result<(), Wrong> {
-    expect(learns_many(rt.alloc())?, "80 paths")
+fn sixty_four_paths_are_known_at_once(rt: HostRuntime) -> Result<(), Wrong> {
+    expect(knows_all(rt.alloc())?, "64 paths")
+}
+
+// With one more they are not all known, and each leads where it did.
+fn knows_some(alloc: Global) -> Result<bool, Wrong> {
+    let shared = learned_up_to(alloc, b'|')?;
+    Ok(!knows_each(alloc, &shared, b'|')?
+        && leads(alloc, &shared, "X:;", "S/;")?
+        && leads(alloc, &shared, "X:{", "S/{")?)
+}
+
+#[test]
+fn no_more_are_known_at_once(rt: HostRuntime) -> Result<(), Wrong> {
+    expect(knows_some(rt.alloc())?, "65 paths")
 }
