@@ -188,10 +188,14 @@ fn knows_each(alloc: Global, shared: &Shared, end: u8) -> Result<bool, NoMemory>
     Ok(true)
 }
 
-// From `;` up to `z` there are 64 letters.
+// From `;` up to `z` there are 64 letters: one is not known only if there was no memory for it.
 fn knows_all(alloc: Global) -> Result<bool, Wrong> {
     let shared = learned_up_to(alloc, b'{')?;
-    Ok(knows_each(alloc, &shared, b'{')? && leads(alloc, &shared, "X:z", "S/z")?)
+    if knows_each(alloc, &shared, b'{')? {
+        leads(alloc, &shared, "X:z", "S/z")
+    } else {
+        Err(Wrong::NoMemory)
+    }
 }
 
 #[test]

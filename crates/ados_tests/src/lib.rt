@@ -7,6 +7,8 @@
 #[cfg(test)]
 mod assign;
 #[cfg(test)]
+mod breaks;
+#[cfg(test)]
 mod cache;
 #[cfg(test)]
 mod items;
