@@ -59,7 +59,9 @@ impl<T: Drop> From<AllocFailed<T>> for TransferFault {
 }
 
 /// A fault that names something.
-pub fn named<F: Fn(String) -> TransferFault>(alloc: Global, name: &str, fault: F) -> TransferFault {
+pub fn named<F: Fn(String) -> TransferFault>(alloc: Global, name: &str, fault: F) -> TransferFault
+    requires { F.IsAlwaysCallable fault }
+{
     match String::from_str(alloc, name) {
         Ok(name) => fault(name),
         Err(_) => TransferFault::NoMemory,

@@ -1,1 +1,1 @@
-mod NewPair
+mod Pairs

@@ -17,13 +17,19 @@ const PIECE_BYTES: usize = 4096;
 /// A launcher whose command that brings in puts out the files one by one, and which starts real programs for all others.
 #[derive(Drop)]
 pub struct Bringer<'a, R: Processes> {
+    children: Children<'a, R>,
+    log: Log,
+}
+
+// What runs: the command that brings in, and the programs that were started.
+#[derive(Drop)]
+struct Children<'a, R: Processes> {
     alloc: Global,
     // what is left to be brought in
     left: &'a [Told],
     // what the command that brings in has left to put out, and its shell
     open: Option<(u8, &'a [u8])>,
     programs: Programs<'a, R>,
-    log: Log,
 }
 
 impl<'a, R: Processes> Model for Bringer<'a, R> {
@@ -45,18 +51,21 @@ impl<'a, R: Processes> Bringer<'a, R> {
         ensures full { IfOk result (λ bringer. bringer.is_full ≡ false) }
     {
         Ok(Bringer {
-            alloc,
-            left: told,
-            open: None,
-            programs: Programs::new(alloc, processes)?,
+            children: Children {
+                alloc,
+                left: told,
+                open: None,
+                programs: Programs::new(alloc, processes)?,
+            },
             log: Log::new(alloc),
         })
     }
+}
 
+impl<R: Processes> Children<'_, R> {
     // Starts the program of a job; the command that brings in takes the next file.
     fn begin(&mut self, job: &Job) -> Answer
-        ensures answer { answers_start result ≡ true }
-        ensures same { self.new ≡ self.old }
+        ensures { answers_start result ≡ true }
     {
         if job.program.as_bytes() == BRING {
             if let Some((bytes, left)) = next_file(self.left) {
@@ -70,8 +79,7 @@ impl<'a, R: Processes> Bringer<'a, R> {
 
     // A piece of the output of the program of a number.
     fn piece(&mut self, child: u8) -> Answer
-        ensures answer { answers_read result ≡ true }
-        ensures same { self.new ≡ self.old }
+        ensures { answers_read result ≡ true }
     {
         match self.open {
             Some((shell, bytes)) if shell == child => {
@@ -85,8 +93,7 @@ impl<'a, R: Processes> Bringer<'a, R> {
 
     // How the program of a number ended.
     fn end(&mut self, child: u8) -> Answer
-        ensures answer { answers_wait result ≡ true }
-        ensures same { self.new ≡ self.old }
+        ensures { answers_wait result ≡ true }
     {
         match self.open {
             Some((shell, _)) if shell == child => {
@@ -131,17 +138,17 @@ impl<R: Processes> Launcher for Bringer<'_, R> {
         let Some(kept) = self.log.room_for(job) else {
             return Answer::Memory;
         };
-        let answer = self.begin(job);
+        let answer = self.children.begin(job);
         self.log.start(kept, answer)
     }
 
     fn read(&mut self, child: u8) -> Answer {
-        let answer = self.piece(child);
+        let answer = self.children.piece(child);
         self.log.read(child, answer)
     }
 
     fn wait(&mut self, child: u8) -> Answer {
-        let answer = self.end(child);
+        let answer = self.children.end(child);
         self.log.wait(child, answer)
     }
 }

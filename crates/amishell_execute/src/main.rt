@@ -81,7 +81,7 @@ fn given_words<R: Env + AllocGlobal>(rt: &R) -> Result<Vec<String>, Fault> {
 }
 
 // Runs the script, takes what is asked for, and gives the exit status.
-#[tactic(auto, using(crate::proofs::NewPair::new_pair))]
+#[tactic(auto, using(ados_launch::proofs::NewPair::new_pair))]
 fn execute<R: Env + AllocGlobal + Files + Input + Print + Eprint + Processes + Clone + Drop>(
     rt: &R,
     options: &Options<'_>,
@@ -126,7 +126,7 @@ fn lines_for<R: AllocGlobal>(
 }
 
 // Runs the lines in a new world, with standard input for what asks.
-#[tactic(auto, using(crate::proofs::NewPair::kept_pair))]
+#[tactic(auto, using(crate::proofs::Pairs::kept_pair))]
 fn play<R: AllocGlobal + Input + Print + Processes>(
     rt: &R,
     world: &mut World,
