@@ -1,5 +1,5 @@
 -- what the words of a line were read as is what its phrases say
-use Rattle.std.proofs.Common.{ℕ, ◌≡◌, ◌⊎◌, ◌∙◌, ◌+◌, ◌-◌, ◌<◌, ◌≤◌, ◌==◌, nat_lt, List, [], ◌∷◌, ◌++◌, Bool, true, false, ◌&&◌, ◌||◌, not, Option, Some, None, Result, Ok, Err, IfOk, OnOk, length, drop, get_or, refl, ap, sym, subst, arith, append_assoc, append-nil, inl, inr}
+use Rattle.std.proofs.Common.{ℕ, ◌≡◌, ◌⊎◌, ◌∙◌, ◌+◌, ◌-◌, ◌<◌, ◌≤◌, ◌==◌, List, [], ◌∷◌, ◌++◌, Bool, true, false, Option, Some, None, length, drop, get_or, refl, ap, sym, subst, arith, append_assoc, append-nil, inl, inr}
 use Rattle.std.proofs.lemmas.Grind.{common_steps}
 use Rattle.std.specs.List.{flat_map, position, position_or_len}
 use Rattle.std.specs.Prelude.{slice_index}
@@ -9,30 +9,16 @@ use Rattle.std.proofs.lemmas.List.Sums.{fails_before_first}
 use Rattle.std.proofs.lemmas.List.Quantifiers.{position-Some}
 use Rattle.std.proofs.lemmas.Option.{slice_get-get_or, slice_get_within, get_or_from_slice_get}
 use Rattle.ados_items.specs.Items.{is_blank, bytes_between}
-use Rattle.ados_items.specs.declared.items.Item.{Item}
 use Rattle.ados_items.specs.declared.items.Item.TheVariants as item
-use Rattle.ados_readargs.specs.declared.errors.ArgFault.{ArgFault}
 use Rattle.ados_readargs.specs.declared.errors.ArgFault.TheVariants as fault
-use Rattle.ados_readargs.specs.declared.args.Arg.{Arg}
-use Rattle.ados_readargs.specs.declared.options.Qualifiers.{Qualifiers}
 use Rattle.ados_readargs.specs.declared.options.TemplateOption.{TemplateOption}
 use Rattle.ados_readargs.specs.declared.words.LineWord.{LineWord}
 use Rattle.ados_readargs.specs.declared.words.LineWord.TheVariants as word
-use Rattle.ados_readargs.specs.declared.readings.Reading.{Reading}
-use Rattle.ados_readargs.specs.declared.readings.Reading.TheVariants.{Named, Given}
-use Rattle.ados_readargs.specs.declared.meanings.Pending.{Pending}
-use Rattle.ados_readargs.specs.declared.meanings.Pending.TheVariants.{Free, Value}
-use Rattle.ados_readargs.specs.declared.meanings.Meaning.{Meaning}
 use Rattle.ados_readargs.specs.declared.meanings.Meaning.TheVariants as says
-use Rattle.ados_readargs.specs.Options.{takes_value, qualifiers_at, unqualified}
-use Rattle.ados_readargs.specs.Readings.{Readings, is_filled, nothing_read}
-use Rattle.ados_readargs.specs.Words.{line_words_of, item_of, is_open_quote, is_equal}
-use Rattle.ados_readargs.specs.Meanings.{is_keyword, keyword_of, trimmed_from, is_full, given_meaning, value_behind, switch_meaning, keyword_meaning, plain_meaning, word_meaning, value_meaning, next_meaning, rest_of, free_meaning, next_open, read_behind, read_from, read_of, with_quotes}
-use Rattle.ados_readargs.specs.Phrases.{Phrase, Switch, Joined, Parted, Direct, Rest, Plain, words_in, fillings, plain_words, IsKeyword, is_whole, has_value, may_fill, is_rest_next, IsPlainWord, EndsInBlanks, IsPhrase, IsLast, ArePhrases, said_by, IsFilled}
-use Rattle.ados_readargs.specs.Shares.{TakesAll}
-use Rattle.ados_readargs.specs.Args.{args_of}
-use Rattle.ados_readargs.specs.Checks.{lacks, has_bad}
-use Rattle.ados_readargs.specs.Fill.{checked_args, args_read, args_for, LosesNoWord}
+use Rattle.ados_readargs.specs.Options.{unqualified}
+use Rattle.ados_readargs.specs.Readings.{Readings}
+use Rattle.ados_readargs.specs.Meanings.{is_keyword, keyword_of, trimmed_from}
+use Rattle.ados_readargs.specs.Phrases.{Phrase, words_in, fillings, plain_words, IsKeyword, EndsInBlanks, IsPhrase, IsLast, ArePhrases}
 
 -- phrases that are these words, and what was read behind them by what was read before
 pub record Says (options : List TemplateOption) (line : List ℕ) (before after : Readings) (whole : List LineWord) (phrases : List Phrase) : Type 0 where

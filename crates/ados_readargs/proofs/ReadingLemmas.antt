@@ -1,20 +1,10 @@
 -- what the words of a line are read as: what its phrases say, or the first fault
-use Rattle.std.proofs.Common.{ℕ, ◌≡◌, ◌⊎◌, ◌∙◌, ◌+◌, ◌-◌, ◌<◌, ◌≤◌, ◌==◌, nat_lt, List, [], ◌∷◌, ◌++◌, Bool, true, false, ◌&&◌, ◌||◌, not, Option, Some, None, Result, Ok, Err, IfOk, OnOk, length, drop, get_or, refl, ap, sym, subst, arith, append_assoc, append-nil, inl, inr}
-use Rattle.std.proofs.lemmas.Grind.{common_steps}
-use Rattle.std.specs.List.{flat_map, position, position_or_len}
-use Rattle.std.specs.Prelude.{slice_index}
-use Rattle.std.proofs.lemmas.Bool.{both_ways, cond_both, cases_lt}
-use Rattle.std.proofs.lemmas.List.{drop_more, length-drop}
-use Rattle.std.proofs.lemmas.List.Sums.{fails_before_first}
-use Rattle.std.proofs.lemmas.List.Quantifiers.{position-Some}
-use Rattle.std.proofs.lemmas.Option.{slice_get-get_or, slice_get_within, get_or_from_slice_get}
-use Rattle.ados_items.specs.Items.{is_blank, bytes_between}
+use Rattle.std.proofs.Common.{ℕ, ◌≡◌, ◌∙◌, ◌+◌, ◌-◌, ◌==◌, nat_lt, List, [], ◌∷◌, ◌++◌, Bool, true, false, ◌&&◌, Option, Some, None, Result, refl, ap, sym, subst, arith, append_assoc, append-nil, inl}
+use Rattle.std.proofs.lemmas.Bool.{cond_both}
 use Rattle.ados_items.specs.declared.items.Item.{Item}
 use Rattle.ados_items.specs.declared.items.Item.TheVariants as item
 use Rattle.ados_readargs.specs.declared.errors.ArgFault.{ArgFault}
 use Rattle.ados_readargs.specs.declared.errors.ArgFault.TheVariants as fault
-use Rattle.ados_readargs.specs.declared.args.Arg.{Arg}
-use Rattle.ados_readargs.specs.declared.options.Qualifiers.{Qualifiers}
 use Rattle.ados_readargs.specs.declared.options.TemplateOption.{TemplateOption}
 use Rattle.ados_readargs.specs.declared.words.LineWord.{LineWord}
 use Rattle.ados_readargs.specs.declared.words.LineWord.TheVariants as word
@@ -24,16 +14,13 @@ use Rattle.ados_readargs.specs.declared.meanings.Pending.{Pending}
 use Rattle.ados_readargs.specs.declared.meanings.Pending.TheVariants.{Free, Value}
 use Rattle.ados_readargs.specs.declared.meanings.Meaning.{Meaning}
 use Rattle.ados_readargs.specs.declared.meanings.Meaning.TheVariants as says
-use Rattle.ados_readargs.specs.Options.{takes_value, qualifiers_at, unqualified}
+use Rattle.ados_readargs.specs.Options.{takes_value, qualifiers_at}
 use Rattle.ados_readargs.specs.Readings.{Readings, is_filled, nothing_read}
-use Rattle.ados_readargs.specs.Words.{line_words_of, item_of, is_open_quote, is_equal}
-use Rattle.ados_readargs.specs.Meanings.{is_keyword, keyword_of, trimmed_from, is_full, given_meaning, value_behind, switch_meaning, keyword_meaning, plain_meaning, word_meaning, value_meaning, next_meaning, rest_of, free_meaning, next_open, read_behind, read_from, read_of, with_quotes}
-use Rattle.ados_readargs.specs.Phrases.{Phrase, Switch, Joined, Parted, Direct, Rest, Plain, words_in, fillings, plain_words, IsKeyword, is_whole, has_value, may_fill, is_rest_next, IsBetween, IsPlainWord, EndsInBlanks, IsPhrase, IsLast, ArePhrases, said_by, IsFilled}
-use Rattle.ados_readargs.specs.FirstFault.{TakesValue, IsPassedOver, IsFaultAt, twice, full_joined, full_parted, no_value, open_value, open_word, GoOn}
-use Rattle.ados_readargs.specs.Args.{args_of}
-use Rattle.ados_readargs.specs.Checks.{lacks, has_bad}
-use Rattle.ados_readargs.specs.Fill.{checked_args, args_read, args_for, LosesNoWord}
-use Rattle.ados_readargs.proofs.PhraseLemmas.{Says, Said, with_phrase, says-none, says-more, keyword-is, no-keyword, trimmed-is}
+use Rattle.ados_readargs.specs.Words.{item_of, is_open_quote, is_equal}
+use Rattle.ados_readargs.specs.Meanings.{keyword_of, trimmed_from, is_full, given_meaning, value_behind, switch_meaning, keyword_meaning, plain_meaning, word_meaning, value_meaning, next_meaning, rest_of, free_meaning, next_open, read_behind, read_from}
+use Rattle.ados_readargs.specs.Phrases.{Phrase, Switch, Joined, Parted, Direct, Rest, Plain, words_in, fillings, plain_words, IsKeyword, is_whole, has_value, may_fill, is_rest_next, IsBetween, IsPlainWord, IsPhrase, IsLast}
+use Rattle.ados_readargs.specs.FirstFault.{IsPassedOver, IsFaultAt, twice, full_joined, full_parted, no_value, open_value, open_word}
+use Rattle.ados_readargs.proofs.PhraseLemmas.{Said, with_phrase, says-none, keyword-is, no-keyword, trimmed-is}
 use Rattle.ados_readargs.proofs.FaultSteps.{Comes, comes-more, first-free, full-is, full-not, given-nil, named-not, plain-nil, stop, switch-not, takes-not, toggle-free}
 
 -- the words that wait for the value of a keyword: the keyword, and an `=` alone that was passed over

@@ -1,5 +1,5 @@
 -- Which fault a line has that does not fill options: the first by what stands in it, and else by what was given.
-use Rattle.std.specs.Prelude.{◌≡◌, ℕ, List, [], ◌∷◌, ◌++◌, Bool, true, false, ◌&&◌, Result, Ok, Err}
+use Rattle.std.specs.Prelude.{◌≡◌, ℕ, List, [], ◌∷◌, ◌++◌, Bool, true, false, ◌&&◌, Err}
 use Rattle.std.specs.List.{flat_map, list_any}
 use Rattle.ados_text.specs.Text.{Bytes}
 use Rattle.ados_readargs.specs.declared.errors.ArgFault.{ArgFault}
