@@ -8,7 +8,7 @@ ghost use Rattle.ados_machine.specs.Given.{
   ReadyShellsAreTurned,
   TypedLinesAreTakenInOrder,
 };
-ghost use Rattle.ados_machine.specs.InUse.{EntriesStayInUse, IdleShellsUseNoEntry};
+ghost use Rattle.ados_machine.specs.InUse.{EntriesStayInUse, IdleShellsUseNoEntry, OutputsStayOpen, StartsOpenOutputs};
 ghost use Rattle.ados_machine.specs.Kept.{EventsKeepAllCodes, FreshWorldsHaveAllCodes, LastCodesStay};
 ghost use Rattle.ados_machine.specs.Reports.{ReportsTellLastRecords};
 ghost use Rattle.ados_machine.specs.Laws.{
@@ -139,6 +139,14 @@ pub fn last_codes_stay()
 pub fn entries_stay_in_use()
     ensures lasts { EntriesStayInUse }
     ensures idle { IdleShellsUseNoEntry }
+{}
+
+/// What a program's command opened stays open until the answer that ends the program, also behind a fault of its output: the
+/// outputs that its shell holds, which are those of its frames and that one, stay the same from the answer that the program has
+/// started, event by event.
+pub fn outputs_stay_open()
+    ensures opens { StartsOpenOutputs }
+    ensures lasts { OutputsStayOpen }
 {}
 
 /// What waited and was typed in a run is what shell 1 took, in order, followed by what waits. It takes the first line that

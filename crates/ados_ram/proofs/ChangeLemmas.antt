@@ -193,7 +193,7 @@ pub in_order : (key : Key) (new : Option Kid) → IsNamed key new → IsInOrder 
 in_order key None h = tt
 in_order key (Some k) h = h.1
 
-last-deeper : (x y : List ℕ) (ys : Key) → last_name (x ∷ y ∷ ys) ≡ last_name (y ∷ ys)
+pub last-deeper : (x y : List ℕ) (ys : Key) → last_name (x ∷ y ∷ ys) ≡ last_name (y ∷ ys)
 last-deeper x y ys =
     let e : length (x ∷ y ∷ ys) - 1 ≡ suc (length (y ∷ ys) - 1) = omega arith in
     ap (λ (i : ℕ). slice_index_or (x ∷ y ∷ ys) i []) e

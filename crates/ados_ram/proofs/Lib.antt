@@ -5,6 +5,7 @@ pub mod FirstLemmas
 pub mod RenameLemmas
 pub mod ContentsLemmas
 pub mod StayLemmas
+pub mod MoveLemmas
 pub mod KidLemmas
 pub mod BlockLemmas
 pub mod TreeLemmas
@@ -16,3 +17,4 @@ pub mod BelowLemmas
 pub mod TotalLemmas
 pub mod InsideLemmas
 pub mod WrittenLemmas
+pub mod NamedLemmas

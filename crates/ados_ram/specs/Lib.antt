@@ -9,3 +9,5 @@ pub mod Written
 pub mod Tree
 pub mod Blocks
 pub mod Falls
+pub mod Renames
+pub mod Named

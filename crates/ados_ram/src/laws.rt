@@ -1,13 +1,16 @@
 // Laws of the files, over their definitions.
-ghost use Rattle.std.specs.Prelude.{◌≡◌, ◌&&◌, ◌||◌, ◌++◌, ◌∷◌, Bool};
+ghost use Rattle.std.specs.Prelude.{◌≡◌, ◌&&◌, ◌||◌, ◌++◌, ◌∷◌, Bool, None};
 ghost use Rattle.std.specs.declared.cmp.Ordering.TheVariants.{Less};
 ghost use Rattle.std.specs.FinMap as map;
 ghost use Rattle.ados_text.specs.Text.{Bytes, Text};
 ghost use Rattle.ados_text.specs.Name.{Name, name_cmp};
 ghost use Rattle.ados_ram.specs.declared.entries.Bits.{Bits};
-ghost use Rattle.ados_ram.specs.Place.{Key, place_cmp, is_same_key, is_child, is_below, is_at_or_below};
-ghost use Rattle.ados_ram.specs.Files.{Files, is_some_file, OthersStay};
-ghost use Rattle.ados_ram.specs.FileOperations.{write_of, write_as_of, append_of, put_open_of, make_dir_of, rename_of, protect_of, comment_of};
+ghost use Rattle.ados_ram.specs.InUse.{InUse};
+ghost use Rattle.ados_ram.specs.Named.{AreNamed};
+ghost use Rattle.ados_ram.specs.Place.{Key, Place, key_of, last_name, place_cmp, is_same_key, is_child, is_below, is_at_or_below};
+ghost use Rattle.ados_ram.specs.Files.{AreFiles, Files, first_files, is_some_file, OthersStay};
+ghost use Rattle.ados_ram.specs.FileOperations.{write_of, write_as_of, append_of, put_open_of, make_dir_of, rename_fault, rename_of, protect_of, comment_of};
+ghost use Rattle.ados_ram.specs.Renames.{RenamesMove};
 ghost use Rattle.ados_ram.specs.Contents.{children, contents, is_within, files_below, contents_cmp, ListsJust};
 
 /// What is listed of a directory is just what it is to be, each once: its contents are the places below it, each
@@ -33,4 +36,27 @@ pub fn others_stay()
     ensures rename { (files : Files) (from to : Key) (name : Name) → OthersStay (λ place. is_at_or_below from place || is_at_or_below to place) files (rename_of files from to name) }
     ensures protect { (files : Files) (key : Key) (bits : Bits) → OthersStay (is_same_key key) files (protect_of files key bits) }
     ensures comment { (files : Files) (key : Key) (comment : Text) → OthersStay (is_same_key key) files (comment_of files key comment) }
+{}
+
+/// A rename that is not refused moves the object and all that is below it, by the same way down, and nothing else: the
+/// object has its new name, what is below it is as it was, nothing is left where it was, and each other place has the
+/// entry that it had.
+pub fn renames_move()
+    ensures { RenamesMove }
+{}
+
+/// Each object stands at the key of its names: these are folded there, and the last of them is the object's own name. It is
+/// so at first, and each operation at a place keeps it.
+pub fn objects_keep_their_names()
+    ensures first { AreNamed first_files }
+    ensures write { (files : Files) (place : Place) (bytes : Bytes) → AreNamed files → AreNamed (write_of files (key_of place) (last_name place) bytes) }
+    ensures write_as { (files : Files) (place : Place) (bytes : Bytes) (bits : Bits) → AreNamed files → AreNamed (write_as_of files (key_of place) (last_name place) bytes bits) }
+    ensures append { (files : Files) (place : Place) (bytes : Bytes) → AreNamed files → AreNamed (append_of files (key_of place) (last_name place) bytes) }
+    ensures put_open { (files : Files) (place : Place) (bytes : Bytes) → AreNamed files → AreNamed (put_open_of files (key_of place) (last_name place) bytes) }
+    ensures make_dir { (files : Files) (place : Place) → AreNamed files → AreNamed (make_dir_of files (key_of place) (last_name place)) }
+    ensures delete { (files : Files) (key : Key) → AreNamed files → AreNamed (map.remove files key) }
+    ensures rename { (busy : InUse) (files : Files) (from to : Place) → AreFiles files → rename_fault busy files (key_of from) (key_of to) ≡ None →
+        AreNamed files → AreNamed (rename_of files (key_of from) (key_of to) (last_name to)) }
+    ensures protect { (files : Files) (key : Key) (bits : Bits) → AreNamed files → AreNamed (protect_of files key bits) }
+    ensures comment { (files : Files) (key : Key) (comment : Text) → AreNamed files → AreNamed (comment_of files key comment) }
 {}

@@ -24,6 +24,6 @@ pub use faults::FsFault;
 pub use file_bytes::FileBytes;
 pub use files::Ram;
 pub use in_use::Busy;
-pub use laws::{contents_in_order, others_stay};
+pub use laws::{contents_in_order, objects_keep_their_names, others_stay, renames_move};
 pub use places::Place;
 pub use refusals::list_refusal;

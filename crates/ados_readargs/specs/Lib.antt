@@ -13,3 +13,4 @@ pub mod Checks
 pub mod Phrases
 pub mod Template
 pub mod Fill
+pub mod FirstFault

@@ -6,6 +6,7 @@ mod buffers;
 mod checks;
 mod errors;
 mod fill;
+mod laws;
 mod laying;
 mod meanings;
 mod option_list;
@@ -18,5 +19,6 @@ mod words;
 
 pub use args::{Arg, Args};
 pub use errors::ArgFault;
+pub use laws::first_fault_of_a_line;
 pub use options::{Qualifiers, TemplateOption};
 pub use template::Template;

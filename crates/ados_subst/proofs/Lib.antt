@@ -3,3 +3,4 @@ mod NextLemmas
 mod ReferenceLemmas
 mod ScriptLemmas
 mod SlotLemmas
+mod FaultLemmas

@@ -8,3 +8,4 @@ pub mod References
 pub mod Scripts
 pub mod Slots
 pub mod Words
+pub mod FirstFault

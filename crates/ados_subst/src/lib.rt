@@ -4,6 +4,7 @@
 mod above;
 mod directives;
 mod faults;
+mod laws;
 mod lines;
 mod marks;
 mod next;
@@ -13,4 +14,5 @@ mod slots;
 mod words;
 
 pub use faults::SubstFault;
+pub use laws::first_directive_is_told;
 pub use scripts::script;

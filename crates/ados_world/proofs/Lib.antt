@@ -1,3 +1,4 @@
+mod BindingLemmas
 mod BreakLemmas
 mod BrokenLemmas
 mod CarryingLemmas

@@ -1,3 +1,4 @@
+pub mod Binding
 pub mod Breaks
 pub mod Endings
 pub mod Hosts

@@ -1,9 +1,11 @@
 // Shells that are opened for a line of their own.
-ghost use Rattle.std.specs.Prelude.{◌≡◌, ◌≤◌, ◌∷◌, ◌-◌, [], length, IfOk, IfSome, Some};
+ghost use Rattle.std.specs.Prelude.{◌≡◌, ◌≤◌, ◌∷◌, ◌-◌, ℕ, List, [], length, IfOk, IfSome, Some};
 ghost use Rattle.std.specs.List.{slice_set};
 ghost use Rattle.ados_machine.specs.Limits.{IsSane};
 ghost use Rattle.ados_machine.specs.Numbers.{free_number};
-ghost use Rattle.ados_machine.specs.Whole.{opened_shell};
+ghost use Rattle.ados_machine.specs.declared.answers.Answer.{Answer};
+ghost use Rattle.ados_machine.specs.Told.{TellsReports, told};
+ghost use Rattle.ados_machine.specs.Whole.{opened_shell, whole};
 ghost use Rattle.ados_world.specs.Opened.{Refuses, behind_opening, opening_fault};
 ghost use Rattle.ados_world.specs.Shells.{IsShellNumber};
 
@@ -21,7 +23,8 @@ impl World {
     /// Opens a shell for one line and gives its number, the lowest of 2 to 20 that is free; `None` where all are taken.
     ///
     /// The shell is a fresh one: its current directory is RAM:, and it has no path and no aliases. The line is its one
-    /// frame, and the shell ends behind it.
+    /// frame, and the shell ends behind it. Where it alone is given turns and answers, its scripts report what the direct meaning
+    /// of the line says.
     ///
     /// `Over` where no shell is left, then `LineTooLong` for a line of more than 512 bytes, then `NoMemory`, which comes
     /// only where a number is free. At a refusal, and at `None`, the world is as it was.
@@ -29,6 +32,9 @@ impl World {
         ensures number { IfOk result (λ number. number ≡ free_number self.old.shells) }
         // Its number has a place for the codes that it leaves.
         ensures place { IfOk result (λ number. IfSome number (λ k. k ≤ length self.old.ended)) }
+        // What it reports, if it runs alone from then on.
+        ensures reports { IfOk result (λ number. IfSome number (λ k. (n : ℕ) (answers : List Answer) →
+            TellsReports (whole n k self.old (line.now ∷ []) answers) (told k n answers self.new []))) }
         ensures refusal { Refuses result (opening_fault self.old line.now) (free_number self.old.shells) }
         ensures world { self.new ≡ behind_opening self.old line.now result }
     {

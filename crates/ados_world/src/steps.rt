@@ -10,6 +10,7 @@ ghost use Rattle.ados_machine.specs.Runs.{IsAnswer, world_after};
 ghost use Rattle.ados_machine.specs.declared.refusals.Refusal.TheVariants.{NoMemory as WantOfMemory};
 ghost use Rattle.ados_find.specs.Shared.{version};
 ghost use Rattle.ados_shell.specs.Drafts.{out_of};
+ghost use Rattle.ados_world.specs.Binding.{BindsWhatItUsed};
 ghost use Rattle.ados_world.specs.Laws.{FailedStart, tells_break};
 ghost use Rattle.ados_world.specs.Shells.{IsShellNumber};
 ghost use Rattle.ados_world.specs.Steps.{answering, asked_by, ended_world, taken};
@@ -30,16 +31,18 @@ impl World {
     /// Takes one event, or refuses it and stays as it was.
     ///
     /// Refusals come in the order of their enum; the first six, an accepted end of input, a break and the end of a shell take
-    /// no memory. A break is refused by `Over` and `NoSuchShell` alone. An answer that a start has failed changes the codes of the shell that asked, and what these change:
-    /// what all shells share, the other shells and the input stay. What is given as request is what the event's shell waits
-    /// for then, and none behind a typed line, the end of input or a break. A report tells of a break exactly where the event is a
-    /// turn that finds the flag of its shell, in which a script runs. A resident entry stays in use from the start of its program
-    /// to the answer that ends it.
+    /// no memory. A break is refused by `Over` and `NoSuchShell` alone. An answer that a start has failed changes the codes of
+    /// the shell that asked, and what these change: what all shells share, the other shells and the input stay. What is given as
+    /// request is what the event's shell waits for then, and none behind a typed line, the end of input or a break. The end of
+    /// the event binds only assigns of Defer that it used. A report tells of a break exactly where the event is a turn that finds
+    /// the flag of its shell, in which a script runs. A resident entry stays in use from the start of its program to the answer
+    /// that ends it.
     pub fn step(&mut self, event: &Event) -> Result<Out, Refusal>
         ensures answer { IsAnswer event.now result (step_of self.old event.now) }
         ensures world { self.new ≡ world_after self.old result (step_of self.old event.now) }
         ensures failed_start { OnOk result (FailedStart self.old event.now self.new) }
         ensures request { IfOk result (λ out. out.request ≡ asked_in self.new event.now) }
+        ensures binding { OnOk result (BindsWhatItUsed self.old event.now self.new) }
         ensures breaks { IfOk result (λ out. tells_break out.reports ≡ finds_flag self.old event.now) }
         ensures entries { OnOk result ((k : ℕ) → asks self.old k ≡ true → asks self.new k ≡ true → entry_of self.new k ≡ entry_of self.old k) }
     {

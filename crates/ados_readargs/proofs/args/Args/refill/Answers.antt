@@ -1,5 +1,5 @@
 use Rattle.std.proofs.Common.{rules}
-use Rattle.ados_readargs.proofs.PhraseLemmas.{filled}
+use Rattle.ados_readargs.proofs.FillLemmas.{filled}
 use Rattle.ados_readargs.proofs.args.Args.refill.Goals as goal
 
 pub returns-clause-said : goal.returns-clause-said

@@ -1,4 +1,5 @@
 use Rattle.ados_world.proofs.LawLemmas.{failed-start, step-gives, step-keeps-entries}
+use Rattle.ados_world.proofs.BindingLemmas.{step-binds}
 use Rattle.ados_world.proofs.BrokenLemmas.{step-told}
 use Rattle.ados_world.proofs.worlds.World.step.Goals as goal
 
@@ -17,3 +18,7 @@ returns-clause-entries c =
 pub returns-clause-breaks : goal.returns-clause-breaks
 returns-clause-breaks c =
     rw c.into_out.ensures (step-told c.args.self.now c.args.event.now _ c.in_ok-step_into.ensures.answer)
+
+pub returns-clause-binding : goal.returns-clause-binding
+returns-clause-binding c =
+    rw c.in_ok-step_into.ensures.world (step-binds c.args.self.now c.args.event.now _ c.in_ok-step_into.ensures.answer)

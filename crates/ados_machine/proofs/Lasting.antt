@@ -1,0 +1,266 @@
+-- What is seen of a shell lasts from one event to the next, while its phase holds it and no answer changes it.
+use Rattle.std.proofs.Common.{◌≡◌, ◌≢◌, ◌∙◌, sym, ℕ, List, Bool, true, false, Option, Some, None, length, refl, ap, arith, inl, inr}
+use Rattle.std.specs.Prelude.{nat_le, nat_lt}
+use Rattle.std.proofs.lemmas.Bool.{cases_Bool, cases_eq}
+use Rattle.ados_line.specs.Cut.{line_limit}
+use Rattle.ados_find.specs.declared.codes.Codes.{Codes}
+use Rattle.ados_find.specs.declared.outcomes.Breaks.{Breaks}
+use Rattle.ados_find.specs.declared.outcomes.Renamed.{Renamed}
+use Rattle.ados_flow.specs.Frames.{FrameState}
+use Rattle.ados_machine.specs.declared.answers.Answer.{Answer as Reply}
+use Rattle.ados_machine.specs.declared.events.Event.{Event}
+use Rattle.ados_machine.specs.declared.events.Event.TheVariants.{Typed, EndOfInput, Turn, Answer, Break}
+use Rattle.ados_machine.specs.declared.events.Kind.{Kind}
+use Rattle.ados_machine.specs.declared.phases.Asking.{Asking}
+use Rattle.ados_machine.specs.declared.phases.Gathering.{Gathering}
+use Rattle.ados_machine.specs.declared.phases.Phase.{Phase}
+use Rattle.ados_machine.specs.declared.phases.Phase.TheVariants as phase
+use Rattle.ados_machine.specs.declared.phases.Wait.{Wait}
+use Rattle.ados_machine.specs.declared.phases.Wait.TheVariants.{ForAnswer, ForLines, ForStart, ForPiece, ForEnd}
+use Rattle.ados_machine.specs.Answers.{answered_in}
+use Rattle.ados_machine.specs.Breaks.{breaks_by, broken_by, marked_if}
+use Rattle.ados_machine.specs.Carrying.{carried_shells, carried_by}
+use Rattle.ados_machine.specs.Course.{Course}
+use Rattle.ados_machine.specs.Deeds.{Deed, Passes, Answers, Jumps, Calls, Ticks, Waits}
+use Rattle.ados_machine.specs.Numbers.{free_number}
+use Rattle.ados_machine.specs.Settle.{Turned, jumped_in, said_of, settle}
+use Rattle.ados_machine.specs.Shells.{Begun, begun_shell, ShellState}
+use Rattle.ados_machine.specs.Sinks.{Sink, sink_in}
+use Rattle.ados_machine.specs.Step.{Response, Refused, Accepted, queue_limit, shell_of_turn, with_begun, is_done, left, moved_in, took, shell_ended, start, unflagged, applied, turned, answered, broken, typed, end_of_input, happened, step_of}
+use Rattle.ados_machine.specs.Turning.{Turning, Refuses, Ends, Takes, flagged_turning, replied}
+use Rattle.ados_machine.specs.World.{WorldState, shell_at, is_over, input_of}
+use Rattle.ados_machine.proofs.Asked.{flagged-refused}
+use Rattle.ados_machine.proofs.Moves.{placed-at}
+use Rattle.ados_machine.proofs.Rests.{IsIdle, passed-rests, finished-rests, called-rests, ticked-rests}
+use Rattle.ados_machine.proofs.Shells.{shells_behind, broken_maybe, broken_for, found-broken, found, IsFree, free-number, carried-free, carried_found, found-carried, found-set_same, found-set_other, found-left, runs_pos}
+
+-- where a deed waits on, the same is seen above these frames
+abbrev pub SeenBehind : {X : Type 0} → (List FrameState → Phase → X) → List FrameState → X → Option Deed → Type 0
+SeenBehind look frames value (Some (Waits wait course)) = look frames (phase.Waiting wait) ≡ value
+SeenBehind look frames value deed = Unit {0}
+
+-- what is seen of a shell by its frames and its phase, and nothing where there is none; while its phase holds that, it
+-- waits for a launcher, whose answers keep it
+pub record Watch (X : Type 0) : Type 0 where
+  pub nothing : X
+  pub look : List FrameState → Phase → X
+  pub holds : Phase → Bool
+  pub marked : (frames : List FrameState) (marks : Bool) (now : Phase) → look frames (marked_if marks now) ≡ look frames now
+  pub idle : (now : Phase) → IsIdle now → holds now ≡ false
+  pub for_answer : (asking : Asking) → holds (phase.Waiting (ForAnswer asking)) ≡ false
+  pub for_lines : (gathering : Gathering) → holds (phase.Waiting (ForLines gathering)) ≡ false
+  pub answers : (frames : List FrameState) (sink : Sink) (course : Course) (now : Phase) (answer : Reply) → holds now ≡ true →
+      SeenBehind look frames (look frames now) (answered_in sink course now answer)
+
+abbrev pub seen_by : {X : Type 0} → Watch X → Option ShellState → X
+seen_by s None = s.nothing
+seen_by s (Some shell) = s.look shell.frames shell.phase
+
+abbrev pub is_held : {X : Type 0} → Watch X → Option ShellState → Bool
+is_held s None = false
+is_held s (Some shell) = s.holds shell.phase
+
+never : false ≡ true → ⊥
+never e = cc
+
+carried-seen : {X : Type 0} (s : Watch X) (renamed : Option Renamed) (o : Option ShellState) → seen_by s (carried_found renamed o) ≡ seen_by s o
+carried-seen s None o = refl
+carried-seen s (Some renamed) None = refl
+carried-seen s (Some renamed) (Some shell) = refl
+
+carried-held : {X : Type 0} (s : Watch X) (renamed : Option Renamed) (o : Option ShellState) → is_held s (carried_found renamed o) ≡ is_held s o
+carried-held s None o = refl
+carried-held s (Some renamed) None = refl
+carried-held s (Some renamed) (Some shell) = refl
+
+own-seen : {X : Type 0} (s : Watch X) (renamed : Option Renamed) (shell : ShellState) → seen_by s (Some (carried_by renamed shell)) ≡ s.look shell.frames shell.phase
+own-seen s None shell = refl
+own-seen s (Some renamed) shell = refl
+
+own-held : {X : Type 0} (s : Watch X) (renamed : Option Renamed) (shell : ShellState) → is_held s (Some (carried_by renamed shell)) ≡ s.holds shell.phase
+own-held s None shell = refl
+own-held s (Some renamed) shell = refl
+
+broken-seen : {X : Type 0} (s : Watch X) (breaks : Option Breaks) (o : Option ShellState) → seen_by s (broken_maybe breaks o) ≡ seen_by s o
+broken-seen s None o = refl
+broken-seen s (Some breaks) None = refl
+broken-seen s (Some breaks) (Some shell) = s.marked shell.frames breaks.marks shell.phase
+
+-- a shell begins where there is none
+begun-seen : {X : Type 0} (s : Watch X) (shells : List (Option ShellState)) (begun : Option Begun) (n : Option ℕ) (j : ℕ) → IsFree shells n →
+    is_held s (found shells j) ≡ true → seen_by s (found (with_begun begun n shells) j) ≡ seen_by s (found shells j)
+begun-seen s shells None n j free held = refl
+begun-seen s shells (Some begun) None j free held = refl
+begun-seen s shells (Some begun) (Some n) j free held =
+    elim (cases_eq n j) [
+      | inl same ↦
+          (let there = placed-at shells n free.0 (Some (begun_shell n begun)) free.1 free.2 in
+          absurd (none (found shells n) there.1 (rw (sym same) at held)))
+      | inr differ ↦ ap (seen_by s) (found-set_other shells n (Some (begun_shell n begun)) j (λ e. differ (sym e)) (omega (arith, free.1)))
+    ]
+  where
+    none : (o : Option ShellState) → o ≡ None → is_held s o ≡ true → ⊥
+    none None e h = cc
+    none (Some shell) e h = cc
+
+others-seen : {X : Type 0} (s : Watch X) (shells : List (Option ShellState)) (k : ℕ) (shell : ShellState) (moved : Option Renamed) (t : Turned) → found shells k ≡ Some shell →
+    (j : ℕ) → j ≢ k → is_held s (found shells j) ≡ true → seen_by s (found (shells_behind shells k moved t) j) ≡ seen_by s (found shells j)
+others-seen s shells k shell moved t is j differ held =
+    let carried = carried_shells moved shells in
+    let number = free_number shells in
+    let free = carried-free moved shells number (free-number shells) in
+    let there = found-carried moved shells j in
+    let placed = with_begun t.course.begun number carried in
+    let breaking = t.course.breaking in
+    ap (seen_by s) (found-set_other (broken_by breaking placed) k (left k moved t) j differ (runs_pos shells k shell is))
+    ∙ (ap (seen_by s) (found-broken breaking placed j)
+    ∙ broken-seen s (broken_for breaking j) (found placed j)
+    ∙ begun-seen s carried t.course.begun number j free (ap (is_held s) there ∙ carried-held s moved (found shells j) ∙ held)
+    ∙ (ap (seen_by s) there ∙ carried-seen s moved (found shells j)))
+
+-- an accepted event keeps what is seen of each shell that is held before it and behind it
+abbrev pub Keeps : {X : Type 0} → Watch X → WorldState → Response → Type 0
+Keeps s w (Refused why) = Unit {0}
+Keeps s w (Accepted world out items) =
+    (j : ℕ) → is_held s (shell_at w j) ≡ true → is_held s (shell_at world j) ≡ true → seen_by s (shell_at world j) ≡ seen_by s (shell_at w j)
+
+-- so does a turn that does so of its own shell
+took-keeps : {X : Type 0} (s : Watch X) (w : WorldState) (k : ℕ) (shell : ShellState) (queue : List (List ℕ)) (t : Turned) → shell_at w k ≡ Some shell →
+    (s.holds shell.phase ≡ true → is_held s (left k (moved_in w t) t) ≡ true → seen_by s (left k (moved_in w t) t) ≡ s.look shell.frames shell.phase) →
+    Keeps s w (took w k queue t)
+took-keeps s w k shell queue t is own = λ j before behind.
+    let moved = moved_in w t in
+    elim (cases_eq j k) [
+      | inl same ↦
+          (let there = found-left w.shells k shell moved t is in
+          rw same (ap (seen_by s) there
+          ∙ (own (ap (is_held s) (sym is) ∙ (rw same at before)) (ap (is_held s) (sym there) ∙ (rw same at behind)) ∙ ap (seen_by s) (sym is))))
+      | inr differ ↦ others-seen s w.shells k shell moved t is j differ before
+    ]
+
+ended-keeps : {X : Type 0} (s : Watch X) (w : WorldState) (k : ℕ) (shell : ShellState) (codes : Codes) → shell_at w k ≡ Some shell → Keeps s w (shell_ended w k codes)
+ended-keeps s w k shell codes is = λ j before behind.
+    elim (cases_eq j k) [
+      | inl same ↦ absurd (never (ap (is_held s) (sym (found-set_same w.shells k shell None is)) ∙ (rw same at behind)))
+      | inr differ ↦ ap (seen_by s) (found-set_other w.shells k None j differ (runs_pos w.shells k shell is))
+    ]
+
+-- a shell that is not held
+applied-keeps : {X : Type 0} (s : Watch X) (w : WorldState) (k : ℕ) (shell : ShellState) (now : Turning) → shell_at w k ≡ Some shell → s.holds shell.phase ≡ false →
+    Keeps s w (applied w k shell.parts.codes now)
+applied-keeps s w k shell (Refuses why) is free = tt
+applied-keeps s w k shell Ends is free = ended-keeps s w k shell shell.parts.codes is
+applied-keeps s w k shell (Takes queue t) is free = took-keeps s w k shell queue t is (λ before behind. absurd (never (sym free ∙ before)))
+
+-- its turn in a phase
+abbrev turn_by : WorldState → ℕ → ShellState → Phase → Turning
+turn_by w k shell now = flagged_turning shell.flagged (input_of w k) shell.frames (unflagged (start w shell)) now
+
+-- a shell that waits for a launcher takes no turn
+by-phase : {X : Type 0} (s : Watch X) (w : WorldState) (k : ℕ) (shell : ShellState) (now : Phase) → shell_at w k ≡ Some shell → shell.phase ≡ now →
+    Keeps s w (applied w k shell.parts.codes (turn_by w k shell now))
+by-phase s w k shell (phase.Waiting (ForStart starting)) is e =
+    rw (flagged-refused shell.flagged (input_of w k) shell.frames (unflagged (start w shell)) (ForStart starting) refl) tt
+by-phase s w k shell (phase.Waiting (ForPiece child)) is e =
+    rw (flagged-refused shell.flagged (input_of w k) shell.frames (unflagged (start w shell)) (ForPiece child) refl) tt
+by-phase s w k shell (phase.Waiting (ForEnd child)) is e =
+    rw (flagged-refused shell.flagged (input_of w k) shell.frames (unflagged (start w shell)) (ForEnd child) refl) tt
+by-phase s w k shell phase.Ready is e =
+    applied-keeps s w k shell (turn_by w k shell phase.Ready) is (ap s.holds e ∙ s.idle phase.Ready tt)
+by-phase s w k shell (phase.GoingOn parted) is e =
+    applied-keeps s w k shell (turn_by w k shell (phase.GoingOn parted)) is (ap s.holds e ∙ s.idle (phase.GoingOn parted) tt)
+by-phase s w k shell (phase.Waiting (ForAnswer asking)) is e =
+    applied-keeps s w k shell (turn_by w k shell (phase.Waiting (ForAnswer asking))) is (ap s.holds e ∙ s.for_answer asking)
+by-phase s w k shell (phase.Waiting (ForLines gathering)) is e =
+    applied-keeps s w k shell (turn_by w k shell (phase.Waiting (ForLines gathering))) is (ap s.holds e ∙ s.for_lines gathering)
+
+turned-keeps : {X : Type 0} (s : Watch X) (w : WorldState) (k : ℕ) (o : Option ShellState) → shell_at w k ≡ o → Keeps s w (turned w k o)
+turned-keeps s w k None is = tt
+turned-keeps s w k (Some shell) is = by-phase s w k shell shell.phase is refl
+
+-- what an answer leaves
+abbrev LeftKeeps : {X : Type 0} → Watch X → ℕ → Option Renamed → X → Turned → Type 0
+LeftKeeps s k moved value t = is_held s (left k moved t) ≡ true → seen_by s (left k moved t) ≡ value
+
+idle-keeps : {X : Type 0} (s : Watch X) (k : ℕ) (moved : Option Renamed) (value : X) (t : Turned) → IsIdle t.phase → LeftKeeps s k moved value t
+idle-keeps s k moved value t idle =
+    elim (cases_Bool (is_done k t.frames)) [
+      | inl d ↦ rw d (λ held. absurd (never held))
+      | inr d ↦ rw d (λ held. absurd (never (sym (s.idle t.phase idle) ∙ (sym (own-held s moved (shell_of_turn t)) ∙ held))))
+    ]
+
+pub waits-keeps : {X : Type 0} (s : Watch X) (k : ℕ) (moved : Option Renamed) (value : X) (wait : Wait) (course : Course) (frames : List FrameState) →
+    s.look frames (phase.Waiting wait) ≡ value → LeftKeeps s k moved value (settle (Waits wait course) frames)
+waits-keeps s k moved value wait course frames same =
+    elim (cases_Bool (is_done k frames)) [
+      | inl d ↦ rw d (λ held. absurd (never held))
+      | inr d ↦ rw d (λ held. own-seen s moved (shell_of_turn (settle (Waits wait course) frames)) ∙ same)
+    ]
+
+settle-keeps : {X : Type 0} (s : Watch X) (k : ℕ) (moved : Option Renamed) (value : X) (deed : Deed) (frames : List FrameState) →
+    SeenBehind s.look frames value (Some deed) → LeftKeeps s k moved value (settle deed frames)
+settle-keeps s k moved value (Passes course) frames keeps = idle-keeps s k moved value (settle (Passes course) frames) (passed-rests frames (said_of course)).idle
+settle-keeps s k moved value (Answers word answer quits course) frames keeps =
+    idle-keeps s k moved value (settle (Answers word answer quits course) frames) (finished-rests word answer quits frames (said_of course)).idle
+settle-keeps s k moved value (Jumps word answer line course) frames keeps =
+    idle-keeps s k moved value (settle (Jumps word answer line course) frames) (finished-rests word answer false (jumped_in line frames) (said_of course)).idle
+settle-keeps s k moved value (Calls word output script course) frames keeps =
+    idle-keeps s k moved value (settle (Calls word output script course) frames) (called-rests word output script frames (said_of course)).idle
+settle-keeps s k moved value (Ticks before command after course) frames keeps =
+    idle-keeps s k moved value (settle (Ticks before command after course) frames) (ticked-rests before command after frames (said_of course)).idle
+settle-keeps s k moved value (Waits wait course) frames keeps = waits-keeps s k moved value wait course frames keeps
+
+replied-keeps : {X : Type 0} (s : Watch X) (w : WorldState) (k : ℕ) (shell : ShellState) (deed : Option Deed) → shell_at w k ≡ Some shell →
+    (s.holds shell.phase ≡ true → SeenBehind s.look shell.frames (s.look shell.frames shell.phase) deed) →
+    Keeps s w (applied w k shell.parts.codes (replied (input_of w k) shell.frames deed))
+replied-keeps s w k shell None is keeps = tt
+replied-keeps s w k shell (Some deed) is keeps =
+    let t = settle deed shell.frames in
+    took-keeps s w k shell (input_of w k).queue t is
+    (λ before behind. settle-keeps s k (moved_in w t) (s.look shell.frames shell.phase) deed shell.frames (keeps before) behind)
+
+answered-keeps : {X : Type 0} (s : Watch X) (w : WorldState) (k : ℕ) (reply : Reply) (o : Option ShellState) → shell_at w k ≡ o → Keeps s w (answered w k reply o)
+answered-keeps s w k reply None is = tt
+answered-keeps s w k reply (Some shell) is =
+    replied-keeps s w k shell (answered_in (sink_in shell.frames) (start w shell) shell.phase reply) is
+    (s.answers shell.frames (sink_in shell.frames) (start w shell) shell.phase reply)
+
+typed-keeps : {X : Type 0} (s : Watch X) (w : WorldState) (line : List ℕ) → Keeps s w (typed w line)
+typed-keeps s w line =
+    elim (cases_Bool w.input_ended) [
+      | inl e ↦ rw e tt
+      | inr e ↦ rw e (elim (cases_Bool (nat_le queue_limit (length w.queue))) [
+        | inl f ↦ rw f tt
+        | inr f ↦ rw f (elim (cases_Bool (nat_lt line_limit (length line))) [
+          | inl g ↦ rw g tt
+          | inr g ↦ rw g (λ j before behind. refl)
+        ])
+      ])
+    ]
+
+end-keeps : {X : Type 0} (s : Watch X) (w : WorldState) → Keeps s w (end_of_input w)
+end-keeps s w =
+    elim (cases_Bool w.input_ended) [
+      | inl e ↦ rw e tt
+      | inr e ↦ rw e (λ j before behind. refl)
+    ]
+
+break-keeps : {X : Type 0} (s : Watch X) (w : WorldState) (k : ℕ) (kind : Kind) (o : Option ShellState) → Keeps s w (broken w k kind o)
+break-keeps s w k kind None = tt
+break-keeps s w k kind (Some shell) = λ j before behind.
+    let breaking = Some (record { shell = k; breaks = breaks_by kind }) in
+    ap (seen_by s) (found-broken breaking w.shells j) ∙ broken-seen s (broken_for breaking j) (found w.shells j)
+
+happened-keeps : {X : Type 0} (s : Watch X) (w : WorldState) (event : Event) → Keeps s w (happened w event)
+happened-keeps s w (Typed line) = typed-keeps s w line
+happened-keeps s w EndOfInput = end-keeps s w
+happened-keeps s w (Turn k) = turned-keeps s w k (shell_at w k) refl
+happened-keeps s w (Answer k reply) = answered-keeps s w k reply (shell_at w k) refl
+happened-keeps s w (Break k kind) = break-keeps s w k kind (shell_at w k)
+
+pub step-keeps : {X : Type 0} (s : Watch X) (w : WorldState) (event : Event) → Keeps s w (step_of w event)
+step-keeps s w event =
+    elim (cases_Bool (is_over w)) [
+      | inl e ↦ rw e tt
+      | inr e ↦ rw e (happened-keeps s w event)
+    ]

@@ -1,0 +1,192 @@
+-- What a program's command opened stays open until the answer that ends the program.
+use Rattle.std.proofs.Common.{◌≡◌, ◌∙◌, sym, ℕ, List, [], ◌++◌, Bool, true, false, Option, Some, None, Result, Ok, refl, ap, inl, inr}
+use Rattle.std.specs.Prelude.{option_map}
+use Rattle.std.proofs.lemmas.Bool.{cases_Bool}
+use Rattle.ados_text.specs.Text.{Bytes}
+use Rattle.ados_text.specs.declared.codes.Result2.{Result2}
+use Rattle.ados_ram.specs.Place.{Place}
+use Rattle.ados_find.specs.declared.codes.Codes.{Codes}
+use Rattle.ados_find.specs.Codes.{went_well}
+use Rattle.ados_find.specs.Targets.{open_at}
+use Rattle.ados_flow.specs.Frames.{FrameState}
+use Rattle.ados_machine.specs.declared.answers.Answer.{Answer as Reply}
+use Rattle.ados_machine.specs.declared.answers.Answer.TheVariants.{Started, «Bytes» as Piece, End, PipeFault, Exit, Signal, WaitFault}
+use Rattle.ados_machine.specs.declared.events.Event.TheVariants.{Answer}
+use Rattle.ados_machine.specs.declared.phases.Child.{Child}
+use Rattle.ados_machine.specs.declared.phases.Phase.{Phase}
+use Rattle.ados_machine.specs.declared.phases.Phase.TheVariants as phase
+use Rattle.ados_machine.specs.declared.phases.Starting.{Starting}
+use Rattle.ados_machine.specs.declared.phases.Wait.{Wait}
+use Rattle.ados_machine.specs.declared.phases.Wait.TheVariants.{ForAnswer, ForLines, ForStart, ForPiece, ForEnd}
+use Rattle.ados_machine.specs.Answers.{child_of, next_wait, with_break, started_deed, behind_piece, fault_in, piece_deed, is_piece, ended_deed, answered_deed, answered_in}
+use Rattle.ados_machine.specs.Breaks.{marked_if}
+use Rattle.ados_machine.specs.Children.{child_during, child_by}
+use Rattle.ados_machine.specs.Course.{Course, put, using}
+use Rattle.ados_machine.specs.Deeds.{Waits}
+use Rattle.ados_machine.specs.InUse.{outputs_seen, outputs_held, is_running, runs_program, OutputsStayOpen, StartsOpenOutputs}
+use Rattle.ados_machine.specs.Opening.{Opened, opening, output_devices}
+use Rattle.ados_machine.specs.Settle.{settle}
+use Rattle.ados_machine.specs.Shells.{ShellState, seen_of}
+use Rattle.ados_machine.specs.Sinks.{Sink, sink_in, sink_or, outputs_in, held_while, held_by}
+use Rattle.ados_machine.specs.Step.{Response, Refused, Accepted, left, moved_in, took, start, applied, answered, step_of}
+use Rattle.ados_machine.specs.Turning.{replied}
+use Rattle.ados_machine.specs.World.{WorldState, shell_at, is_over, input_of}
+use Rattle.ados_machine.proofs.Lasting.{Watch, SeenBehind, Keeps, seen_by, is_held, step-keeps, waits-keeps}
+use Rattle.ados_machine.proofs.Rests.{IsIdle}
+use Rattle.ados_machine.proofs.Shells.{found, found-left, shells_behind}
+
+-- the outputs that a shell holds above these frames, in a phase
+abbrev held_above : List FrameState → Phase → List Place
+held_above frames now = outputs_in frames ++ held_by now
+
+never : false ≡ true → ⊥
+never e = cc
+
+marked-held : (frames : List FrameState) (marks : Bool) (now : Phase) → held_above frames (marked_if marks now) ≡ held_above frames now
+marked-held frames false now = refl
+marked-held frames true phase.Ready = refl
+marked-held frames true (phase.GoingOn parted) = refl
+marked-held frames true (phase.Waiting (ForAnswer asking)) = refl
+marked-held frames true (phase.Waiting (ForLines gathering)) = refl
+marked-held frames true (phase.Waiting (ForStart starting)) = refl
+marked-held frames true (phase.Waiting (ForPiece child)) = refl
+marked-held frames true (phase.Waiting (ForEnd child)) = refl
+
+-- the program of a shell in a phase runs
+abbrev runs_in : Phase → Bool
+runs_in now = is_running (child_during now)
+
+idle-runs : (now : Phase) → IsIdle now → runs_in now ≡ false
+idle-runs phase.Ready idle = refl
+idle-runs (phase.GoingOn parted) idle = refl
+idle-runs (phase.Waiting wait) idle = absurd idle
+
+-- an answer that does not end a program keeps its output
+next-held : (child : Child) → held_while (next_wait child) ≡ open_at child.output
+next-held child =
+    elim (cases_Bool child.marked) [
+      | inl e ↦ rw e refl
+      | inr e ↦ rw e refl
+    ]
+
+break-held : (child : Child) → open_at (with_break child).output ≡ open_at child.output
+break-held child =
+    elim (cases_Bool child.marked) [
+      | inl e ↦ rw e refl
+      | inr e ↦ rw e refl
+    ]
+
+put-held : (child : Child) (fault : Option Result2) → open_at (behind_piece child fault).output ≡ open_at child.output
+put-held child None = refl
+put-held child (Some fault) = refl
+
+piece-held : (frames : List FrameState) (child : Child) (bytes : Bytes) (sink : Sink) (course : Course) (fault : Option Result2) →
+    SeenBehind held_above frames (outputs_in frames ++ open_at child.output) (Some (piece_deed child bytes sink course fault))
+piece-held frames child bytes sink course (Some fault) = ap (λ l. outputs_in frames ++ l) (next-held (with_break child) ∙ break-held child)
+piece-held frames child bytes sink course None =
+    let fault = fault_in (put (sink_or child.output sink) bytes went_well course).codes in
+    ap (λ l. outputs_in frames ++ l) (next-held (behind_piece (with_break child) fault) ∙ (put-held (with_break child) fault ∙ break-held child))
+
+ended-held : (frames : List FrameState) (outputs : List Place) (child : Child) (codes : Codes) (course : Course) (fault : Option Result2) →
+    SeenBehind held_above frames outputs (Some (ended_deed child codes course fault))
+ended-held frames outputs child codes course (Some fault) = tt
+ended-held frames outputs child codes course None = tt
+
+wait-held : (frames : List FrameState) (sink : Sink) (course : Course) (wait : Wait) (answer : Reply) → runs_in (phase.Waiting wait) ≡ true →
+    SeenBehind held_above frames (held_above frames (phase.Waiting wait)) (answered_deed sink course wait answer)
+wait-held frames sink course (ForStart starting) answer runs = absurd (never runs)
+wait-held frames sink course (ForPiece child) (Piece bytes) runs =
+    elim (cases_Bool (is_piece bytes)) [
+      | inl e ↦ rw e (piece-held frames child bytes sink course child.fault)
+      | inr e ↦ rw e tt
+    ]
+wait-held frames sink course (ForPiece child) End runs = ap (λ l. outputs_in frames ++ l) (break-held child)
+wait-held frames sink course (ForPiece child) PipeFault runs = ap (λ l. outputs_in frames ++ l) (break-held child)
+wait-held frames sink course (ForEnd child) (Exit status) runs = ended-held frames _ child _ course child.fault
+wait-held frames sink course (ForEnd child) Signal runs = ended-held frames _ child _ course child.fault
+wait-held frames sink course (ForEnd child) WaitFault runs = ended-held frames _ child _ course child.fault
+wait-held frames sink course wait answer runs = tt
+
+phase-held : (frames : List FrameState) (sink : Sink) (course : Course) (now : Phase) (answer : Reply) → runs_in now ≡ true →
+    SeenBehind held_above frames (held_above frames now) (answered_in sink course now answer)
+phase-held frames sink course phase.Ready answer runs = tt
+phase-held frames sink course (phase.GoingOn parted) answer runs = tt
+phase-held frames sink course (phase.Waiting wait) answer runs = wait-held frames sink course wait answer runs
+
+abbrev held_outputs : Watch (List Place)
+held_outputs = record {
+  nothing = [];
+  look = held_above;
+  holds = runs_in;
+  marked = marked-held;
+  idle = idle-runs;
+  for_answer = λ asking. refl;
+  for_lines = λ gathering. refl;
+  answers = phase-held;
+}
+
+-- what is seen, in the words of the law
+outputs-same : (o : Option ShellState) → outputs_seen (option_map seen_of o) ≡ seen_by held_outputs o
+outputs-same None = refl
+outputs-same (Some shell) = refl
+
+runs-same : (o : Option ShellState) → is_running (child_by o) ≡ is_held held_outputs o
+runs-same None = refl
+runs-same (Some shell) = refl
+
+pub outputs-stay : OutputsStayOpen
+outputs-stay w event world out items is k before behind =
+    let keeps : Keeps held_outputs w (Accepted world out items) = rw is at (step-keeps held_outputs w event) in
+    outputs-same (shell_at world k)
+    ∙ (keeps k (sym (runs-same (shell_at w k)) ∙ before) (sym (runs-same (shell_at world k)) ∙ behind) ∙ sym (outputs-same (shell_at w k)))
+
+-- a shell whose program runs behind an answer is seen to hold these
+abbrev HoldsBehind : ℕ → List Place → Response → Type 0
+HoldsBehind k outputs (Refused why) = Unit {0}
+HoldsBehind k outputs (Accepted world out items) = runs_program world k ≡ true → outputs_held world k ≡ outputs
+
+waits-hold : (w : WorldState) (k : ℕ) (shell : ShellState) (queue : List (List ℕ)) (wait : Wait) (course : Course) (outputs : List Place) → shell_at w k ≡ Some shell →
+    held_above shell.frames (phase.Waiting wait) ≡ outputs → HoldsBehind k outputs (took w k queue (settle (Waits wait course) shell.frames))
+waits-hold w k shell queue wait course outputs is same = λ runs.
+    let t = settle (Waits wait course) shell.frames in
+    let moved = moved_in w t in
+    let behind = found (shells_behind w.shells k moved t) k in
+    let there : behind ≡ left k moved t = found-left w.shells k shell moved t is in
+    outputs-same behind ∙ (ap (seen_by held_outputs) there
+    ∙ waits-keeps held_outputs k moved outputs wait course shell.frames same (ap (is_held held_outputs) (sym there) ∙ (sym (runs-same behind) ∙ runs)))
+
+by-opening : (w : WorldState) (k : ℕ) (shell : ShellState) (starting : Starting) (opened : Opened) (result : Result Opened Result2) → shell_at w k ≡ Some shell →
+    result ≡ Ok opened →
+    HoldsBehind k (outputs_in shell.frames ++ open_at opened.target)
+    (applied w k shell.parts.codes (replied (input_of w k) shell.frames (Some (started_deed starting (start w shell) result))))
+by-opening w k shell starting opened result is e =
+    rw e
+    (waits-hold w k shell (input_of w k).queue (next_wait (child_of starting opened.target None))
+    (using (output_devices starting.output) (record (start w shell) { shared = opened.shared })) (outputs_in shell.frames ++ open_at opened.target) is
+    (ap (λ l. outputs_in shell.frames ++ l) (next-held (child_of starting opened.target None))))
+
+by-phase : (w : WorldState) (k : ℕ) (shell : ShellState) (starting : Starting) (opened : Opened) (now : Phase) → shell_at w k ≡ Some shell →
+    now ≡ phase.Waiting (ForStart starting) → opening (start w shell) starting.output ≡ Ok opened →
+    HoldsBehind k (outputs_in shell.frames ++ open_at opened.target)
+    (applied w k shell.parts.codes (replied (input_of w k) shell.frames (answered_in (sink_in shell.frames) (start w shell) now Started)))
+by-phase w k shell starting opened now is waits opens =
+    rw waits (by-opening w k shell starting opened (opening (start w shell) starting.output) is opens)
+
+by-place : (w : WorldState) (k : ℕ) (shell : ShellState) (starting : Starting) (opened : Opened) (o : Option ShellState) → shell_at w k ≡ Some shell → o ≡ Some shell →
+    shell.phase ≡ phase.Waiting (ForStart starting) → opening (start w shell) starting.output ≡ Ok opened →
+    HoldsBehind k (outputs_in shell.frames ++ open_at opened.target) (answered w k Started o)
+by-place w k shell starting opened o is e waits opens = rw e (by-phase w k shell starting opened shell.phase is waits opens)
+
+started-holds : (w : WorldState) (k : ℕ) (shell : ShellState) (starting : Starting) (opened : Opened) → shell_at w k ≡ Some shell →
+    shell.phase ≡ phase.Waiting (ForStart starting) → opening (start w shell) starting.output ≡ Ok opened →
+    HoldsBehind k (outputs_in shell.frames ++ open_at opened.target) (step_of w (Answer k Started))
+started-holds w k shell starting opened is waits opens =
+    elim (cases_Bool (is_over w)) [
+      | inl e ↦ rw e tt
+      | inr e ↦ rw e (by-place w k shell starting opened (shell_at w k) is is waits opens)
+    ]
+
+pub starts-open : StartsOpenOutputs
+starts-open w k shell starting opened world out items here waits opens is runs =
+    let holds : HoldsBehind k (outputs_in shell.frames ++ open_at opened.target) (Accepted world out items) = rw is at (started-holds w k shell starting opened here waits opens) in
+    holds runs

@@ -1,0 +1,82 @@
+-- Which fault a line has that does not fill options: the first by what stands in it, and else by what was given.
+use Rattle.std.specs.Prelude.{◌≡◌, ℕ, List, [], ◌∷◌, ◌++◌, Bool, true, false, ◌&&◌, Err}
+use Rattle.std.specs.List.{flat_map, list_any}
+use Rattle.ados_text.specs.Text.{Bytes}
+use Rattle.ados_readargs.specs.declared.errors.ArgFault.{ArgFault}
+use Rattle.ados_readargs.specs.declared.errors.ArgFault.TheVariants.{TooMany, ValueMissing, Unmatched, ArgumentMissing, BadNumber}
+use Rattle.ados_readargs.specs.declared.options.TemplateOption.{TemplateOption}
+use Rattle.ados_readargs.specs.declared.words.LineWord.{LineWord}
+use Rattle.ados_readargs.specs.declared.readings.Reading.{Reading}
+use Rattle.ados_readargs.specs.Args.{args_of}
+use Rattle.ados_readargs.specs.Checks.{lacks, has_bad}
+use Rattle.ados_readargs.specs.Fill.{args_for}
+use Rattle.ados_readargs.specs.Options.{takes_value, qualifiers_at}
+use Rattle.ados_readargs.specs.Phrases.{Phrase, words_in, IsKeyword, IsBetween, IsLast, ArePhrases, has_value, is_rest_next, is_whole, may_fill, said_by}
+use Rattle.ados_readargs.specs.Readings.{is_filled}
+use Rattle.ados_readargs.specs.Shares.{is_left}
+use Rattle.ados_readargs.specs.Words.{is_equal, is_open_quote, line_words_of}
+
+-- a keyword of the option at a place, which takes a value
+pub record TakesValue (options : List TemplateOption) (line : Bytes) (before : List Reading) (place : ℕ) (keyword : LineWord) : Type 0 where
+  pub named : IsKeyword options line place keyword
+  pub no_rest : is_rest_next options before ≡ false
+  pub takes : takes_value (qualifiers_at options place) ≡ true
+
+-- behind a keyword nothing stands, or an `=` alone that is passed over
+abbrev pub IsPassedOver : LineWord → List LineWord → Type 0
+IsPassedOver keyword [] = Unit {0}
+IsPassedOver keyword (equal ∷ []) = (is_whole keyword && is_equal equal) ≡ true
+IsPassedOver keyword (equal ∷ other ∷ more) = ⊥
+
+-- The fault that stands in front of words, behind these fillings: a switch that was set before; a value for an option that
+-- takes no more, behind the `=` of its keyword or as a word of its own; a keyword without a value; and a quote that is not
+-- closed, as a word or as a value.
+pub data IsFaultAt (options : List TemplateOption) (line : Bytes) (before : List Reading) : List LineWord → ArgFault → Type 0 where
+  twice : (place : ℕ) (keyword : LineWord) (behind : List LineWord) → IsKeyword options line place keyword → is_rest_next options before ≡ false
+      → takes_value (qualifiers_at options place) ≡ false → (qualifiers_at options place).toggle ≡ false → is_filled place before ≡ true
+      → IsFaultAt options line before (keyword ∷ behind) TooMany
+  full_joined : (place : ℕ) (keyword : LineWord) (behind : List LineWord) → TakesValue options line before place keyword → has_value keyword ≡ true
+      → may_fill options before place ≡ false → IsFaultAt options line before (keyword ∷ behind) TooMany
+  full_parted : (place : ℕ) (keyword : LineWord) (between : List LineWord) (value : LineWord) (behind : List LineWord)
+      → TakesValue options line before place keyword → has_value keyword ≡ false → IsBetween keyword between value → is_open_quote value ≡ false
+      → may_fill options before place ≡ false → IsFaultAt options line before ((keyword ∷ between) ++ value ∷ behind) TooMany
+  no_value : (place : ℕ) (keyword : LineWord) (between : List LineWord) → TakesValue options line before place keyword → has_value keyword ≡ false
+      → IsPassedOver keyword between → IsFaultAt options line before (keyword ∷ between) ValueMissing
+  open_value : (place : ℕ) (keyword : LineWord) (between : List LineWord) (value : LineWord) (behind : List LineWord)
+      → TakesValue options line before place keyword → has_value keyword ≡ false → IsBetween keyword between value → is_open_quote value ≡ true
+      → IsFaultAt options line before ((keyword ∷ between) ++ value ∷ behind) Unmatched
+  open_word : (word : LineWord) (behind : List LineWord) → is_rest_next options before ≡ false → is_open_quote word ≡ true
+      → IsFaultAt options line before (word ∷ behind) Unmatched
+
+-- words may stand behind these phrases: none of them is the rest of the line
+abbrev pub GoOn : List Phrase → Type 0
+GoOn [] = Unit {0}
+GoOn (phrase ∷ phrases) = ((behind : List Phrase) → IsLast phrase behind) × GoOn phrases
+
+-- the words of the line are these phrases, and then these words
+pub record Stand (options : List TemplateOption) (line : Bytes) (phrases : List Phrase) (behind : List LineWord) : Type 0 where
+  pub words : flat_map words_in phrases ++ behind ≡ line_words_of line
+  pub said : ArePhrases options line [] phrases
+
+-- a quote is not closed somewhere in the line
+abbrev pub is_unclosed : Bytes → Bool
+is_unclosed line = list_any is_open_quote (line_words_of line)
+
+-- The first fault: that of the first word behind phrases that has one, but that a quote which is not closed comes before a word
+-- too many; or, where all words are phrases, a plain word that is left over, then an option with /A that was given nothing,
+-- then a value that is no number.
+pub data IsFirstFault (options : List TemplateOption) (line : Bytes) : ArgFault → Type 0 where
+  at_words : (phrases : List Phrase) (behind : List LineWord) (fault : ArgFault) → Stand options line phrases behind → GoOn phrases
+      → IsFaultAt options line (said_by phrases).given behind fault → (fault ≡ TooMany → is_unclosed line ≡ false) → IsFirstFault options line fault
+  open_behind : (phrases : List Phrase) (behind : List LineWord) → Stand options line phrases behind → GoOn phrases
+      → IsFaultAt options line (said_by phrases).given behind TooMany → is_unclosed line ≡ true → IsFirstFault options line Unmatched
+  left_over : (phrases : List Phrase) → Stand options line phrases [] → is_left options (said_by phrases) ≡ true → IsFirstFault options line TooMany
+  missing : (phrases : List Phrase) → Stand options line phrases [] → is_left options (said_by phrases) ≡ false
+      → lacks options (args_of options line (said_by phrases)) ≡ true → IsFirstFault options line ArgumentMissing
+  no_number : (phrases : List Phrase) → Stand options line phrases [] → is_left options (said_by phrases) ≡ false
+      → lacks options (args_of options line (said_by phrases)) ≡ false → has_bad options (args_of options line (said_by phrases)) ≡ true
+      → IsFirstFault options line BadNumber
+
+-- a line that does not fill options has its first fault
+abbrev pub LinesHaveTheirFirstFault : Type 0
+LinesHaveTheirFirstFault = (options : List TemplateOption) (line : Bytes) (fault : ArgFault) → args_for options line ≡ Err fault → IsFirstFault options line fault

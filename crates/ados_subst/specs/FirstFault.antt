@@ -1,0 +1,60 @@
+-- Where a script's first fault stands: in a directive, below lines that have none.
+use Rattle.std.specs.Prelude.{◌≡◌, ◌≢◌, ◌⊎◌, ℕ, ◌+◌, List, [], ◌∷◌, ◌++◌, length, true, false, Option, Some, None, is_some, unwrap_or, Ok, Err}
+use Rattle.ados_text.specs.Text.{Bytes, Text}
+use Rattle.ados_readargs.specs.declared.errors.ArgFault.{ArgFault}
+use Rattle.ados_readargs.specs.Fill.{fill_of}
+use Rattle.ados_subst.specs.declared.above.Above.{Above}
+use Rattle.ados_subst.specs.declared.directives.Directive.TheVariants.{Key, Default, Sets}
+use Rattle.ados_subst.specs.declared.faults.SubstFault.{SubstFault}
+use Rattle.ados_subst.specs.declared.faults.SubstFault.TheVariants.{BadDirective}
+use Rattle.ados_subst.specs.declared.marks.Mark.{Mark}
+use Rattle.ados_subst.specs.declared.slots.Slot.{Slot}
+use Rattle.ados_subst.specs.Above.{at_first}
+use Rattle.ados_subst.specs.Directives.{directed, directive_named, is_remark}
+use Rattle.ados_subst.specs.Faults.{unfilled}
+use Rattle.ados_subst.specs.Scripts.{directive_in}
+use Rattle.ados_subst.specs.Slots.{slot_of}
+use Rattle.ados_subst.specs.Words.{first_word, rest_of}
+
+-- a name of no option: above the template there is none, and an empty name is none
+abbrev pub NamesNone : Option (List Slot) → Text → Type 0
+NamesNone slots name = (name ≡ []) ⊎ (slot_of (unwrap_or slots []) name ≡ None)
+
+-- The fault of a directive with this behind its dot, in the line of a number: its word is none; a second template; a template
+-- that is bad, or that the arguments do not fill; a default of no option; and another character that is not just one.
+pub data IsDirectiveFault (above : Above) (args : Bytes) (number : ℕ) (body : Text) : SubstFault → Type 0 where
+  unknown : directive_named (first_word body) ≡ None → IsDirectiveFault above args number body (BadDirective number)
+  second_template : directive_named (first_word body) ≡ Some Key → is_some above.slots ≡ true
+      → IsDirectiveFault above args number body (BadDirective number)
+  not_filled : (fault : ArgFault) → directive_named (first_word body) ≡ Some Key → is_some above.slots ≡ false
+      → fill_of (rest_of body) args ≡ Err fault → IsDirectiveFault above args number body (unfilled fault)
+  no_option : directive_named (first_word body) ≡ Some Default → NamesNone above.slots (first_word (rest_of body))
+      → IsDirectiveFault above args number body (BadDirective number)
+  no_character : (mark : Mark) → directive_named (first_word body) ≡ Some (Sets mark) → length (rest_of body) ≢ 1
+      → IsDirectiveFault above args number body (BadDirective number)
+
+-- lines without a fault lead from what stands above them to what stands above the next one
+pub data Leads (args : Bytes) : Above → ℕ → List Text → Above → Type 0 where
+  here : (above : Above) (number : ℕ) → Leads args above number [] above
+  directive : (above next end : Above) (number : ℕ) (line body : Text) (lines : List Text)
+      → directive_in above.marks.dot line ≡ Some body → directed above args number body ≡ Ok next
+      → Leads args next (number + 1) lines end → Leads args above number (line ∷ lines) end
+  other : (above end : Above) (number : ℕ) (line : Text) (lines : List Text) → directive_in above.marks.dot line ≡ None
+      → Leads args above (number + 1) lines end → Leads args above number (line ∷ lines) end
+
+-- a fault stands in a directive among lines, the first of which has a number, and no line in front of that has one
+pub record FaultBelow (args : Bytes) (above : Above) (number : ℕ) (lines : List Text) (fault : SubstFault) : Type 0 where
+  pub front : List Text
+  pub line : Text
+  pub rest : List Text
+  pub body : Text
+  pub there : Above
+  pub joined : lines ≡ front ++ line ∷ rest
+  pub led : Leads args above number front there
+  pub directive : directive_in there.marks.dot line ≡ Some body
+  pub no_remark : is_remark body ≡ false
+  pub bad : IsDirectiveFault there args (number + length front) body fault
+
+-- the first fault of a script's lines, which are counted from 1
+abbrev pub IsFirstFault : Bytes → List Text → SubstFault → Type 0
+IsFirstFault args lines fault = FaultBelow args at_first 1 lines fault

@@ -1,0 +1,23 @@
+-- Binding at the calls: what the end of an event makes of assigns.
+use Rattle.std.specs.Prelude.{◌≡◌, ℕ, IfSome}
+use Rattle.ados_find.specs.Shared.{SharedState}
+use Rattle.ados_machine.specs.declared.events.Event.{Event}
+use Rattle.ados_machine.specs.declared.events.Event.TheVariants.{Turn, Answer}
+use Rattle.ados_machine.specs.Binding.{BindsOnly}
+use Rattle.ados_machine.specs.Step.{start, unflagged}
+use Rattle.ados_machine.specs.Turning.{Turning, Takes, answering, flagged_turning}
+use Rattle.ados_machine.specs.World.{WorldState, input_of, shell_at}
+
+-- behind what an event of a shell comes to, no assign is changed beyond what its commands did, but that Defers are bound that
+-- the event used
+abbrev pub TurningBinds : Turning → SharedState → Type 0
+TurningBinds (Takes queue turned) shared = BindsOnly turned.course.used shared.files turned.course.shared.assigns shared.assigns
+TurningBinds turning shared = Unit {0}
+
+-- so it is in the world that a turn leaves, or an answer; another event changes nothing of what all share
+abbrev pub BindsWhatItUsed : WorldState → Event → WorldState → Type 0
+BindsWhatItUsed w (Turn k) world = IfSome (shell_at w k) (λ shell.
+    TurningBinds (flagged_turning shell.flagged (input_of w k) shell.frames (unflagged (start w shell)) shell.phase) world.shared)
+BindsWhatItUsed w (Answer k answer) world = IfSome (shell_at w k) (λ shell.
+    TurningBinds (answering (input_of w k) shell.frames (start w shell) shell.phase answer) world.shared)
+BindsWhatItUsed w event world = world.shared ≡ w.shared
