@@ -4,6 +4,8 @@ pub mod CutLemmas
 pub mod ExpansionLemmas
 pub mod LetterLemmas
 pub mod PieceLemmas
+pub mod CutSteps
+pub mod CutPieces
 pub mod PlainLemmas
 pub mod SegmentLemmas
 pub mod TickLemmas

@@ -16,7 +16,7 @@ use Rattle.ados_line.specs.Expansion.{then_cut, IsRead}
 use Rattle.ados_line.specs.Letters.{written}
 use Rattle.ados_line.specs.Pieces.{IsOfPieces}
 use Rattle.ados_line.specs.Ticks.{is_tick, text_of, unticked, by_second, by_first, parted, within_bytes, HasNoTick}
-use Rattle.ados_line.proofs.PieceLemmas.{of_pieces}
+use Rattle.ados_line.proofs.CutPieces.{of_pieces}
 use Rattle.ados_line.proofs.SegmentLemmas.{plain-is}
 
 -- no back-tick on its own was found

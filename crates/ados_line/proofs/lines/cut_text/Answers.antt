@@ -1,6 +1,6 @@
 use Rattle.std.proofs.Common.{rules, Ok}
 use Rattle.ados_line.specs.declared.lines.Expanded.TheVariants.{Nothing, Ready}
-use Rattle.ados_line.proofs.PieceLemmas.{of_pieces}
+use Rattle.ados_line.proofs.CutPieces.{of_pieces}
 use Rattle.ados_line.proofs.lines.cut_text.Goals as goal
 
 pub returns-in-None-clause-pieces : goal.returns-in-None-clause-pieces

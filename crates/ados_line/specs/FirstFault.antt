@@ -1,0 +1,47 @@
+-- Where the first fault of a line's cut stands: behind pieces that have none.
+use Rattle.std.specs.Prelude.{◌≡◌, ℕ, ◌+◌, List, ◌++◌, Bool, true, false, length, Option, Some, None, is_some, option_to_list}
+use Rattle.std.specs.List.{flat_map}
+use Rattle.ados_text.specs.Text.{Text}
+use Rattle.ados_items.specs.declared.items.Item.TheVariants.{End, Unmatched}
+use Rattle.ados_items.specs.Items.{item_at}
+use Rattle.ados_line.specs.declared.faults.LineFault.{LineFault}
+use Rattle.ados_line.specs.declared.faults.LineFault.TheVariants.{ArgumentMissing, TooManyArguments, UnmatchedQuotes, NotImplemented}
+use Rattle.ados_line.specs.declared.lines.Redirection.{Redirection}
+use Rattle.ados_line.specs.declared.signs.Sign.{Sign}
+use Rattle.ados_line.specs.declared.signs.Sign.TheVariants.{Input, Output, Append}
+use Rattle.ados_line.specs.Cut.{is_run}
+use Rattle.ados_line.specs.Pieces.{Piece, Stand, command_of, inputs, outputs, written}
+use Rattle.ados_line.specs.Signs.{is_both, sign_at, width_of}
+
+-- an input, or an output, was named before
+abbrev pub is_named : Option Text → Option Redirection → Sign → Bool
+is_named input output Input = is_some input
+is_named input output Output = is_some output
+is_named input output Append = is_some output
+
+-- The fault that stands at a place of a line, behind this command, if one was kept, where some signs were named before: a
+-- second input or output; one without a name; `<>`; and a quote that is not closed, in the place of the name, or as an item.
+-- Behind Run an item is no fault.
+pub data IsFaultAt (line : Text) (command : Option Text) (named : Sign → Bool) (place : ℕ) : LineFault → Type 0 where
+  second : (sign : Sign) → sign_at line place ≡ Some sign → is_both line place ≡ false → named sign ≡ true
+      → IsFaultAt line command named place TooManyArguments
+  no_name : (sign : Sign) (end : ℕ) → sign_at line place ≡ Some sign → is_both line place ≡ false → named sign ≡ false
+      → item_at false line (place + width_of sign) ≡ End end → IsFaultAt line command named place ArgumentMissing
+  both : is_both line place ≡ true → IsFaultAt line command named place NotImplemented
+  open_name : (sign : Sign) (from : ℕ) → sign_at line place ≡ Some sign → is_both line place ≡ false → named sign ≡ false
+      → item_at false line (place + width_of sign) ≡ Unmatched from → IsFaultAt line command named place UnmatchedQuotes
+  open_item : (from : ℕ) → is_run command ≡ false → item_at true line place ≡ Unmatched from
+      → IsFaultAt line command named place UnmatchedQuotes
+
+-- The fault is the first of the line: pieces of it stand up to a place, one input and one output among them at most, and
+-- what stands there is the fault.
+pub record IsFirstFault (line : Text) (fault : LineFault) : Type 0 where
+  pub pieces : List Piece
+  pub rest : Text
+  pub input : Option Text
+  pub output : Option Redirection
+  pub joined : flat_map written pieces ++ rest ≡ line
+  pub placed : Stand line None 0 pieces
+  pub inputs_are : flat_map inputs pieces ≡ option_to_list input
+  pub outputs_are : flat_map outputs pieces ≡ option_to_list output
+  pub here : IsFaultAt line (command_of pieces) (is_named input output) (length (flat_map written pieces)) fault
