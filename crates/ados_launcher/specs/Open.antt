@@ -1,0 +1,23 @@
+-- Open: which children are open, in a table by their numbers.
+use Rattle.std.specs.Prelude.{◌≡◌, ℕ, List, Bool, true, false, get_or, replicate, slice_set}
+use Rattle.ados_machine.specs.declared.answers.Answer.{Answer}
+use Rattle.ados_machine.specs.declared.answers.Answer.TheVariants.{Started}
+use Rattle.ados_launcher.specs.declared.calls.Call.{Call}
+use Rattle.ados_launcher.specs.Lives.{is_open, life_in, state_of}
+
+-- no child is open
+abbrev pub none_open : List Bool
+none_open = replicate 21 false
+
+-- whether a child is open behind a start that was answered so
+abbrev pub open_behind : Answer → Bool → Bool
+open_behind Started was_open = true
+open_behind answer was_open = was_open
+
+-- the table behind such a start of child k
+abbrev pub table_behind : ℕ → Answer → List Bool → List Bool
+table_behind k answer table = slice_set table k (open_behind answer (get_or table k false))
+
+-- a child is open by the table just where it is by the list of the calls
+abbrev pub AreOpen : List Bool → List Call → Type 0
+AreOpen table calls = (k : ℕ) → get_or table k false ≡ is_open (life_in (state_of k calls))
