@@ -113,6 +113,7 @@ impl<'a, I: Read> Prompter<'a, I> {
 
     // The next prepared line, or the end. A line after those that bring in needs the files.
     fn take_line(&mut self)
+        ensures waits { self.new.is_ready ≡ false → self.new.given ≤ self.new.bringing }
         ensures told { self.new.told ≡ self.old.told }
         ensures bringing { self.new.bringing ≡ self.old.bringing }
         ensures ready { self.new.is_ready ≡ self.old.is_ready }
