@@ -12,11 +12,31 @@ fn text(alloc: Global, written: &str) -> Result<Text, NoMemory> {
     Text::from_bytes(alloc, written.as_bytes())
 }
 
-// What is shared at first, with the directory `T/d`, and `X` bound to `S`.
+fn first(alloc: Global) -> Result<Shared, NoMemory> {
+    Shared::first(alloc, Hosts::of(alloc, &[])?)
+}
+
+// The same with the directory `T/d`.
+fn with_place(alloc: Global, shared: &Shared) -> Result<Shared, FsFault> {
+    let files = shared.ram.make_dir(&at(alloc, "T/d")?)?;
+    Ok(shared.with_files(files)?)
+}
+
+// The same with `X` bound to a directory.
+fn with_bound(alloc: Global, shared: &Shared, directory: &str) -> Result<Shared, NoMemory> {
+    shared.with_assigns(bound(alloc, directory)?)
+}
+
+fn with_place_at_first(alloc: Global) -> Result<Shared, FsFault> {
+    let first = first(alloc)?;
+    with_place(alloc, &first)
+}
+
+// What is shared at first, with the directory `T/d`, and `X` bound to `S`. One function owns what is shared, and others
+// borrow it: to drop it at many exits is dear to prove.
 fn with_directory(alloc: Global) -> Result<Shared, FsFault> {
-    let first = Shared::first(alloc, Hosts::of(alloc, &[])?)?;
-    let files = first.ram.make_dir(&at(alloc, "T/d")?)?;
-    Ok(first.with_files(files)?.with_assigns(bound(alloc, "S")?)?)
+    let shared = with_place_at_first(alloc)?;
+    Ok(with_bound(alloc, &shared, "S")?)
 }
 
 // The first assigns with `X` bound to a directory.
@@ -49,25 +69,35 @@ fn is_anew(alloc: Global, shared: &Shared, path: &str, want: &str) -> Result<boo
     Ok(!knows(alloc, shared, path)? && leads(alloc, shared, path, want)?)
 }
 
-// What is shared with a path that was learned in it: it is not known only if there was no memory for it.
-fn learned(alloc: Global, path: &str) -> Result<Shared, Wrong> {
-    let mut shared = with_directory(alloc)?;
-    learn(alloc, &mut shared, path)?;
-    if knows(alloc, &shared, path)? {
-        Ok(shared)
+// Has a path learned: it is not known then only if there was no memory for it.
+fn teach(alloc: Global, shared: &mut Shared, path: &str) -> Result<(), Wrong> {
+    learn(alloc, shared, path)?;
+    if knows(alloc, shared, path)? {
+        Ok(())
     } else {
         Err(Wrong::NoMemory)
     }
 }
 
-fn is_known_as_written(alloc: Global) -> Result<bool, Wrong> {
-    let shared = learned(alloc, "C:Eval")?;
+// What is shared with a path that was learned in it.
+fn learned(alloc: Global, path: &str) -> Result<Shared, Wrong> {
+    let mut shared = with_directory(alloc)?;
+    teach(alloc, &mut shared, path)?;
+    Ok(shared)
+}
+
+fn knows_as_written(alloc: Global, shared: &Shared) -> Result<bool, Wrong> {
     Ok(
-        leads(alloc, &shared, "C:Eval", "C/Eval")?
-            && leads(alloc, &shared, "c:eval", "C/Eval")?
-            && !knows(alloc, &shared, "c:eval")?
+        leads(alloc, shared, "C:Eval", "C/Eval")?
+            && leads(alloc, shared, "c:eval", "C/Eval")?
+            && !knows(alloc, shared, "c:eval")?
             && !shared.knows(&text(alloc, "C:Eval")?, &at(alloc, "T")?),
     )
+}
+
+fn is_known_as_written(alloc: Global) -> Result<bool, Wrong> {
+    let shared = learned(alloc, "C:Eval")?;
+    knows_as_written(alloc, &shared)
 }
 
 #[test]
@@ -75,10 +105,23 @@ fn a_path_is_known_as_it_was_written(rt: HostRuntime) -> Result<(), Wrong> {
     expect(is_known_as_written(rt.alloc())?, "C:Eval")
 }
 
+// In the new version the path leads nowhere, and in the old one where it led.
+fn is_gone(alloc: Global, new: &Shared, old: &Shared) -> Result<bool, Wrong> {
+    Ok(is_anew(alloc, new, "T/d/x", "")? && leads(alloc, old, "T/d/x", "T/d/x")?)
+}
+
+fn renamed(alloc: Global, old: &Shared) -> Result<Shared, FsFault> {
+    old.renamed(&Busy::none(alloc), &at(alloc, "T/d")?, &at(alloc, "T/e")?)
+}
+
+fn is_gone_where_renamed(alloc: Global, old: &Shared) -> Result<bool, Wrong> {
+    let new = renamed(alloc, old)?;
+    is_gone(alloc, &new, old)
+}
+
 fn is_renamed(alloc: Global) -> Result<bool, Wrong> {
     let old = learned(alloc, "T/d/x")?;
-    let new = old.renamed(&Busy::none(alloc), &at(alloc, "T/d")?, &at(alloc, "T/e")?)?;
-    Ok(is_anew(alloc, &new, "T/d/x", "")? && leads(alloc, &old, "T/d/x", "T/d/x")?)
+    is_gone_where_renamed(alloc, &old)
 }
 
 #[test]
@@ -86,11 +129,19 @@ fn a_rename_begins_anew(rt: HostRuntime) -> Result<(), Wrong> {
     expect(is_renamed(rt.alloc())?, "T/d/x once T/d is T/e")
 }
 
+fn deleted(alloc: Global, old: &Shared) -> Result<Shared, FsFault> {
+    let files = old.ram.delete(&Busy::none(alloc), &at(alloc, "T/d")?)?;
+    Ok(old.with_files(files)?)
+}
+
+fn is_gone_where_deleted(alloc: Global, old: &Shared) -> Result<bool, Wrong> {
+    let new = deleted(alloc, old)?;
+    is_gone(alloc, &new, old)
+}
+
 fn is_deleted(alloc: Global) -> Result<bool, Wrong> {
     let old = learned(alloc, "T/d/x")?;
-    let files = old.ram.delete(&Busy::none(alloc), &at(alloc, "T/d")?)?;
-    let new = old.with_files(files)?;
-    Ok(is_anew(alloc, &new, "T/d/x", "")? && leads(alloc, &old, "T/d/x", "T/d/x")?)
+    is_gone_where_deleted(alloc, &old)
 }
 
 #[test]
@@ -98,10 +149,19 @@ fn a_delete_begins_anew(rt: HostRuntime) -> Result<(), Wrong> {
     expect(is_deleted(rt.alloc())?, "T/d/x once T/d is not there")
 }
 
+// In the new version `X` is another directory, and in the old one what it was.
+fn is_elsewhere(alloc: Global, new: &Shared, old: &Shared) -> Result<bool, Wrong> {
+    Ok(is_anew(alloc, new, "X:y", "L/y")? && leads(alloc, old, "X:y", "S/y")?)
+}
+
+fn is_elsewhere_where_bound(alloc: Global, old: &Shared) -> Result<bool, Wrong> {
+    let new = with_bound(alloc, old, "L")?;
+    is_elsewhere(alloc, &new, old)
+}
+
 fn is_bound_anew(alloc: Global) -> Result<bool, Wrong> {
     let old = learned(alloc, "X:y")?;
-    let new = old.with_assigns(bound(alloc, "L")?)?;
-    Ok(is_anew(alloc, &new, "X:y", "L/y")? && leads(alloc, &old, "X:y", "S/y")?)
+    is_elsewhere_where_bound(alloc, &old)
 }
 
 #[test]
@@ -109,10 +169,14 @@ fn an_assign_begins_anew(rt: HostRuntime) -> Result<(), Wrong> {
     expect(is_bound_anew(rt.alloc())?, "X:y once X is L")
 }
 
-fn residents_begin_anew(alloc: Global) -> Result<bool, Wrong> {
-    let old = learned(alloc, "X:y")?;
+fn is_anew_with_residents(alloc: Global, old: &Shared) -> Result<bool, Wrong> {
     let new = old.with_residents(old.residents.copy()?)?;
     is_anew(alloc, &new, "X:y", "S/y")
+}
+
+fn residents_begin_anew(alloc: Global) -> Result<bool, Wrong> {
+    let old = learned(alloc, "X:y")?;
+    is_anew_with_residents(alloc, &old)
 }
 
 #[test]
@@ -131,15 +195,28 @@ fn both(alloc: Global) -> Result<Places, NoMemory> {
     Ok(Places::from_vec(places))
 }
 
-// What may not be learned: a path that leads nowhere, and one behind several directories or a text.
-fn stays_unknown(alloc: Global, path: &str) -> Result<bool, Wrong> {
-    let assigns = bound(alloc, "S")?
+// `X` bound to a directory, `M` to several, and `P` and `D` to texts.
+fn many_bound(alloc: Global) -> Result<Assigns, NoMemory> {
+    bound(alloc, "S")?
         .set(name(alloc, "M")?, Binding::Dirs(both(alloc)?))?
         .set(name(alloc, "P")?, Binding::Path(text(alloc, "S:")?))?
-        .set(name(alloc, "D")?, Binding::Defer(text(alloc, "S:")?))?;
-    let mut shared = with_directory(alloc)?.with_assigns(assigns)?;
-    learn(alloc, &mut shared, path)?;
-    Ok(!knows(alloc, &shared, path)?)
+        .set(name(alloc, "D")?, Binding::Defer(text(alloc, "S:")?))
+}
+
+fn with_many_bound(alloc: Global) -> Result<Shared, Wrong> {
+    let shared = with_directory(alloc)?;
+    Ok(shared.with_assigns(many_bound(alloc)?)?)
+}
+
+fn is_not_learned(alloc: Global, shared: &mut Shared, path: &str) -> Result<bool, Wrong> {
+    learn(alloc, shared, path)?;
+    Ok(!knows(alloc, shared, path)?)
+}
+
+// What may not be learned: a path that leads nowhere, and one behind several directories or a text.
+fn stays_unknown(alloc: Global, path: &str) -> Result<bool, Wrong> {
+    let mut shared = with_many_bound(alloc)?;
+    is_not_learned(alloc, &mut shared, path)
 }
 
 #[test]
@@ -151,11 +228,15 @@ fn some_paths_stay_unknown(rt: HostRuntime) -> Result<(), Wrong> {
 }
 
 // With memory and without: what is learned, or dropped, changes nothing of where the path leads.
+fn leads_where_it_led(alloc: Global, shared: &mut Shared) -> Result<bool, Wrong> {
+    learn(alloc, shared, "X:y")?;
+    learn(alloc, shared, "X:z")?;
+    Ok(leads(alloc, shared, "X:y", "S/y")? && leads(alloc, shared, "X:z", "S/z")?)
+}
+
 fn refuses_nothing(alloc: Global) -> Result<bool, Wrong> {
     let mut shared = with_directory(alloc)?;
-    learn(alloc, &mut shared, "X:y")?;
-    learn(alloc, &mut shared, "X:z")?;
-    Ok(leads(alloc, &shared, "X:y", "S/y")? && leads(alloc, &shared, "X:z", "S/z")?)
+    leads_where_it_led(alloc, &mut shared)
 }
 
 #[test]
@@ -168,14 +249,13 @@ fn lettered(alloc: Global, letter: u8) -> Result<Text, NoMemory> {
     Text::from_bytes(alloc, &[b'X', b':', letter])
 }
 
-// What is shared where the paths of the letters from `;` on were learned, one after another; that of the end was not.
-fn learned_up_to(alloc: Global, end: u8) -> Result<Shared, FsFault> {
-    let mut shared = with_directory(alloc)?;
+// Has the paths of the letters from `;` on learned, one after another; that of the end is not.
+fn teach_up_to(alloc: Global, shared: &mut Shared, end: u8) -> Result<(), NoMemory> {
     for letter in b';'..end {
         let path = lettered(alloc, letter)?;
         shared.learn(alloc, &path, &Place::root(alloc));
     }
-    Ok(shared)
+    Ok(())
 }
 
 // All of these are known.
@@ -189,13 +269,18 @@ fn knows_each(alloc: Global, shared: &Shared, end: u8) -> Result<bool, NoMemory>
 }
 
 // From `;` up to `z` there are 64 letters: one is not known only if there was no memory for it.
-fn knows_all(alloc: Global) -> Result<bool, Wrong> {
-    let shared = learned_up_to(alloc, b'{')?;
-    if knows_each(alloc, &shared, b'{')? {
-        leads(alloc, &shared, "X:z", "S/z")
+fn learns_all(alloc: Global, shared: &mut Shared) -> Result<bool, Wrong> {
+    teach_up_to(alloc, shared, b'{')?;
+    if knows_each(alloc, shared, b'{')? {
+        leads(alloc, shared, "X:z", "S/z")
     } else {
         Err(Wrong::NoMemory)
     }
+}
+
+fn knows_all(alloc: Global) -> Result<bool, Wrong> {
+    let mut shared = with_directory(alloc)?;
+    learns_all(alloc, &mut shared)
 }
 
 #[test]
@@ -204,11 +289,18 @@ fn sixty_four_paths_are_known_at_once(rt: HostRuntime) -> Result<(), Wrong> {
 }
 
 // With one more they are not all known, and each leads where it did.
+fn learns_some(alloc: Global, shared: &mut Shared) -> Result<bool, Wrong> {
+    teach_up_to(alloc, shared, b'|')?;
+    Ok(
+        !knows_each(alloc, shared, b'|')?
+            && leads(alloc, shared, "X:;", "S/;")?
+            && leads(alloc, shared, "X:{", "S/{")?,
+    )
+}
+
 fn knows_some(alloc: Global) -> Result<bool, Wrong> {
-    let shared = learned_up_to(alloc, b'|')?;
-    Ok(!knows_each(alloc, &shared, b'|')?
-        && leads(alloc, &shared, "X:;", "S/;")?
-        && leads(alloc, &shared, "X:{", "S/{")?)
+    let mut shared = with_directory(alloc)?;
+    learns_some(alloc, &mut shared)
 }
 
 #[test]
