@@ -191,7 +191,12 @@ impl World {
         join(&mut self.shells, begun);
         break_other(&mut self.shells, number, draft.breaking);
         end_done(&mut self.shells, &mut self.ended, number);
-        renew(self.alloc, &mut self.shared, draft.shared.take(), draft.asked.take());
+        renew(
+            self.alloc,
+            &mut self.shared,
+            draft.shared.take(),
+            draft.asked.take(),
+        );
         Ok(())
     }
 
