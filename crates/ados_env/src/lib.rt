@@ -22,6 +22,7 @@ mod operators;
 mod pairs;
 mod path;
 mod resident;
+mod resident_lines;
 mod rows;
 mod status;
 mod variables;

@@ -1,15 +1,12 @@
 -- What is seen of a shell lasts from one event to the next, while its phase holds it and no answer changes it.
-use Rattle.std.proofs.Common.{◌≡◌, ◌≢◌, ◌∙◌, sym, ℕ, List, Bool, true, false, Option, Some, None, length, refl, ap, arith, inl, inr}
-use Rattle.std.specs.Prelude.{nat_le, nat_lt}
+use Rattle.std.proofs.Common.{◌≡◌, ◌≢◌, ◌∙◌, sym, ℕ, List, Bool, true, false, Option, Some, None, refl, ap, arith, inl, inr}
 use Rattle.std.proofs.lemmas.Bool.{cases_Bool, cases_eq}
-use Rattle.ados_line.specs.Cut.{line_limit}
 use Rattle.ados_find.specs.declared.codes.Codes.{Codes}
 use Rattle.ados_find.specs.declared.outcomes.Breaks.{Breaks}
 use Rattle.ados_find.specs.declared.outcomes.Renamed.{Renamed}
 use Rattle.ados_flow.specs.Frames.{FrameState}
 use Rattle.ados_machine.specs.declared.answers.Answer.{Answer as Reply}
 use Rattle.ados_machine.specs.declared.events.Event.{Event}
-use Rattle.ados_machine.specs.declared.events.Event.TheVariants.{Typed, EndOfInput, Turn, Answer, Break}
 use Rattle.ados_machine.specs.declared.events.Kind.{Kind}
 use Rattle.ados_machine.specs.declared.phases.Asking.{Asking}
 use Rattle.ados_machine.specs.declared.phases.Gathering.{Gathering}
@@ -26,13 +23,14 @@ use Rattle.ados_machine.specs.Numbers.{free_number}
 use Rattle.ados_machine.specs.Settle.{Turned, jumped_in, said_of, settle}
 use Rattle.ados_machine.specs.Shells.{Begun, begun_shell, ShellState}
 use Rattle.ados_machine.specs.Sinks.{Sink, sink_in}
-use Rattle.ados_machine.specs.Step.{Response, Refused, Accepted, queue_limit, shell_of_turn, with_begun, is_done, left, moved_in, took, shell_ended, start, unflagged, applied, turned, answered, broken, typed, end_of_input, happened, step_of}
+use Rattle.ados_machine.specs.Step.{Response, Refused, Accepted, shell_of_turn, with_begun, is_done, left, moved_in, took, shell_ended, start, unflagged, applied, turned, answered, broken, typed, step_of}
 use Rattle.ados_machine.specs.Turning.{Turning, Refuses, Ends, Takes, flagged_turning, replied}
-use Rattle.ados_machine.specs.World.{WorldState, shell_at, is_over, input_of}
-use Rattle.ados_machine.proofs.Asked.{flagged-refused}
+use Rattle.ados_machine.specs.World.{WorldState, shell_at, input_of}
+use Rattle.ados_machine.proofs.AskedTurns.{flagged-refused}
 use Rattle.ados_machine.proofs.Moves.{placed-at}
 use Rattle.ados_machine.proofs.Rests.{IsIdle, passed-rests, finished-rests, called-rests, ticked-rests}
 use Rattle.ados_machine.proofs.Shells.{shells_behind, broken_maybe, broken_for, found-broken, found, IsFree, free-number, carried-free, carried_found, found-carried, found-set_same, found-set_other, found-left, runs_pos}
+use Rattle.ados_machine.proofs.StepCases.{of-step}
 
 -- where a deed waits on, the same is seen above these frames
 abbrev pub SeenBehind : {X : Type 0} → (List FrameState → Phase → X) → List FrameState → X → Option Deed → Type 0
@@ -225,42 +223,18 @@ answered-keeps s w k reply (Some shell) is =
     replied-keeps s w k shell (answered_in (sink_in shell.frames) (start w shell) shell.phase reply) is
     (s.answers shell.frames (sink_in shell.frames) (start w shell) shell.phase reply)
 
-typed-keeps : {X : Type 0} (s : Watch X) (w : WorldState) (line : List ℕ) → Keeps s w (typed w line)
-typed-keeps s w line =
-    elim (cases_Bool w.input_ended) [
-      | inl e ↦ rw e tt
-      | inr e ↦ rw e (elim (cases_Bool (nat_le queue_limit (length w.queue))) [
-        | inl f ↦ rw f tt
-        | inr f ↦ rw f (elim (cases_Bool (nat_lt line_limit (length line))) [
-          | inl g ↦ rw g tt
-          | inr g ↦ rw g (λ j before behind. refl)
-        ])
-      ])
-    ]
-
-end-keeps : {X : Type 0} (s : Watch X) (w : WorldState) → Keeps s w (end_of_input w)
-end-keeps s w =
-    elim (cases_Bool w.input_ended) [
-      | inl e ↦ rw e tt
-      | inr e ↦ rw e (λ j before behind. refl)
-    ]
-
 break-keeps : {X : Type 0} (s : Watch X) (w : WorldState) (k : ℕ) (kind : Kind) (o : Option ShellState) → Keeps s w (broken w k kind o)
 break-keeps s w k kind None = tt
 break-keeps s w k kind (Some shell) = λ j before behind.
     let breaking = Some (record { shell = k; breaks = breaks_by kind }) in
     ap (seen_by s) (found-broken breaking w.shells j) ∙ broken-seen s (broken_for breaking j) (found w.shells j)
 
-happened-keeps : {X : Type 0} (s : Watch X) (w : WorldState) (event : Event) → Keeps s w (happened w event)
-happened-keeps s w (Typed line) = typed-keeps s w line
-happened-keeps s w EndOfInput = end-keeps s w
-happened-keeps s w (Turn k) = turned-keeps s w k (shell_at w k) refl
-happened-keeps s w (Answer k reply) = answered-keeps s w k reply (shell_at w k) refl
-happened-keeps s w (Break k kind) = break-keeps s w k kind (shell_at w k)
-
 pub step-keeps : {X : Type 0} (s : Watch X) (w : WorldState) (event : Event) → Keeps s w (step_of w event)
-step-keeps s w event =
-    elim (cases_Bool (is_over w)) [
-      | inl e ↦ rw e tt
-      | inr e ↦ rw e (happened-keeps s w event)
-    ]
+step-keeps s w event = of-step w (λ event response. Keeps s w response) (record {
+  refused = λ event why. tt;
+  typed = λ line. (λ j before behind. refl);
+  ended = λ j before behind. refl;
+  turned = λ k shell is. turned-keeps s w k (Some shell) is;
+  answered = λ k reply shell is. answered-keeps s w k reply (Some shell) is;
+  broken = λ k kind shell is. break-keeps s w k kind (Some shell);
+}) event

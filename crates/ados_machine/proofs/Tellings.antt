@@ -36,7 +36,8 @@ use Rattle.ados_machine.specs.Whole.{Whole, Done, Broken, Late, Short, lines, at
 use Rattle.ados_machine.specs.Course.{Course, shared_behind, printing}
 use Rattle.ados_machine.specs.Told.{onto, told_on, told_reply, told_next, told, TellsReports, AloneTellsReports}
 use Rattle.ados_machine.proofs.Alone.{with_ends, Lone, Rested, Going, Unfed, exec-rests}
-use Rattle.ados_machine.proofs.Direct.{AgreesBy, ended, breaking, agrees}
+use Rattle.ados_machine.proofs.DirectStates.{AgreesBy, ended, breaking}
+use Rattle.ados_machine.proofs.Direct.{agrees}
 use Rattle.ados_machine.proofs.Places.{set-set}
 use Rattle.ados_machine.proofs.Systems.{none_below, free-two, opened-stands}
 use Rattle.ados_machine.proofs.Lonely.{Stands, world_of, no_input, stands-at, ended-at, stands-again, world-same, turn-is, answer-is, common_by}

@@ -35,14 +35,14 @@ ghost use Rattle.ados_resident.specs.declared.hosts.HostEntry.{HostEntry};
 ghost use Rattle.std.specs.Prelude.{List};
 
 /// In every run of a world that is sane (no script runs on behind a failure), as a fresh one is and events keep it: in
-/// every shell each script ends early exactly at its first command whose code reaches the limit behind it, and reports
+/// every shell each script ends early exactly at its first command whose code reaches the limit after it, and reports
 /// the line and the code of its last command; the command that called it answers with that one's codes, at the limit
 /// that the end brings back.
 pub fn scripts_end_where_the_rule_says()
     ensures { ScriptsEndWhereTheRuleSays }
 {}
 
-/// No script runs on behind a command whose code reached its limit: a fresh world has none that
+/// No script runs on after a command whose code reached its limit: a fresh world has none that
 /// does, and no event leaves one. So too each background shell runs a frame, and each shell has
 /// the number of its place.
 pub fn no_script_runs_on_behind_a_failure()
@@ -57,7 +57,7 @@ pub fn each_end_is_reported_once()
 
 /// In every run of a world that is sane, the frames of each shell go through its trace: a script begins at the limit that
 /// stands; it ends once, by the name under which it began, and only where it is the newest that is there. What stands
-/// behind the trace is the shell's own limit, and its codes are those of its last command.
+/// after the trace is the shell's own limit, and its codes are those of its last command.
 pub fn each_frame_ends_once()
     ensures { EachFrameEndsOnce }
 {}
@@ -72,7 +72,7 @@ pub fn breaks_end_scripts()
 /// An answer that a program of the host could not be started changes the codes of the shell that asked, and what these
 /// change: its limit, its phase, the last record of its newest frame, and which of its frames go on. What all shells
 /// share, the other shells and their codes, and the input stay, and the use of its resident entry is given back. In a
-/// run where that answer is the next event accepted behind the turn that asked, nothing is left of the attempt: what
+/// run where that answer is the next event accepted after the turn that asked, nothing is left of the attempt: what
 /// all shells share, the other shells and each use count are as before that turn, and so are the shell's number,
 /// directory and settings.
 pub fn failed_starts_change_the_codes()
@@ -83,7 +83,7 @@ pub fn failed_starts_change_the_codes()
 /// A shell whose events each leave what is seen of it as it was can be taken out of every run: without its events the
 /// others are answered the same, and what all share, the other shells and their codes are left the same. What is seen of
 /// a shell is its directory, its open outputs, the resident entry that it runs from and its name, which numbers have a
-/// shell, and what all share.
+/// shell, the flags and marks of breaks in the other shells, and what all share.
 pub fn quiet_shells_are_invisible()
     ensures { QuietShellsAreInvisible }
 {}
@@ -105,7 +105,7 @@ pub fn children_go_by_their_answers()
 
 /// A shell that is opened at the lowest free number, and then alone is given turns and answers, does what its lines mean
 /// by a direct recursion that knows neither frames nor phases: it ends where the meaning does, with the same world, bytes
-/// and codes, and the same events and answers left; it runs on behind the last event where the meaning wants one more;
+/// and codes, and the same events and answers left; it runs on after the last event where the meaning wants one more;
 /// and an answer is missing, or of another kind than asked for, where the meaning says so. To run alone is a run of
 /// accepted events of that shell, which takes the answers in their order.
 pub fn alone_means_the_direct_meaning()
@@ -113,35 +113,35 @@ pub fn alone_means_the_direct_meaning()
     ensures run { AloneIsARun }
 {}
 
-/// The end of an event binds only assigns of Defer that the event used, and each only to a directory that stands behind the
+/// The end of an event binds only assigns of Defer that the event used, and each only to a directory that is there after the
 /// event. Else it changes no assign beyond what its commands did.
 pub fn events_bind_only_what_they_used()
     ensures { EventsBindOnlyWhatTheyUsed }
 {}
 
-/// What an accepted event gives is the request that is pending behind it of the shell to which it happened; a typed line and
+/// What an accepted event gives is the request that is pending after it of the shell to which it happened; a typed line and
 /// the end of input give none. A turn is accepted exactly where its shell is ready.
 pub fn events_give_what_is_pending()
     ensures pending { EventsGiveWhatIsPending }
     ensures ready { ReadyShellsAreTurned }
 {}
 
-/// The last codes of each number behind a run, also of a shell that has ended, are those of its last command in the trace, and
-/// 0 and 0 behind the beginning of a new shell there. A fresh world has last codes for each number, and each event keeps that.
+/// The last codes of each number after a run, also of a shell that has ended, are those of its last command in the trace, and
+/// 0 and 0 after the beginning of a new shell there. A fresh world has last codes for each number, and each event keeps that.
 pub fn last_codes_stay()
     ensures fresh { FreshWorldsHaveAllCodes }
     ensures kept { EventsKeepAllCodes }
     ensures run { LastCodesStay }
 {}
 
-/// From the event that asks for a program's start to the one behind which nothing is asked for any more, each event keeps
+/// From the event that asks for a program's start to the one after which nothing is asked for any more, each event keeps
 /// the resident entry in use from which the program runs; and where nothing is asked for no entry is in use.
 pub fn entries_stay_in_use()
     ensures lasts { EntriesStayInUse }
     ensures idle { IdleShellsUseNoEntry }
 {}
 
-/// What a program's command opened stays open until the answer that ends the program, also behind a fault of its output: the
+/// What a program's command opened stays open until the answer that ends the program, also after a fault of its output: the
 /// outputs that its shell holds, which are those of its frames and that one, stay the same from the answer that the program has
 /// started, event by event.
 pub fn outputs_stay_open()
@@ -150,7 +150,8 @@ pub fn outputs_stay_open()
 {}
 
 /// What waited and was typed in a run is what shell 1 took, in order, followed by what waits. It takes the first line that
-/// waits at each turn at which it takes of its input; what waits behind that line changes nothing of the turn.
+/// waits at each turn at which it takes of its input; the lines that wait after that one change nothing of the turn. A turn
+/// at which a script ends by a break takes no line.
 pub fn typed_lines_are_taken_in_order()
     ensures run { TypedLinesAreTakenInOrder }
     ensures one { FurtherLinesWait }

@@ -9,7 +9,7 @@ use Rattle.ados_readargs.specs.declared.words.LineWord.TheVariants.{Run}
 use Rattle.ados_readargs.specs.declared.readings.Reading.{Reading}
 use Rattle.ados_readargs.specs.declared.meanings.Pending.TheVariants.{Free}
 use Rattle.ados_readargs.specs.declared.meanings.Meaning.TheVariants.{Plain}
-use Rattle.ados_readargs.specs.declared.meanings.PlainWord.{PlainWord}
+use Rattle.ados_readargs.specs.declared.pass.PlainWord.{PlainWord}
 use Rattle.ados_readargs.specs.Words.{word_of}
 use Rattle.ados_readargs.specs.Readings.{Readings}
 use Rattle.ados_readargs.specs.Meanings.{meaning_of}

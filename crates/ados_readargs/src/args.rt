@@ -9,8 +9,8 @@ ghost use Rattle.ados_readargs.specs.Phrases.{IsFilled};
 
 use crate::errors::ArgFault;
 use crate::fill::args_read;
-use crate::meanings::read;
 use crate::option_list::OptionList;
+use crate::pass::read;
 use crate::readings::Readings;
 use crate::slots::Slots;
 use ados_text::{NoMemory, Text, Texts, number_in};

@@ -1,4 +1,5 @@
-use Rattle.ados_machine.proofs.GivenLemmas.{events-give, ready-turned}
+use Rattle.ados_machine.proofs.GivenLemmas.{events-give}
+use Rattle.ados_machine.proofs.ReadyLemmas.{ready-turned}
 use Rattle.ados_machine.proofs.laws.events_give_what_is_pending.Goals as goal
 
 pub returns-clause-pending : goal.returns-clause-pending

@@ -1,4 +1,5 @@
-use Rattle.ados_machine.proofs.GivenLemmas.{lines-in-order, further-lines-wait}
+use Rattle.ados_machine.proofs.QueueLemmas.{lines-in-order}
+use Rattle.ados_machine.proofs.WaitingLines.{further-lines-wait}
 use Rattle.ados_machine.proofs.laws.typed_lines_are_taken_in_order.Goals as goal
 
 pub returns-clause-run : goal.returns-clause-run

@@ -1,0 +1,96 @@
+// The resident list as Resident tells it: a line for each internal command, and one for each entry.
+ghost use Rattle.std.specs.Prelude.{◌≡◌, ◌++◌, IfOk, OnOk};
+ghost use Rattle.std.specs.List.{flat_map};
+ghost use Rattle.ados_env.specs.Resident.{entry_line, internal_line, list_line, list_lines};
+
+use ados_resident::{Internal, Resident, Residents, count};
+use ados_text::{NoMemory, Text, push_left, push_right};
+use itoa::Buffer;
+use std::alloc::Global;
+
+// How many places a name takes at least, and what is told of it.
+const NAME_WIDTH: usize = 20;
+
+const TOLD_WIDTH: usize = 4;
+
+// The lines of the list; those of entries of the system only where they are asked for.
+pub fn list_lines(
+    alloc: Global,
+    residents: &Residents,
+    system: bool,
+    uses: &[Text],
+) -> Result<Vec<u8>, NoMemory>
+    ensures { IfOk result (λ lines. lines.items ≡ list_lines system uses.now residents.now) }
+{
+    let mut lines = Vec::new(alloc);
+    push_internals(&mut lines, residents.internals())?;
+    push_entries(&mut lines, residents.entries(), system, uses)?;
+    Ok(lines)
+}
+
+fn push_internals(output: &mut Vec<u8>, internals: &[Internal]) -> Result<(), NoMemory>
+    ensures { OnOk result (output.new.items ≡ output.old.items ++ flat_map internal_line internals.now) }
+{
+    for internal in internals {
+        push_internal(output, *internal)?;
+    }
+    Ok(())
+}
+
+// An internal command is told to be one by a number, or to be disabled.
+fn push_internal(output: &mut Vec<u8>, internal: Internal) -> Result<(), NoMemory>
+    ensures { OnOk result (output.new.items ≡ output.old.items ++ internal_line internal) }
+{
+    let told = if internal.is_disabled {
+        "DISABLED"
+    } else {
+        "-2"
+    };
+    push_line(output, internal.command.name().as_bytes(), told.as_bytes())
+}
+
+fn push_entries(
+    output: &mut Vec<u8>,
+    entries: &[Resident],
+    system: bool,
+    uses: &[Text],
+) -> Result<(), NoMemory>
+    ensures { OnOk result (output.new.items ≡ output.old.items ++ flat_map (entry_line system uses.now) entries.now) }
+{
+    for entry in entries {
+        push_entry(output, entry, system, uses)?;
+    }
+    Ok(())
+}
+
+// An entry is told with the number of shells that run from it, and one of the system by a number of its own.
+fn push_entry(
+    output: &mut Vec<u8>,
+    entry: &Resident,
+    system: bool,
+    uses: &[Text],
+) -> Result<(), NoMemory>
+    ensures { OnOk result (output.new.items ≡ output.old.items ++ entry_line system uses.now entry.now) }
+{
+    let name = entry.name.as_bytes();
+    if !entry.is_system {
+        let mut buffer = Buffer::new();
+        let told = buffer.format(count(uses, &entry.name));
+        return push_line(output, name, told.as_bytes());
+    }
+    if !system {
+        return Ok(());
+    }
+    push_line(output, name, b"-1")
+}
+
+// Puts out a line of the list.
+fn push_line(output: &mut Vec<u8>, name: &[u8], told: &[u8]) -> Result<(), NoMemory>
+    ensures { OnOk result (output.new.items ≡ output.old.items ++ list_line name.now told.now) }
+{
+    push_left(output, NAME_WIDTH, name)?;
+    output.push(b' ')?;
+    push_right(output, TOLD_WIDTH, told)?;
+    output.push(b'\n')?;
+    Ok(())
+}

@@ -1,0 +1,106 @@
+-- The two ways to a shell that runs alone: its stack of frames, and the place in the direct meaning.
+use Rattle.std.proofs.Common.{◌≡◌, ℕ, ◌<◌, ◌≤◌, zero, suc, List, [], ◌∷◌, true, false, nat_le, Option, Some, None, length, refl, arith, get_or, if◌then◌else◌}
+use Rattle.std.specs.List.{slice_get}
+use Rattle.std.proofs.lemmas.Bool.{leb-false, leb-true}
+use Rattle.std.proofs.lemmas.Option.{slice_get_past, slice_get-get_or}
+use Rattle.ados_text.specs.Text.{Text}
+use Rattle.ados_flow.specs.declared.kinds.Kind.{Kind}
+use Rattle.ados_flow.specs.declared.kinds.Kind.TheVariants.{Script, Lines, Tick}
+use Rattle.ados_flow.specs.Frames.{FrameState, is_over, is_script, scripts_in, script_line_by, limit_behind, last_line, last_codes, is_early, maker}
+use Rattle.ados_machine.specs.declared.answers.Answer.{Answer as Reply}
+use Rattle.ados_machine.specs.declared.phases.Parted.{Parted}
+use Rattle.ados_machine.specs.declared.phases.Phase.{Phase}
+use Rattle.ados_machine.specs.declared.phases.Phase.TheVariants.{Ready, GoingOn}
+use Rattle.ados_machine.specs.Sinks.{sink_in, outputs_in}
+use Rattle.ados_machine.specs.Names.{name_in}
+use Rattle.ados_machine.specs.Settled.{broken_off, with_limit, after_end, finish}
+use Rattle.ados_machine.specs.Settle.{here_of}
+use Rattle.ados_flow.specs.declared.records.Record.{Record}
+use Rattle.ados_machine.specs.Whole.{Broken, Common, At, Whole, Done, Late, Short, here_at, lines}
+use Rattle.ados_machine.proofs.Alone.{with_end, Lone, Going, Unfed, go_by, exec}
+
+abbrev pub Next : Type 0
+Next = ℕ → List Reply → Option Record → Common → Lone
+
+-- what a shell does once its newest frame has ended
+abbrev pub ended : ℕ → FrameState → List FrameState → Next
+ended k frame frames n answers last common =
+    go_by k (exec k n answers) (record common { reports = with_end k frame.kind (last_line last) (last_codes last) (is_early frame.kind last) common.reports })
+    (after_end frame.kind
+    (finish (maker frame.kind) (last_codes last) false frames (with_limit (limit_behind frames frame.limit) common.said)) frames common.said)
+
+abbrev pub IsRunning : List Reply → Lone → Type 0
+IsRunning answers (Going answers' frames phase common) = answers' ≡ answers
+IsRunning answers _ = ⊥
+
+-- there is one at least
+abbrev pub IsSome : ℕ → Type 0
+IsSome n = (m : ℕ) × (n ≡ suc m)
+
+-- what a shell does at a break that came to this frame
+abbrev pub breaking : ℕ → FrameState → List FrameState → Next
+breaking k frame frames n answers last common = go_by k (exec k n answers) common (broken_off (record frame { last = last } ∷ frames) common.said)
+
+-- a shell does what lines mean, in or below which so many scripts run, and then the one or, at a break, the other
+abbrev pub AgreesBy : ℕ → Lone → Whole → Next → Next → ℕ → Type 0
+AgreesBy n exec (Done left answers last common) next breaks scripts = (left ≤ n) × (exec ≡ next left answers last common)
+AgreesBy n exec (Broken left answers last common) next breaks scripts = (left ≤ n) × IsSome scripts × (exec ≡ breaks left answers last common)
+AgreesBy n exec (Late answers) next breaks scripts = IsRunning answers exec
+AgreesBy n exec Short next breaks scripts = exec ≡ Unfed
+
+-- where the lines of the newest frame stand
+abbrev pub at_of : ℕ → FrameState → List FrameState → At
+at_of k frame frames = record {
+  shell = k;
+  sink = sink_in (frame ∷ frames);
+  in_script = is_script frame.kind;
+  scripts = scripts_in (frame ∷ frames);
+  depth = length (frame ∷ frames);
+  lines = frame.lines;
+  outputs = outputs_in (frame ∷ frames);
+  name = name_in (frame ∷ frames);
+  position = frame.position;
+  line = frame.line;
+  last = frame.last;
+}
+
+abbrev pub phase_of : Option Parted → Phase
+phase_of None = Ready
+phase_of (Some parted) = GoingOn parted
+
+abbrev pub HasNext : Option Parted → FrameState → Type 0
+HasNext None frame = is_over frame ≡ false
+HasNext (Some parted) frame = Unit {0}
+
+abbrev pub AgreesAt : ℕ → ℕ → Type 0
+AgreesAt k gas = (n : ℕ) (answers : List Reply) (common : Common) (frame : FrameState) (frames : List FrameState) (parted : Option Parted) →
+    n < gas → HasNext parted frame →
+    AgreesBy n (exec k n answers (frame ∷ frames) (phase_of parted) common)
+    (lines k gas n answers common (at_of k frame frames) parted)
+    (ended k frame frames) (breaking k frame frames) (scripts_in (frame ∷ frames))
+
+-- a line of the newest frame knows just what one of these lines knows
+script-line : (kind : Kind) (frame : FrameState) →
+    script_line_by kind frame ≡ (if is_script kind then Some (record { lines = frame.lines; line = frame.line }) else None)
+script-line (Script name command) frame = refl
+script-line Lines frame = refl
+script-line (Tick before after) frame = refl
+
+pub here-is : (k : ℕ) (frame : FrameState) (frames : List FrameState) → here_of (frame ∷ frames) ≡ here_at (at_of k frame frames)
+here-is k frame frames = rw (script-line frame.kind frame) refl
+
+pub weaker : (m n : ℕ) (x : Lone) (w : Whole) (next breaks : Next) (scripts : ℕ) → m ≤ n →
+    AgreesBy m x w next breaks scripts → AgreesBy n x w next breaks scripts
+weaker m n x (Late answers) next breaks scripts le h = h
+weaker m n x Short next breaks scripts le h = h
+weaker m n x (Done left answers last common) next breaks scripts le h = (omega (arith, h.0), h.1)
+weaker m n x (Broken left answers last common) next breaks scripts le h = (omega (arith, h.0), h.1, h.2)
+
+-- no line left costs nothing
+pub lines-over : (k gas n : ℕ) (answers : List Reply) (common : Common) (at : At) → n < gas → nat_le (length at.lines) at.position ≡ true →
+    lines k gas n answers common at None ≡ Done n answers at.last common
+lines-over k zero n answers common at lt e = absurd (omega arith)
+lines-over k (suc gas) n answers common at lt e = rw (slice_get_past at.lines at.position (leb-true (length at.lines) at.position e)) refl
+
+pub there : (xs : List Text) (i : ℕ) → nat_le (length xs) i ≡ false → slice_get xs i ≡ Some (get_or xs i [])
+there xs i e = slice_get-get_or xs i [] (leb-false (length xs) i e)

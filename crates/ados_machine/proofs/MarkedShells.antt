@@ -1,0 +1,75 @@
+-- A break changes neither which turns are accepted nor which shells want a line.
+use Rattle.std.proofs.Common.{◌≡◌, ◌∙◌, ap, ℕ, List, Bool, true, false, ◌&&◌, not, Option, Some, None, refl, inl, inr}
+use Rattle.std.proofs.lemmas.Bool.{cases_Bool}
+use Rattle.ados_flow.specs.declared.kinds.Kind.{Kind}
+use Rattle.ados_flow.specs.Frames.{FrameState}
+use Rattle.ados_machine.specs.declared.events.Event.TheVariants.{Break}
+use Rattle.ados_machine.specs.declared.events.Kind as by
+use Rattle.ados_machine.specs.declared.phases.Phase.{Phase}
+use Rattle.ados_machine.specs.declared.phases.Phase.TheVariants.{Ready, GoingOn, Waiting}
+use Rattle.ados_machine.specs.declared.phases.Wait.TheVariants.{ForAnswer, ForLines, ForStart, ForPiece, ForEnd}
+use Rattle.ados_machine.specs.Breaks.{breaks_by, marked_if}
+use Rattle.ados_find.specs.declared.outcomes.Breaks.{Breaks}
+use Rattle.ados_machine.specs.Laws.{KeepsWhatComes, BreaksKeepWhatComes}
+use Rattle.ados_machine.specs.Shells.{ShellState}
+use Rattle.ados_machine.specs.Step.{Response, Refused, Accepted, broken, step_of}
+use Rattle.ados_machine.specs.Turning.{Input}
+use Rattle.ados_machine.specs.World.{WorldState, can_take, can_turn, has_input, shell_at, is_over, input_of, pending_by, takes_input, wants_input}
+use Rattle.ados_machine.proofs.CarriedChildren.{broken-pending}
+use Rattle.ados_machine.proofs.Shells.{found, broken_maybe, broken_for, found-broken}
+
+-- a mark changes nothing of what a shell takes next
+marked-takes : (marks : Bool) (input : Input) (frames : List FrameState) (phase : Phase) → can_take input frames (marked_if marks phase) ≡ can_take input frames phase
+marked-takes false input frames phase = refl
+marked-takes true input frames Ready = refl
+marked-takes true input frames (GoingOn parted) = refl
+marked-takes true input frames (Waiting (ForAnswer asking)) = refl
+marked-takes true input frames (Waiting (ForLines gathering)) = refl
+marked-takes true input frames (Waiting (ForStart starting)) = refl
+marked-takes true input frames (Waiting (ForPiece child)) = refl
+marked-takes true input frames (Waiting (ForEnd child)) = refl
+
+marked-wants : (marks : Bool) (frames : List FrameState) (phase : Phase) → takes_input frames (marked_if marks phase) ≡ takes_input frames phase
+marked-wants false frames phase = refl
+marked-wants true frames Ready = refl
+marked-wants true frames (GoingOn parted) = refl
+marked-wants true frames (Waiting (ForAnswer asking)) = refl
+marked-wants true frames (Waiting (ForLines gathering)) = refl
+marked-wants true frames (Waiting (ForStart starting)) = refl
+marked-wants true frames (Waiting (ForPiece child)) = refl
+marked-wants true frames (Waiting (ForEnd child)) = refl
+
+broken-turns : (input : Input) (breaks : Option Breaks) (o : Option ShellState) → can_turn input (broken_maybe breaks o) ≡ can_turn input o
+broken-turns input None o = refl
+broken-turns input (Some breaks) None = refl
+broken-turns input (Some breaks) (Some shell) = marked-takes breaks.marks input shell.frames shell.phase
+
+broken-wants : (breaks : Option Breaks) (o : Option ShellState) → wants_input (broken_maybe breaks o) ≡ wants_input o
+broken-wants None o = refl
+broken-wants (Some breaks) None = refl
+broken-wants (Some breaks) (Some shell) = marked-wants breaks.marks shell.frames shell.phase
+
+abbrev KeepsBy : WorldState → Response → Type 0
+KeepsBy w (Refused why) = Unit {0}
+KeepsBy w (Accepted world out items) = KeepsWhatComes w world
+
+broken-keeps : (w : WorldState) (k : ℕ) (kind : by.Kind) (o : Option ShellState) → KeepsBy w (broken w k kind o)
+broken-keeps w k kind None = tt
+broken-keeps w k kind (Some shell) =
+    let breaking = Some (record { shell = k; breaks = breaks_by kind }) in
+    record {
+      ready = λ j. ap (can_turn (input_of w j)) (found-broken breaking w.shells j) ∙ broken-turns (input_of w j) (broken_for breaking j) (found w.shells j);
+      asked = λ j. ap pending_by (found-broken breaking w.shells j) ∙ broken-pending (broken_for breaking j) (found w.shells j);
+      line = ap (λ b. b && not (has_input (input_of w 1)))
+          (ap wants_input (found-broken breaking w.shells 1) ∙ broken-wants (broken_for breaking 1) (found w.shells 1));
+    }
+
+step-keeps : (w : WorldState) (k : ℕ) (kind : by.Kind) → KeepsBy w (step_of w (Break k kind))
+step-keeps w k kind =
+    elim (cases_Bool (is_over w)) [
+      | inl e ↦ rw e tt
+      | inr e ↦ rw e (broken-keeps w k kind (shell_at w k))
+    ]
+
+pub breaks-keep : BreaksKeepWhatComes
+breaks-keep w k kind world out items is = rw is at (step-keeps w k kind)

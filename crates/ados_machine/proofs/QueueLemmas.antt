@@ -1,0 +1,158 @@
+-- Lines that were typed are taken in order: an event takes the first of them, adds one, or leaves all.
+use Rattle.std.proofs.Common.{◌≡◌, ◌≢◌, ◌∙◌, sym, ℕ, List, [], ◌∷◌, ◌++◌, take, Bool, true, false, not, ◌&&◌, ◌==◌, Option, Some, None, Ok, Err, refl, ap, append-nil, append_assoc, inl, inr, if◌then◌else◌}
+use Rattle.std.proofs.lemmas.Bool.{cases_Bool, cases_eq, ne_eqb}
+use Rattle.ados_find.specs.declared.codes.Codes.{Codes}
+use Rattle.ados_flow.specs.Frames.{FrameState}
+use Rattle.ados_machine.specs.declared.answers.Answer.{Answer as Reply}
+use Rattle.ados_machine.specs.declared.events.Event.{Event}
+use Rattle.ados_machine.specs.declared.events.Event.TheVariants.{Turn, Answer}
+use Rattle.ados_machine.specs.declared.outs.Out.{Out}
+use Rattle.ados_machine.specs.declared.refusals.Refusal.{Refusal}
+use Rattle.ados_machine.specs.declared.phases.Phase.{Phase}
+use Rattle.ados_machine.specs.declared.phases.Phase.TheVariants.{Ready, GoingOn, Waiting}
+use Rattle.ados_machine.specs.declared.phases.Wait.TheVariants.{ForAnswer, ForLines, ForStart, ForPiece, ForEnd}
+use Rattle.ados_machine.specs.Answers.{answered_in}
+use Rattle.ados_machine.specs.Breaks.{has_script}
+use Rattle.ados_machine.specs.Course.{Course}
+use Rattle.ados_machine.specs.Deeds.{Deed}
+use Rattle.ados_machine.specs.Lines.{answer_deed}
+use Rattle.ados_machine.specs.NewShells.{gathered_deed, joined_deed}
+use Rattle.ados_machine.specs.Runs.{world_after, IsAnswer}
+use Rattle.ados_machine.specs.Settle.{here_of}
+use Rattle.ados_machine.specs.Shells.{ShellState}
+use Rattle.ados_machine.specs.Sinks.{sink_in}
+use Rattle.ados_machine.specs.Step.{Response, Refused, Accepted, start, unflagged, applied, broken, turned, answered, typed, step_of}
+use Rattle.ados_machine.specs.Turning.{Input, Turning, Refuses, Ends, Takes, console_turning, input_turning, turning, in_place_of, flagged_turning, replied}
+use Rattle.ados_machine.specs.World.{WorldState, shell_at, input_of, takes_input, wants_input}
+use Rattle.ados_machine.specs.Laws.{is_breakable}
+use Rattle.ados_machine.specs.Given.{lines_taken, lines_typed, typed_in, taken_in, TypedLinesAreTakenInOrder}
+use Rattle.ados_machine.proofs.StepCases.{of-step}
+
+-- a turn takes the first line that waits, where its shell takes of its input, and leaves these
+abbrev Takes_of : Bool → List (List ℕ) → Turning → Type 0
+Takes_of wants queue (Refuses why) = Unit {0}
+Takes_of wants queue Ends = queue ≡ (if wants then take 1 queue else []) ++ queue
+Takes_of wants queue (Takes now t) = queue ≡ (if wants then take 1 queue else []) ++ now
+
+console-takes : (queue : List (List ℕ)) (is_ended : Bool) (course : Course) → Takes_of true queue (console_turning queue is_ended course)
+console-takes [] true course = refl
+console-takes [] false course = tt
+console-takes (line ∷ rest) is_ended course = refl
+
+input-takes : (queue : List (List ℕ)) (is_ended : Bool) (frames : List FrameState) (by_line : List ℕ → Deed) (by_end : Deed) →
+    Takes_of true queue (input_turning queue is_ended frames by_line by_end)
+input-takes [] true frames by_line by_end = refl
+input-takes [] false frames by_line by_end = tt
+input-takes (line ∷ rest) is_ended frames by_line by_end = refl
+
+turning-takes : (input : Input) (frames : List FrameState) (course : Course) (now : Phase) →
+    Takes_of (takes_input frames now) input.queue (turning input frames course now)
+turning-takes input [] course Ready = console-takes input.queue input.is_ended course
+turning-takes input (frame ∷ frames) course Ready = refl
+turning-takes input frames course (GoingOn parted) = refl
+turning-takes input frames course (Waiting (ForAnswer asking)) =
+    input-takes input.queue input.is_ended frames (λ line. answer_deed line asking (here_of frames) course) (answer_deed [] asking (here_of frames) course)
+turning-takes input frames course (Waiting (ForLines gathering)) =
+    input-takes input.queue input.is_ended frames (λ line. joined_deed gathering line (here_of frames).sink course) (gathered_deed gathering (here_of frames).sink course)
+turning-takes input frames course (Waiting (ForStart starting)) = tt
+turning-takes input frames course (Waiting (ForPiece child)) = tt
+turning-takes input frames course (Waiting (ForEnd child)) = tt
+
+-- a turn that finds the flag in a script takes no line
+in_place-takes : (now : Turning) (input : Input) (frames : List FrameState) (course : Course) →
+    Takes_of false input.queue (in_place_of now input frames course)
+in_place-takes (Refuses why) input frames course = tt
+in_place-takes Ends input frames course = refl
+in_place-takes (Takes queue t) input frames course = refl
+
+flagged-takes : (flagged : Bool) (input : Input) (frames : List FrameState) (course : Course) (now : Phase) →
+    Takes_of (not (flagged && has_script frames) && takes_input frames now) input.queue (flagged_turning flagged input frames course now)
+flagged-takes flagged input frames course now =
+    elim (cases_Bool (flagged && has_script frames)) [
+      | inl e ↦ rw e (in_place-takes (turning input frames course now) input frames course)
+      | inr e ↦ rw e (turning-takes input frames course now)
+    ]
+
+-- what waited, with what is typed, is what is taken, with what waits then
+abbrev Queues : WorldState → Event → Response → Type 0
+Queues w event (Refused why) = Unit {0}
+Queues w event (Accepted world out items) = w.queue ++ lines_typed event ≡ lines_taken w event ++ world.queue
+
+first-queues : (w : WorldState) (shell : ShellState) (now : Turning) → shell_at w 1 ≡ Some shell →
+    Takes_of (not (shell.flagged && has_script shell.frames) && takes_input shell.frames shell.phase) w.queue now → Queues w (Turn 1) (applied w 1 shell.parts.codes now)
+first-queues w shell (Refuses why) is takes = tt
+first-queues w shell Ends is takes = append-nil w.queue ∙ (rw (ap is_breakable is, ap wants_input is) takes)
+first-queues w shell (Takes queue t) is takes = append-nil w.queue ∙ (rw (ap is_breakable is, ap wants_input is) takes)
+
+other-queues : (w : WorldState) (k : ℕ) (codes : Codes) (now : Turning) → k ≢ 1 → Queues w (Turn k) (applied w k codes now)
+other-queues w k codes (Refuses why) ne = tt
+other-queues w k codes Ends ne = rw (ne_eqb k 1 ne) (append-nil w.queue)
+other-queues w k codes (Takes queue t) ne = rw (ne_eqb k 1 ne) (append-nil w.queue)
+
+first-turned : (w : WorldState) (o : Option ShellState) → shell_at w 1 ≡ o → Queues w (Turn 1) (turned w 1 o)
+first-turned w None is = tt
+first-turned w (Some shell) is =
+    first-queues w shell (flagged_turning shell.flagged (input_of w 1) shell.frames (unflagged (start w shell)) shell.phase) is
+    (flagged-takes shell.flagged (input_of w 1) shell.frames (unflagged (start w shell)) shell.phase)
+
+other-turned : (w : WorldState) (k : ℕ) (o : Option ShellState) → k ≢ 1 → Queues w (Turn k) (turned w k o)
+other-turned w k None ne = tt
+other-turned w k (Some shell) ne = other-queues w k shell.parts.codes (flagged_turning shell.flagged (input_of w k) shell.frames (unflagged (start w shell)) shell.phase) ne
+
+turned-queues : (w : WorldState) (k : ℕ) → Queues w (Turn k) (turned w k (shell_at w k))
+turned-queues w k =
+    elim (cases_eq k 1) [
+      | inl same ↦ rw same (first-turned w (shell_at w 1) refl)
+      | inr differ ↦ other-turned w k (shell_at w k) differ
+    ]
+
+replied-queues : (w : WorldState) (k : ℕ) (reply : Reply) (codes : Codes) (frames : List FrameState) (deed : Option Deed) →
+    Queues w (Answer k reply) (applied w k codes (replied (input_of w k) frames deed))
+replied-queues w k reply codes frames None = tt
+replied-queues w k reply codes frames (Some deed) =
+    elim (cases_Bool (k == 1)) [
+      | inl e ↦ rw e (append-nil w.queue)
+      | inr e ↦ rw e (append-nil w.queue)
+    ]
+
+answered-queues : (w : WorldState) (k : ℕ) (reply : Reply) (o : Option ShellState) → Queues w (Answer k reply) (answered w k reply o)
+answered-queues w k reply None = tt
+answered-queues w k reply (Some shell) =
+    replied-queues w k reply shell.parts.codes shell.frames (answered_in (sink_in shell.frames) (start w shell) shell.phase reply)
+
+step-queues : (w : WorldState) (event : Event) → Queues w event (step_of w event)
+step-queues w event = of-step w (Queues w) (record {
+  refused = λ event why. tt;
+  typed = λ line. refl;
+  ended = append-nil w.queue;
+  turned = λ k shell is. rw is at (turned-queues w k);
+  answered = λ k reply shell is. answered-queues w k reply (Some shell);
+  broken = λ k kind shell is. append-nil w.queue;
+}) event
+
+after-queues : (w : WorldState) (event : Event) (out : Out) (r : Response) → IsAnswer event (Ok out) r → Queues w event r →
+    w.queue ++ lines_typed event ≡ lines_taken w event ++ (world_after w (Ok out) r).queue
+after-queues w event out (Refused why) answer queues = absurd answer
+after-queues w event out (Accepted world given items) answer queues = queues
+
+kept-world : (w : WorldState) (why : Refusal) (r : Response) → world_after w (Err why) r ≡ w
+kept-world w why (Refused other) = refl
+kept-world w why (Accepted world given items) = refl
+
+pub lines-in-order : TypedLinesAreTakenInOrder
+lines-in-order w [] [] last run = rw run (append-nil w.queue)
+lines-in-order w [] (out ∷ outs) last run = absurd run
+lines-in-order w (event ∷ events) [] last run = absurd run
+lines-in-order w (event ∷ events) (Err why ∷ outs) last run =
+    lines-in-order w events outs last (rw (kept-world w why (step_of w event)) at run.1)
+lines-in-order w (event ∷ events) (Ok out ∷ outs) last run =
+    let mid : WorldState = world_after w (Ok out) (step_of w event) in
+    let typed = typed_in events outs in
+    let taken = taken_in mid events outs in
+    sym (append_assoc w.queue (lines_typed event) typed)
+    ∙ (ap (λ lines. lines ++ typed) (after-queues w event out (step_of w event) run.0 (step-queues w event))
+    ∙ (append_assoc (lines_taken w event) mid.queue typed
+    ∙ (ap (λ lines. lines_taken w event ++ lines) (lines-in-order mid events outs last run.1)
+    ∙ sym (append_assoc (lines_taken w event) taken last.queue))))
+
+-- 4. Further lines wait.

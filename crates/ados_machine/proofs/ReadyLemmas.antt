@@ -1,0 +1,88 @@
+-- A turn is accepted exactly if its shell is ready.
+use Rattle.std.proofs.Common.{◌≡◌, ◌∙◌, sym, ℕ, suc, List, [], ◌∷◌, Bool, true, false, ◌||◌, ◌&&◌, Option, Some, None, length, refl, ap, arith, inl, inr}
+use Rattle.std.specs.Prelude.{nat_lt}
+use Rattle.std.proofs.lemmas.Bool.{cases_Bool, lt-ltb}
+use Rattle.ados_find.specs.declared.codes.Codes.{Codes}
+use Rattle.ados_flow.specs.Frames.{FrameState}
+use Rattle.ados_machine.specs.declared.phases.Phase.{Phase}
+use Rattle.ados_machine.specs.declared.phases.Phase.TheVariants.{Ready, GoingOn, Waiting}
+use Rattle.ados_machine.specs.declared.phases.Wait.TheVariants.{ForAnswer, ForLines, ForStart, ForPiece, ForEnd}
+use Rattle.ados_machine.specs.Breaks.{has_script}
+use Rattle.ados_machine.specs.Course.{Course}
+use Rattle.ados_machine.specs.Deeds.{Deed}
+use Rattle.ados_machine.specs.Lines.{answer_deed}
+use Rattle.ados_machine.specs.NewShells.{gathered_deed, joined_deed}
+use Rattle.ados_machine.specs.Settle.{here_of}
+use Rattle.ados_machine.specs.Shells.{ShellState}
+use Rattle.ados_machine.specs.Step.{is_accepted, start, unflagged, applied, turned}
+use Rattle.ados_machine.specs.Turning.{Input, Turning, Refuses, Ends, Takes, console_turning, input_turning, turning, in_place_of, flagged_turning}
+use Rattle.ados_machine.specs.World.{WorldState, shell_at, is_over, input_of, can_take, can_turn}
+use Rattle.ados_machine.specs.Given.{ReadyShellsAreTurned}
+use Rattle.ados_machine.proofs.MovedChildren.{over-none}
+
+abbrev accepts : Turning → Bool
+accepts (Refuses why) = false
+accepts Ends = true
+accepts (Takes queue t) = true
+
+applied-accepted : (w : WorldState) (k : ℕ) (codes : Codes) (now : Turning) → is_accepted (applied w k codes now) ≡ accepts now
+applied-accepted w k codes (Refuses why) = refl
+applied-accepted w k codes Ends = refl
+applied-accepted w k codes (Takes queue t) = refl
+
+some-waits : (n : ℕ) → nat_lt 0 (suc n) ≡ true
+some-waits n = lt-ltb 0 (suc n) (omega arith)
+
+console-accepts : (queue : List (List ℕ)) (is_ended : Bool) (course : Course) →
+    accepts (console_turning queue is_ended course) ≡ (nat_lt 0 (length queue) || is_ended)
+console-accepts [] true course = refl
+console-accepts [] false course = refl
+console-accepts (line ∷ rest) is_ended course = rw (some-waits (length rest)) refl
+
+input-accepts : (queue : List (List ℕ)) (is_ended : Bool) (frames : List FrameState) (by_line : List ℕ → Deed) (by_end : Deed) →
+    accepts (input_turning queue is_ended frames by_line by_end) ≡ (nat_lt 0 (length queue) || is_ended)
+input-accepts [] true frames by_line by_end = refl
+input-accepts [] false frames by_line by_end = refl
+input-accepts (line ∷ rest) is_ended frames by_line by_end = rw (some-waits (length rest)) refl
+
+turning-accepts : (input : Input) (frames : List FrameState) (course : Course) (now : Phase) →
+    accepts (turning input frames course now) ≡ can_take input frames now
+turning-accepts input [] course Ready = console-accepts input.queue input.is_ended course
+turning-accepts input (frame ∷ frames) course Ready = refl
+turning-accepts input frames course (GoingOn parted) = refl
+turning-accepts input frames course (Waiting (ForAnswer asking)) =
+    input-accepts input.queue input.is_ended frames (λ line. answer_deed line asking (here_of frames) course) (answer_deed [] asking (here_of frames) course)
+turning-accepts input frames course (Waiting (ForLines gathering)) =
+    input-accepts input.queue input.is_ended frames (λ line. joined_deed gathering line (here_of frames).sink course) (gathered_deed gathering (here_of frames).sink course)
+turning-accepts input frames course (Waiting (ForStart starting)) = refl
+turning-accepts input frames course (Waiting (ForPiece child)) = refl
+turning-accepts input frames course (Waiting (ForEnd child)) = refl
+
+in_place-accepts : (now : Turning) (input : Input) (frames : List FrameState) (course : Course) →
+    accepts (in_place_of now input frames course) ≡ accepts now
+in_place-accepts (Refuses why) input frames course = refl
+in_place-accepts Ends input frames course = refl
+in_place-accepts (Takes queue t) input frames course = refl
+
+flagged-accepts : (flagged : Bool) (input : Input) (frames : List FrameState) (course : Course) (now : Phase) →
+    accepts (flagged_turning flagged input frames course now) ≡ can_take input frames now
+flagged-accepts flagged input frames course now =
+    elim (cases_Bool (flagged && has_script frames)) [
+      | inl e ↦ rw e (in_place-accepts (turning input frames course now) input frames course ∙ turning-accepts input frames course now)
+      | inr e ↦ rw e (turning-accepts input frames course now)
+    ]
+
+shell-accepts : (w : WorldState) (k : ℕ) (o : Option ShellState) → is_accepted (turned w k o) ≡ can_turn (input_of w k) o
+shell-accepts w k None = refl
+shell-accepts w k (Some shell) =
+    applied-accepted w k shell.parts.codes (flagged_turning shell.flagged (input_of w k) shell.frames (unflagged (start w shell)) shell.phase)
+    ∙ flagged-accepts shell.flagged (input_of w k) shell.frames (unflagged (start w shell)) shell.phase
+
+pub ready-turned : ReadyShellsAreTurned
+ready-turned w k =
+    elim (cases_Bool (is_over w)) [
+      | inl e ↦ rw e (sym (ap (can_turn (input_of w k)) (over-none w k e)))
+      | inr e ↦ rw e (shell-accepts w k (shell_at w k))
+    ]
+
+-- 3. The queue.

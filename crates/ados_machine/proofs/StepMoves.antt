@@ -1,0 +1,83 @@
+-- A step moves the frames of each shell by what its own trace gets.
+use Rattle.std.proofs.Common.{◌≡◌, ℕ, ◌-◌, List, [], Option, Some, None, Result, Ok, Err, ap, inl, inr}
+use Rattle.std.specs.Prelude.{option_map}
+use Rattle.std.specs.List.{slice_set}
+use Rattle.std.proofs.lemmas.Bool.{cases_eq}
+use Rattle.ados_find.specs.declared.codes.Codes.{Codes}
+use Rattle.ados_machine.specs.declared.answers.Answer.{Answer as Reply}
+use Rattle.ados_machine.specs.declared.events.Event.{Event}
+use Rattle.ados_machine.specs.declared.events.Kind.{Kind}
+use Rattle.ados_machine.specs.Breaks.{breaks_by}
+use Rattle.ados_machine.specs.declared.outs.Out.{Out}
+use Rattle.ados_machine.specs.declared.refusals.Refusal.{Refusal}
+use Rattle.ados_machine.specs.Shells.{ShellState}
+use Rattle.ados_machine.specs.Turning.{Turning, Refuses, Ends, Takes, flagged_turning, answering}
+use Rattle.ados_machine.specs.World.{WorldState, shell_at, input_of}
+use Rattle.ados_machine.specs.Step.{Response, Refused, Accepted, moved_in, start, unflagged, applied, turned, answered, broken, typed, step_of}
+use Rattle.ados_machine.specs.Runs.{world_after}
+use Rattle.ados_machine.specs.Trace.{items_after, own}
+use Rattle.ados_machine.specs.Stacks.{stack_of, standing_of}
+use Rattle.ados_machine.proofs.Turnings.{TurningGoes, flagged-goes, answering-goes}
+use Rattle.ados_machine.proofs.Shells.{found, found-set_same, found-set_other, runs_pos}
+use Rattle.ados_machine.proofs.Moves.{Moves, AllSane, carried-moves, stays, broken-moves, turn-moves}
+use Rattle.ados_machine.proofs.StepCases.{of-step}
+
+-- an accepted event moves each shell
+abbrev pub Leads : WorldState → Response → Type 0
+Leads w (Refused why) = Unit {0}
+Leads w (Accepted world given items) = (j : ℕ) → Moves j w.shells (own j items) world.shells
+
+-- a shell ends that has no frame
+ended-moves : (shells : List (Option ShellState)) (k : ℕ) (shell : ShellState) (j : ℕ) → AllSane shells → found shells k ≡ Some shell →
+    shell.frames ≡ [] → Moves j shells [] (slice_set shells (k - 1) None)
+ended-moves shells k shell j sane is none =
+    elim (cases_eq j k) [
+      | inl same ↦ rw same
+          (let gone = found-set_same shells k shell None is in
+          record { follows = rw (ap (option_map standing_of) is, ap (option_map standing_of) gone) (ap stack_of none); runs = rw gone tt; background = λ ne. rw gone tt; numbered = rw gone tt })
+      | inr differ ↦ carried-moves None j shells (slice_set shells (k - 1) None) sane
+          (found-set_other shells k None j differ (runs_pos shells k shell is))
+    ]
+
+applied-leads : (w : WorldState) (k : ℕ) (shell : ShellState) (codes : Codes) (turning : Turning) → AllSane w.shells →
+    shell_at w k ≡ Some shell → TurningGoes shell.parts shell.frames turning → Leads w (applied w k codes turning)
+applied-leads w k shell codes (Refuses why) sane is goes = tt
+applied-leads w k shell codes Ends sane is goes = λ j. ended-moves w.shells k shell j sane is goes
+applied-leads w k shell codes (Takes queue t) sane is goes = λ j. turn-moves w.shells k shell (moved_in w t) t j sane is goes
+
+turned-leads : (w : WorldState) (k : ℕ) (o : Option ShellState) → AllSane w.shells → shell_at w k ≡ o → Leads w (turned w k o)
+turned-leads w k None sane is = tt
+turned-leads w k (Some shell) sane is =
+    applied-leads w k shell shell.parts.codes (flagged_turning shell.flagged (input_of w k) shell.frames (unflagged (start w shell)) shell.phase) sane is
+    (flagged-goes shell.flagged (input_of w k) shell.frames (unflagged (start w shell)) shell.phase (rw is at (sane.each k)))
+
+answered-leads : (w : WorldState) (k : ℕ) (reply : Reply) (o : Option ShellState) → AllSane w.shells → shell_at w k ≡ o → Leads w (answered w k reply o)
+answered-leads w k reply None sane is = tt
+answered-leads w k reply (Some shell) sane is =
+    applied-leads w k shell shell.parts.codes (answering (input_of w k) shell.frames (start w shell) shell.phase reply) sane is
+    (answering-goes (input_of w k) shell.frames (start w shell) shell.phase reply (rw is at (sane.each k)))
+
+broken-leads : (w : WorldState) (k : ℕ) (kind : Kind) (o : Option ShellState) → AllSane w.shells → Leads w (broken w k kind o)
+broken-leads w k kind None sane = tt
+broken-leads w k kind (Some shell) sane = λ j. broken-moves (Some (record { shell = k; breaks = breaks_by kind })) j w.shells [] w.shells (stays w.shells j sane)
+
+step-leads : (w : WorldState) (event : Event) → AllSane w.shells → Leads w (step_of w event)
+step-leads w event sane = of-step w (λ event response. Leads w response) (record {
+  refused = λ event why. tt;
+  typed = λ line. (λ j. stays w.shells j sane);
+  ended = λ j. stays w.shells j sane;
+  turned = λ k shell is. turned-leads w k (Some shell) sane is;
+  answered = λ k reply shell is. answered-leads w k reply (Some shell) sane is;
+  broken = λ k kind shell is. broken-leads w k kind (Some shell) sane;
+}) event
+
+after-moves : (w : WorldState) (out : Result Out Refusal) (response : Response) → AllSane w.shells → Leads w response →
+    (j : ℕ) → Moves j w.shells (own j (items_after out response)) (world_after w out response).shells
+after-moves w (Ok out) (Accepted world given items) sane leads j = leads j
+after-moves w (Ok out) (Refused why) sane leads j = stays w.shells j sane
+after-moves w (Err refusal) (Accepted world given items) sane leads j = stays w.shells j sane
+after-moves w (Err refusal) (Refused why) sane leads j = stays w.shells j sane
+
+pub step-moves : (w : WorldState) (event : Event) (out : Result Out Refusal) → AllSane w.shells → (j : ℕ) →
+    Moves j w.shells (own j (items_after out (step_of w event))) (world_after w out (step_of w event)).shells
+step-moves w event out sane j = after-moves w out (step_of w event) sane (step-leads w event sane) j

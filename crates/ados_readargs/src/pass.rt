@@ -1,0 +1,190 @@
+// The pass over the words of a line: what each says is kept, up to the first fault.
+ghost use Rattle.std.specs.Prelude.{◌≡◌, ℕ, suc, true, None, Ok, IfSome, IfOk, IfErr, OnOk, position};
+ghost use Rattle.ados_readargs.specs.Faults.{IsFaultOf};
+ghost use Rattle.ados_readargs.specs.Words.{line_words_of, words_from};
+ghost use Rattle.ados_readargs.specs.Steps.{IsPlainAt, goes_on};
+ghost use Rattle.ados_readargs.specs.Meanings.{is_keyword, meaning_of, read_end, read_from, read_of, quotes_first};
+ghost use Rattle.ados_readargs.specs.Readings.{Readings, nothing_read};
+ghost use Rattle.ados_readargs.specs.declared.meanings.Pending.TheVariants.{Free};
+
+use crate::errors::ArgFault;
+use crate::keywords::{between, option_named};
+use crate::meanings::{Meaning, Pending, meaning_of};
+use crate::option_list::OptionList;
+use crate::readings::{Reading, Readings};
+use crate::words::{is_run_over, is_unclosed, word_at};
+use ados_items::{Item, next_item};
+
+// What it says that no word is left.
+fn read_end(pending: Pending) -> Result<(), ArgFault>
+    ensures ok { OnOk result ((readings : Readings) → read_end readings pending ≡ Ok readings) }
+    ensures fault { IfErr result (λ e. (readings : Readings) → IsFaultOf (read_end readings pending) e) }
+{
+    match pending {
+        Pending::Free => Ok(()),
+        Pending::Value { .. } => Err(ArgFault::ValueMissing),
+    }
+}
+
+// A plain word: its text is the line's from one place up to another.
+#[derive(Clone, Copy)]
+struct PlainWord {
+    from: usize,
+    to: usize,
+}
+
+// Whether a name is a keyword of no option. Nearly always no option has a name as long.
+#[tactic(auto, using(crate::proofs::OptionLemmas::none_named))]
+#[inline(always)]
+fn is_no_keyword(options: &OptionList, name: &[u8]) -> bool
+    ensures { result ≡ true → position (is_keyword name.now true) options.now ≡ None }
+{
+    options.has_none_as_long(name.len()) || option_named(options.as_slice(), name, true).is_none()
+}
+
+// The plain word at a place, where that is seen at once: a word with no quote and no equal sign that
+// is no keyword, in a template with no /F. `None` says nothing.
+#[inline(always)]
+fn plain_word(options: &OptionList, line: &[u8], place: usize) -> Option<PlainWord>
+    ensures { IfSome result (λ word. IsPlainAt options.now line.now place word) }
+{
+    if options.with_rest() {
+        return None;
+    }
+    match next_item(line, place) {
+        Item::Word { from, to } => {
+            if is_run_over(line, to) && is_no_keyword(options, between(line, from, to)) {
+                return Some(PlainWord { from, to });
+            }
+            None
+        }
+        Item::Quoted { .. } => None,
+        Item::Equal(_) => None,
+        Item::End(_) => None,
+        Item::Unmatched(_) => None,
+    }
+}
+
+// Reads the word at a place: gives the place behind it, and `None` where the line says no more.
+#[inline(never)]
+fn read_word(
+    options: &OptionList,
+    line: &[u8],
+    place: usize,
+    pending: &mut Pending,
+    given: &mut Vec<Reading>,
+    plain: &mut Vec<Item>,
+) -> Result<Option<usize>, ArgFault>
+    ensures on { IfOk result (λ next. (n : ℕ) → read_from options.now line.now (record { given = given.old.items; plain = plain.old.items }) pending.old (words_from (suc n) line.now place) ≡ goes_on (λ behind. read_from options.now line.now (record { given = given.new.items; plain = plain.new.items }) pending.new (words_from n line.now behind)) (record { given = given.new.items; plain = plain.new.items }) next) }
+    ensures fault { IfErr result (λ e. (n : ℕ) → IsFaultOf (read_from options.now line.now (record { given = given.old.items; plain = plain.old.items }) pending.old (words_from (suc n) line.now place)) e) }
+{
+    let Some((word, behind)) = word_at(line, place) else {
+        return match read_end(*pending) {
+            Ok(()) => Ok(None),
+            Err(fault) => Err(fault),
+        };
+    };
+    match meaning_of(options, line, given.as_slice(), *pending, word) {
+        Meaning::Read(reading) => {
+            given.push(reading)?;
+            *pending = Pending::Free;
+            return Ok(Some(behind));
+        }
+        Meaning::Plain(item) => {
+            plain.push(item)?;
+            *pending = Pending::Free;
+            return Ok(Some(behind));
+        }
+        Meaning::Wait { option, equal } => {
+            *pending = Pending::Value { option, equal };
+            return Ok(Some(behind));
+        }
+        Meaning::Stop(reading) => {
+            given.push(reading)?;
+            return Ok(None);
+        }
+        Meaning::Refuse(fault) => return Err(fault),
+    }
+}
+
+// The same, where a plain word is read at once, as nearly all are, and so is the line's end.
+#[inline(always)]
+fn read_next(
+    options: &OptionList,
+    line: &[u8],
+    place: usize,
+    pending: &mut Pending,
+    given: &mut Vec<Reading>,
+    plain: &mut Vec<Item>,
+) -> Result<Option<usize>, ArgFault>
+    ensures on { IfOk result (λ next. (n : ℕ) → read_from options.now line.now (record { given = given.old.items; plain = plain.old.items }) pending.old (words_from (suc n) line.now place) ≡ goes_on (λ behind. read_from options.now line.now (record { given = given.new.items; plain = plain.new.items }) pending.new (words_from n line.now behind)) (record { given = given.new.items; plain = plain.new.items }) next) }
+    ensures fault { IfErr result (λ e. (n : ℕ) → IsFaultOf (read_from options.now line.now (record { given = given.old.items; plain = plain.old.items }) pending.old (words_from (suc n) line.now place)) e) }
+{
+    if place >= line.len() {
+        return match read_end(*pending) {
+            Ok(()) => Ok(None),
+            Err(fault) => Err(fault),
+        };
+    }
+    match *pending {
+        Pending::Free => match plain_word(options, line, place) {
+            Some(word) => {
+                plain.push(Item::Word {
+                    from: word.from,
+                    to: word.to,
+                })?;
+                return Ok(Some(word.to));
+            }
+            None => return read_word(options, line, place, pending, given, plain),
+        },
+        Pending::Value { .. } => return read_word(options, line, place, pending, given, plain),
+    }
+}
+
+// What the words of a line say, in place of what is there, with the faults as they come.
+fn read_words(
+    options: &OptionList,
+    line: &[u8],
+    given: &mut Vec<Reading>,
+    plain: &mut Vec<Item>,
+) -> Result<(), ArgFault>
+    ensures ok { OnOk result (read_from options.now line.now nothing_read Free (line_words_of line.now) ≡ Ok (record { given = given.new.items; plain = plain.new.items })) }
+    ensures fault { IfErr result (λ e. IsFaultOf (read_from options.now line.now nothing_read Free (line_words_of line.now)) e) }
+{
+    given.clear();
+    plain.clear();
+    let mut pending = Pending::Free;
+    let mut place = 0;
+    for step in 0..line.len() + 1 {
+        match read_next(options, line, place, &mut pending, given, plain) {
+            Ok(Some(behind)) => place = behind,
+            Ok(None) => return Ok(()),
+            Err(fault) => return Err(fault),
+        }
+    }
+    read_end(pending)
+}
+
+fn quotes_first(unclosed: bool, fault: ArgFault) -> ArgFault
+    ensures { result ≡ quotes_first unclosed fault }
+{
+    if unclosed && fault == ArgFault::TooMany {
+        ArgFault::Unmatched
+    } else {
+        fault
+    }
+}
+
+/// What the words of a line say, from left to right, in place of what is there.
+///
+/// `Unmatched` comes before `TooMany`, wherever the open quote stands; `ValueMissing` where a
+/// keyword is the last word. At a fault nothing is known of what is there.
+pub fn read(options: &OptionList, line: &[u8], readings: &mut Readings) -> Result<(), ArgFault>
+    ensures ok { OnOk result (read_of options.now line.now (line_words_of line.now) ≡ Ok readings.new) }
+    ensures fault { IfErr result (λ e. IsFaultOf (read_of options.now line.now (line_words_of line.now)) e) }
+{
+    match read_words(options, line, &mut readings.given, &mut readings.plain) {
+        Ok(()) => Ok(()),
+        Err(fault) => Err(quotes_first(is_unclosed(line), fault)),
+    }
+}

@@ -1,0 +1,126 @@
+// The two parts of the resident list: internal commands, and the entries that programs were loaded into.
+ghost use Rattle.std.specs.Prelude.{◌≡◌, ◌++◌, IfOk, OnOk, map, false};
+ghost use Rattle.std.specs.Option.{option_copied};
+ghost use Rattle.ados_text.specs.Text.{is_same};
+ghost use Rattle.ados_resident.specs.Commands.{first_with_name};
+ghost use Rattle.ados_resident.specs.InternalCommands.{name_of};
+ghost use Rattle.ados_resident.specs.Residents.{count_of, enabled, switched, put_entry};
+
+use crate::internal_commands::InternalCommand;
+use crate::residents::{Internal, Resident};
+use ados_text::{NoMemory, Text};
+use std::alloc::Global;
+
+/// How many of these uses are those of an entry of a name: the shells that run from it.
+pub fn count(uses: &[Text], name: &Text) -> usize
+    ensures { result ≡ count_of uses.now name.now }
+{
+    uses.iter().filter(|entry| is_same(entry, name)).count()
+}
+
+// The two are one name.
+pub fn is_same(a: &Text, b: &Text) -> bool
+    ensures { result ≡ is_same a.now b.now }
+{
+    a.as_bytes().eq_ignore_ascii_case(b.as_bytes())
+}
+
+// The commands, each found.
+pub fn enabled(alloc: Global, commands: &[InternalCommand]) -> Result<Vec<Internal>, NoMemory>
+    ensures { IfOk result (λ internals. internals.items ≡ map enabled commands.now) }
+{
+    let mut internals = Vec::with_capacity(alloc, commands.len())?;
+    for command in commands {
+        internals.push(Internal {
+            command: *command,
+            is_disabled: false,
+        })?;
+    }
+    Ok(internals)
+}
+
+// The internal commands with that of a name disabled, or found again.
+pub fn switched(
+    alloc: Global,
+    internals: &[Internal],
+    is_disabled: bool,
+    name: &Text,
+) -> Result<Vec<Internal>, NoMemory>
+    ensures { IfOk result (λ new. new.items ≡ map (switched is_disabled name.now) internals.now) }
+{
+    let mut new = Vec::with_capacity(alloc, internals.len())?;
+    for internal in internals {
+        new.push(internal.switched(is_disabled, name))?;
+    }
+    Ok(new)
+}
+
+impl Internal {
+    // The same, disabled or found again if this is its name.
+    fn switched(self, is_disabled: bool, name: &Text) -> Internal
+        ensures { result ≡ switched is_disabled name.now self }
+    {
+        if name.is(self.command.name()) {
+            Internal {
+                command: self.command,
+                is_disabled,
+            }
+        } else {
+            self
+        }
+    }
+}
+
+// The internal command of a name.
+pub fn internal_in(internals: &[Internal], name: &Text) -> Option<Internal>
+    ensures { result ≡ first_with_name (λ internal. name_of internal.command) name.now internals.now }
+{
+    for internal in internals {
+        if name.is(internal.command.name()) {
+            return Some(*internal);
+        }
+    }
+    None
+}
+
+// The entry of a name.
+pub fn entry_in<'a>(entries: &'a [Resident], name: &Text) -> Option<&'a Resident>
+    ensures { option_copied result ≡ first_with_name (λ entry. entry.name) name.now entries.now }
+{
+    for entry in entries {
+        if is_same(name, &entry.name) {
+            return Some(entry);
+        }
+    }
+    None
+}
+
+// The entries with one in the place of that of its name, or else behind them all, put behind those of a list.
+pub fn put_into(
+    out: &mut Vec<Resident>,
+    entries: &[Resident],
+    entry: Resident,
+) -> Result<(), NoMemory>
+    ensures { OnOk result (out.new.items ≡ out.old.items ++ put_entry entry entries.now) }
+{
+    let Some((old, further)) = entries.split_first() else {
+        out.push(entry)?;
+        return Ok(());
+    };
+    if is_same(&entry.name, &old.name) {
+        out.push(entry)?;
+        return copy_into(out, further);
+    }
+    out.push(old.copy()?)?;
+    put_into(out, further, entry)
+}
+
+// The entries behind those of a list.
+pub fn copy_into(out: &mut Vec<Resident>, entries: &[Resident]) -> Result<(), NoMemory>
+    ensures { OnOk result (out.new.items ≡ out.old.items ++ entries.now) }
+{
+    for entry in entries {
+        out.push(entry.copy()?)?;
+    }
+    Ok(())
+}
