@@ -22,5 +22,5 @@ pub use expansion::{expand, resume};
 pub use faults::LineFault;
 pub use globals::asks_global;
 pub use laws::first_fault_of_a_cut;
-pub use lines::{Expanded, Line, Redirection, Tick};
+pub use lines::{Expanded, Line, Redirection, Tick, cut};
 pub use scopes::Scope;

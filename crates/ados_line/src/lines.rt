@@ -72,7 +72,8 @@ pub enum Expanded {
     Tick(Tick),
 }
 
-/// What a line without comment, alias, variables and back-ticks comes to: the cut of it.
+/// What a line without comment, alias, variables and back-ticks comes to: the cut of it. It is `Nothing` for a line of
+/// blanks, and never a tick.
 ///
 /// Of the faults the one that stands first in the line is told. At one place a second input or output comes before a
 /// missing name, and that before an open quote; `<>` counts as neither and is not implemented. The line is its pieces,
@@ -80,6 +81,14 @@ pub enum Expanded {
 /// the redirections, each a sign with the item behind it, whose text is the name. The first item that is kept is the
 /// command, and what is kept behind it the arguments, as it stands. Behind the command Run only the redirections that
 /// stand directly there are read: the rest of the line is one piece, the arguments, and no fault of it is told.
+pub fn cut(alloc: Global, line: &Text) -> Result<Expanded, LineFault>
+    ensures value { Gives result (expanded_by (cut_of line.now)) }
+    ensures pieces { IfOk result (IsOfPieces line.now) }
+{
+    cut_text(alloc, line.as_bytes())
+}
+
+// The cut of a text's bytes.
 pub fn cut_text(alloc: Global, line: &[u8]) -> Result<Expanded, LineFault>
     requires { IsText line.now }
     ensures value { Gives result (expanded_by (cut_of line.now)) }

@@ -16,7 +16,7 @@ use std::alloc::Global;
 pub fn launcher_of(alloc: Global, world: &World, texts: &[&str]) -> Result<Listed, NoMemory>
     ensures { IfOk result (λ launcher. Agrees world.now launcher.calls) }
 {
-    let mut launcher = Listed::new(alloc, answers(alloc, world, texts)?);
+    let mut launcher = Listed::new(answers(alloc, world, texts)?);
     for number in 0..21u8 {
         reopen(alloc, &mut launcher, world.child(number), number)?;
     }

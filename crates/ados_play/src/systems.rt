@@ -40,7 +40,7 @@ pub fn push_system(
     texts: &[&str],
 ) -> Result<(), NoMemory> {
     let mut launcher = launcher_of(alloc, world, texts)?;
-    let before = launcher.calls().len();
+    let before = launcher.left();
     let mut printed = Vec::new(alloc);
     let result = system(
         alloc,
@@ -52,7 +52,7 @@ pub fn push_system(
     );
     let mut left = Left {
         texts,
-        taken: launcher.calls().len().saturating_sub(before),
+        taken: before.saturating_sub(launcher.left()),
     };
     let end = match result {
         Ok(end) => Some(end),

@@ -6,7 +6,7 @@ use crate::texts::{push_all, push_codes, push_count, push_lines};
 use ados_assign::{Assign, Binding};
 use ados_ram::{Bits, Entry, Place, Ram};
 use ados_resident::{Program, Resident};
-use ados_text::{NoMemory, Text, push_number, same};
+use ados_text::{NoMemory, Text, push_number};
 use ados_vars::Vars;
 use ados_world::{Codes, Request, World};
 
@@ -194,26 +194,7 @@ fn push_resident(text: &mut Vec<u8>, world: &World, entry: &Resident) -> Result<
         return push_all(text, &[b" system\n"]);
     }
     text.extend_from_slice(b" used ")?;
-    push_count(text, count_of_uses(world, &entry.name))?;
+    push_count(text, world.uses(&entry.name))?;
     text.push(b'\n')?;
     Ok(())
-}
-
-// How many shells run from the entry of a name.
-fn count_of_uses(world: &World, name: &Text) -> usize {
-    let numbers = 1..=20u8;
-    numbers
-        .filter(|number| runs_from(world, *number, name))
-        .count()
-}
-
-// The shell of a number runs from the entry of a name.
-fn runs_from(world: &World, number: u8, name: &Text) -> bool {
-    match world.shell(number) {
-        None => false,
-        Some(shell) => match shell.entry() {
-            None => false,
-            Some(entry) => same(entry, name),
-        },
-    }
 }

@@ -9,3 +9,4 @@ mod NewShellLemmas
 mod OpenedLemmas
 mod StepLemmas
 mod TakenLemmas
+mod UseLemmas

@@ -31,12 +31,13 @@ use Rattle.ados_machine.proofs.Sane.{sane-after}
 use Rattle.ados_shell.specs.declared.drafts.Draft.{Draft}
 use Rattle.ados_shell.specs.declared.scenes.Scene.{Scene}
 use Rattle.ados_shell.specs.declared.turnings.Turning.TheVariants as turn
-use Rattle.ados_shell.specs.Drafts.{behind, start_of}
+use Rattle.ados_shell.specs.Drafts.{start_of}
 use Rattle.ados_shell.specs.declared.scenes.Input.{Input}
 use Rattle.ados_shell.specs.Turnings.{IsTurning, MayWantMemory, turning_in}
+use Rattle.ados_world.specs.Scenes.{Shows}
 use Rattle.ados_world.specs.Steps.{answering, asked_by, ended_world, taken}
 use Rattle.ados_world.proofs.MemoryLemmas.{turn-may}
-use Rattle.ados_world.proofs.TakenLemmas.{Shows, behind_turn, gives, taken-is}
+use Rattle.ados_world.proofs.TakenLemmas.{behind_turn, gives, taken-is}
 
 queue-stays : (w : WorldState) (k : ℕ) → queue_behind k w.queue (input_of w k).queue ≡ w.queue
 queue-stays w k = elim (cases_Bool (k == 1)) [ inl e ↦ rw e refl | inr e ↦ rw e refl ]

@@ -18,6 +18,7 @@ use Rattle.ados_shell.specs.declared.drafts.Draft.{Draft}
 use Rattle.ados_shell.specs.declared.drafts.ShellDraft.{ShellDraft}
 use Rattle.ados_shell.specs.declared.scenes.Scene.{Scene}
 use Rattle.ados_shell.specs.Drafts.{IsDrafted, behind, phase_in}
+use Rattle.ados_world.specs.Scenes.{Shows}
 use Rattle.ados_world.specs.Endings.{codes_left, ended_left, shells_left}
 use Rattle.ados_world.specs.NewShells.{joined, new_shell}
 use Rattle.ados_world.specs.Shells.{shells_by}
@@ -36,14 +37,6 @@ shells-placed shells k draft shell t None f b =
 shells-placed shells k draft shell t (Some moved) f b =
     ap (λ o. slice_set (carried_shells (Some moved) shells) (k - 1) (option_map (λ s. carried_shell moved (behind draft s)) o)) f
     ∙ ap (λ s. slice_set (carried_shells (Some moved) shells) (k - 1) (Some (carried_shell moved s))) b
-
--- a scene shows the shell of a number, as the world has it
-pub record Shows (w : WorldState) (k : ℕ) (shell : ShellState) (scene : Scene) : Type 0 where
-  pub here : shell_at w k ≡ Some shell
-  pub number_is : scene.number ≡ k
-  pub shell_is : scene.shell.now ≡ shell
-  pub shells_are : scene.shells.now ≡ w.shells
-  pub shared_is : scene.shared.now ≡ w.shared
 
 -- the shells behind the turn, of which another one may be broken then, and its own shell
 abbrev standing : WorldState → Turned → List (Option ShellState)

@@ -5,5 +5,6 @@ pub mod Hosts
 pub mod Laws
 pub mod NewShells
 pub mod Opened
+pub mod Scenes
 pub mod Shells
 pub mod Steps

@@ -1,8 +1,9 @@
 -- The shells of a world, by their numbers.
-use Rattle.std.specs.Prelude.{◌≤◌, ◌-◌, ℕ, List, [], ◌∷◌, Option, Some, None, map, option_map, slice_set}
+use Rattle.std.specs.Prelude.{◌≤◌, ◌-◌, ℕ, List, [], ◌∷◌, Bool, false, Option, Some, None, map, option_map, slice_set}
+use Rattle.ados_text.specs.Text.{Text, is_same}
 use Rattle.ados_ram.specs.Place.{Place}
 use Rattle.ados_find.specs.declared.outcomes.Renamed.{Renamed}
-use Rattle.ados_machine.specs.Shells.{ShellState}
+use Rattle.ados_machine.specs.Shells.{ShellState, entry_in}
 use Rattle.ados_machine.specs.Carrying.{carried_directory, carried_shell, carried_shells, in_directory}
 use Rattle.ados_machine.specs.World.{flatten, numbered}
 use Rattle.ados_shell.specs.declared.drafts.ShellDraft.{ShellDraft}
@@ -29,6 +30,15 @@ carried_in number moved draft shells =
 abbrev pub shells_by : ℕ → ShellDraft → Option Renamed → List (Option ShellState) → List (Option ShellState)
 shells_by number draft None shells = moved_in number draft shells
 shells_by number draft (Some moved) shells = carried_in number moved draft shells
+
+-- a shell runs from the resident entry of a name
+abbrev pub is_entry : Option Text → Text → Bool
+is_entry None name = false
+is_entry (Some entry) name = is_same entry name
+
+abbrev pub runs_from : Option ShellState → Text → Bool
+runs_from None name = false
+runs_from (Some shell) name = is_entry (entry_in shell.phase) name
 
 -- the current directories of all shells, where what was moved has gone along
 abbrev pub carried_directories : Renamed → List (Option ShellState) → List (Option Place)

@@ -1,14 +1,14 @@
 // The shells of a world, by their numbers.
-ghost use Rattle.std.specs.Prelude.{◌≡◌, None, map, replicate, is_some, IfOk, OnErr, OnOk, OnSome, true};
-ghost use Rattle.std.specs.List.{list_any};
+ghost use Rattle.std.specs.Prelude.{◌≡◌, None, map, length, replicate, is_some, IfOk, OnErr, OnOk, OnSome, true};
+ghost use Rattle.std.specs.List.{filter, list_any};
 ghost use Rattle.std.specs.Option.{option_copied};
 ghost use Rattle.ados_machine.specs.World.{flatten, numbered};
-ghost use Rattle.ados_world.specs.Shells.{IsShellNumber, carried_in, moved_in, shells_by};
+ghost use Rattle.ados_world.specs.Shells.{IsShellNumber, carried_in, is_entry, moved_in, runs_from, shells_by};
 
 use crate::carrying::{carried_directories, place_all};
 use ados_find::Renamed;
 use ados_shell::{Shell, ShellDraft};
-use ados_text::NoMemory;
+use ados_text::{NoMemory, Text};
 
 /// A place for each number, and no shell.
 pub fn no_shells() -> [Option<Shell>; 20]
@@ -25,6 +25,33 @@ pub fn any_runs(shells: &[Option<Shell>]) -> bool
     ensures { result ≡ list_any is_some shells.now }
 {
     shells.iter().any(Option::is_some)
+}
+
+// A shell runs at this place, from the resident entry of a name.
+fn runs_from(place: &Option<Shell>, name: &Text) -> bool
+    ensures { result ≡ runs_from place.now name.now }
+{
+    match place {
+        None => false,
+        Some(shell) => is_entry(shell.entry(), name),
+    }
+}
+
+/// How many shells run from the resident entry of a name.
+pub fn count_uses(shells: &[Option<Shell>; 20], name: &Text) -> usize
+    ensures { result ≡ length (filter (λ place. runs_from place name.now) shells.now) }
+{
+    shells.iter().filter(|place| runs_from(place, name)).count()
+}
+
+// The entry, if there is one, has a name.
+fn is_entry(found: Option<&Text>, name: &Text) -> bool
+    ensures { result ≡ is_entry (option_copied found.entry) name.now }
+{
+    match found {
+        None => false,
+        Some(entry) => entry.as_bytes().eq_ignore_ascii_case(name.as_bytes()),
+    }
 }
 
 /// Which numbers have a shell.

@@ -1,14 +1,16 @@
 // A world, and what it shows.
-ghost use Rattle.std.specs.Prelude.{◌≡◌, IfOk, OnSome};
+ghost use Rattle.std.specs.Prelude.{◌≡◌, Some, IfOk, OnSome};
 ghost use Rattle.std.specs.Option.{option_copied};
 ghost use Rattle.ados_world.specs.Hosts.{Answers, hosts_fault};
+ghost use Rattle.ados_world.specs.Scenes.{Shows};
 ghost use Rattle.ados_world.specs.Shells.{IsShellNumber};
 ghost use Rattle.ados_machine.specs.Children.{child_in};
 ghost use Rattle.ados_machine.specs.Limits.{IsSane};
+ghost use Rattle.ados_machine.specs.Starts.{use_count};
 ghost use Rattle.ados_machine.specs.World.{fresh_world, shell_at, is_over, is_ready, wants_line, codes_at, ended_at, running, pending_of};
 
 use crate::hosts::{NewFault, hosts_fault};
-use crate::shells::{any_runs, find_shell, no_shells, taken};
+use crate::shells::{any_runs, count_uses, find_shell, no_shells, taken};
 use ados_assign::Assigns;
 use ados_find::{Codes, Shared};
 use ados_machine::{ChildState, Request};
@@ -183,12 +185,17 @@ impl World {
         &self.shared.residents
     }
 
+    /// How many shells run from the resident entry of this name, upper and lower case alike: its use count.
+    pub fn uses(&self, name: &Text) -> usize
+        ensures { result ≡ use_count self.now name.now }
+    {
+        count_uses(&self.shells, name)
+    }
+
     /// What a turn of the shell of a number sees.
     pub(crate) fn scene<'a>(&'a self, number: u8, shell: &'a Shell) -> Scene<'a>
-        ensures number { result.number ≡ number }
-        ensures shell { result.shell.now ≡ shell.now }
-        ensures shells { result.shells.now ≡ self.now.shells }
-        ensures shared { result.shared.now ≡ self.now.shared }
+        requires { shell_at self.now number ≡ Some shell.now }
+        ensures { Shows self.now number shell.now result }
     {
         Scene {
             alloc: self.alloc,

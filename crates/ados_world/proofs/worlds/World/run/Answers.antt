@@ -3,7 +3,7 @@ use Rattle.std.proofs.lemmas.Grind.{common_steps}
 use Rattle.std.proofs.lemmas.List.{take_more}
 use Rattle.ados_machine.specs.Kept.{HasAllCodes}
 use Rattle.ados_machine.specs.Runs.{Runs}
-use Rattle.ados_machine.proofs.GivenLemmas.{lines-in-order}
+use Rattle.ados_machine.proofs.QueueLemmas.{lines-in-order}
 use Rattle.ados_machine.proofs.KeptLemmas.{last-codes-stay}
 use Rattle.ados_machine.proofs.ReportLemmas.{reports-by}
 use Rattle.ados_machine.proofs.RunLemmas.{Runs-more}
