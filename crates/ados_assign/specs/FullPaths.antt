@@ -1,0 +1,36 @@
+-- Full paths: each leads back to the place that it spells, from anywhere.
+use Rattle.std.specs.Prelude.{◌≡◌, ◌≤◌, Ok, IsSome, IsTrue, length}
+use Rattle.std.specs.List.{list_all}
+use Rattle.std.specs.FinMap as map
+use Rattle.ados_text.specs.Text.{Text}
+use Rattle.ados_names.specs.Names.{is_name}
+use Rattle.ados_names.specs.Path.{path_limit, path_of}
+use Rattle.ados_ram.specs.Place.{Place, key_of}
+use Rattle.ados_ram.specs.Files.{Files, AreFiles}
+use Rattle.ados_ram.specs.Named.{AreNamed}
+use Rattle.ados_ram.specs.Written.{full_path, spelled_path, written_place}
+use Rattle.ados_assign.specs.Assigns.{AssignMap}
+use Rattle.ados_assign.specs.Resolve.{by_path, resolved}
+
+-- a text leads to a place, whatever the assigns and the current directory are
+abbrev pub LeadsTo : Files → Text → Place → Type 0
+LeadsTo files text place = (assigns : AssignMap) (current : Place) → by_path (resolved assigns files current) (path_of text) ≡ Ok place
+
+-- an object is at a place, and each name that leads there is one that a path may have
+pub record IsThere (files : Files) (place : Place) : Type 0 where
+  pub there : IsSome (map.get files (key_of place))
+  pub names : IsTrue (list_all is_name place)
+
+-- the path of a place, as its names are spelled, leads to it
+abbrev pub SpelledPathsLeadBack : Type 0
+SpelledPathsLeadBack = (files : Files) (place : Place) → AreFiles files → IsThere files place →
+    length (spelled_path place) ≤ path_limit → LeadsTo files (spelled_path place) place
+
+-- a place is the same one as it is written in the files
+abbrev pub WrittenPlacesAreTheirs : Type 0
+WrittenPlacesAreTheirs = (files : Files) (place : Place) → AreNamed files → key_of (written_place files place) ≡ key_of place
+
+-- the full path of a place leads to it, as it is written in the files
+abbrev pub FullPathsLeadBack : Type 0
+FullPathsLeadBack = (files : Files) (place : Place) → AreFiles files → AreNamed files → IsThere files place →
+    length (full_path files place) ≤ path_limit → LeadsTo files (full_path files place) (written_place files place)
