@@ -17,7 +17,7 @@ fn drive(
     let Ok(mut world) = World::new(alloc, &[]) else {
         return Err(NoMemory);
     };
-    let mut launcher = Listed::new(alloc, Vec::new(alloc));
+    let mut launcher = Listed::new(Vec::new(alloc));
     let mut reader = Counted::new(FlakyReader::new(b"Echo a\n", 100, NEVER));
     let mut writer = Counted::new(FlakyWriter::new(text, 100, NEVER, NEVER));
     let drive = Drive {

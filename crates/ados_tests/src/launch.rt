@@ -35,7 +35,7 @@ fn drive(
     let Ok(mut world) = World::new(alloc, &[]) else {
         return Err(NoMemory);
     };
-    let mut launcher = Listed::new(alloc, Vec::new(alloc));
+    let mut launcher = Listed::new(Vec::new(alloc));
     let mut reader = Counted::new(FlakyReader::new(input, 3, fails.read));
     let mut writer = Counted::new(FlakyWriter::new(text, 1, fails.write, fails.stalled_write));
     let drive = Drive {

@@ -1,6 +1,6 @@
 #![tactic(auto)]
 //! The tests of the crates, one file for each that has them, of what no contract says, and neither a dialogue of
-//! `examples/` nor a list of events of `examples/events/` can show: that calls which no command makes yet succeed where
+//! `tests/dialogues/` nor a list of events of `tests/events/` can show: that calls which no command makes yet succeed where
 //! there is memory, what stands where memory was refused, and readers and writers that fail.
 //! They stand here together, so that no crate is proved a second time for its tests.
 

@@ -93,7 +93,7 @@ fn run_typed<R: AllocGlobal + Files + Input + Print + Processes>(
 // Runs the recording in a file, and gives the exit status.
 fn replay<R: AllocGlobal + Files + Print>(rt: &R, file: &str) -> Result<u8, Fault> {
     let recording = files::recording_in(rt, file)?;
-    let mut launcher = Listed::new(rt.alloc(), recording.answers);
+    let mut launcher = Listed::new(recording.answers);
     let mut reader = Counted::new(recording.typed.as_slice());
     let drive = Drive {
         alloc: rt.alloc(),

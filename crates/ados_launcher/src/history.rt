@@ -1,0 +1,33 @@
+//! A list that the contracts alone see: it takes no memory, and its calls do nothing as the program runs.
+ghost use Rattle.std.specs.Prelude.{◌≡◌, List, [], ◌∷◌, ◌++◌};
+ghost use Rattle.std.specs.Borrow.{ftrue};
+
+use std::marker::{Model, PhantomData};
+
+/// What came so far, the newest last.
+#[derive(Drop)]
+pub struct History<T> {
+    of: PhantomData<T>,
+    pub ghost items: { List T },
+}
+
+// It owns none of them.
+impl<T> Model for History<T> {
+    ghost also_owns = { λ _. ftrue };
+}
+
+impl<T> History<T> {
+    /// Nothing came.
+    pub fn new() -> History<T>
+        ensures { result.items ≡ [] }
+    {
+        History { of: PhantomData }
+    }
+
+    /// What came so far, and then this.
+    pub fn and(&self, item: &T) -> History<T>
+        ensures { result.items ≡ self.now.items ++ item.now ∷ [] }
+    {
+        History { of: PhantomData }
+    }
+}
