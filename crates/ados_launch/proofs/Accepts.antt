@@ -8,7 +8,7 @@ use Rattle.ados_machine.specs.Shells.{ShellState}
 use Rattle.ados_machine.specs.Step.{broken, is_accepted, step_of}
 use Rattle.ados_machine.specs.declared.events.Event.TheVariants.{Typed, EndOfInput, Turn, Break}
 use Rattle.ados_machine.specs.declared.events.Kind.{Kind}
-use Rattle.ados_machine.proofs.GivenLemmas.{ready-turned}
+use Rattle.ados_machine.proofs.ReadyLemmas.{ready-turned}
 
 any_some : (shells : List (Option ShellState)) (i : ℕ) → is_some (flatten (slice_get shells i)) ≡ true → list_any is_some shells ≡ true
 any_some [] zero e = e

@@ -17,7 +17,9 @@ use Rattle.ados_machine.specs.Limits.{IsSane}
 use Rattle.ados_machine.specs.Runs.{IsAnswer, world_after}
 use Rattle.ados_machine.specs.Step.{Response, Accepted, Refused, step_of}
 use Rattle.ados_machine.specs.World.{WorldState, pending_of}
-use Rattle.ados_machine.proofs.ChildLemmas.{turns-keep, answers-move, request-names, requests-are}
+use Rattle.ados_machine.proofs.KeptChildren.{turns-keep}
+use Rattle.ados_machine.proofs.MovedChildren.{answers-move}
+use Rattle.ados_machine.proofs.ChildLemmas.{request-names, requests-are}
 use Rattle.ados_launcher.specs.declared.calls.Call.{Call}
 use Rattle.ados_launcher.specs.Lives.{Broken, life_of, life_in, life_behind, is_open, state_of}
 use Rattle.ados_launch.specs.Agreement.{Agrees, AreWhole, IsOpenTable}

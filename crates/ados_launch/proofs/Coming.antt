@@ -8,8 +8,7 @@ use Rattle.ados_machine.specs.declared.events.BreakAt.{BreakAt}
 use Rattle.ados_machine.specs.World.{WorldState, shell_at}
 use Rattle.ados_launch.specs.declared.schedule.Next as found
 use Rattle.ados_launch.specs.declared.schedule.Next.TheVariants.{Break as BreakFound, Due as DueFound}
-use Rattle.ados_launch.specs.declared.rounds.Round.{Round}
-use Rattle.ados_launch.specs.Rounds.{due, place_behind, IsRunning}
+use Rattle.ados_launch.specs.Rounds.{due, IsRunning}
 use Rattle.ados_launch.specs.Schedule.{Next, AtBreak, AtLine, AtTurn, AtStart, AtFurther, IsInRound, MayCome, Standing, behind_place, breaks_left, first_before, is_passed, next_as, next_at, next_by, next_in, passed, place_of, standing_behind}
 use Rattle.ados_launch.proofs.Places.{behind_in_round, due_below, due_comes}
 

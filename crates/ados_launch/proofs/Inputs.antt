@@ -19,7 +19,7 @@ use Rattle.ados_machine.specs.Carrying.{carried_shells}
 use Rattle.ados_machine.specs.Answers.{answered_in}
 use Rattle.ados_machine.specs.Sinks.{sink_in}
 use Rattle.ados_machine.specs.Deeds.{Deed}
-use Rattle.ados_machine.specs.Turning.{Input, Turning, Refuses, Ends, Takes, flagged_turning, in_place_of, turning, console_turning, ready_turning, input_turning, replied}
+use Rattle.ados_machine.specs.Turning.{Input, Turning, Refuses, Ends, Takes, in_place_of, turning, console_turning, ready_turning, input_turning, replied}
 use Rattle.ados_machine.specs.Step.{broken, step_of, turned, applied, left, start, moved_in, answered, unflagged, with_begun}
 use Rattle.ados_machine.specs.Runs.{world_after}
 use Rattle.ados_machine.specs.declared.answers.Answer.{Answer as Reply}

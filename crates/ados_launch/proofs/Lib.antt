@@ -6,6 +6,7 @@ pub mod Coming
 pub mod Taken
 pub mod Taking
 pub mod Sessions
+pub mod PartLines
 pub mod Unique
 pub mod Inputs
 pub mod Accepts
@@ -17,3 +18,6 @@ pub mod Waits
 pub mod Outcomes
 pub mod AloneLemmas
 pub mod NewPair
+pub mod Leading
+pub mod LeadingAlone
+pub mod Requests

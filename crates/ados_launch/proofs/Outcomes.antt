@@ -1,9 +1,9 @@
 -- What a schedule came to, at each way to end.
-use Rattle.std.proofs.Common.{◌≡◌, ℕ, ◌+◌, ◌<◌, ◌≤◌, List, [], ◌∷◌, ◌++◌, Bool, true, length, take, Option, Some, Result, Ok, Err, arith, refl, sym, subst, ◌∙◌, ◌⊎◌, append-nil}
+use Rattle.std.proofs.Common.{◌≡◌, ℕ, ◌+◌, ◌<◌, ◌≤◌, List, [], ◌++◌, Bool, true, length, take, Option, Some, Result, Ok, Err, arith, sym, subst, ◌∙◌, ◌⊎◌, append-nil}
 use Rattle.std.specs.Prelude.{IsErrAnd}
 use Rattle.std.specs.Io.KnownBytes.{Appends}
 use Rattle.ados_machine.specs.declared.events.BreakAt.{BreakAt}
-use Rattle.ados_machine.specs.World.{WorldState, codes_at}
+use Rattle.ados_machine.specs.World.{codes_at}
 use Rattle.ados_launcher.specs.declared.calls.Call.{Call}
 use Rattle.ados_launch.specs.declared.driver.End.{End}
 use Rattle.ados_launch.specs.declared.faults.DriveFault.{DriveFault}
@@ -11,12 +11,14 @@ use Rattle.ados_launch.specs.declared.faults.DriveFault.TheVariants.{Read, Write
 use Rattle.ados_launch.specs.Agreement.{Agrees, AreOver, WaitsForOpen}
 use Rattle.ados_launch.specs.Drives.{ComesTo, ComesToEnd, Drives, ReadsWell, StopsAtMemory, StopsAtRead, StopsAtTurns, StopsAtWrite, WritesWell}
 use Rattle.ados_launch.specs.Faults.{one_more}
-use Rattle.ados_launch.specs.Lines.{ahead, BeginsOverlong, Known}
+use Rattle.ados_launch.specs.Lines.{ahead, IsUnreadable, Known}
+use Rattle.ados_launch.specs.NoFurther.{TakesPartAt}
 use Rattle.ados_launch.specs.Rounds.{IsIdle, IsRunning}
 use Rattle.ados_launch.specs.Schedule.{Next, AtLine, Standing, next_in}
 use Rattle.ados_launch.specs.Session.{AreDropped, Moment, Stands, TakesAt}
 use Rattle.ados_launch.proofs.Coming.{next-running}
 use Rattle.ados_launch.proofs.Over.{calls-over, over}
+use Rattle.ados_launch.proofs.PartLines.{no-further}
 use Rattle.ados_launch.proofs.ReaderEnd.{reader-ended}
 use Rattle.ados_launch.proofs.Sessions.{Driven, driven-cut, next-dropped, next-is, stands, stands-behind, takes-session, why-read}
 use Rattle.ados_launch.proofs.Waits.{none-open}
@@ -46,23 +48,25 @@ stops-turns turns n breaks before now standing held d count few running reads wr
       writes_well = writes;
     })
 
-pub stops-memory : (turns n : ℕ) (breaks : List BreakAt) (before mid now : Moment) (standing : Standing) (rest : Option (List ℕ)) (next : Next) (dropped : List Call) → Driven before mid breaks n standing rest → n < turns
+pub stops-memory : (turns n : ℕ) (breaks : List BreakAt) (before mid now : Moment) (standing : Standing) (rest : Option (List ℕ)) (held : List ℕ) (next : Next) (dropped : List Call) → Driven before mid breaks n standing rest → n < turns
     → standing.round.place ≤ 61 → next_in standing mid.world ≡ Some next → (mid.is_full ≡ true → now.is_full ≡ true) → now.world ≡ mid.world → now.contents ≡ mid.contents → now.calls ≡ mid.calls ++ dropped
-    → AreDropped mid.world (Some next) dropped → ReadsWell before now → WritesWell before now → StopsAtMemory turns breaks before now
-stops-memory turns n breaks before mid now standing rest next dropped d few in_round here stays world written calls one reads writes = record {
+    → AreDropped mid.world (Some next) dropped → length held < 4096 → Known rest (λ bytes. TakesPartAt next bytes (ahead held now.left)) → ReadsWell before now → WritesWell before now
+    → StopsAtMemory turns breaks before now
+stops-memory turns n breaks before mid now standing rest held next dropped d few in_round here stays world written calls one less part reads writes = record {
   n = n;
   few = few;
   dropped = dropped;
   stands = stands-behind before mid now breaks n standing rest dropped stays world written calls d;
   dropped_is = rw world (next-dropped before mid breaks n standing rest next dropped d here one);
   running = rw world (next-running standing mid.world next in_round here);
+  unread = rw world (no-further before mid breaks n standing rest next held now.left d here less part);
   reads_well = reads;
   writes_well = writes;
 }
 
 pub stops-read : (turns n : ℕ) (breaks : List BreakAt) (before mid now : Moment) (standing : Standing) (rest : Option (List ℕ)) (held : List ℕ) → Driven before mid breaks n standing rest → n < turns
     → next_in standing mid.world ≡ Some AtLine → (mid.is_full ≡ true → now.is_full ≡ true) → now.world ≡ mid.world → now.contents ≡ mid.contents → now.calls ≡ mid.calls → length held < 4096
-    → ReadsWell before mid → (now.read_faults ≡ mid.read_faults + 1) ⊎ ((now.read_faults ≡ mid.read_faults) × Known rest (λ bytes. BeginsOverlong bytes (ahead held now.left)))
+    → ReadsWell before mid → IsUnreadable mid.read_faults now.read_faults rest (ahead held now.left)
     → WritesWell before now → StopsAtRead turns breaks before now
 stops-read turns n breaks before mid now standing rest held d few here stays world written calls less reads cause writes = record {
   n = n;

@@ -1,6 +1,6 @@
 -- Where nothing is due no shell is left: a background shell that asks for nothing is ready, since its input is at its end, and
 -- shell 1 is ready or wants a line.
-use Rattle.std.proofs.Common.{◌≡◌, ◌≢◌, ℕ, zero, suc, ◌∷◌, List, [], Option, Some, None, true, false, not, ◌&&◌, refl, ap, sym, subst, ◌∙◌, ◌≤◌, is_some, length, slice_get, nat_lt, arith, inl, inr, Bool}
+use Rattle.std.proofs.Common.{◌≡◌, ◌≢◌, ℕ, zero, suc, ◌∷◌, List, [], Option, Some, None, true, false, not, ◌&&◌, refl, ap, sym, ◌∙◌, ◌≤◌, is_some, length, slice_get, nat_lt, arith, inl, inr, Bool}
 use Rattle.std.proofs.lemmas.Bool.{cases_Bool, true≢false}
 use Rattle.std.specs.List.{list_any}
 use Rattle.std.proofs.lemmas.List.{length-map}

@@ -12,8 +12,8 @@ use Rattle.ados_launch.specs.declared.faults.DriveFault.{DriveFault}
 use Rattle.ados_launch.specs.declared.faults.DriveFault.TheVariants.{Read, Write, Turns, Memory}
 use Rattle.ados_launch.specs.Agreement.{Agrees}
 use Rattle.ados_launch.specs.Drives.{ComesTo, TakesSession}
-use Rattle.ados_launch.specs.Lines.{ahead, BeginsOverlong, Known}
-use Rattle.ados_launch.specs.Taken.{Taken, bytes_of, written_for, left_after, world_behind}
+use Rattle.ados_launch.specs.Lines.{ahead, IsUnreadable, Known}
+use Rattle.ados_launch.specs.Taken.{Taken, bytes_of, written_for, left_after}
 use Rattle.ados_launch.specs.Schedule.{Next, Standing, first_standing, next_behind, next_in, next_of, standing_after, standing_behind}
 use Rattle.ados_launch.specs.Session.{AreDropped, LeavesOverlong, Moment, Session, Stands, StandsCut, TakesAt}
 use Rattle.ados_launch.proofs.Taken.{run-more, order-more, standing-more, along-full, along-more, asked-more, asked-full, lines-more, left-more, written-more, count-more}
@@ -123,7 +123,7 @@ stands before now breaks n standing rest d = stands-behind before now now breaks
 
 -- a read failed, or none did and the line that is due is too long
 pub why-read : (before mid : Moment) (breaks : List BreakAt) (n : ℕ) (standing : Standing) (rest : Option (List ℕ)) (d : Driven before mid breaks n standing rest) (faults old new : ℕ) (held : List ℕ) (later : Option (List ℕ))
-    → faults ≡ old → length held < 4096 → (new ≡ faults + 1) ⊎ ((new ≡ faults) × Known rest (λ bytes. BeginsOverlong bytes (ahead held later)))
+    → faults ≡ old → length held < 4096 → IsUnreadable faults new rest (ahead held later)
     → (new ≡ old + 1) ⊎ ((new ≡ old) × Known before.left (λ bytes. LeavesOverlong (left_after bytes d.taken) later))
 why-read before mid breaks n standing rest d faults old new held later same few (inl failed) = inl (failed ∙ ap (λ m. m + 1) same)
 why-read before mid breaks n standing rest d faults old new held later same few (inr long) =

@@ -1,5 +1,5 @@
 -- Two sessions that began alike take the same.
-use Rattle.std.proofs.Common.{◌≡◌, ℕ, List, [], ◌∷◌, ◌++◌, Bool, true, false, Option, Some, None, Ok, refl, ap, sym, subst, ◌∙◌, ◌⊎◌, inl, inr, append_assoc}
+use Rattle.std.proofs.Common.{◌≡◌, ℕ, List, [], ◌∷◌, ◌++◌, Bool, true, false, Option, Some, None, Ok, refl, ap, sym, subst, ◌∙◌, ◌⊎◌, inl, inr}
 use Rattle.std.specs.Prelude.{if◌then◌else◌}
 use Rattle.ados_machine.specs.declared.answers.Answer.{Answer as Reply}
 use Rattle.ados_machine.specs.declared.events.Event.{Event}
@@ -12,14 +12,11 @@ use Rattle.ados_machine.specs.Runs.{IsAnswer, Runs}
 use Rattle.ados_machine.specs.Step.{Response, Accepted, Refused, step_of}
 use Rattle.ados_machine.specs.World.{WorldState, pending_of}
 use Rattle.ados_launcher.specs.declared.calls.Call.{Call}
-use Rattle.ados_launcher.specs.declared.calls.Call.TheVariants.{Start as Starts, Read as Reads, Wait as Waits}
-use Rattle.ados_launch.specs.declared.lines.LineKind.{LineKind}
 use Rattle.ados_launch.specs.declared.lines.LineKind.TheVariants.{End, Short, Long}
 use Rattle.ados_launch.specs.Asked.{AreAsked, AreNoStarts, HasCall, IsAsked, Lists, ListsOf, call_of, is_start}
 use Rattle.ados_launch.specs.Laws.{IsFront}
-use Rattle.ados_launch.specs.Lines.{kind_of, line_of}
-use Rattle.ados_launch.specs.Schedule.{Next, AtBreak, AtFurther, AtLine, AtStart, AtTurn, InOrder, Standing, next_in, next_of, standing_behind}
-use Rattle.ados_launch.specs.Taken.{Taken, Given, LongLine, AreRead, IsAccepted, IsNext, events_in, left_behind, outs_in, text_of, world_behind}
+use Rattle.ados_launch.specs.Schedule.{Next, AtBreak, AtFurther, AtLine, AtStart, AtTurn, InOrder, Standing, next_of, standing_behind}
+use Rattle.ados_launch.specs.Taken.{Taken, Given, LongLine, AreRead, IsAccepted, IsNext, events_in, left_behind, outs_in, world_behind}
 use Rattle.ados_launch.proofs.Taken.{starts-more}
 
 -- what an accepted event gives is one

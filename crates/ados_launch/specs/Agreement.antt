@@ -6,7 +6,7 @@ use Rattle.ados_machine.specs.Children.{answers_wait, child_in}
 use Rattle.ados_machine.specs.World.{WorldState}
 use Rattle.ados_launcher.specs.declared.calls.Call.{Call}
 use Rattle.ados_launcher.specs.declared.calls.Call.TheVariants.{Start, Read, Wait}
-use Rattle.ados_launcher.specs.Lives.{Life, Between, Broken, life_of, life_in, is_open}
+use Rattle.ados_launcher.specs.Lives.{Between, Broken, life_of, life_in, is_open}
 
 -- Each row of lives is one so far, and its open child is the one that the world reads or waits for: no end of its reads is
 -- listed where the world reads it or has broken it, and that end is listed where the world waits for it and has not.

@@ -10,6 +10,7 @@ use Rattle.ados_launch.specs.declared.faults.DriveFault.TheVariants.{Read, Write
 use Rattle.ados_launch.specs.Agreement.{AreOver, WaitsForOpen}
 use Rattle.ados_launch.specs.Faults.{one_more}
 use Rattle.ados_launch.specs.Lines.{Known}
+use Rattle.ados_launch.specs.NoFurther.{ReadsNoFurther}
 use Rattle.ados_launch.specs.Rounds.{IsRunning}
 use Rattle.ados_launch.specs.Schedule.{next_behind, takes_input, IsReading}
 use Rattle.ados_launch.specs.Session.{Moment, AreDropped, IsReadAhead, LeavesOverlong, Session, Stands, StandsCut}
@@ -55,6 +56,9 @@ pub record StopsAtMemory (turns : ℕ) (breaks : List BreakAt) (before now : Mom
   pub stands : Stands before now breaks n dropped
   pub dropped_is : AreDropped now.world (next_behind breaks before.world stands.taken now.world) dropped
   pub running : IsRunning now.world
+  -- what is left stands behind the lines that were taken, or in or behind the line that is due, but for less than 4,096 bytes
+  -- that came with them
+  pub unread : Known before.left (λ bytes. ReadsNoFurther (next_behind breaks before.world stands.taken now.world) (left_after bytes stands.taken) now.left)
   pub reads_well : ReadsWell before now
   pub writes_well : WritesWell before now
 

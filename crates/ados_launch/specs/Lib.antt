@@ -4,8 +4,11 @@ pub mod Asked
 pub mod Drives
 pub mod Faults
 pub mod Laws
+pub mod Leads
 pub mod Lines
+pub mod NoFurther
 pub mod Rounds
 pub mod Schedule
 pub mod Session
+pub mod Steps
 pub mod Taken

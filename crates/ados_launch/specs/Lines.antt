@@ -1,5 +1,5 @@
 -- The lines of an input.
-use Rattle.std.specs.Prelude.{◌≡◌, ℕ, Option, Some, List, [], ◌∷◌, ◌+◌, drop, length, nat_le, if◌then◌else◌}
+use Rattle.std.specs.Prelude.{◌≡◌, ◌⊎◌, ℕ, Option, Some, List, [], ◌∷◌, ◌+◌, drop, length, nat_le, if◌then◌else◌}
 use Rattle.std.specs.Io.KnownBytes.{prepend_known}
 use Rattle.ados_text.specs.Lines.{is_newline}
 use Rattle.ados_line.specs.Cut.{line_limit}
@@ -44,6 +44,10 @@ Known known P = (bytes : List ℕ) → known ≡ Some bytes → P bytes
 -- these bytes begin with an overlong line, and as many were taken as show it
 abbrev pub BeginsOverlong : List ℕ → Option (List ℕ) → Type 0
 BeginsOverlong bytes now = (kind_of bytes ≡ Overlong) × (now ≡ Some (behind_overlong bytes))
+
+-- A read failed; or none did, and what is to be read begins with an overlong line.
+abbrev pub IsUnreadable : ℕ → ℕ → Option (List ℕ) → Option (List ℕ) → Type 0
+IsUnreadable before now left rest = (now ≡ before + 1) ⊎ ((now ≡ before) × Known left (λ bytes. BeginsOverlong bytes rest))
 
 -- of these bytes the next line was taken: what comes, the line where it is short, and what is left
 pub record TakesLine (bytes : List ℕ) (kind : LineKind) (kept : List ℕ) (now : Option (List ℕ)) : Type 0 where

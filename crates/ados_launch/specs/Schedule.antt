@@ -69,6 +69,10 @@ next_by (Some at) place = AtBreak at.shell at.kind
 abbrev pub next_in : Standing → WorldState → Option Next
 next_in s w = option_map (next_by (first_before (s.taken + 1) (breaks_left s w))) (due s.round w)
 
+-- the place of what comes next, where it is no break
+abbrev pub place_due : Standing → WorldState → Option ℕ
+place_due s w = if is_some (first_before (s.taken + 1) (breaks_left s w)) then None else due s.round w
+
 -- where the schedule stands behind what came: a break leaves the round as it is
 abbrev pub behind_place : Standing → WorldState → ℕ → Standing
 behind_place s w place = record { round = round_behind s.round w place; breaks = breaks_left s w; taken = s.taken + 1 }

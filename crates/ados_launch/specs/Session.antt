@@ -28,6 +28,20 @@ pub record Moment : Type 0 where
   pub calls : List Call
   pub is_full : Bool
 
+-- what stands at the moment at which a world, a reader, a writer and a launcher are so, by what can be told of the three
+abbrev pub moment_of : {S K L : Type 0} → (S → Option (List ℕ)) → (S → ℕ) → (K → Option (List ℕ)) → (K → ℕ) → (K → ℕ) → (L → List Call) → (L → Bool)
+    → WorldState → S → K → L → Moment
+moment_of left read_faults contents write_faults stalls calls is_full world reader writer launcher = record {
+  world = world;
+  left = left reader;
+  read_faults = read_faults reader;
+  contents = contents writer;
+  write_faults = write_faults writer;
+  stalls = stalls writer;
+  calls = calls launcher;
+  is_full = is_full launcher;
+}
+
 -- Before each thing that was taken the world and the launcher's list agree. So a child is waited for before the end of its reads
 -- just where the world has broken it.
 abbrev pub AgreesAlong : (is_full : Bool) (w : WorldState) (calls : List Call) (taken : List Taken) (listed : List Call) → AreAsked is_full w taken listed → Type 0

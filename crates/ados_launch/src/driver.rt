@@ -3,6 +3,7 @@ ghost use Rattle.std.specs.Prelude.{◌≡◌, ◌<◌, ◌^◌, ◌-◌, length
 ghost use Rattle.ados_machine.specs.World.{codes_at};
 ghost use Rattle.ados_launch.specs.Agreement.{Agrees, AreWhole, IsOpenTable};
 ghost use Rattle.ados_launch.specs.Drives.{ComesTo, Drives};
+ghost use Rattle.ados_launch.specs.Session.{moment_of};
 
 use crate::children::{open_children, wait_for_open};
 use crate::events::take_next;
@@ -29,8 +30,8 @@ pub struct End {
 }
 
 impl End {
-    // The end of a run that leaves this world.
-    fn of(world: &World, events: u64) -> End
+    /// The end of a run that leaves this world, after so many events.
+    pub fn of(world: &World, events: u64) -> End
         ensures code { result.code ≡ (codes_at world.now 1).code }
         ensures result2 { result.result2 ≡ (codes_at world.now 1).result2 }
         ensures events { result.events ≡ events }
@@ -80,7 +81,8 @@ impl Drive<'_> {
     /// written, but for what a `Write` kept back; a line that was read and not accepted is lost, and so is an answer. Then
     /// each child that is open is waited for once, by rising number. `Read`: the reader failed, or a line has more than
     /// 65,536 bytes. `Write`: the writer failed, or took nothing. `Turns`: a further event was due. `Memory`: there was
-    /// none for the next line or event. A read or write that is interrupted has failed, and is not tried again.
+    /// none for the next line or event; no byte past that line is taken. A read or write that is interrupted has failed, and is
+    /// not tried again.
     ///
     /// Before the call the reader's faults and the writer's are below 2^64 - 1, and the launcher's list agrees with the world as
     /// for [`system`](crate::system); a new world and a new launcher do. After a fault the pair is not driven again: the world
@@ -99,8 +101,8 @@ impl Drive<'_> {
         requires agrees { Agrees world.old (L.calls launcher.old) }
         // What was taken, how it ended, and what became of the children.
         ensures drives { Drives self.now.turns self.now.breaks.now
-            (record { world = world.old; left = S.left reader.old; read_faults = S.faults reader.old; contents = K.contents writer.old; write_faults = K.faults writer.old; stalls = K.stalls writer.old; calls = L.calls launcher.old; is_full = L.is_full launcher.old })
-            (record { world = world.new; left = S.left reader.new; read_faults = S.faults reader.new; contents = K.contents writer.new; write_faults = K.faults writer.new; stalls = K.stalls writer.new; calls = L.calls launcher.new; is_full = L.is_full launcher.new })
+            (moment_of S.left S.faults K.contents K.faults K.stalls L.calls L.is_full world.old reader.old writer.old launcher.old)
+            (moment_of S.left S.faults K.contents K.faults K.stalls L.calls L.is_full world.new reader.new writer.new launcher.new)
             result }
         // Where no event is allowed the reader and the writer stay as they are.
         ensures untouched { self.now.turns ≡ 0 → (reader.new ≡ reader.old) × (writer.new ≡ writer.old) }
@@ -133,8 +135,8 @@ impl Drive<'_> {
         ensures whole { AreWhole (L.calls launcher.new) }
         ensures agrees { OnOk result (Agrees world.new (L.calls launcher.new)) }
         ensures comes_to { ComesTo self.now.turns self.now.breaks.now
-            (record { world = world.old; left = S.left reader.old; read_faults = S.faults reader.old; contents = K.contents writer.old; write_faults = K.faults writer.old; stalls = K.stalls writer.old; calls = L.calls launcher.old; is_full = L.is_full launcher.old })
-            (record { world = world.new; left = S.left reader.new; read_faults = S.faults reader.new; contents = K.contents writer.new; write_faults = K.faults writer.new; stalls = K.stalls writer.new; calls = L.calls launcher.new; is_full = L.is_full launcher.new })
+            (moment_of S.left S.faults K.contents K.faults K.stalls L.calls L.is_full world.old reader.old writer.old launcher.old)
+            (moment_of S.left S.faults K.contents K.faults K.stalls L.calls L.is_full world.new reader.new writer.new launcher.new)
             result }
         ensures untouched { self.now.turns ≡ 0 → (reader.new ≡ reader.old) × (writer.new ≡ writer.old) }
     {

@@ -1,12 +1,13 @@
 // Taking the event that is due.
-ghost use Rattle.std.specs.Prelude.{◌≡◌, ◌⊎◌, ◌<◌, ◌≤◌, ◌^◌, ◌-◌, ◌+◌, ◌++◌, List, [], true, length, nat_lt, Some, if◌then◌else◌, OnOk, OnErr, IsErrOf, Ok, Err};
+ghost use Rattle.std.specs.Prelude.{◌≡◌, ◌<◌, ◌≤◌, ◌^◌, ◌-◌, ◌+◌, ◌++◌, List, [], true, length, nat_lt, Some, if◌then◌else◌, OnOk, OnErr, IsErrOf, Ok, Err};
 ghost use Rattle.ados_machine.specs.World.{wants_line};
 ghost use Rattle.ados_machine.specs.Step.{giving, is_accepted, step_of};
 ghost use Rattle.ados_machine.specs.Runs.{IsAnswer, world_after};
 ghost use Rattle.ados_shell.specs.Drafts.{out_of};
 ghost use Rattle.ados_launcher.specs.declared.calls.Call.{Call};
 ghost use Rattle.ados_launch.specs.Agreement.{Agrees, AreWhole, IsOpenTable};
-ghost use Rattle.ados_launch.specs.Lines.{ahead, BeginsOverlong, Known};
+ghost use Rattle.ados_launch.specs.Lines.{ahead, IsUnreadable, Known};
+ghost use Rattle.ados_launch.specs.NoFurther.{TakesPart, TakesPartAt};
 ghost use Rattle.ados_launch.specs.Rounds.{comes};
 ghost use Rattle.ados_launch.specs.Schedule.{AtLine, next_as, next_at, MayCome};
 ghost use Rattle.ados_launch.specs.Session.{AreDropped, TakesAt, TakesLineAt};
@@ -52,11 +53,12 @@ pub fn take_next<L: Launcher, S: Source>(
     ensures dropped { OnErr result ((dropped : List Call) × AreDropped world.old (Some (next_as next)) dropped
         × (L.calls launcher.new ≡ L.calls launcher.old ++ dropped)) }
     ensures unasked { IsErrOf result DriveFault.Read → L.calls launcher.new ≡ L.calls launcher.old }
-    ensures read { IsErrOf result DriveFault.Read → (S.faults reader.new ≡ S.faults reader.old + 1)
-        ⊎ ((S.faults reader.new ≡ S.faults reader.old) × Known (ahead held.old (S.left reader.old))
-        (λ bytes. BeginsOverlong bytes (ahead held.new (S.left reader.new)))) }
+    ensures read { IsErrOf result DriveFault.Read
+        → IsUnreadable (S.faults reader.old) (S.faults reader.new) (ahead held.old (S.left reader.old)) (ahead held.new (S.left reader.new)) }
     ensures reading { IsErrOf result DriveFault.Read → next_as next ≡ AtLine }
     ensures memory_honest { IsErrOf result DriveFault.Memory → S.faults reader.new ≡ S.faults reader.old }
+    ensures memory_unread { IsErrOf result DriveFault.Memory → Known (ahead held.old (S.left reader.old))
+        (λ bytes. TakesPartAt (next_as next) bytes (ahead held.new (S.left reader.new))) }
     ensures no_write { IsErrOf result DriveFault.Write → ⊥ }
     ensures no_turns { IsErrOf result DriveFault.Turns → ⊥ }
 {
@@ -106,16 +108,17 @@ fn take_event<L: Launcher, S: Source>(
     ensures dropped { OnErr result ((dropped : List Call) × AreDropped world.old (Some (next_at place)) dropped
         × (L.calls launcher.new ≡ L.calls launcher.old ++ dropped)) }
     ensures unasked { IsErrOf result DriveFault.Read → L.calls launcher.new ≡ L.calls launcher.old }
-    ensures read { IsErrOf result DriveFault.Read → (S.faults reader.new ≡ S.faults reader.old + 1)
-        ⊎ ((S.faults reader.new ≡ S.faults reader.old) × Known (ahead held.old (S.left reader.old))
-        (λ bytes. BeginsOverlong bytes (ahead held.new (S.left reader.new)))) }
+    ensures read { IsErrOf result DriveFault.Read
+        → IsUnreadable (S.faults reader.old) (S.faults reader.new) (ahead held.old (S.left reader.old)) (ahead held.new (S.left reader.new)) }
     ensures reading { IsErrOf result DriveFault.Read → place ≡ 0 }
     ensures memory_honest { IsErrOf result DriveFault.Memory → S.faults reader.new ≡ S.faults reader.old }
+    ensures memory_unread { IsErrOf result DriveFault.Memory → Known (ahead held.old (S.left reader.old))
+        (λ bytes. TakesPartAt (next_at place) bytes (ahead held.new (S.left reader.new))) }
     ensures no_write { IsErrOf result DriveFault.Write → ⊥ }
     ensures none_turns { IsErrOf result DriveFault.Turns → ⊥ }
 {
     if place < 1 {
-        take_next_line(alloc, world, held, reader, line, draft)
+        take_line(alloc, world, held, reader, line, draft)
     } else if place < 21 {
         give(world, &Event::Turn(place), draft)
     } else {
@@ -124,7 +127,7 @@ fn take_event<L: Launcher, S: Source>(
 }
 
 // The shell whose start, read or wait is answered at this place.
-fn shell_answered(place: u8) -> u8
+pub fn shell_answered(place: u8) -> u8
     requires late { 21 ≤ place }
     requires place { place < 61 }
     ensures { result ≡ (if nat_lt place 41 then place - 20 else place - 40) }
@@ -132,34 +135,7 @@ fn shell_answered(place: u8) -> u8
     if place < 41 { place - 20 } else { place - 40 }
 }
 
-// Shows the reader the world, and has it take the next line.
-fn take_next_line<S: Source>(
-    alloc: Global,
-    world: &mut World,
-    held: &mut ReadAhead,
-    reader: &mut S,
-    line: &mut Vec<u8>,
-    draft: &mut Draft,
-) -> Result<(), DriveFault>
-    requires reader { S.faults reader.old < 2 ^ 64 - 1 }
-    requires due { wants_line world.old ≡ true }
-    ensures took { OnOk result
-        (TakesLineAt world.old (ahead held.old (S.left reader.old)) world.new (ahead held.new (S.left reader.new)) draft.new.printed.items) }
-    ensures few { length held.old < 4096 → length held.new < 4096 }
-    ensures honest { OnOk result (S.faults reader.new ≡ S.faults reader.old) }
-    ensures err { OnErr result (world.new ≡ world.old) }
-    ensures read { IsErrOf result DriveFault.Read → (S.faults reader.new ≡ S.faults reader.old + 1)
-        ⊎ ((S.faults reader.new ≡ S.faults reader.old) × Known (ahead held.old (S.left reader.old))
-        (λ bytes. BeginsOverlong bytes (ahead held.new (S.left reader.new)))) }
-    ensures memory_honest { IsErrOf result DriveFault.Memory → S.faults reader.new ≡ S.faults reader.old }
-    ensures not_write { IsErrOf result DriveFault.Write → ⊥ }
-    ensures not_turns { IsErrOf result DriveFault.Turns → ⊥ }
-{
-    reader.heed(world);
-    take_line(alloc, world, held, reader, line, draft)
-}
-
-// Reads a line and gives it to the world, or the end of the input. A long one is not given, and a
+// Shows the reader the world, reads a line and gives it to the world, or the end of the input. A long one is not given, and a
 // text is written in its place.
 fn take_line<S: Source>(
     alloc: Global,
@@ -176,13 +152,15 @@ fn take_line<S: Source>(
     ensures few { length held.old < 4096 → length held.new < 4096 }
     ensures honest { OnOk result (S.faults reader.new ≡ S.faults reader.old) }
     ensures err { OnErr result (world.new ≡ world.old) }
-    ensures read { IsErrOf result DriveFault.Read → (S.faults reader.new ≡ S.faults reader.old + 1)
-        ⊎ ((S.faults reader.new ≡ S.faults reader.old) × Known (ahead held.old (S.left reader.old))
-        (λ bytes. BeginsOverlong bytes (ahead held.new (S.left reader.new)))) }
+    ensures read { IsErrOf result DriveFault.Read
+        → IsUnreadable (S.faults reader.old) (S.faults reader.new) (ahead held.old (S.left reader.old)) (ahead held.new (S.left reader.new)) }
     ensures memory_honest { IsErrOf result DriveFault.Memory → S.faults reader.new ≡ S.faults reader.old }
+    ensures memory_unread { IsErrOf result DriveFault.Memory → Known (ahead held.old (S.left reader.old))
+        (λ bytes. TakesPart bytes (ahead held.new (S.left reader.new))) }
     ensures never_write { IsErrOf result DriveFault.Write → ⊥ }
     ensures never_turns { IsErrOf result DriveFault.Turns → ⊥ }
 {
+    reader.heed(world);
     match next_line(held, reader, line)? {
         LineKind::End => give(world, &Event::EndOfInput, draft),
         LineKind::Short => {

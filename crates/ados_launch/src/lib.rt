@@ -17,6 +17,7 @@ mod lines;
 mod read_ahead;
 mod rounds;
 mod schedule;
+mod session;
 mod written;
 
 pub use ados_launcher::{Call, Host, Launcher, Listed, calls_are_rows_of_lives};
@@ -26,3 +27,4 @@ pub use counted::{Counted, Sink, Source};
 pub use driver::{Drive, End};
 pub use faults::DriveFault;
 pub use laws::{new_pairs_agree, sessions_are_unique, sessions_obey_the_laws};
+pub use session::Session;

@@ -1,6 +1,7 @@
-ghost use Rattle.std.specs.Prelude.{◌≡◌, ◌<◌, ◌≤◌, ℕ, List, Option, true, false, vec_len, length, position, ◌^◌, ◌-◌, ◌+◌, [], ◌∷◌, ◌++◌, take, IfOk, IfSome, OnOk, IsErrOf};
+ghost use Rattle.std.specs.Prelude.{◌≡◌, ◌<◌, ◌≤◌, ℕ, List, Option, true, false, vec_len, length, position, ◌^◌, ◌-◌, ◌+◌, [], ◌∷◌, ◌++◌, take, IfOk, IfSome, OnOk, OnErr, IsErrOf};
 ghost use Rattle.ados_text.specs.Lines.{is_newline};
 ghost use Rattle.ados_launch.specs.Lines.{ahead, kind_of_length, Known, TakesLine};
+ghost use Rattle.ados_launch.specs.NoFurther.{TakesPart};
 ghost use Rattle.ados_launch.specs.declared.lines.LineFault.TheVariants.{NoMemory as OutOfMemory};
 
 use crate::Source;
@@ -51,7 +52,7 @@ impl From<AllocError> for LineFault {
 /// is read only where a byte of the line, or its end, was not read ahead.
 ///
 /// `Read`: a read failed. `NoMemory`: no memory to hold the line. After both the bytes taken so far
-/// are lost.
+/// are lost, which are bytes of this line.
 pub fn next_line<S: Source>(
     held: &mut ReadAhead,
     source: &mut S,
@@ -64,6 +65,8 @@ pub fn next_line<S: Source>(
     ensures few { length held.old < 4096 → length held.new < 4096 }
     ensures read { IsErrOf result LineFault.Read → S.faults source.new ≡ S.faults source.old + 1 }
     ensures others { (IsErrOf result LineFault.Read → ⊥) → S.faults source.new ≡ S.faults source.old }
+    ensures no_further { IsErrOf result LineFault.NoMemory → Known (ahead held.old (S.left source.old))
+        (λ bytes. TakesPart bytes (ahead held.new (S.left source.new))) }
 {
     line.clear();
     if take_held(held, line)? {
@@ -97,6 +100,7 @@ fn take_held(held: &mut ReadAhead, line: &mut Vec<u8>) -> Result<bool, AllocErro
     ensures none { IfOk result (λ is_taken. is_taken ≡ false → (held.new ≡ held.old) × (line.new.items ≡ [])) }
     ensures short { vec_len line.new ≤ 512 }
     ensures few { length held.old < 4096 → length held.new < 4096 }
+    ensures err { OnErr result (held.new ≡ held.old) }
 {
     let bytes = held.bytes();
     let Some(length) = newline_at(&bytes[..bytes.len().min(LINE_BYTES + 1)]) else {

@@ -10,6 +10,7 @@ ghost use Rattle.ados_launch.specs.Schedule.{
   next_as,
   next_in,
   passed,
+  place_due,
   standing_behind,
   IsInRound,
   MayCome,
@@ -89,6 +90,29 @@ impl<'a> Schedule<'a> {
             Next::Due(found) => self.round.pass(found),
         }
         self.taken += 1;
+    }
+
+    // The place that is due, where no break comes before it.
+    pub fn place(&self, world: &World) -> Option<u8>
+        requires round { self.now.round.place ≤ 61 }
+        requires count { self.now.taken < 2 ^ 64 - 1 }
+        ensures place { result ≡ place_due self.now world.now }
+        ensures below { IfSome result (λ place. place < 61) }
+    {
+        let found = self.round.next(world)?;
+        let number = self.taken + 1;
+        let passed = count_passed(self.breaks, number, world);
+        match &self.breaks[passed..] {
+            [at, ..] if at.event <= number => None,
+            _ => Some(found.place),
+        }
+    }
+
+    // How many events and long lines were taken.
+    pub fn taken(&self) -> u64
+        ensures { result ≡ self.now.taken }
+    {
+        self.taken
     }
 
     // Nothing is due.

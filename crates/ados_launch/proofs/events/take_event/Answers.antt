@@ -1,8 +1,10 @@
-use Rattle.std.proofs.Common.{arith, refl, sym, ◌∙◌}
+use Rattle.std.proofs.Common.{◌≡◌, arith, refl, sym, ap, ◌∙◌}
 use Rattle.ados_machine.specs.declared.events.Event.TheVariants.{Turn}
 use Rattle.ados_shell.specs.Drafts.{out_of}
 use Rattle.ados_launch.proofs.Accepts.{turn-accepted}
 use Rattle.ados_launch.proofs.Agreeing.{given-agrees, answers-agree, answers-whole}
+use Rattle.ados_launch.specs.Schedule.{next_at}
+use Rattle.ados_launch.proofs.PartLines.{part-at-line, part-at-none}
 use Rattle.ados_launch.proofs.Places.{comes-turn}
 use Rattle.ados_launch.proofs.Taking.{took-at-lines, took-at-turn, took-at-answer, dropped-at-answer}
 use Rattle.ados_launch.proofs.events.take_event.Goals as goal
@@ -12,7 +14,7 @@ give-requires g c = turn-accepted c.args.world.now c.args.place (sym (comes-turn
 
 pub returns-then-place-lt1-clause-took : goal.returns-then-place-lt1-clause-took
 returns-then-place-lt1-clause-took g c =
-    took-at-lines c.args.world.now _ _ _ (g.L.Launcher.is_full c.args.launcher.now) (g.L.Launcher.calls c.args.launcher.now) c.args.place c.take_next_line.new.draft.printed.items c.take_next_line.result (omega arith) c.take_next_line.ensures.took
+    took-at-lines c.args.world.now _ _ _ (g.L.Launcher.is_full c.args.launcher.now) (g.L.Launcher.calls c.args.launcher.now) c.args.place c.take_line.new.draft.printed.items c.take_line.result (omega arith) c.take_line.ensures.took
 
 pub returns-then-place-lt21-clause-took : goal.returns-then-place-lt21-clause-took
 returns-then-place-lt21-clause-took g c =
@@ -40,3 +42,14 @@ returns-else-place-lt21-clause-agrees g c =
 pub returns-else-place-lt21-clause-whole : goal.returns-else-place-lt21-clause-whole
 returns-else-place-lt21-clause-whole g c =
     answers-whole c.args.world.now _ (g.L.Launcher.is_full c.args.launcher.now) (g.L.Launcher.is_full c.answer.new.launcher) (g.L.Launcher.calls c.args.launcher.now) (g.L.Launcher.calls c.answer.new.launcher) _ c.answer.ensures.sane c.requires.agrees c.answer.ensures.answers
+
+pub returns-then-place-lt1-clause-memory_unread : goal.returns-then-place-lt1-clause-memory_unread
+returns-then-place-lt1-clause-memory_unread g c failed bytes e =
+    let first : c.args.place ≡ 0 = omega arith in
+    part-at-line (next_at c.args.place) bytes _ (ap next_at first) (c.take_line.ensures.memory_unread failed bytes e)
+
+pub returns-then-place-lt21-clause-memory_unread : goal.returns-then-place-lt21-clause-memory_unread
+returns-then-place-lt21-clause-memory_unread g c failed bytes e = part-at-none (next_at c.args.place) bytes _ e
+
+pub returns-else-place-lt21-clause-memory_unread : goal.returns-else-place-lt21-clause-memory_unread
+returns-else-place-lt21-clause-memory_unread g c failed bytes e = part-at-none (next_at c.args.place) bytes _ e

@@ -1,4 +1,5 @@
-use Rattle.std.proofs.Common.{◌∙◌, arith}
+use Rattle.std.proofs.Common.{◌∙◌, ◌+◌, arith, refl}
+use Rattle.ados_launch.proofs.PartLines.{part-none, part-scanned}
 use Rattle.ados_launch.proofs.Scanning.{takes_end, takes_last, takes_broken, takes_overlong, scanned_more}
 use Rattle.ados_launch.proofs.lines.next_line.Goals as goal
 
@@ -34,3 +35,12 @@ loop-length-preserved g c =
 
 pub returns-then-branch-clause-taken : goal.returns-then-branch-clause-taken
 returns-then-branch-clause-taken g c bytes e = c.in_ok-take_held.ensures.taken c.if-branch.true (g.S.Source.left c.args.source.now) bytes e
+
+pub returns-in_err-take_held-clause-no_further : goal.returns-in_err-take_held-clause-no_further
+returns-in_err-take_held-clause-no_further g c failed bytes e = rw c.in_err-take_held.ensures.err (part-none bytes _ e)
+
+pub returns-in_err-keep-in-Ok-Some-clause-no_further : goal.returns-in_err-keep-in-Ok-Some-clause-no_further
+returns-in_err-keep-in-Ok-Some-clause-no_further g c failed bytes e =
+    let h = rw c.in-Ok-Some.field-0-is at c.in-Ok-Some.ensures.byte in
+    part-scanned bytes (c.loop-length.length + 1) _ _ (omega arith)
+    (scanned_more bytes c.loop-length.length _ _ _ _ c.in-Ok-Some.byte (c.loop-length.invariant.scanned bytes e) h c.in-Ok-Some.byte-test.1 refl)

@@ -1,4 +1,4 @@
-use Rattle.std.proofs.Common.{rules, IsErrOf, ◌≡◌, ◌+◌, [], Some, refl, sym, ◌∙◌, ap, arith}
+use Rattle.std.proofs.Common.{rules, IsErrOf, ◌≡◌, ◌+◌, Some, refl, sym, ◌∙◌, ap, arith}
 use Rattle.ados_launch.proofs.Agreeing.{agrees-whole}
 use Rattle.ados_launch.proofs.Coming.{due-none, due-some, in-round, next-none, passed-taken, standing-in_round}
 use Rattle.ados_launch.proofs.Outcomes.{comes-by, ends, stops-memory, stops-read, stops-turns, stops-write}
@@ -25,16 +25,7 @@ loop-events-init g c = record {
   fresh_writer = λ none. refl;
   agrees = c.requires.agrees;
   children = c.requires.children;
-  driven = driven-none (record {
-    world = c.args.world.now;
-    left = g.S.Source.left c.args.reader.now;
-    read_faults = g.S.Source.faults c.args.reader.now;
-    contents = g.K.Sink.contents c.args.writer.now;
-    write_faults = g.K.Sink.faults c.args.writer.now;
-    stalls = g.K.Sink.stalls c.args.writer.now;
-    calls = g.L.Launcher.calls c.args.launcher.now;
-    is_full = g.L.Launcher.is_full c.args.launcher.now;
-  }) c.args.self.now.breaks.now c.new-schedule.result _ (rw c.new-held.ensures (search rules)) c.new-schedule.ensures c.requires.agrees;
+  driven = driven-none _ c.args.self.now.breaks.now c.new-schedule.result _ (rw c.new-held.ensures (search rules)) c.new-schedule.ensures c.requires.agrees;
 }
 
 pub loop-events-preserved : goal.loop-events-preserved
@@ -54,34 +45,7 @@ loop-events-preserved g c =
       fresh_writer = λ none. absurd (omega (arith, none));
       agrees = c.in_ok-take_next.ensures.agrees;
       children = c.take_next.ensures.children;
-      driven = driven-more (record {
-        world = c.args.world.now;
-        left = g.S.Source.left c.args.reader.now;
-        read_faults = g.S.Source.faults c.args.reader.now;
-        contents = g.K.Sink.contents c.args.writer.now;
-        write_faults = g.K.Sink.faults c.args.writer.now;
-        stalls = g.K.Sink.stalls c.args.writer.now;
-        calls = g.L.Launcher.calls c.args.launcher.now;
-        is_full = g.L.Launcher.is_full c.args.launcher.now;
-      }) (record {
-        world = c.loop-events.world;
-        left = g.S.Source.left c.loop-events.reader;
-        read_faults = g.S.Source.faults c.loop-events.reader;
-        contents = g.K.Sink.contents c.loop-events.writer;
-        write_faults = g.K.Sink.faults c.loop-events.writer;
-        stalls = g.K.Sink.stalls c.loop-events.writer;
-        calls = g.L.Launcher.calls c.loop-events.launcher;
-        is_full = g.L.Launcher.is_full c.loop-events.launcher;
-      }) (record {
-        world = c.take_next.new.world;
-        left = g.S.Source.left c.take_next.new.reader;
-        read_faults = g.S.Source.faults c.take_next.new.reader;
-        contents = g.K.Sink.contents c.write_whole.new.writer;
-        write_faults = g.K.Sink.faults c.write_whole.new.writer;
-        stalls = g.K.Sink.stalls c.write_whole.new.writer;
-        calls = g.L.Launcher.calls c.take_next.new.launcher;
-        is_full = g.L.Launcher.is_full c.take_next.new.launcher;
-      }) c.args.self.now.breaks.now c.loop-events.events c.loop-events.schedule c.pass.new.self (ahead c.loop-events.held (g.S.Source.left c.loop-events.reader)) (ahead c.take_next.new.held (g.S.Source.left c.take_next.new.reader)) (next_as c.in-Some.next) c.take_next.new.draft.printed.items
+      driven = driven-more _ _ _ c.args.self.now.breaks.now c.loop-events.events c.loop-events.schedule c.pass.new.self (ahead c.loop-events.held (g.S.Source.left c.loop-events.reader)) (ahead c.take_next.new.held (g.S.Source.left c.take_next.new.reader)) (next_as c.in-Some.next) c.take_next.new.draft.printed.items
           i.driven here c.take_next.ensures.stays c.in_ok-take_next.ensures.took c.in_ok-take_next.ensures.agrees (rw c.as_slice.ensures.value at c.in_ok-write_whole.ensures.whole) behind;
     }
 
@@ -90,86 +54,14 @@ returns-in_err-take_next-clause-comes_to g c =
     let i = c.loop-events.invariant in
     let here : next_in c.loop-events.schedule c.loop-events.world ≡ Some (next_as c.in-Some.next) = sym c.in-Some.ensures.next in
     let dropped = c.in_err-take_next.ensures.dropped in
-    comes-by c.args.self.now.turns c.args.self.now.breaks.now (record {
-      world = c.args.world.now;
-      left = g.S.Source.left c.args.reader.now;
-      read_faults = g.S.Source.faults c.args.reader.now;
-      contents = g.K.Sink.contents c.args.writer.now;
-      write_faults = g.K.Sink.faults c.args.writer.now;
-      stalls = g.K.Sink.stalls c.args.writer.now;
-      calls = g.L.Launcher.calls c.args.launcher.now;
-      is_full = g.L.Launcher.is_full c.args.launcher.now;
-    }) (record {
-      world = c.take_next.new.world;
-      left = g.S.Source.left c.take_next.new.reader;
-      read_faults = g.S.Source.faults c.take_next.new.reader;
-      contents = g.K.Sink.contents c.loop-events.writer;
-      write_faults = g.K.Sink.faults c.loop-events.writer;
-      stalls = g.K.Sink.stalls c.loop-events.writer;
-      calls = g.L.Launcher.calls c.take_next.new.launcher;
-      is_full = g.L.Launcher.is_full c.take_next.new.launcher;
-    }) c.from_residual.result _ c.from_residual.ensures.1
+    comes-by c.args.self.now.turns c.args.self.now.breaks.now _ _ c.from_residual.result _ c.from_residual.ensures.1
     (λ is.
     let failed : IsErrOf c.take_next.result Memory = search rules in
-    stops-memory c.args.self.now.turns c.loop-events.events c.args.self.now.breaks.now (record {
-      world = c.args.world.now;
-      left = g.S.Source.left c.args.reader.now;
-      read_faults = g.S.Source.faults c.args.reader.now;
-      contents = g.K.Sink.contents c.args.writer.now;
-      write_faults = g.K.Sink.faults c.args.writer.now;
-      stalls = g.K.Sink.stalls c.args.writer.now;
-      calls = g.L.Launcher.calls c.args.launcher.now;
-      is_full = g.L.Launcher.is_full c.args.launcher.now;
-    }) (record {
-      world = c.loop-events.world;
-      left = g.S.Source.left c.loop-events.reader;
-      read_faults = g.S.Source.faults c.loop-events.reader;
-      contents = g.K.Sink.contents c.loop-events.writer;
-      write_faults = g.K.Sink.faults c.loop-events.writer;
-      stalls = g.K.Sink.stalls c.loop-events.writer;
-      calls = g.L.Launcher.calls c.loop-events.launcher;
-      is_full = g.L.Launcher.is_full c.loop-events.launcher;
-    }) (record {
-      world = c.take_next.new.world;
-      left = g.S.Source.left c.take_next.new.reader;
-      read_faults = g.S.Source.faults c.take_next.new.reader;
-      contents = g.K.Sink.contents c.loop-events.writer;
-      write_faults = g.K.Sink.faults c.loop-events.writer;
-      stalls = g.K.Sink.stalls c.loop-events.writer;
-      calls = g.L.Launcher.calls c.take_next.new.launcher;
-      is_full = g.L.Launcher.is_full c.take_next.new.launcher;
-    }) c.loop-events.schedule (ahead c.loop-events.held (g.S.Source.left c.loop-events.reader)) (next_as c.in-Some.next) dropped.0 i.driven c.loop-events-test.true i.in_round here
-    c.take_next.ensures.stays c.in_err-take_next.ensures.err refl dropped.2 dropped.1 (c.take_next.ensures.memory_honest failed ∙ i.reader) (i.writer, i.stalls))
+    stops-memory c.args.self.now.turns c.loop-events.events c.args.self.now.breaks.now _ _ _ c.loop-events.schedule (ahead c.loop-events.held (g.S.Source.left c.loop-events.reader)) c.take_next.new.held (next_as c.in-Some.next) dropped.0 i.driven c.loop-events-test.true i.in_round here
+    c.take_next.ensures.stays c.in_err-take_next.ensures.err refl dropped.2 dropped.1 (c.take_next.ensures.few i.few) (c.take_next.ensures.memory_unread failed) (c.take_next.ensures.memory_honest failed ∙ i.reader) (i.writer, i.stalls))
     (λ is.
     let failed : IsErrOf c.take_next.result Read = search rules in
-    stops-read c.args.self.now.turns c.loop-events.events c.args.self.now.breaks.now (record {
-      world = c.args.world.now;
-      left = g.S.Source.left c.args.reader.now;
-      read_faults = g.S.Source.faults c.args.reader.now;
-      contents = g.K.Sink.contents c.args.writer.now;
-      write_faults = g.K.Sink.faults c.args.writer.now;
-      stalls = g.K.Sink.stalls c.args.writer.now;
-      calls = g.L.Launcher.calls c.args.launcher.now;
-      is_full = g.L.Launcher.is_full c.args.launcher.now;
-    }) (record {
-      world = c.loop-events.world;
-      left = g.S.Source.left c.loop-events.reader;
-      read_faults = g.S.Source.faults c.loop-events.reader;
-      contents = g.K.Sink.contents c.loop-events.writer;
-      write_faults = g.K.Sink.faults c.loop-events.writer;
-      stalls = g.K.Sink.stalls c.loop-events.writer;
-      calls = g.L.Launcher.calls c.loop-events.launcher;
-      is_full = g.L.Launcher.is_full c.loop-events.launcher;
-    }) (record {
-      world = c.take_next.new.world;
-      left = g.S.Source.left c.take_next.new.reader;
-      read_faults = g.S.Source.faults c.take_next.new.reader;
-      contents = g.K.Sink.contents c.loop-events.writer;
-      write_faults = g.K.Sink.faults c.loop-events.writer;
-      stalls = g.K.Sink.stalls c.loop-events.writer;
-      calls = g.L.Launcher.calls c.take_next.new.launcher;
-      is_full = g.L.Launcher.is_full c.take_next.new.launcher;
-    }) c.loop-events.schedule (ahead c.loop-events.held (g.S.Source.left c.loop-events.reader)) c.take_next.new.held i.driven c.loop-events-test.true (rw (c.take_next.ensures.reading failed) at here)
+    stops-read c.args.self.now.turns c.loop-events.events c.args.self.now.breaks.now _ _ _ c.loop-events.schedule (ahead c.loop-events.held (g.S.Source.left c.loop-events.reader)) c.take_next.new.held i.driven c.loop-events-test.true (rw (c.take_next.ensures.reading failed) at here)
     c.take_next.ensures.stays c.in_err-take_next.ensures.err refl (c.take_next.ensures.unasked failed) (c.take_next.ensures.few i.few) i.reader (c.take_next.ensures.read failed) (i.writer, i.stalls))
     (λ is.
     let failed : IsErrOf c.take_next.result Write = search rules in
@@ -183,56 +75,11 @@ returns-in_err-write_whole-clause-comes_to g c =
     let i = c.loop-events.invariant in
     let here : next_in c.loop-events.schedule c.loop-events.world ≡ Some (next_as c.in-Some.next) = sym c.in-Some.ensures.next in
     let front = c.in_err-write_whole.ensures.front in
-    comes-by c.args.self.now.turns c.args.self.now.breaks.now (record {
-      world = c.args.world.now;
-      left = g.S.Source.left c.args.reader.now;
-      read_faults = g.S.Source.faults c.args.reader.now;
-      contents = g.K.Sink.contents c.args.writer.now;
-      write_faults = g.K.Sink.faults c.args.writer.now;
-      stalls = g.K.Sink.stalls c.args.writer.now;
-      calls = g.L.Launcher.calls c.args.launcher.now;
-      is_full = g.L.Launcher.is_full c.args.launcher.now;
-    }) (record {
-      world = c.take_next.new.world;
-      left = g.S.Source.left c.take_next.new.reader;
-      read_faults = g.S.Source.faults c.take_next.new.reader;
-      contents = g.K.Sink.contents c.write_whole.new.writer;
-      write_faults = g.K.Sink.faults c.write_whole.new.writer;
-      stalls = g.K.Sink.stalls c.write_whole.new.writer;
-      calls = g.L.Launcher.calls c.take_next.new.launcher;
-      is_full = g.L.Launcher.is_full c.take_next.new.launcher;
-    }) c.from_residual-in_err-write_whole.result _ c.from_residual-in_err-write_whole.ensures.1
+    comes-by c.args.self.now.turns c.args.self.now.breaks.now _ _ c.from_residual-in_err-write_whole.result _ c.from_residual-in_err-write_whole.ensures.1
     (λ is. cc)
     (λ is. cc)
     (λ is.
-    stops-write c.args.self.now.turns c.loop-events.events front.0 c.args.self.now.breaks.now (record {
-      world = c.args.world.now;
-      left = g.S.Source.left c.args.reader.now;
-      read_faults = g.S.Source.faults c.args.reader.now;
-      contents = g.K.Sink.contents c.args.writer.now;
-      write_faults = g.K.Sink.faults c.args.writer.now;
-      stalls = g.K.Sink.stalls c.args.writer.now;
-      calls = g.L.Launcher.calls c.args.launcher.now;
-      is_full = g.L.Launcher.is_full c.args.launcher.now;
-    }) (record {
-      world = c.loop-events.world;
-      left = g.S.Source.left c.loop-events.reader;
-      read_faults = g.S.Source.faults c.loop-events.reader;
-      contents = g.K.Sink.contents c.loop-events.writer;
-      write_faults = g.K.Sink.faults c.loop-events.writer;
-      stalls = g.K.Sink.stalls c.loop-events.writer;
-      calls = g.L.Launcher.calls c.loop-events.launcher;
-      is_full = g.L.Launcher.is_full c.loop-events.launcher;
-    }) (record {
-      world = c.take_next.new.world;
-      left = g.S.Source.left c.take_next.new.reader;
-      read_faults = g.S.Source.faults c.take_next.new.reader;
-      contents = g.K.Sink.contents c.write_whole.new.writer;
-      write_faults = g.K.Sink.faults c.write_whole.new.writer;
-      stalls = g.K.Sink.stalls c.write_whole.new.writer;
-      calls = g.L.Launcher.calls c.take_next.new.launcher;
-      is_full = g.L.Launcher.is_full c.take_next.new.launcher;
-    }) c.loop-events.schedule (ahead c.loop-events.held (g.S.Source.left c.loop-events.reader)) (ahead c.take_next.new.held (g.S.Source.left c.take_next.new.reader)) (next_as c.in-Some.next) c.take_next.new.draft.printed.items i.driven c.loop-events-test.true here
+    stops-write c.args.self.now.turns c.loop-events.events front.0 c.args.self.now.breaks.now _ _ _ c.loop-events.schedule (ahead c.loop-events.held (g.S.Source.left c.loop-events.reader)) (ahead c.take_next.new.held (g.S.Source.left c.take_next.new.reader)) (next_as c.in-Some.next) c.take_next.new.draft.printed.items i.driven c.loop-events-test.true here
     c.take_next.ensures.stays c.in_ok-take_next.ensures.took c.in_ok-take_next.ensures.agrees (rw c.as_slice.ensures.value at front.1) (rw c.as_slice.ensures.value at front.2) (c.in_ok-take_next.ensures.honest ∙ i.reader)
     (rw (i.writer, i.stalls) at c.in_err-write_whole.ensures.cause))
     (λ is. cc)
@@ -241,25 +88,7 @@ pub returns-in_default-clause-comes_to : goal.returns-in_default-clause-comes_to
 returns-in_default-clause-comes_to g c =
     let i = c.loop-events.invariant in
     let none : IsIdle c.loop-events.world = idle c.loop-events.schedule.round c.loop-events.world (next-none c.loop-events.schedule c.loop-events.world (sym c.in_default.ensures.next)) in
-    ends c.args.self.now.turns c.loop-events.events c.args.self.now.breaks.now (record {
-      world = c.args.world.now;
-      left = g.S.Source.left c.args.reader.now;
-      read_faults = g.S.Source.faults c.args.reader.now;
-      contents = g.K.Sink.contents c.args.writer.now;
-      write_faults = g.K.Sink.faults c.args.writer.now;
-      stalls = g.K.Sink.stalls c.args.writer.now;
-      calls = g.L.Launcher.calls c.args.launcher.now;
-      is_full = g.L.Launcher.is_full c.args.launcher.now;
-    }) (record {
-      world = c.loop-events.world;
-      left = g.S.Source.left c.loop-events.reader;
-      read_faults = g.S.Source.faults c.loop-events.reader;
-      contents = g.K.Sink.contents c.loop-events.writer;
-      write_faults = g.K.Sink.faults c.loop-events.writer;
-      stalls = g.K.Sink.stalls c.loop-events.writer;
-      calls = g.L.Launcher.calls c.loop-events.launcher;
-      is_full = g.L.Launcher.is_full c.loop-events.launcher;
-    }) c.loop-events.schedule c.loop-events.held c.of.result c.loop-events.invariant.driven (omega arith) c.of.ensures.events c.of.ensures.code c.of.ensures.result2 c.of.ensures.shells none i.reader (i.writer, i.stalls)
+    ends c.args.self.now.turns c.loop-events.events c.args.self.now.breaks.now _ _ c.loop-events.schedule c.loop-events.held c.of.result c.loop-events.invariant.driven (omega arith) c.of.ensures.events c.of.ensures.code c.of.ensures.result2 c.of.ensures.shells none i.reader (i.writer, i.stalls)
 
 pub returns-in_default-clause-whole : goal.returns-in_default-clause-whole
 returns-in_default-clause-whole g c = agrees-whole c.loop-events.world (g.L.Launcher.calls c.loop-events.launcher) c.loop-events.invariant.agrees
@@ -268,25 +97,7 @@ pub returns-then-is_over-clause-comes_to : goal.returns-then-is_over-clause-come
 returns-then-is_over-clause-comes_to g c =
     let i = c.loop-events.invariant in
     let none : IsIdle c.loop-events.world = idle c.loop-events.schedule.round c.loop-events.world (due-none (due c.loop-events.schedule.round c.loop-events.world) c.is_over.result c.is_over.ensures c.if-is_over.true) in
-    ends c.args.self.now.turns c.loop-events.events c.args.self.now.breaks.now (record {
-      world = c.args.world.now;
-      left = g.S.Source.left c.args.reader.now;
-      read_faults = g.S.Source.faults c.args.reader.now;
-      contents = g.K.Sink.contents c.args.writer.now;
-      write_faults = g.K.Sink.faults c.args.writer.now;
-      stalls = g.K.Sink.stalls c.args.writer.now;
-      calls = g.L.Launcher.calls c.args.launcher.now;
-      is_full = g.L.Launcher.is_full c.args.launcher.now;
-    }) (record {
-      world = c.loop-events.world;
-      left = g.S.Source.left c.loop-events.reader;
-      read_faults = g.S.Source.faults c.loop-events.reader;
-      contents = g.K.Sink.contents c.loop-events.writer;
-      write_faults = g.K.Sink.faults c.loop-events.writer;
-      stalls = g.K.Sink.stalls c.loop-events.writer;
-      calls = g.L.Launcher.calls c.loop-events.launcher;
-      is_full = g.L.Launcher.is_full c.loop-events.launcher;
-    }) c.loop-events.schedule c.loop-events.held _ i.driven (omega arith) (search rules) (search rules) (search rules) (search rules) none i.reader (i.writer, i.stalls)
+    ends c.args.self.now.turns c.loop-events.events c.args.self.now.breaks.now _ _ c.loop-events.schedule c.loop-events.held _ i.driven (omega arith) (search rules) (search rules) (search rules) (search rules) none i.reader (i.writer, i.stalls)
 
 pub returns-then-is_over-clause-whole : goal.returns-then-is_over-clause-whole
 returns-then-is_over-clause-whole g c = agrees-whole c.loop-events.world (g.L.Launcher.calls c.loop-events.launcher) c.loop-events.invariant.agrees
@@ -295,25 +106,7 @@ pub returns-clause-comes_to : goal.returns-clause-comes_to
 returns-clause-comes_to g c =
     let i = c.loop-events.invariant in
     let some = due-some (due c.loop-events.schedule.round c.loop-events.world) c.is_over.result c.is_over.ensures c.if-is_over.false in
-    stops-turns c.args.self.now.turns c.loop-events.events c.args.self.now.breaks.now (record {
-      world = c.args.world.now;
-      left = g.S.Source.left c.args.reader.now;
-      read_faults = g.S.Source.faults c.args.reader.now;
-      contents = g.K.Sink.contents c.args.writer.now;
-      write_faults = g.K.Sink.faults c.args.writer.now;
-      stalls = g.K.Sink.stalls c.args.writer.now;
-      calls = g.L.Launcher.calls c.args.launcher.now;
-      is_full = g.L.Launcher.is_full c.args.launcher.now;
-    }) (record {
-      world = c.loop-events.world;
-      left = g.S.Source.left c.loop-events.reader;
-      read_faults = g.S.Source.faults c.loop-events.reader;
-      contents = g.K.Sink.contents c.loop-events.writer;
-      write_faults = g.K.Sink.faults c.loop-events.writer;
-      stalls = g.K.Sink.stalls c.loop-events.writer;
-      calls = g.L.Launcher.calls c.loop-events.launcher;
-      is_full = g.L.Launcher.is_full c.loop-events.launcher;
-    }) c.loop-events.schedule c.loop-events.held i.driven (omega arith) i.few
+    stops-turns c.args.self.now.turns c.loop-events.events c.args.self.now.breaks.now _ _ c.loop-events.schedule c.loop-events.held i.driven (omega arith) i.few
     (running c.loop-events.schedule.round some.0 c.loop-events.world i.in_round some.1) i.reader (i.writer, i.stalls)
 
 pub returns-clause-whole : goal.returns-clause-whole

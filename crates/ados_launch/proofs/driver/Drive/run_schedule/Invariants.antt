@@ -1,6 +1,7 @@
 use Rattle.std.proofs.Common.{◌≡◌, ◌≤◌, ◌<◌, length}
 use Rattle.ados_launch.specs.Agreement.{Agrees, IsOpenTable}
 use Rattle.ados_launch.specs.Lines.{ahead}
+use Rattle.ados_launch.specs.Session.{moment_of}
 use Rattle.ados_launch.proofs.Sessions.{Driven}
 use Rattle.ados_launch.proofs.driver.Drive.run_schedule.Given as goal
 
@@ -17,25 +18,7 @@ invariant-loop-events g l = record {
   agrees : Agrees l.world (g.L.Launcher.calls l.launcher);
   children : IsOpenTable l.children (g.L.Launcher.calls l.launcher);
   driven : Driven
-      (record {
-        world = l.fn.world;
-        left = g.S.Source.left l.fn.reader;
-        read_faults = g.S.Source.faults l.fn.reader;
-        contents = g.K.Sink.contents l.fn.writer;
-        write_faults = g.K.Sink.faults l.fn.writer;
-        stalls = g.K.Sink.stalls l.fn.writer;
-        calls = g.L.Launcher.calls l.fn.launcher;
-        is_full = g.L.Launcher.is_full l.fn.launcher;
-      })
-      (record {
-        world = l.world;
-        left = g.S.Source.left l.reader;
-        read_faults = g.S.Source.faults l.reader;
-        contents = g.K.Sink.contents l.writer;
-        write_faults = g.K.Sink.faults l.writer;
-        stalls = g.K.Sink.stalls l.writer;
-        calls = g.L.Launcher.calls l.launcher;
-        is_full = g.L.Launcher.is_full l.launcher;
-      })
+      (moment_of g.S.Source.left g.S.Source.faults g.K.Sink.contents g.K.Sink.faults g.K.Sink.stalls g.L.Launcher.calls g.L.Launcher.is_full l.fn.world l.fn.reader l.fn.writer l.fn.launcher)
+      (moment_of g.S.Source.left g.S.Source.faults g.K.Sink.contents g.K.Sink.faults g.K.Sink.stalls g.L.Launcher.calls g.L.Launcher.is_full l.world l.reader l.writer l.launcher)
       l.self.breaks.now l.events l.schedule (ahead l.held (g.S.Source.left l.reader));
 }

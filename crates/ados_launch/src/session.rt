@@ -1,0 +1,171 @@
+// A world that is driven event by event.
+ghost use Rattle.std.specs.Prelude.{◌≡◌, ◌⊎◌, ◌<◌, ◌^◌, ◌-◌, ◌+◌, ◌≤◌, ℕ, [], true, false, None, get_or, is_none, IfOk, OnOk, IsErrOf, length};
+ghost use Rattle.std.specs.Option.{option_copied};
+ghost use Rattle.ados_machine.specs.World.{codes_at, pending_of};
+ghost use Rattle.ados_launch.specs.Agreement.{Agrees, AreOver, AreWhole, IsOpenTable, WaitsForOpen};
+ghost use Rattle.ados_launch.specs.Leads.{LeadsTo};
+ghost use Rattle.ados_launch.specs.Rounds.{asks_further, due};
+ghost use Rattle.ados_launch.specs.Schedule.{first_standing, next_in};
+ghost use Rattle.ados_launch.specs.Steps.{TakesOne, request_at};
+
+use crate::children::{open_children, wait_for_open};
+use crate::driver::End;
+use crate::events::{shell_answered, take_next};
+use crate::faults::DriveFault;
+use crate::read_ahead::ReadAhead;
+use crate::schedule::Schedule;
+use crate::written::write_whole;
+use crate::{Sink, Source};
+use ados_launcher::Launcher;
+use ados_machine::{BreakAt, Request};
+use ados_world::{Draft, World};
+use std::alloc::Global;
+use std::marker::Model;
+
+/// What [`Drive::run`](crate::Drive::run) does, taken event by event: the schedule, the bytes that were read ahead, and which
+/// children of the launcher are open.
+///
+/// Between two events a caller may look at the world, and run lines alone in it ([`system`](crate::system)).
+#[derive(Drop)]
+pub struct Session<'a> {
+    alloc: Global,
+    schedule: Schedule<'a>,
+    held: ReadAhead,
+    line: Vec<u8>,
+    draft: Draft,
+    // the open children by their numbers
+    children: [bool; 21],
+}
+
+impl<'a> Model for Session<'a> {
+    ghost use Rattle.std.specs.Prelude.{◌<◌, ◌≤◌, length};
+    ghost use Rattle.ados_launch.specs.Steps.{SessionState};
+
+    ghost Value = { SessionState };
+
+    ghost view = { λ s. record { standing = s.schedule; held = s.held; children = s.children } };
+
+    ghost invariant = { λ s. (s.schedule.round.place ≤ 61) × (length s.held < 4096) };
+}
+
+impl<'a> Session<'a> {
+    /// A session of this world begins, with these breaks.
+    pub fn new(alloc: Global, world: &World, breaks: &'a [BreakAt]) -> Session<'a>
+        ensures standing { result.standing ≡ first_standing breaks.now }
+        ensures held { result.held ≡ [] }
+        ensures children { (k : ℕ) → get_or result.children k false ≡ asks_further (pending_of world.now k) }
+    {
+        Session {
+            alloc,
+            schedule: Schedule::new(breaks),
+            held: ReadAhead::new(),
+            line: Vec::new(alloc),
+            draft: Draft::new(alloc),
+            children: open_children(world),
+        }
+    }
+
+    /// What the event asks of the launcher that comes next; `None` where it asks nothing, or nothing comes.
+    #[tactic(auto, using(crate::proofs::Requests::request_none, crate::proofs::Requests::request_low, crate::proofs::Requests::request_high))]
+    pub fn request<'w>(&self, world: &'w World) -> Option<&'w Request>
+        requires count { self.now.standing.taken < 2 ^ 64 - 1 }
+        ensures { option_copied result ≡ request_at world.now (next_in self.now.standing world.now) }
+    {
+        let place = self.schedule.place(world)?;
+        if place < 21 {
+            None
+        } else {
+            world.pending(shell_answered(place))
+        }
+    }
+
+    /// Takes the event that comes next, or a long line, and writes what it prints; `false` where nothing comes.
+    ///
+    /// Each error of [`Drive::run`](crate::Drive::run) but `Turns`. No further event is taken after one.
+    pub fn take<L: Launcher, S: Source, K: Sink>(
+        &mut self,
+        world: &mut World,
+        launcher: &mut L,
+        reader: &mut S,
+        writer: &mut K,
+    ) -> Result<bool, DriveFault>
+        requires reader { S.faults reader.old < 2 ^ 64 - 1 }
+        requires writer { K.faults writer.old < 2 ^ 64 - 1 }
+        requires count { self.old.standing.taken < 2 ^ 64 - 1 }
+        requires agrees { Agrees world.old (L.calls launcher.old) }
+        requires children { IsOpenTable self.old.children (L.calls launcher.old) }
+        // What came next was taken, and its bytes were written.
+        ensures takes { IfOk result (λ is_taken. is_taken ≡ true → TakesOne self.old self.new
+            (record { world = world.old; left = S.left reader.old; read_faults = S.faults reader.old; contents = K.contents writer.old; write_faults = K.faults writer.old; stalls = K.stalls writer.old; calls = L.calls launcher.old; is_full = L.is_full launcher.old })
+            (record { world = world.new; left = S.left reader.new; read_faults = S.faults reader.new; contents = K.contents writer.new; write_faults = K.faults writer.new; stalls = K.stalls writer.new; calls = L.calls launcher.new; is_full = L.is_full launcher.new })) }
+        // Nothing comes.
+        ensures over { IfOk result (λ is_taken. is_taken ≡ false → (next_in self.old.standing world.old ≡ None) × (world.new ≡ world.old)) }
+        // However it ends, what happened is that the machine accepted an event, or nothing.
+        ensures leads { LeadsTo world.old world.new }
+        ensures unmoved { (IsErrOf result DriveFault.Read ⊎ IsErrOf result DriveFault.Memory) → world.new ≡ world.old }
+        ensures no_turns { IsErrOf result DriveFault.Turns → ⊥ }
+        ensures stays { L.is_full launcher.old ≡ true → L.is_full launcher.new ≡ true }
+        ensures agrees { OnOk result (Agrees world.new (L.calls launcher.new)) }
+        ensures children { IsOpenTable self.new.children (L.calls launcher.new) }
+        ensures whole { AreWhole (L.calls launcher.new) }
+        // What the next step needs.
+        ensures count { self.new.standing.taken ≤ self.old.standing.taken + 1 }
+        ensures reads { OnOk result (S.faults reader.new ≡ S.faults reader.old) }
+        ensures writes { OnOk result (K.faults writer.new ≡ K.faults writer.old) }
+    {
+        let Some(next) = self.schedule.next(world) else {
+            return Ok(false);
+        };
+        take_next(
+            self.alloc,
+            world,
+            launcher,
+            &mut self.children,
+            next,
+            &mut self.held,
+            reader,
+            &mut self.line,
+            &mut self.draft,
+        )?;
+        write_whole(writer, self.draft.printed.as_slice())?;
+        self.schedule.pass(next);
+        Ok(true)
+    }
+
+    /// Looks which children are open, after lines ran alone in the world.
+    pub fn look(&mut self, world: &World)
+        ensures children { (k : ℕ) → get_or self.new.children k false ≡ asks_further (pending_of world.now k) }
+        ensures standing { self.new.standing ≡ self.old.standing }
+        ensures held { self.new.held ≡ self.old.held }
+    {
+        self.children = open_children(world);
+    }
+
+    /// Nothing comes any more.
+    pub fn is_over(&self, world: &World) -> bool
+        ensures { result ≡ is_none (due self.now.standing.round world.now) }
+    {
+        self.schedule.is_over(world)
+    }
+
+    /// How the run ended that leaves this world.
+    pub fn end(&self, world: &World) -> End
+        ensures code { result.code ≡ (codes_at world.now 1).code }
+        ensures result2 { result.result2 ≡ (codes_at world.now 1).result2 }
+        ensures events { result.events ≡ self.now.standing.taken }
+        ensures shells { length world.now.shells ≡ 20 }
+    {
+        End::of(world, self.schedule.taken())
+    }
+
+    /// Waits for each open child once, by rising number. No event is taken after it.
+    pub fn abandon<L: Launcher>(&self, launcher: &mut L)
+        requires children { IsOpenTable self.now.children (L.calls launcher.old) }
+        requires whole { AreWhole (L.calls launcher.old) }
+        ensures over { AreOver (L.calls launcher.new) }
+        ensures waits { WaitsForOpen (L.calls launcher.old) (L.calls launcher.new) }
+        ensures room { L.is_full launcher.new ≡ L.is_full launcher.old }
+    {
+        wait_for_open(launcher, &self.children);
+    }
+}
