@@ -1,2 +1,4 @@
 pub mod Words
 pub mod Told
+pub mod LeftOut
+pub mod Mirror

@@ -1,6 +1,7 @@
 //! The files and folders of this machine that are brought in.
 
 use crate::faults::{TransferFault, named};
+use crate::left_out::strike;
 use crate::paths::{base_name, name_of, place_in, step_into};
 use crate::plan::{FILE_BYTES, Plan, file_of};
 use crate::script::shell_script;
@@ -29,24 +30,29 @@ pub fn bring<R: AllocGlobal + Files + Clone + Drop>(
     walk(rt, files, path, place, plan)
 }
 
-/// Adds a script of this machine to what is brought in, as a file in S:, and gives its place.
+/// Adds a script of this machine to what is brought in, as a file in S:, and gives its place; with `strikes` without the options
+/// that say nothing which matters here.
 pub fn bring_script<R: AllocGlobal + Files>(
     rt: &R,
     files: &Ram,
     path: &str,
+    strikes: bool,
     plan: &mut Plan,
 ) -> Result<Place, TransferFault> {
     let alloc = rt.alloc();
     let own = base_name(rt, path)?;
     let place = place_in(alloc, "S:")?.with(name_of(alloc, own.as_str(), path)?)?;
     let bytes = read_file(rt, path)?;
-    let script = shell_script(alloc, bytes.as_slice())?;
+    let mut script = shell_script(alloc, bytes.as_slice())?;
+    if strikes {
+        strike(alloc, &mut script)?;
+    }
     plan.add_file(files, place.copy()?, file_of(script, false), path)?;
     Ok(place)
 }
 
-// The path and the name of `PATH=NAME`. A path that is there is a path as a whole.
-fn parted<'a, R: Files>(rt: &R, words: &'a str) -> (&'a str, Option<&'a str>) {
+/// The path and the name of `PATH=NAME`. A path that is there is a path as a whole.
+pub fn parted<'a, R: Files>(rt: &R, words: &'a str) -> (&'a str, Option<&'a str>) {
     if fs::metadata(rt, words).is_ok() {
         return (words, None);
     }

@@ -2,21 +2,46 @@
 //! Files of this machine in the Shell's files and back: the typed lines by which they come in, so that each word is read as it
 //! was meant, what is to stand in the files then, and how files are written out.
 
+mod arguments;
+mod arrival_plan;
+mod arrivals;
 mod bringing;
+mod changes;
+mod choice;
+mod decision;
+mod departure;
+mod departures;
 mod faults;
+mod folders;
+mod here;
+mod keys;
+mod left_out;
 mod lines;
+mod mirror;
 mod paths;
 mod plan;
+mod records;
+mod release_two;
+mod room;
 mod script;
+mod share_lines;
+mod stamps;
+mod stand_ins;
 mod taking;
 mod told;
 mod words;
+mod writing;
 
+pub use arrivals::Arrival;
 pub use bringing::{bring, bring_script, bytes_of};
+pub use decision::{Deed, State, decide};
 pub use faults::TransferFault;
+pub use left_out::{LeftOut, options_left_out};
 pub use lines::{BRING, Lines};
+pub use mirror::{Mirror, MirrorOptions};
 pub use paths::{ascii, last_piece, step_into};
 pub use plan::Plan;
+pub use stamps::{Stamp, Time};
 pub use taking::take;
 pub use told::{Content, Told, are_as_told};
 pub use words::push_word;

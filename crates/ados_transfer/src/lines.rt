@@ -107,8 +107,8 @@ impl Lines {
     }
 }
 
-// A line that begins with these words.
-fn start(alloc: Global, words: &[u8]) -> Result<Text, NoMemory> {
+/// A line that begins with these words.
+pub fn start(alloc: Global, words: &[u8]) -> Result<Text, NoMemory> {
     Text::from_bytes(alloc, words)
 }
 
@@ -127,8 +127,8 @@ fn protection(alloc: Global, place: &Place) -> Result<Text, NoMemory> {
     Ok(line)
 }
 
-// The path of a place as a pattern that it alone matches: in the last name each sign of a pattern has a `'` before it.
-fn literal(alloc: Global, place: &Place) -> Result<Text, NoMemory> {
+/// The path of a place as a pattern that it alone matches: in the last name each sign of a pattern has a `'` before it.
+pub fn literal(alloc: Global, place: &Place) -> Result<Text, NoMemory> {
     let path = place.path(alloc)?;
     let bytes = path.as_bytes();
     let last = bytes
@@ -144,8 +144,8 @@ fn literal(alloc: Global, place: &Place) -> Result<Text, NoMemory> {
     Ok(text)
 }
 
-// The fault of a line that is too long for an object.
-fn too_long(alloc: Global, name: &Text) -> TransferFault {
+/// The fault of a line that is too long for an object.
+pub fn too_long(alloc: Global, name: &Text) -> TransferFault {
     match std::str::from_utf8(name.as_bytes()) {
         Ok(path) => named(alloc, path, TransferFault::LongLine),
         Err(_) => TransferFault::NoMemory,

@@ -31,7 +31,9 @@ pub fn last_piece(path: &str) -> &str {
 
 /// The path of a name in a folder.
 pub fn step_into(alloc: Global, folder: &str, name: &str) -> Result<String, TransferFault> {
-    let mut path = String::from_str(alloc, folder)?;
+    let room = folder.len().saturating_add(name.len()).saturating_add(1);
+    let mut path = String::with_capacity(alloc, room)?;
+    path.push_str(folder)?;
     if !folder.is_empty() && !folder.ends_with('/') {
         path.push('/')?;
     }

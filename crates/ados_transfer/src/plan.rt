@@ -9,14 +9,14 @@ use std::alloc::Global;
 /// The longest file.
 pub const FILE_BYTES: usize = 65_536;
 
-// How many bytes all files may have.
-const ALL_BYTES: usize = 1_048_576;
+/// How many bytes all files may have.
+pub const ALL_BYTES: usize = 1_048_576;
 
-// How many objects there may be beside the root.
-const OBJECTS: usize = 1024;
+/// How many objects there may be beside the root.
+pub const OBJECTS: usize = 1024;
 
-// The longest path.
-const PATH_BYTES: usize = 255;
+/// The longest path.
+pub const PATH_BYTES: usize = 255;
 
 /// Files and directories to be brought in, each after the directory in which it is.
 #[derive(Drop)]
@@ -48,6 +48,19 @@ impl Plan {
     /// What is to be brought in.
     pub fn told(&self) -> &[Told] {
         self.told.as_slice()
+    }
+
+    /// The bytes of the file that was added last; none after a directory.
+    pub fn last_bytes(&self) -> &[u8] {
+        match self.told.last() {
+            Some(
+                Told {
+                    content: Content::File { bytes, .. },
+                    ..
+                },
+            ) => bytes.as_bytes(),
+            _ => &[],
+        }
     }
 
     /// Adds a directory, if it is not there; `path` is what a fault names.

@@ -2,6 +2,32 @@
 
 use std::alloc::{AllocError, Global};
 
+// The program by which a script of the Shell runs on this machine.
+const INTERPRETER: &[u8] = b"amishell-execute";
+
+/// Whether the bytes of a file that may be executed are those of a script of the Shell: they are ASCII without NUL, and a first line
+/// `#!..` names amishell-execute.
+pub fn is_shell_script(bytes: &[u8]) -> bool {
+    if bytes.iter().any(|byte| *byte == 0 || !byte.is_ascii()) {
+        return false;
+    }
+    match bytes.strip_prefix(b"#!") {
+        None => true,
+        Some(rest) => names_interpreter(rest),
+    }
+}
+
+// The first line names amishell-execute.
+fn names_interpreter(rest: &[u8]) -> bool {
+    let end = rest
+        .iter()
+        .position(|byte| *byte == b'\n')
+        .unwrap_or(rest.len());
+    rest[..end]
+        .windows(INTERPRETER.len())
+        .any(|name| name == INTERPRETER)
+}
+
 /// The bytes of a script as the Shell reads it: a first line `#!..` is a comment, and a CR before a newline is left out.
 ///
 /// Where a directive stands in the second line the comment is `. ..`, since a script has directives if its first line

@@ -1,19 +1,16 @@
 //! What is written out at the end: files and directories of the Shell, as files and folders of this machine.
 
 use crate::faults::{TransferFault, named};
-use crate::paths::{ascii, last_piece, step_into};
+use crate::paths::{ascii, last_piece};
+use crate::writing::{Manner, checked, enter, no_memory, spelled, write_whole};
 use ados_assign::Assigns;
 use ados_names::Path;
 use ados_ram::{Entry, Place, Ram};
 use ados_text::Name;
 use std::alloc::Global;
-use std::fs::{File, Metadata, OpenOptions};
-use std::io::{ErrorKind, Write};
+use std::io::ErrorKind;
 use std::rt::Files;
 use std::{fs, io};
-
-// So many names are tried for the file that is written beside.
-const TRIES: u32 = 100;
 
 /// Writes what words of `--take` name, as `NAME` or `NAME=PATH`.
 ///
@@ -101,12 +98,12 @@ fn take_file<R: AllocGlobal + Files>(
 ) -> io::Result<()> {
     let Some(path) = path else {
         checked(own)?;
-        return write_whole(rt, ".", own, entry.bytes());
+        return write_whole(rt, ".", own, entry.bytes(), Manner::Plain);
     };
     if path.ends_with('/') || is_folder(rt, path) {
         checked(own)?;
         fs::create_dir_all(rt, path)?;
-        return write_whole(rt, path, own, entry.bytes());
+        return write_whole(rt, path, own, entry.bytes(), Manner::Plain);
     }
     let name = last_piece(path);
     checked(name)?;
@@ -115,7 +112,7 @@ fn take_file<R: AllocGlobal + Files>(
         Some(folder) => folder,
     };
     fs::create_dir_all(rt, folder)?;
-    write_whole(rt, folder, name, entry.bytes())
+    write_whole(rt, folder, name, entry.bytes(), Manner::Plain)
 }
 
 fn is_folder<R: Files>(rt: &R, path: &str) -> bool {
@@ -123,14 +120,6 @@ fn is_folder<R: Files>(rt: &R, path: &str) -> bool {
         Ok(found) => found.is_dir(),
         Err(_) => false,
     }
-}
-
-// A name that means another folder is refused.
-fn checked(name: &str) -> io::Result<()> {
-    if matches!(name, "" | "." | "..") {
-        return Err(io::Error::from(ErrorKind::InvalidInput));
-    }
-    Ok(())
 }
 
 // Writes what is in a directory into a folder. What cannot be written is left out, and the last fault is told.
@@ -183,83 +172,13 @@ fn take_below<R: AllocGlobal + Files>(
     };
     let mut path = String::from_str(rt.alloc(), folder)?;
     for name in above {
-        path = enter(rt, path.as_str(), name)?;
+        path = enter(rt, path.as_str(), spelled(name)?)?;
     }
     if entry.is_directory() {
-        enter(rt, path.as_str(), last)?;
+        enter(rt, path.as_str(), spelled(last)?)?;
         return Ok(());
     }
     let name = spelled(last)?;
     checked(name)?;
-    write_whole(rt, path.as_str(), name, entry.bytes())
-}
-
-// The path of a folder in a folder; it is made if it is not there. One that is a link is refused.
-fn enter<R: AllocGlobal + Files>(rt: &R, folder: &str, name: &Name) -> io::Result<String> {
-    let name = spelled(name)?;
-    checked(name)?;
-    let path = joined(rt.alloc(), folder, name)?;
-    match fs::symlink_metadata(rt, path.as_str()) {
-        Ok(found) if found.is_dir() => Ok(path),
-        Ok(_) => Err(io::Error::from(ErrorKind::NotADirectory)),
-        Err(error) if error.kind() == ErrorKind::NotFound => {
-            fs::create_dir(rt, path.as_str())?;
-            Ok(path)
-        }
-        Err(error) => Err(error),
-    }
-}
-
-// A name as std's calls take it: ASCII is always UTF-8.
-fn spelled(name: &Name) -> io::Result<&str> {
-    match std::str::from_utf8(name.text().as_bytes()) {
-        Ok(name) => Ok(name),
-        Err(_) => Err(io::Error::from(ErrorKind::InvalidInput)),
-    }
-}
-
-fn joined(alloc: Global, folder: &str, name: &str) -> io::Result<String> {
-    match step_into(alloc, folder, name) {
-        Ok(path) => Ok(path),
-        Err(_) => Err(no_memory()),
-    }
-}
-
-fn no_memory() -> io::Error {
-    io::Error::from(ErrorKind::OutOfMemory)
-}
-
-// Writes a file of a name in a folder: a file beside it, which then takes the name.
-fn write_whole<R: AllocGlobal + Files>(
-    rt: &R,
-    folder: &str,
-    name: &str,
-    bytes: &[u8],
-) -> io::Result<()> {
-    let target = joined(rt.alloc(), folder, name)?;
-    let (beside, mut file) = open_beside(rt, folder)?;
-    let written = file.write_all(bytes);
-    drop(file);
-    let moved = match written {
-        Ok(()) => fs::rename(rt, beside.as_str(), target.as_str()),
-        Err(error) => Err(error),
-    };
-    if moved.is_err() {
-        let _ = fs::remove_file(rt, beside.as_str());
-    }
-    moved
-}
-
-// A new file in a folder, with its path.
-fn open_beside<R: AllocGlobal + Files>(rt: &R, folder: &str) -> io::Result<(String, R::File)> {
-    for number in 0..TRIES {
-        let name = format!(in rt.alloc(); ".amishell-execute.{number}")?;
-        let path = joined(rt.alloc(), folder, name.as_str())?;
-        match File::create_new(rt, path.as_str()) {
-            Ok(file) => return Ok((path, file)),
-            Err(error) if error.kind() == ErrorKind::AlreadyExists => {}
-            Err(error) => return Err(error),
-        }
-    }
-    Err(io::Error::from(ErrorKind::AlreadyExists))
+    write_whole(rt, path.as_str(), name, entry.bytes(), Manner::Plain)
 }

@@ -39,7 +39,26 @@ PATH. May be given again";
 
 const TYPE: &str = "A line that is typed before the script. May be given again";
 
+const SHARE: &str =
+    "Shares a folder of this machine: it stands as RAM:Work, or as PATH, and the script begins there. Before
+each program starts what changed there is written to the folder, and what the program changes in the
+folder comes in when it ends";
+
+const ALL: &str = "Shares also .git and what else has a name that begins with a dot";
+
+const DRY: &str =
+    "Tells what would be written to the shared folder and deleted there, and writes nothing";
+
 const QUOTE: &str = "Quotes each of ARGS, so that none is the name of an option of .KEY";
+
+const STRIKE: &str =
+    "Strikes out of the script what the Shell leaves out and says nothing which matters here: CLONE, DATES,
+NOREQ and BUFFER of Copy, FORCE of Delete, KEYS, DATES, NODATES, BLOCK and NOHEAD of List, and QUIET
+where there is none";
+
+const STRICT: &str =
+    "Runs nothing if a line of the script gives a command an option of Release 2 that the Shell leaves out;
+without it each such line is told on standard error, and the script runs";
 
 const TURNS: &str =
     "How many events and long lines are taken at most, 1 to 1000000000, not counted those that bring files
@@ -77,7 +96,12 @@ fn command<'a>(alloc: Global) -> Result<Command<'a>, AllocError> {
         .arg(list_option(alloc, "bring", "PATH[=NAME]", BRING))?
         .arg(list_option(alloc, "take", "NAME[=PATH]", TAKE))?
         .arg(list_option(alloc, "type", "LINE", TYPE))?
+        .arg(text_option(alloc, "share", "FOLDER[=PATH]", SHARE))?
+        .arg(flag(alloc, "all", ALL).requires_arg("share")?)?
+        .arg(flag(alloc, "dry", DRY).requires_arg("share")?)?
         .arg(flag(alloc, "quote", QUOTE))?
+        .arg(flag(alloc, "strike", STRIKE))?
+        .arg(flag(alloc, "strict", STRICT))?
         .arg(text_option(alloc, "turns", "N", TURNS))?
         .arg(script)
 }

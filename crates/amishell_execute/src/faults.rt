@@ -4,6 +4,8 @@ use ados_launch::DriveFault;
 use ados_text::NoMemory;
 use ados_transfer::TransferFault;
 use std::alloc::{AllocError, AllocFailed, Global};
+use std::fmt::Display;
+use std::io::Eprint;
 use thiserror::Error;
 
 /// What that line says.
@@ -76,4 +78,9 @@ pub fn bad_host(alloc: Global, words: &str) -> Fault {
         Ok(words) => Fault::BadHostWords(words),
         Err(_) => Fault::Memory,
     }
+}
+
+/// Writes a line on standard error. Where even this line cannot be written, the status tells.
+pub fn tell<R: Eprint, T: Display>(rt: &R, line: &T) {
+    let _ = rt.eprintln(format_args!("amishell-execute: {line}"));
 }

@@ -3,7 +3,7 @@ ghost use Rattle.std.specs.Prelude.{◌≡◌, ◌≤◌, [], length, true, fals
 ghost use Rattle.ados_machine.specs.Children.{answers_start, answers_read, answers_wait};
 
 use ados_launch::Launcher;
-use ados_launcher::{Log, Programs};
+use ados_launcher::{Log, Programs, StartFolder};
 use ados_machine::{Answer, Job};
 use ados_text::{NoMemory, Octets};
 use ados_transfer::{BRING, Content, Told};
@@ -27,9 +27,25 @@ struct Children<'a, R: Processes> {
     alloc: Global,
     // what is left to be brought in
     left: &'a [Told],
-    // what the command that brings in has left to put out, and its shell
+    // what comes in before that
+    offered: Option<Octets>,
+    // what the command that brings in has left to put out of a file that was told, and its shell
     open: Option<(u8, &'a [u8])>,
+    // what it puts out of a file that was offered
+    handed: Option<Handed>,
+    // how the program of a number ended, for the wait that comes
+    ended: Option<(u8, Answer)>,
     programs: Programs<'a, R>,
+}
+
+// A file that was offered, on its way.
+#[derive(Drop)]
+struct Handed {
+    // the shell of the command that puts it out
+    shell: u8,
+    bytes: Octets,
+    // so many of the bytes were put out
+    from: usize,
 }
 
 impl<'a, R: Processes> Model for Bringer<'a, R> {
@@ -54,11 +70,36 @@ impl<'a, R: Processes> Bringer<'a, R> {
             children: Children {
                 alloc,
                 left: told,
+                offered: None,
                 open: None,
+                handed: None,
+                ended: None,
                 programs: Programs::new(alloc, processes)?,
             },
-            log: Log::new(alloc),
+            log: Log::new(),
         })
+    }
+
+    /// The command that brings in puts out this the next time, and with `None` again what is left to be brought in.
+    pub fn offer(&mut self, bytes: Option<Octets>)
+        ensures { self.new ≡ self.old }
+    {
+        self.children.offered = bytes;
+    }
+
+    /// From now on programs start in this folder; with `None` in this process's directory.
+    pub fn set_folder(&mut self, folder: Option<StartFolder>)
+        ensures { self.new ≡ self.old }
+    {
+        self.children.programs.set_folder(folder);
+    }
+
+    /// Waits for the end of a program before the world asks for it. It answers at once then.
+    pub fn await_end(&mut self, child: u8)
+        ensures { self.new ≡ self.old }
+    {
+        let answer = self.children.end(child);
+        self.children.ended = Some((child, answer));
     }
 }
 
@@ -68,6 +109,14 @@ impl<R: Processes> Children<'_, R> {
         ensures { answers_start result ≡ true }
     {
         if job.program.as_bytes() == BRING {
+            if let Some(bytes) = self.offered.take() {
+                self.handed = Some(Handed {
+                    shell: job.shell,
+                    bytes,
+                    from: 0,
+                });
+                return Answer::Started;
+            }
             if let Some((bytes, left)) = next_file(self.left) {
                 self.left = left;
                 self.open = Some((job.shell, bytes));
@@ -87,6 +136,17 @@ impl<R: Processes> Children<'_, R> {
                 self.open = Some((shell, &bytes[length..]));
                 piece_of(self.alloc, &bytes[..length])
             }
+            _ => self.other_piece(child),
+        }
+    }
+
+    // A piece of a file that was offered, or of a program.
+    fn other_piece(&mut self, child: u8) -> Answer
+        ensures { answers_read result ≡ true }
+    {
+        let alloc = self.alloc;
+        match &mut self.handed {
+            Some(handed) if handed.shell == child => handed.next(alloc),
             _ => self.programs.read(child),
         }
     }
@@ -100,8 +160,60 @@ impl<R: Processes> Children<'_, R> {
                 self.open = None;
                 Answer::Exit(0)
             }
-            _ => self.programs.wait(child),
+            _ => self.other_end(child),
         }
+    }
+
+    // How the command ended that put out a file that was offered, or a program.
+    fn other_end(&mut self, child: u8) -> Answer
+        ensures { answers_wait result ≡ true }
+    {
+        if self
+            .handed
+            .as_ref()
+            .is_some_and(|handed| handed.shell == child)
+        {
+            self.handed = None;
+            return Answer::Exit(0);
+        }
+        self.program_end(child)
+    }
+
+    // How a program ended: as it was told before, or now.
+    fn program_end(&mut self, child: u8) -> Answer
+        ensures { answers_wait result ≡ true }
+    {
+        if !self.ended.as_ref().is_some_and(|ended| ended.0 == child) {
+            return self.programs.wait(child);
+        }
+        match self.ended.take() {
+            Some((_, answer)) => how_it_ended(answer),
+            None => self.programs.wait(child),
+        }
+    }
+}
+
+impl Handed {
+    // The next piece, or the end.
+    fn next(&mut self, alloc: Global) -> Answer
+        ensures { answers_read result ≡ true }
+    {
+        let rest = self.bytes.as_bytes().get(self.from..).unwrap_or(&[]);
+        let length = rest.len().min(PIECE_BYTES);
+        let answer = piece_of(alloc, &rest[..length]);
+        self.from = self.from.saturating_add(length);
+        answer
+    }
+}
+
+// An answer to a wait as it is.
+fn how_it_ended(answer: Answer) -> Answer
+    ensures { answers_wait result ≡ true }
+{
+    match answer {
+        Answer::Exit(code) => Answer::Exit(code),
+        Answer::Signal => Answer::Signal,
+        _ => Answer::WaitFault,
     }
 }
 

@@ -1,7 +1,7 @@
 //! The program: one command script of this machine, run by the Shell of AmigaDOS Release 2 in one command.
 #![tactic(auto)]
 
-ghost use Rattle.std.specs.Prelude.{◌≡◌, [], pos};
+ghost use Rattle.std.specs.Prelude.{◌≡◌, [], pos, OnOk};
 ghost use Rattle.ados_launch.specs.Agreement.{Agrees};
 ghost use Rattle.amishell_execute.specs.Status.{status_of};
 
@@ -9,24 +9,28 @@ mod command;
 mod faults;
 mod hosts;
 mod launcher;
+mod play;
 mod reader;
 mod reading;
 mod request;
+mod share;
+mod warnings;
 
-use ados_launch::{Counted, Drive, End};
 use ados_ram::Place;
 use ados_text::{Code, Text};
 use ados_transfer::{Lines, Plan, bring, bring_script, take};
 use ados_world::{NewFault, World};
-use faults::Fault;
+use faults::{Fault, tell};
 use hosts::hosts_for;
-use launcher::Bringer;
-use reader::Prompter;
+use play::play;
 use request::{Options, Refused};
+use share::Share;
 use std::io;
 use std::io::{Eprint, Write};
 use std::process::{ExitCode, Processes};
 use std::rt::{Env, Files};
+use std::time::Clock;
+use warnings::warn;
 
 // The status after a fault, and after a code that is no status.
 const FAILED: u8 = 20;
@@ -35,19 +39,14 @@ fn main(rt: HostRuntime) -> ExitCode {
     match run(&rt) {
         Ok(status) => ExitCode::from(status),
         Err(fault) => {
-            tell(&rt, fault);
+            tell(&rt, &fault);
             ExitCode::from(FAILED)
         }
     }
 }
 
-// Writes the line of a fault. Where even this line cannot be written, the status tells.
-fn tell<R: Eprint>(rt: &R, fault: Fault) {
-    let _ = rt.eprintln(format_args!("amishell-execute: {fault}"));
-}
-
 // Does what the words ask for, and gives the exit status.
-fn run<R: Env + AllocGlobal + Files + Input + Print + Eprint + Processes + Clone + Drop>(
+fn run<R: Env + AllocGlobal + Files + Input + Print + Eprint + Processes + Clone + Drop + Clock>(
     rt: &R,
 ) -> Result<u8, Fault> {
     let words = given_words(rt)?;
@@ -80,81 +79,106 @@ fn given_words<R: Env + AllocGlobal>(rt: &R) -> Result<Vec<String>, Fault> {
     }
 }
 
-// Runs the script, takes what is asked for, and gives the exit status.
+// Runs the script in a new world, and gives the exit status.
 #[tactic(auto, using(ados_launch::proofs::NewPair::new_pair))]
-fn execute<R: Env + AllocGlobal + Files + Input + Print + Eprint + Processes + Clone + Drop>(
-    rt: &R,
-    options: &Options<'_>,
-) -> Result<u8, Fault> {
+fn execute<
+    R: Env + AllocGlobal + Files + Input + Print + Eprint + Processes + Clone + Drop + Clock,
+>(rt: &R, options: &Options<'_>) -> Result<u8, Fault> {
     let hosts = hosts_for(rt, options)?;
     let mut world = match World::new(rt.alloc(), hosts.as_slice()) {
         Ok(world) => world,
         Err(NewFault::NoMemory) => return Err(Fault::Memory),
         Err(_) => return Err(Fault::ManyHosts),
     };
+    let mut share = opened(rt, options, &mut world)?;
+    run_script(rt, options, &mut world, &mut share)
+}
+
+// The folder that is shared, if one is.
+fn opened<R: Env + AllocGlobal + Files + Clone + Drop + Clock>(
+    rt: &R,
+    options: &Options<'_>,
+    world: &mut World,
+) -> Result<Option<Share>, Fault>
+    requires agrees { Agrees world.old [] }
+    ensures agrees { OnOk result (Agrees world.new []) }
+{
+    match options.share {
+        Some(words) => Ok(Some(Share::open(rt, words, options.mirror, world)?)),
+        None => Ok(None),
+    }
+}
+
+// Runs the script, takes what is asked for, and gives the exit status.
+fn run_script<R: AllocGlobal + Files + Input + Print + Eprint + Processes + Clone + Drop + Clock>(
+    rt: &R,
+    options: &Options<'_>,
+    world: &mut World,
+    share: &mut Option<Share>,
+) -> Result<u8, Fault>
+    requires agrees { Agrees world.old [] }
+{
     let mut plan = Plan::new(rt.alloc(), world.files())?;
     for words in &options.bring {
         bring(rt, world.files(), words, &mut plan)?;
     }
-    let script = bring_script(rt, world.files(), options.script, &mut plan)?;
-    let lines = lines_for(rt, options, &plan, &script)?;
-    let ended = play(rt, &mut world, &plan, &lines, options.turns);
+    let script = bring_script(rt, world.files(), options.script, options.strike, &mut plan)?;
+    if warn(rt, options.script, plan.last_bytes())? && options.strict {
+        return Ok(FAILED);
+    }
+    let lines = lines_for(rt, options, share.as_ref(), &plan, &script)?;
+    let ended = play(rt, world, &plan, &lines, options.turns, share.as_mut());
+    let is_alike = close(rt, world, share.as_mut())?;
+    let is_taken = take_all(rt, options, world);
+    let end = ended?;
+    Ok(if is_alike && is_taken {
+        status(end.code)
+    } else {
+        FAILED
+    })
+}
+
+// Brings the shared folder up to date, if there is one; whether all was done.
+fn close<R: AllocGlobal + Files + Eprint + Clone + Drop + Clock>(
+    rt: &R,
+    world: &World,
+    share: Option<&mut Share>,
+) -> Result<bool, Fault> {
+    match share {
+        Some(share) => share.close(rt, world),
+        None => Ok(true),
+    }
+}
+
+// Takes what is asked for; whether all was taken.
+fn take_all<R: AllocGlobal + Files + Eprint>(rt: &R, options: &Options<'_>, world: &World) -> bool {
     let mut is_taken = true;
     for words in &options.take {
         if let Err(fault) = take(rt, world.files(), world.assigns(), words) {
-            tell(rt, Fault::from(fault));
+            tell(rt, &fault);
             is_taken = false;
         }
     }
-    let end = ended?;
-    Ok(if is_taken { status(end.code) } else { FAILED })
+    is_taken
 }
 
 // The lines of the run.
 fn lines_for<R: AllocGlobal>(
     rt: &R,
     options: &Options<'_>,
+    share: Option<&Share>,
     plan: &Plan,
     script: &Place,
 ) -> Result<Lines, Fault> {
     let mut lines = Lines::bringing(rt.alloc(), plan.told())?;
+    if let Some(share) = share {
+        lines.all.push(share.change_line(rt.alloc())?)?;
+    }
     for line in &options.typed {
         lines.add_typed(rt.alloc(), line)?;
     }
     lines.add_call(rt.alloc(), script, options.args.as_slice(), options.quote)?;
     Ok(lines)
-}
-
-// Runs the lines in a new world, with standard input for what asks.
-#[tactic(auto, using(crate::proofs::Pairs::kept_pair))]
-fn play<R: AllocGlobal + Input + Print + Processes>(
-    rt: &R,
-    world: &mut World,
-    plan: &Plan,
-    lines: &Lines,
-    turns: u64,
-) -> Result<End, Fault>
-    requires { Agrees world.old [] }
-{
-    let mut launcher = Bringer::new(rt.alloc(), rt, plan.told())?;
-    let mut reader = Prompter::new(
-        plan.told(),
-        lines.all.as_slice(),
-        lines.bringing,
-        rt.reader(),
-    );
-    let mut writer = Counted::new(io::writer(rt));
-    let turns = turns.saturating_add(lines.events);
-    let drive = Drive {
-        alloc: rt.alloc(),
-        turns,
-        breaks: &[],
-    };
-    let ended = drive.run(world, &mut launcher, &mut reader, &mut writer);
-    if reader.is_refused() {
-        return Err(Fault::NotBrought);
-    }
-    Ok(ended?)
 }
 
 // The exit status that a code gives.

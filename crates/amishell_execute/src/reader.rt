@@ -78,6 +78,11 @@ impl<'a, I: Read> Prompter<'a, I> {
         matches!(self.next, Next::Refused)
     }
 
+    /// All lines were given that bring the files in.
+    pub fn has_brought(&self) -> bool {
+        self.given >= self.bringing
+    }
+
     /// Chooses by the world that is about to take a line what comes next: a line of standard input where the Shell asks, or
     /// the next prepared line, or the end.
     pub fn choose(&mut self, world: &World)

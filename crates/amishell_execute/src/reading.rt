@@ -4,6 +4,7 @@ ghost use Rattle.std.specs.Prelude.{◌≤◌, IfSome};
 use crate::command::matches_of_words;
 use crate::request::{Options, Refused};
 use ados_text::{NoMemory, Text, number};
+use ados_transfer::MirrorOptions;
 use clap::error::ErrorKind;
 use clap::{ArgMatches, Error};
 use std::alloc::{AllocError, Global};
@@ -48,7 +49,14 @@ fn options<'a>(
         bring: list(alloc, matches, "bring")?,
         take: list(alloc, matches, "take")?,
         typed: list(alloc, matches, "type")?,
+        share: matches.get_str("share"),
+        mirror: MirrorOptions {
+            all: matches.get_flag("all"),
+            dry: matches.get_flag("dry"),
+        },
         quote: matches.get_flag("quote"),
+        strike: matches.get_flag("strike"),
+        strict: matches.get_flag("strict"),
         turns,
         script,
         args: args.to_vec(alloc)?,

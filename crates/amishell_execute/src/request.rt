@@ -1,6 +1,7 @@
 //! What a command line asks for.
 
 use ados_text::Text;
+use ados_transfer::MirrorOptions;
 
 /// What the program is to do.
 #[derive(Drop)]
@@ -17,8 +18,16 @@ pub struct Options<'a> {
     pub take: Vec<&'a str>,
     /// The lines that are typed before the script.
     pub typed: Vec<&'a str>,
+    /// The folder that is shared, as `FOLDER` or `FOLDER=PATH`.
+    pub share: Option<&'a str>,
+    /// What of it is shared, and whether anything is written.
+    pub mirror: MirrorOptions,
     /// Each argument is quoted.
     pub quote: bool,
+    /// Options that the Shell leaves out, and that say nothing which matters here, are struck out of the script.
+    pub strike: bool,
+    /// The script runs only if it has no option that the Shell leaves out.
+    pub strict: bool,
     /// So many events and long lines are taken at most.
     pub turns: u64,
     /// The script's file.

@@ -1,0 +1,53 @@
+-- What becomes of an object of a share, which stands in a folder of this machine and in the Shell's files.
+use Rattle.std.specs.Prelude.{Bool, true, false, ◌&&◌, ◌==◌, if◌then◌else◌}
+use Rattle.std.specs.Str.{bytes_eq}
+use Rattle.ados_transfer.specs.declared.stamps.Time.{Time}
+use Rattle.ados_transfer.specs.declared.stamps.Stamp.{Stamp}
+use Rattle.ados_transfer.specs.declared.decision.State.{State}
+use Rattle.ados_transfer.specs.declared.decision.State.TheVariants.{Absent, Directory, File, Large, Foreign}
+use Rattle.ados_transfer.specs.declared.decision.Deed.{Deed}
+use Rattle.ados_transfer.specs.declared.decision.Deed.TheVariants.{Keep, Bring, Write, Stand}
+
+-- the two are one time
+abbrev pub is_same_time : Time → Time → Bool
+is_same_time a b = a.seconds == b.seconds && a.nanoseconds == b.nanoseconds
+
+-- two files have the same marks: size, number and times
+abbrev pub is_same_stamp : Stamp → Stamp → Bool
+is_same_stamp a b = a.size == b.size && (a.number == b.number && (is_same_time a.modified b.modified && is_same_time a.changed b.changed))
+
+-- what stands on two sides is alike: nothing, directories, files of the same bytes, files that the Shell can't hold of the same marks
+abbrev pub is_same : State → State → Bool
+is_same Absent Absent = true
+is_same Directory Directory = true
+is_same (File a) (File b) = bytes_eq a.now b.now
+is_same (Large a) (Large b) = is_same_stamp a b
+is_same Foreign Foreign = true
+is_same _ _ = false
+
+-- nothing is there
+abbrev pub is_absent : State → Bool
+is_absent Absent = true
+is_absent _ = false
+
+-- it is a file that the Shell can't hold
+abbrev pub is_large : State → Bool
+is_large (Large stamp) = true
+is_large _ = false
+
+-- What this machine has, `here`, may be replaced by what the Shell has: it is nothing, or what it was at the last time. A file that
+-- the Shell can't hold is only deleted, by leave; what is neither a file nor a directory is not touched.
+abbrev pub may_write : State → State → State → Bool → Bool
+may_write last Absent there leave = true
+may_write last Directory there leave = is_same Directory last
+may_write last (File bytes) there leave = is_same (File bytes) last
+may_write last (Large stamp) there leave = is_same (Large stamp) last && (is_absent there && leave)
+may_write last Foreign there leave = false
+
+-- what is done: nothing where both sides are alike; else the one that changed goes to the other side, and this machine's stands where
+-- both did
+abbrev pub decision : State → State → State → Bool → Deed
+decision last here there leave =
+    if is_same here there then Keep else
+    (if is_same there last then Bring else
+    (if may_write last here there leave then Write else Stand))

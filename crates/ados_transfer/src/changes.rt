@@ -1,0 +1,137 @@
+//! What is planned for one object of the folder of a share.
+
+use crate::arrival_plan::ArrivalPlan;
+use crate::arrivals::{Arrival, Change, Coming};
+use crate::decision::{Deed, State, decide};
+use crate::faults::TransferFault;
+use crate::folders::{Kind, Seen};
+use crate::here::Here;
+use crate::mirror::Mirror;
+use crate::records::{Last, Record};
+use crate::stamps::Stamp;
+use crate::stand_ins::is_stand_in;
+use ados_ram::{Body, Entry};
+use std::rt::Files;
+
+impl Mirror {
+    /// Plans that an object goes in the Shell's files that is gone on this machine, or that is of another kind there.
+    pub(crate) fn plan_gone<R: AllocGlobal + Files>(
+        &mut self,
+        rt: &R,
+        plan: &mut ArrivalPlan<'_>,
+        change: &Change<'_>,
+    ) -> Result<(), TransferFault> {
+        let key = change.key.as_str();
+        let Some(record) = self.records.find(key) else {
+            return Ok(());
+        };
+        if let Some(seen) = change.seen {
+            if is_of_kind(record, seen.kind) {
+                return Ok(());
+            }
+        }
+        let here = match change.seen {
+            Some(seen) => Here::look(rt, self.folder.as_str(), seen.path.as_str())?,
+            None => Here::Absent,
+        };
+        let place = record.place.copy()?;
+        let entry = plan.look(key, &place);
+        let state = here.state(Some(record));
+        let deed = decide(&record.state(), &state, &record.state_there(entry), false);
+        let (is_absent, is_foreign) = (state.is_absent(), matches!(state, State::Foreign));
+        let gone = (key, record.path.as_str());
+        let arrival = Arrival::new(self.alloc, gone, Coming::Nothing, Stamp::NONE)?;
+        if deed == Deed::Stand {
+            self.tell_standing(key, arrival.path.as_str(), false)?;
+        }
+        match (deed, entry) {
+            (Deed::Keep, _) if is_absent => {
+                self.forget(key);
+                Ok(())
+            }
+            (Deed::Stand, _) if is_foreign => Ok(()),
+            (Deed::Stand | Deed::Bring, Some(entry)) => {
+                plan.add_deletion(self, arrival, &place, entry)
+            }
+            _ => Ok(()),
+        }
+    }
+
+    /// Plans that an object comes in that is new on this machine, or that changed there.
+    pub(crate) fn plan_come<R: AllocGlobal + Files>(
+        &mut self,
+        rt: &R,
+        plan: &mut ArrivalPlan<'_>,
+        change: &Change<'_>,
+    ) -> Result<(), TransferFault> {
+        let Some(seen) = change.seen else {
+            return Ok(());
+        };
+        let key = seen.key.as_str();
+        let place = self.place_of(seen.path.as_str())?;
+        let entry = plan.look(key, &place);
+        if entry.is_none() && plan.is_full() && self.records.find(key).is_none() {
+            return self.tell_full(seen.path.as_str());
+        }
+        let record = match self.records.find(key) {
+            Some(record) if !plan.deletes(key) => Some(record),
+            _ => None,
+        };
+        if entry.is_some() && record.is_some_and(|record| !is_of_kind(record, seen.kind)) {
+            return Ok(());
+        }
+        let here = Here::look(rt, self.folder.as_str(), seen.path.as_str())?;
+        let is_stand_in = record.is_some_and(Record::is_stand_in);
+        match here.deed(record, entry) {
+            Deed::Keep => self.keep_alike(plan, seen, &here, entry),
+            Deed::Write => {
+                if let Some(stamp) = here.stamp() {
+                    self.records.mark(key, stamp, stamp.is_fresh(plan.now()));
+                }
+                Ok(())
+            }
+            Deed::Stand => {
+                self.tell_standing(key, seen.path.as_str(), is_stand_in)?;
+                plan.add_object(self, seen, here, &place)
+            }
+            Deed::Bring => plan.add_object(self, seen, here, &place),
+        }
+    }
+
+    // Both sides are alike: that is kept.
+    fn keep_alike(
+        &mut self,
+        plan: &ArrivalPlan<'_>,
+        seen: &Seen,
+        here: &Here,
+        entry: Option<&Entry>,
+    ) -> Result<(), TransferFault> {
+        let (Some(stamp), Some(entry)) = (here.stamp(), entry) else {
+            return Ok(());
+        };
+        let last = match (here, &entry.body) {
+            (Here::Directory(_), Body::Directory) => Last::Directory,
+            (Here::File { .. }, Body::File(bytes)) if !is_stand_in(entry) => {
+                Last::File(bytes.clone()?)
+            }
+            (_, Body::File(_)) if is_stand_in(entry) => Last::StandIn,
+            _ => return Ok(()),
+        };
+        self.keep_as(
+            seen.key.as_str(),
+            seen.path.as_str(),
+            last,
+            stamp,
+            plan.now(),
+        )
+    }
+}
+
+// What is there on this machine is of the kind that was there at the last time.
+fn is_of_kind(record: &Record, kind: Kind) -> bool {
+    match (&record.last, kind) {
+        (Last::Directory, Kind::Directory) => true,
+        (Last::File(_) | Last::StandIn, Kind::File { .. }) => true,
+        _ => false,
+    }
+}

@@ -1,0 +1,97 @@
+//! What becomes of an object of a share.
+ghost use Rattle.std.specs.Prelude.{◌≡◌, ◌⊎◌, true, false};
+ghost use Rattle.ados_transfer.specs.Mirror.{decision, is_absent, is_same, is_large, may_write};
+
+use crate::stamps::Stamp;
+
+/// What stands at a place on one side of a share.
+#[derive(Clone, Copy)]
+pub enum State<'a> {
+    /// Nothing.
+    Absent,
+    /// A directory.
+    Directory,
+    /// A file of these bytes.
+    File(&'a [u8]),
+    /// A file of this machine that the Shell can't hold, by its marks; in the Shell its stand-in.
+    Large(Stamp),
+    /// What is none of these: a link, a device, a file that can't be read.
+    Foreign,
+}
+
+/// What is done with an object.
+#[derive(Clone, Copy, PartialEq, Eq)]
+pub enum Deed {
+    /// Nothing: both sides are alike.
+    Keep,
+    /// What this machine has comes into the Shell's files, where nothing changed.
+    Bring,
+    /// What the Shell has is written to this machine, or deleted there.
+    Write,
+    /// Both sides changed, or this machine's is not to be touched: what it has stands.
+    Stand,
+}
+
+impl State<'_> {
+    /// The two are alike.
+    pub fn is_same(&self, other: &State<'_>) -> bool
+        ensures { result ≡ is_same self.now other.now }
+    {
+        match (self, other) {
+            (State::Absent, State::Absent) => true,
+            (State::Directory, State::Directory) => true,
+            (State::File(bytes), State::File(others)) => *bytes == *others,
+            (State::Large(stamp), State::Large(other)) => stamp.is_same(other),
+            (State::Foreign, State::Foreign) => true,
+            _ => false,
+        }
+    }
+
+    /// Nothing is there.
+    pub fn is_absent(&self) -> bool
+        ensures { result ≡ is_absent self.now }
+    {
+        matches!(self, State::Absent)
+    }
+}
+
+/// What is done with an object, by what it was at the last time and what this machine and the Shell have now; `may_delete` says
+/// that a file which the Shell can't hold may be deleted.
+pub fn decide(last: &State<'_>, here: &State<'_>, there: &State<'_>, may_delete: bool) -> Deed
+    ensures deed { result ≡ decision last.now here.now there.now may_delete }
+    // Nothing is overwritten or deleted on this machine unless it is what was there at the last time.
+    ensures safe { result ≡ Deed.Write → (is_absent here.now ≡ true) ⊎ (is_same here.now last.now ≡ true) }
+    // A file that the Shell can't hold is never written, and deleted by leave alone.
+    ensures large { result ≡ Deed.Write → is_large here.now ≡ true → (is_absent there.now ≡ true) × (may_delete ≡ true) }
+    // Where neither changed nothing is done.
+    ensures kept { is_same here.now last.now ≡ true → is_same there.now last.now ≡ true → result ≡ Deed.Keep }
+    // Where both changed this machine's stands.
+    ensures stands { is_same here.now last.now ≡ false → is_same there.now last.now ≡ false → is_same here.now there.now ≡ false →
+        is_absent here.now ≡ false → result ≡ Deed.Stand }
+    // The Shell's own change is not overwritten unasked.
+    ensures brought { result ≡ Deed.Bring → is_same there.now last.now ≡ true }
+{
+    if here.is_same(there) {
+        return Deed::Keep;
+    }
+    if there.is_same(last) {
+        return Deed::Bring;
+    }
+    if may_write(last, here, there, may_delete) {
+        Deed::Write
+    } else {
+        Deed::Stand
+    }
+}
+
+// What this machine has may be replaced by what the Shell has.
+fn may_write(last: &State<'_>, here: &State<'_>, there: &State<'_>, may_delete: bool) -> bool
+    ensures { result ≡ may_write last.now here.now there.now may_delete }
+{
+    match here {
+        State::Absent => true,
+        State::Directory | State::File(_) => here.is_same(last),
+        State::Large(_) => here.is_same(last) && there.is_absent() && may_delete,
+        State::Foreign => false,
+    }
+}

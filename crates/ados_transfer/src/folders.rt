@@ -1,0 +1,255 @@
+//! What is in the folder of a share.
+
+use crate::choice::{Named, is_chosen, order};
+use crate::faults::{TransferFault, named};
+use crate::paths::{name_of, step_into};
+use crate::records::Records;
+use crate::stamps::Stamp;
+use crate::writing::BESIDE;
+use std::alloc::{AllocError, Global};
+use std::fs::Metadata;
+use std::io::ErrorKind;
+use std::os::unix::fs::PermissionsExt;
+use std::rt::Files;
+use std::{fs, io};
+
+// A look at a folder goes through no more folders than this.
+const FOLDERS: usize = 65_536;
+
+/// What an object of the folder is.
+#[derive(Clone, Copy, PartialEq, Eq)]
+pub enum Kind {
+    /// A folder.
+    Directory,
+    /// A file; it may be executed, or not.
+    File { is_executable: bool },
+    /// A link, a device or the like.
+    Foreign,
+}
+
+impl Kind {
+    /// A file that may be executed.
+    pub const PROGRAM: Kind = Kind::File {
+        is_executable: true,
+    };
+}
+
+/// An object of the folder.
+#[derive(Drop)]
+pub struct Seen {
+    /// Its path below the folder in lower case.
+    pub key: String,
+    /// Its path below the folder.
+    pub path: String,
+    /// What it is.
+    pub kind: Kind,
+    /// Its marks.
+    pub stamp: Stamp,
+}
+
+/// A look at the folder: what is in it, in the order of the keys.
+#[derive(Drop)]
+pub struct Look {
+    /// What is there.
+    pub seen: Vec<Seen>,
+    /// The keys of folders that could not be read.
+    pub unread: Vec<String>,
+    /// The lines that tell what is left alone.
+    pub lines: Vec<String>,
+}
+
+impl Look {
+    /// Looks at all that is in a folder. Names that begin with a dot are left out unless `all`. Where two names differ in case
+    /// alone that of the records is taken, or else the first.
+    pub fn new<R: AllocGlobal + Files + Clone + Drop>(
+        rt: &R,
+        folder: &str,
+        all: bool,
+        records: &Records,
+    ) -> Result<Look, TransferFault> {
+        let alloc = rt.alloc();
+        let mut look = Look {
+            seen: Vec::new(alloc),
+            unread: Vec::new(alloc),
+            lines: Vec::new(alloc),
+        };
+        let mut left = Vec::new(alloc);
+        left.push(String::new(alloc))?;
+        for _ in 0..FOLDERS {
+            let Some(path) = left.pop() else {
+                look.seen
+                    .sort_by(|a, b| a.key.as_str().cmp(b.key.as_str()))?;
+                return Ok(look);
+            };
+            let mut folders = look.add_folder(rt, folder, path.as_str(), all, records)?;
+            left.append(&mut folders)?;
+        }
+        Err(named(alloc, folder, TransferFault::CannotRead))
+    }
+
+    /// The object of a key is in a folder that could not be read.
+    pub fn is_hidden(&self, key: &str) -> bool {
+        self.unread
+            .iter()
+            .any(|unread| is_below(unread.as_str(), key))
+    }
+
+    // Adds what is directly in a folder.
+    fn add_folder<R: AllocGlobal + Files + Clone + Drop>(
+        &mut self,
+        rt: &R,
+        folder: &str,
+        path: &str,
+        all: bool,
+        records: &Records,
+    ) -> Result<Vec<String>, TransferFault> {
+        let alloc = rt.alloc();
+        let mut folders = Vec::new(alloc);
+        let whole = step_into(alloc, folder, path)?;
+        let names = match self.read_names(rt, whole.as_str(), path, all) {
+            Ok(names) => names,
+            Err(error) if error.kind() == ErrorKind::OutOfMemory => {
+                return Err(TransferFault::NoMemory);
+            }
+            Err(_) => {
+                self.tell(alloc, "cannot read", path)?;
+                self.unread.push(lower(alloc, path)?)?;
+                return Ok(folders);
+            }
+        };
+        let below = self.named(alloc, path, &names)?;
+        let mut chosen = Vec::new(alloc);
+        for place in 0..below.len() {
+            chosen.push(is_chosen(&below, place, records))?;
+        }
+        for (named, is_chosen) in below.into_iter().zip(chosen) {
+            if is_chosen {
+                self.add(rt, folder, named, &mut folders)?;
+            } else {
+                self.tell(
+                    alloc,
+                    "name is taken twice, left alone",
+                    named.path.as_str(),
+                )?;
+            }
+        }
+        Ok(folders)
+    }
+
+    // Reads the names in a folder that are not left out.
+    fn read_names<R: AllocGlobal + Files + Clone + Drop>(
+        &mut self,
+        rt: &R,
+        whole: &str,
+        path: &str,
+        all: bool,
+    ) -> io::Result<Vec<String>> {
+        let mut names = Vec::new(rt.alloc());
+        for entry in fs::read_dir(rt, whole)? {
+            match entry {
+                Ok(entry) if is_left_out(entry.file_name(), all) => {}
+                Ok(entry) => names.push(String::from_str(rt.alloc(), entry.file_name())?)?,
+                Err(error) if error.kind() == ErrorKind::InvalidFilename => {
+                    let line = format!(in rt.alloc();
+                        "bad name for the Shell, left alone: one in {path}/"
+                    )?;
+                    self.lines.push(line)?;
+                }
+                Err(error) => return Err(error),
+            }
+        }
+        Ok(names)
+    }
+
+    // The paths of those names that can be names of the Shell, in the order of their keys.
+    fn named(
+        &mut self,
+        alloc: Global,
+        path: &str,
+        names: &[String],
+    ) -> Result<Vec<Named>, TransferFault> {
+        let mut below = Vec::new(alloc);
+        for name in names {
+            let path = step_into(alloc, path, name.as_str())?;
+            match name_of(alloc, name.as_str(), path.as_str()) {
+                Ok(_) => below.push(Named {
+                    key: lower(alloc, path.as_str())?,
+                    path,
+                })?,
+                Err(TransferFault::NoMemory) => return Err(TransferFault::NoMemory),
+                Err(_) => self.tell(alloc, "bad name for the Shell, left alone", path.as_str())?,
+            }
+        }
+        below.sort_by(|a, b| order(a, b))?;
+        Ok(below)
+    }
+
+    // Adds an object; a folder is one that is to be gone through too.
+    fn add<R: AllocGlobal + Files>(
+        &mut self,
+        rt: &R,
+        folder: &str,
+        named: Named,
+        folders: &mut Vec<String>,
+    ) -> Result<(), TransferFault> {
+        let alloc = rt.alloc();
+        let whole = step_into(alloc, folder, named.path.as_str())?;
+        let Ok(found) = fs::symlink_metadata(rt, whole.as_str()) else {
+            return Ok(());
+        };
+        let kind = kind_of(&found);
+        match kind {
+            Kind::Directory => folders.push(String::from_str(alloc, named.path.as_str())?)?,
+            Kind::Foreign => self.tell(
+                alloc,
+                "no file or folder, left alone",
+                named.path.as_str(),
+            )?,
+            Kind::File { .. } => {}
+        }
+        self.seen.push(Seen {
+            key: named.key,
+            path: named.path,
+            kind,
+            stamp: Stamp::of(&found),
+        })?;
+        Ok(())
+    }
+
+    // Adds a line about an object.
+    fn tell(&mut self, alloc: Global, text: &str, path: &str) -> Result<(), TransferFault> {
+        self.lines.push(format!(in alloc; "{text}: {path}")?)?;
+        Ok(())
+    }
+}
+
+// What an object is.
+fn kind_of(found: &Metadata) -> Kind {
+    if found.is_dir() {
+        return Kind::Directory;
+    }
+    if !found.is_file() {
+        return Kind::Foreign;
+    }
+    Kind::File {
+        is_executable: found.permissions().mode() & 0o111 != 0,
+    }
+}
+
+/// The name is left out: it begins with a dot, or is that of a file that is written beside its place, or leads elsewhere.
+pub fn is_left_out(name: &str, all: bool) -> bool {
+    (name.starts_with('.') && !all) || name.starts_with(BESIDE) || matches!(name, "." | "..")
+}
+
+/// A path in lower case.
+pub fn lower(alloc: Global, path: &str) -> Result<String, AllocError> {
+    path.to_ascii_lowercase(alloc)
+}
+
+/// A key is that of an object below a folder.
+pub fn is_below(folder: &str, key: &str) -> bool {
+    match key.strip_prefix(folder) {
+        Some(rest) => folder.is_empty() || rest.starts_with('/'),
+        None => false,
+    }
+}

@@ -1,0 +1,128 @@
+//! What this machine has in the place of one object of a share.
+
+use crate::bringing::bytes_of;
+use crate::decision::{Deed, State, decide};
+use crate::faults::TransferFault;
+use crate::paths::step_into;
+use crate::plan::FILE_BYTES;
+use crate::records::{Record, state_there};
+use crate::stamps::Stamp;
+use ados_ram::Entry;
+use std::fs;
+use std::io::ErrorKind;
+use std::os::unix::fs::PermissionsExt;
+use std::rt::Files;
+
+/// What this machine has, with the bytes of a file that the Shell can hold.
+#[derive(Drop)]
+pub enum Here {
+    /// Nothing.
+    Absent,
+    /// A folder.
+    Directory(Stamp),
+    /// A file, with its mode.
+    File {
+        /// What it holds.
+        bytes: Vec<u8>,
+        /// Its marks, from before it was read.
+        stamp: Stamp,
+        /// Its mode.
+        mode: u32,
+    },
+    /// A file of more bytes than the Shell's may have.
+    Large(Stamp),
+    /// A link, a device, or a file that can't be read.
+    Foreign,
+}
+
+impl Here {
+    /// Looks at what is at a path below a folder; a link is not followed.
+    pub fn look<R: AllocGlobal + Files>(
+        rt: &R,
+        folder: &str,
+        path: &str,
+    ) -> Result<Here, TransferFault> {
+        let whole = step_into(rt.alloc(), folder, path)?;
+        let found = match fs::symlink_metadata(rt, whole.as_str()) {
+            Ok(found) => found,
+            Err(error) if error.kind() == ErrorKind::NotFound => return Ok(Here::Absent),
+            Err(_) => return Ok(Here::Foreign),
+        };
+        let stamp = Stamp::of(&found);
+        if found.is_dir() {
+            return Ok(Here::Directory(stamp));
+        }
+        if !found.is_file() {
+            return Ok(Here::Foreign);
+        }
+        if found.len() > FILE_BYTES as u64 {
+            return Ok(Here::Large(stamp));
+        }
+        match bytes_of(rt, whole.as_str(), FILE_BYTES) {
+            Ok(bytes) if bytes.len() <= FILE_BYTES => Ok(Here::File {
+                bytes,
+                stamp,
+                mode: found.permissions().mode(),
+            }),
+            Ok(_) => Ok(Here::Large(stamp)),
+            Err(error) if error.kind() == ErrorKind::OutOfMemory => Err(TransferFault::NoMemory),
+            Err(_) => Ok(Here::Foreign),
+        }
+    }
+
+    /// What it is, where a record may say that it has a stand-in.
+    pub fn state(&self, record: Option<&Record>) -> State<'_> {
+        match (self, record) {
+            (Here::Absent, _) => State::Absent,
+            (Here::Directory(_), _) => State::Directory,
+            (Here::Foreign, _) => State::Foreign,
+            (Here::Large(stamp), _) => State::Large(*stamp),
+            (Here::File { stamp, .. }, Some(record))
+                if record.is_stand_in() && record.stamp.is_same(stamp) => { State::Large(*stamp) }
+            (Here::File { bytes, .. }, _) => State::File(bytes.as_slice()),
+        }
+    }
+
+    /// What is done with an object of which the Shell has this entry.
+    pub fn deed(&self, record: Option<&Record>, entry: Option<&Entry>) -> Deed {
+        let state = self.state(record);
+        match record {
+            Some(record) => decide(
+                &record.state(),
+                &state,
+                &record.state_there(entry),
+                record.may_delete,
+            ),
+            None => decide(&State::Absent, &state, &state_there(entry), false),
+        }
+    }
+
+    /// The bytes of a file that the Shell can hold.
+    pub fn into_bytes(self) -> Option<Vec<u8>> {
+        match self {
+            Here::File { bytes, .. } => Some(bytes),
+            Here::Absent | Here::Directory(_) | Here::Large(_) | Here::Foreign => None,
+        }
+    }
+
+    /// How many bytes a file has that the Shell can hold.
+    pub fn size(&self) -> Option<usize> {
+        match self {
+            Here::File { bytes, .. } => Some(bytes.len()),
+            Here::Absent | Here::Directory(_) | Here::Large(_) | Here::Foreign => None,
+        }
+    }
+
+    /// It is a folder.
+    pub fn is_directory(&self) -> bool {
+        matches!(self, Here::Directory(_))
+    }
+
+    /// Its marks.
+    pub fn stamp(&self) -> Option<Stamp> {
+        match self {
+            Here::Absent | Here::Foreign => None,
+            Here::Directory(stamp) | Here::Large(stamp) | Here::File { stamp, .. } => Some(*stamp),
+        }
+    }
+}

@@ -1,0 +1,244 @@
+//! A share: a folder of this machine and a directory of the Shell's files that are kept alike.
+
+use crate::bringing::parted;
+use crate::faults::{TransferFault, named};
+use crate::folders::lower;
+use crate::keys::Keys;
+use crate::paths::{place_in, step_into};
+use crate::records::{Last, Record, Records};
+use crate::stamps::Stamp;
+use ados_ram::{Place, Ram};
+use ados_text::{Name, Text};
+use std::alloc::Global;
+use std::fs;
+use std::rt::Files;
+use std::time::{Clock, SystemTime};
+
+// The directory of a share that names none.
+const DIRECTORY: &str = "RAM:Work";
+
+/// How a share is kept.
+#[derive(Clone, Copy)]
+pub struct MirrorOptions {
+    /// Names that begin with a dot are shared too.
+    pub all: bool,
+    /// Nothing of this machine is changed, but only told.
+    pub dry: bool,
+}
+
+/// A folder of this machine and a directory of the Shell's files that are kept alike, and what they were at the last time.
+#[derive(Drop)]
+pub struct Mirror {
+    pub(crate) alloc: Global,
+    // the folder's whole path
+    pub(crate) folder: String,
+    pub(crate) place: Place,
+    pub(crate) options: MirrorOptions,
+    pub(crate) records: Records,
+    // a file has a stand-in, or had one
+    pub(crate) has_stand_ins: bool,
+    // the lines that are to be told, and those that were told once for all
+    lines: Vec<String>,
+    told: Keys,
+    // the keys of those of which this machine's stands, and of those that could not be written or brought in
+    standing: Keys,
+    failing: Keys,
+    // the Shell's files had no place for an object
+    is_full: bool,
+}
+
+impl Mirror {
+    /// A share by the words `FOLDER` or `FOLDER=PATH`; PATH is RAM:Work without. Nothing of it is read yet.
+    ///
+    /// `CannotRead` where FOLDER is none; `BadName` where PATH names no directory, or the root.
+    pub fn new<R: AllocGlobal + Files>(
+        rt: &R,
+        words: &str,
+        options: MirrorOptions,
+    ) -> Result<Mirror, TransferFault> {
+        let alloc = rt.alloc();
+        let (path, directory) = parted(rt, words);
+        let folder = match (fs::metadata(rt, path), fs::canonicalize(rt, path)) {
+            (Ok(found), Ok(whole)) if found.is_dir() => {
+                String::from_str(alloc, whole.as_path().as_str())?
+            }
+            _ => return Err(named(alloc, path, TransferFault::CannotRead)),
+        };
+        let directory = directory.unwrap_or(DIRECTORY);
+        let place = place_in(alloc, directory)?;
+        if place.names().is_empty() {
+            return Err(named(alloc, directory, TransferFault::BadName));
+        }
+        Ok(Mirror {
+            alloc,
+            folder,
+            place,
+            options,
+            records: Records::new(alloc),
+            has_stand_ins: false,
+            lines: Vec::new(alloc),
+            told: Keys::new(alloc),
+            standing: Keys::new(alloc),
+            failing: Keys::new(alloc),
+            is_full: false,
+        })
+    }
+
+    /// The directory.
+    pub fn place(&self) -> &Place {
+        &self.place
+    }
+
+    /// The folder of this machine that fits a directory of the Shell; none outside the share.
+    pub fn folder_of(&self, alloc: Global, place: &Place) -> Result<Option<String>, TransferFault> {
+        let Some(key) = self.key_of(place)? else {
+            return Ok(None);
+        };
+        if let Some(record) = self.records.find(key.as_str()) {
+            return Ok(Some(step_into(alloc, self.folder.as_str(), record.path.as_str())?));
+        }
+        let path = self.spelled(place.names_behind(&self.place))?;
+        Ok(Some(step_into(alloc, self.folder.as_str(), path.as_str())?))
+    }
+
+    /// The lines that are to be told since the last call.
+    pub fn take_lines(&mut self) -> Vec<String> {
+        std::mem::replace(&mut self.lines, Vec::new(self.alloc))
+    }
+
+    /// Something could not be written or brought in, and has not been since: the two sides are not alike.
+    pub fn has_failed(&self) -> bool {
+        !self.failing.is_empty()
+    }
+
+    // The key of a place, the empty one of the directory itself; none outside of it.
+    pub(crate) fn key_of(&self, place: &Place) -> Result<Option<String>, TransferFault> {
+        if !place.names().starts_with(self.place.names()) {
+            return Ok(None);
+        }
+        let path = self.spelled(place.names_behind(&self.place))?;
+        Ok(Some(lower(self.alloc, path.as_str())?))
+    }
+
+    // The place of a key or of a path below the directory.
+    pub(crate) fn place_of(&self, path: &str) -> Result<Place, TransferFault> {
+        let mut place = self.place.copy()?;
+        for name in path.split('/') {
+            place = place.with(Name::new(Text::from_bytes(self.alloc, name.as_bytes())?))?;
+        }
+        Ok(place)
+    }
+
+    // Names as a path of this machine.
+    pub(crate) fn spelled(&self, names: &[Name]) -> Result<String, TransferFault> {
+        let mut path = String::new(self.alloc);
+        for name in names {
+            match std::str::from_utf8(name.text().as_bytes()) {
+                Ok(name) => path = step_into(self.alloc, path.as_str(), name)?,
+                Err(_) => return Err(TransferFault::NoMemory),
+            }
+        }
+        Ok(path)
+    }
+
+    // Keeps an object as it is on both sides now.
+    pub(crate) fn keep(&mut self, record: Record) -> Result<(), TransferFault> {
+        if matches!(record.last, Last::StandIn) {
+            self.has_stand_ins = true;
+        }
+        self.settled(record.key.as_str());
+        self.records.put(record)?;
+        Ok(())
+    }
+
+    // Keeps an object as it is on both sides now, with these marks.
+    pub(crate) fn keep_as(
+        &mut self,
+        key: &str,
+        path: &str,
+        last: Last,
+        stamp: Stamp,
+        now: &SystemTime,
+    ) -> Result<(), TransferFault> {
+        self.keep(Record {
+            key: String::from_str(self.alloc, key)?,
+            path: String::from_str(self.alloc, path)?,
+            place: self.place_of(key)?,
+            last,
+            stamp,
+            is_fresh: stamp.is_fresh(now),
+            may_delete: false,
+        })
+    }
+
+    // Both sides have no object of this key any more.
+    pub(crate) fn forget(&mut self, key: &str) {
+        self.settled(key);
+        self.records.remove(key);
+    }
+
+    // No side of this key stands against the other any more.
+    fn settled(&mut self, key: &str) {
+        self.standing.remove(key);
+        self.failing.remove(key);
+    }
+
+    // Tells a line about an object.
+    pub(crate) fn tell(&mut self, text: &str, path: &str) -> Result<(), TransferFault> {
+        self.lines.push(format!(in self.alloc; "{text}: {path}")?)?;
+        Ok(())
+    }
+
+    // Tells a line about an object once in a run.
+    pub(crate) fn tell_once(&mut self, text: &str, path: &str) -> Result<(), TransferFault> {
+        let line = format!(in self.alloc; "{text}: {path}")?;
+        self.tell_line(line)
+    }
+
+    // Tells a line once in a run.
+    pub(crate) fn tell_line(&mut self, line: String) -> Result<(), TransferFault> {
+        if self.told.add(line.as_str())? {
+            self.lines.push(line)?;
+        }
+        Ok(())
+    }
+
+    // Tells that what this machine has stands, once until it is settled.
+    pub(crate) fn tell_standing(
+        &mut self,
+        key: &str,
+        path: &str,
+        is_stand_in: bool,
+    ) -> Result<(), TransferFault> {
+        if !self.standing.add(key)? {
+            return Ok(());
+        }
+        if is_stand_in {
+            self.tell("kept, since the Shell can't hold it", path)
+        } else {
+            self.tell("both changed, kept this machine's", path)
+        }
+    }
+
+    // Tells the first object for which the Shell's files have no place.
+    pub(crate) fn tell_full(&mut self, path: &str) -> Result<(), TransferFault> {
+        if self.is_full {
+            return Ok(());
+        }
+        self.is_full = true;
+        self.tell("more than 1024 files and folders, left alone from", path)
+    }
+
+    // Tells that something failed, once until it is settled.
+    pub(crate) fn fail(&mut self, key: &str, text: &str, path: &str) -> Result<(), TransferFault> {
+        if !self.failing.add(key)? {
+            return Ok(());
+        }
+        self.tell(text, path)
+    }
+
+    // The time; where the clock can't be read, one that is before all others.
+    pub(crate) fn now<R: Clock>(&self, rt: &R) -> SystemTime {
+        SystemTime::now(rt).unwrap_or(SystemTime::UNIX_EPOCH)
+    }
+}

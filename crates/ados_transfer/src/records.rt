@@ -1,0 +1,167 @@
+//! What was alike on both sides of a share at the last time.
+ghost use Rattle.std.specs.Prelude.{◌<◌, ◌≤◌, length, MatchResult};
+
+use crate::decision::State;
+use crate::stamps::Stamp;
+use crate::stand_ins::is_stand_in;
+use ados_ram::{Body, Entry, FileBytes, Place};
+use ados_text::NoMemory;
+use std::alloc::Global;
+
+/// What an object was at the last time.
+#[derive(Drop)]
+pub enum Last {
+    /// A directory on both sides.
+    Directory,
+    /// A file of these bytes on both sides, which the Shell's files share.
+    File(FileBytes),
+    /// A file that the Shell can't hold, and its stand-in.
+    StandIn,
+}
+
+impl Last {
+    /// What an entry is.
+    pub fn of(entry: &Entry) -> Result<Last, NoMemory> {
+        match &entry.body {
+            Body::Directory => Ok(Last::Directory),
+            Body::File(bytes) => Ok(Last::File(bytes.clone()?)),
+        }
+    }
+}
+
+/// An object that stood on both sides at the last time.
+#[derive(Drop)]
+pub struct Record {
+    /// Its path below the share in lower case: which object it is.
+    pub key: String,
+    /// Its path below the folder, as this machine writes it.
+    pub path: String,
+    /// Its place in the Shell's files.
+    pub place: Place,
+    /// What it was.
+    pub last: Last,
+    /// The marks that it had on this machine.
+    pub stamp: Stamp,
+    /// The marks might be the same after a change.
+    pub is_fresh: bool,
+    /// It is a stand-in that was seen with bit d.
+    pub may_delete: bool,
+}
+
+impl Record {
+    /// What it was.
+    pub fn state(&self) -> State<'_> {
+        match &self.last {
+            Last::Directory => State::Directory,
+            Last::File(bytes) => State::File(bytes.as_bytes()),
+            Last::StandIn => State::Large(self.stamp),
+        }
+    }
+
+    /// What the Shell has in its place.
+    pub fn state_there<'a>(&self, entry: Option<&'a Entry>) -> State<'a> {
+        match (&self.last, entry) {
+            (Last::StandIn, Some(entry)) if is_stand_in(entry) => State::Large(self.stamp),
+            (_, entry) => state_there(entry),
+        }
+    }
+
+    /// What the Shell has in its place is what it was.
+    pub fn is_kept(&self, entry: Option<&Entry>) -> bool {
+        match (&self.last, entry.map(|entry| &entry.body)) {
+            (Last::File(last), Some(Body::File(bytes))) => last.as_bytes() == bytes.as_bytes(),
+            (Last::Directory, Some(Body::Directory)) => true,
+            _ => self.state().is_same(&self.state_there(entry)),
+        }
+    }
+
+    /// It is a file that the Shell can't hold.
+    pub fn is_stand_in(&self) -> bool {
+        matches!(self.last, Last::StandIn)
+    }
+}
+
+/// What the Shell has at a place where nothing was; a stand-in that was moved there is nothing.
+pub fn state_there(entry: Option<&Entry>) -> State<'_> {
+    match entry {
+        None => State::Absent,
+        Some(entry) if entry.is_directory() => State::Directory,
+        Some(entry) if is_stand_in(entry) => State::Absent,
+        Some(entry) => State::File(entry.bytes()),
+    }
+}
+
+/// The records of a share, in the order of their keys: a directory comes before what is in it.
+#[derive(Drop)]
+pub struct Records {
+    sorted: Vec<Record>,
+}
+
+impl Records {
+    /// No records.
+    pub fn new(alloc: Global) -> Records {
+        Records {
+            sorted: Vec::new(alloc),
+        }
+    }
+
+    /// All of them.
+    pub fn all(&self) -> &[Record] {
+        self.sorted.as_slice()
+    }
+
+    /// The record of a key.
+    pub fn find(&self, key: &str) -> Option<&Record> {
+        match self.place(key) {
+            Ok(place) => self.sorted.get(place),
+            Err(_) => None,
+        }
+    }
+
+    /// Notes whether a stand-in was seen with bit d.
+    pub fn allow(&mut self, key: &str, may_delete: bool) {
+        if let Ok(place) = self.place(key) {
+            if let Some(record) = self.sorted.get_mut(place) {
+                record.may_delete = may_delete;
+            }
+        }
+    }
+
+    /// Notes the marks that an object has now.
+    pub fn mark(&mut self, key: &str, stamp: Stamp, is_fresh: bool) {
+        if let Ok(place) = self.place(key) {
+            if let Some(record) = self.sorted.get_mut(place) {
+                record.stamp = stamp;
+                record.is_fresh = is_fresh;
+            }
+        }
+    }
+
+    /// Keeps a record in place of that of the same key.
+    pub fn put(&mut self, record: Record) -> Result<(), NoMemory> {
+        match self.place(record.key.as_str()) {
+            Ok(place) => {
+                if let Some(old) = self.sorted.get_mut(place) {
+                    *old = record;
+                }
+            }
+            Err(place) => self.sorted.insert(place, record)?,
+        }
+        Ok(())
+    }
+
+    /// Takes the record of a key away.
+    pub fn remove(&mut self, key: &str) {
+        if let Ok(place) = self.place(key) {
+            let _ = self.sorted.remove(place);
+        }
+    }
+
+    // Where the record of a key is, or is to be.
+    fn place(&self, key: &str) -> Result<usize, usize>
+        ensures { MatchResult result (λ at. at < length self.now.sorted.items) (λ at. at ≤ length self.now.sorted.items) }
+    {
+        self.sorted
+            .binary_search_by(|record| record.key.as_str().cmp(key))
+    }
+}

@@ -1,0 +1,61 @@
+//! What there is still room for in the Shell's files.
+
+use crate::plan::{ALL_BYTES, FILE_BYTES, OBJECTS};
+use ados_ram::{Entry, Place, Ram};
+use ados_text::NoMemory;
+use std::alloc::Global;
+
+/// How much the files would hold.
+#[derive(Clone, Copy)]
+pub struct Room {
+    bytes: usize,
+    objects: usize,
+}
+
+impl Room {
+    /// What the files hold.
+    pub fn new(alloc: Global, files: &Ram) -> Result<Room, NoMemory> {
+        let places = files.contents(&Place::root(alloc))?;
+        let bytes = places.iter().fold(0usize, |sum, place| {
+            sum.saturating_add(size(files.look(place)))
+        });
+        Ok(Room {
+            bytes,
+            objects: places.len(),
+        })
+    }
+
+    /// One more object can stand in the files.
+    pub fn has_place(&self) -> bool {
+        self.objects < OBJECTS
+    }
+
+    /// A file of so many bytes can stand in place of what is there.
+    pub fn fits(&self, size_now: usize, old: Option<&Entry>) -> bool {
+        size_now <= FILE_BYTES
+            && size_now <= ALL_BYTES.saturating_sub(self.bytes.saturating_sub(size(old)))
+    }
+
+    /// Something of so many bytes stands in place of what is there.
+    pub fn put(&mut self, size_now: usize, old: Option<&Entry>) {
+        self.bytes = self
+            .bytes
+            .saturating_sub(size(old))
+            .saturating_add(size_now);
+        if old.is_none() {
+            self.objects = self.objects.saturating_add(1);
+        }
+    }
+
+    /// What is there is deleted.
+    pub fn free(&mut self, old: Option<&Entry>) {
+        if old.is_some() {
+            self.bytes = self.bytes.saturating_sub(size(old));
+            self.objects = self.objects.saturating_sub(1);
+        }
+    }
+}
+
+fn size(entry: Option<&Entry>) -> usize {
+    entry.map_or(0, |entry| entry.bytes().len())
+}

@@ -1,0 +1,141 @@
+//! The lines of the Shell by which a change of the folder of a share comes in.
+
+use crate::faults::TransferFault;
+use crate::lines::{literal, start, too_long};
+use crate::stand_ins::{comment_of, is_stand_in};
+use crate::words::push_word;
+use ados_ram::{Entry, Place, Ram};
+use ados_text::{LINE_BYTES, Text};
+use std::alloc::Global;
+
+// The commands by the names that the resident list has for the share, which nothing can shadow, and the files in C: that they are of.
+const COMMANDS: [(&[u8], &[u8]); 5] = [
+    (b"amishell-bring", b"C:amishell-bring"),
+    (b"amishell-makedir", b"C:MakeDir"),
+    (b"amishell-delete", b"C:Delete"),
+    (b"amishell-protect", b"C:Protect"),
+    (b"amishell-filenote", b"C:Filenote"),
+];
+
+/// Lines that are run one after the other.
+#[derive(Drop)]
+pub struct ShareLines {
+    alloc: Global,
+    lines: Vec<Text>,
+}
+
+impl ShareLines {
+    /// No lines.
+    pub fn new(alloc: Global) -> ShareLines {
+        ShareLines {
+            alloc,
+            lines: Vec::new(alloc),
+        }
+    }
+
+    /// The lines; `LongLine` where one of them would be too long, or the path in it.
+    pub fn into_lines(self) -> Result<Vec<Text>, TransferFault> {
+        match self
+            .lines
+            .iter()
+            .find(|line| line.as_bytes().len() > LINE_BYTES)
+        {
+            Some(line) => Err(too_long(self.alloc, line)),
+            None => Ok(self.lines),
+        }
+    }
+
+    /// Adds the lines that make the commands resident.
+    pub fn add_commands(&mut self) -> Result<(), TransferFault> {
+        for (name, file) in &COMMANDS {
+            let mut line = start(self.alloc, b"\"Resident\" ")?;
+            line.push_bytes(start(self.alloc, name)?.as_bytes())?;
+            line.push(b' ')?;
+            line.push_bytes(start(self.alloc, file)?.as_bytes())?;
+            line.push_bytes(start(self.alloc, b" PURE SYSTEM")?.as_bytes())?;
+            self.lines.push(line)?;
+        }
+        Ok(())
+    }
+
+    /// Adds the lines that make a directory, and those above it that are not there.
+    pub fn add_way(&mut self, files: &Ram, place: &Place) -> Result<(), TransferFault> {
+        for depth in 1..=place.names().len() {
+            let above = Place::root(self.alloc).joined(&place.names()[..depth])?;
+            if files.look(&above).is_none() {
+                self.add_directory(&above)?;
+            }
+        }
+        Ok(())
+    }
+
+    /// Adds the line that makes a directory.
+    pub fn add_directory(&mut self, place: &Place) -> Result<(), TransferFault> {
+        self.add(b"\"amishell-makedir\"", &place.path(self.alloc)?, b"")
+    }
+
+    /// Adds the lines that delete an object, whatever its bits.
+    pub fn add_deletion(&mut self, place: &Place, entry: &Entry) -> Result<(), TransferFault> {
+        let path = literal(self.alloc, place)?;
+        if !entry.bits.delete {
+            self.add(b"\"amishell-protect\"", &path, b" +d")?;
+        }
+        self.add(b"\"amishell-delete\"", &path, b" QUIET")
+    }
+
+    /// Adds the lines that write a file over what is there. Its bits and its comment stay, but for those of a stand-in.
+    pub fn add_file(
+        &mut self,
+        place: &Place,
+        entry: Option<&Entry>,
+        is_script: bool,
+    ) -> Result<(), TransferFault> {
+        let path = literal(self.alloc, place)?;
+        let is_locked = entry.is_some_and(|entry| !entry.bits.write);
+        if is_locked {
+            self.add(b"\"amishell-protect\"", &path, b" +w")?;
+        }
+        self.add(b"\"amishell-bring\" >", &place.path(self.alloc)?, b"")?;
+        if entry.is_some_and(is_stand_in) {
+            self.add(b"\"amishell-filenote\"", &path, b"")?;
+            self.add(b"\"amishell-protect\"", &path, b" rwed")?;
+        } else if is_locked {
+            self.add(b"\"amishell-protect\"", &path, b" -w")?;
+        }
+        if is_script && entry.is_none_or(is_stand_in) {
+            self.add(b"\"amishell-protect\"", &path, b" +s")?;
+        }
+        Ok(())
+    }
+
+    /// Adds the lines that make the stand-in of a file of this size over what is there: an empty file without bits, whose comment
+    /// says the size.
+    pub fn add_stand_in(
+        &mut self,
+        place: &Place,
+        entry: Option<&Entry>,
+        size: u64,
+    ) -> Result<(), TransferFault> {
+        let path = literal(self.alloc, place)?;
+        if entry.is_some_and(|entry| !entry.bits.write) {
+            self.add(b"\"amishell-protect\"", &path, b" +w")?;
+        }
+        self.add(b"\"amishell-bring\" >", &place.path(self.alloc)?, b"")?;
+        let comment = comment_of(self.alloc, size)?;
+        let comment = start(self.alloc, comment.as_bytes())?;
+        let mut words = Text::new(self.alloc);
+        push_word(&mut words, &comment, true)?;
+        self.add(b"\"amishell-filenote\"", &path, words.as_bytes())?;
+        self.add(b"\"amishell-protect\"", &path, b"")
+    }
+
+    // Adds a command with a path, and more words.
+    fn add(&mut self, command: &[u8], path: &Text, words: &[u8]) -> Result<(), TransferFault> {
+        let mut line = start(self.alloc, command)?;
+        push_word(&mut line, path, true)?;
+        let words = start(self.alloc, words)?;
+        line.push_bytes(words.as_bytes())?;
+        self.lines.push(line)?;
+        Ok(())
+    }
+}

@@ -1,0 +1,121 @@
+//! How files and folders of this machine are written: a file beside its place, which then takes its name. No link is followed.
+
+use crate::paths::step_into;
+use ados_text::Name;
+use std::alloc::Global;
+use std::fs::{File, OpenFile, Permissions};
+use std::io::{ErrorKind, Write};
+use std::os::unix::fs::PermissionsExt;
+use std::rt::Files;
+use std::{fs, io};
+
+/// The files that are written beside a place have names that begin so.
+pub const BESIDE: &str = ".amishell-execute.";
+
+// So many names are tried for the file that is written beside.
+const TRIES: u32 = 100;
+
+/// Who may do what with a file that is written.
+#[derive(Clone, Copy)]
+pub enum Manner {
+    /// What a new file has.
+    Plain,
+    /// The same, and who may read it may execute it.
+    Executable,
+    /// As this mode says.
+    Mode(u32),
+}
+
+/// The path of a folder in a folder; it is made if it is not there. One that is a link is refused.
+pub fn enter<R: AllocGlobal + Files>(rt: &R, folder: &str, name: &str) -> io::Result<String> {
+    checked(name)?;
+    let path = joined(rt.alloc(), folder, name)?;
+    match fs::symlink_metadata(rt, path.as_str()) {
+        Ok(found) if found.is_dir() => Ok(path),
+        Ok(_) => Err(io::Error::from(ErrorKind::NotADirectory)),
+        Err(error) if error.kind() == ErrorKind::NotFound => {
+            fs::create_dir(rt, path.as_str())?;
+            Ok(path)
+        }
+        Err(error) => Err(error),
+    }
+}
+
+/// A name that leads nowhere else.
+pub fn checked(name: &str) -> io::Result<()> {
+    if matches!(name, "" | "." | "..") || name.contains('/') {
+        return Err(io::Error::from(ErrorKind::InvalidInput));
+    }
+    Ok(())
+}
+
+/// A name as std's calls take it: ASCII is always UTF-8.
+pub fn spelled(name: &Name) -> io::Result<&str> {
+    match std::str::from_utf8(name.text().as_bytes()) {
+        Ok(name) => Ok(name),
+        Err(_) => Err(io::Error::from(ErrorKind::InvalidInput)),
+    }
+}
+
+/// The path of a name in a folder.
+pub fn joined(alloc: Global, folder: &str, name: &str) -> io::Result<String> {
+    match step_into(alloc, folder, name) {
+        Ok(path) => Ok(path),
+        Err(_) => Err(no_memory()),
+    }
+}
+
+/// The error of want of memory.
+pub fn no_memory() -> io::Error {
+    io::Error::from(ErrorKind::OutOfMemory)
+}
+
+/// Writes a file of a name in a folder, in a manner: a file beside it, which then takes the name.
+pub fn write_whole<R: AllocGlobal + Files>(
+    rt: &R,
+    folder: &str,
+    name: &str,
+    bytes: &[u8],
+    manner: Manner,
+) -> io::Result<()> {
+    let target = joined(rt.alloc(), folder, name)?;
+    let (beside, mut file) = open_beside(rt, folder)?;
+    let written = fill(&mut file, bytes, manner);
+    drop(file);
+    let moved = match written {
+        Ok(()) => fs::rename(rt, beside.as_str(), target.as_str()),
+        Err(error) => Err(error),
+    };
+    if moved.is_err() {
+        let _ = fs::remove_file(rt, beside.as_str());
+    }
+    moved
+}
+
+// Writes the bytes, and says who may do what.
+fn fill<F: Write + OpenFile>(file: &mut F, bytes: &[u8], manner: Manner) -> io::Result<()> {
+    file.write_all(bytes)?;
+    let mode = match manner {
+        Manner::Plain => return Ok(()),
+        Manner::Mode(mode) => mode & 0o777,
+        Manner::Executable => {
+            let mode = file.metadata()?.permissions().mode() & 0o777;
+            mode | ((mode & 0o444) >> 2)
+        }
+    };
+    file.set_permissions(Permissions::from_mode(mode))
+}
+
+// A new file in a folder, with its path.
+fn open_beside<R: AllocGlobal + Files>(rt: &R, folder: &str) -> io::Result<(String, R::File)> {
+    for number in 0..TRIES {
+        let name = format!(in rt.alloc(); "{BESIDE}{number}")?;
+        let path = joined(rt.alloc(), folder, name.as_str())?;
+        match File::create_new(rt, path.as_str()) {
+            Ok(file) => return Ok((path, file)),
+            Err(error) if error.kind() == ErrorKind::AlreadyExists => {}
+            Err(error) => return Err(error),
+        }
+    }
+    Err(io::Error::from(ErrorKind::AlreadyExists))
+}

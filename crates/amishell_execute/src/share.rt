@@ -1,0 +1,259 @@
+//! A folder of this machine that is shared with the Shell.
+ghost use Rattle.std.specs.Prelude.{◌≡◌, ◌<◌, ◌^◌, ◌-◌, [], IsOk, OnOk};
+ghost use Rattle.ados_launch.specs.Agreement.{Agrees, IsOpenTable};
+
+use crate::faults::{Fault, cannot_read, tell};
+use crate::launcher::Bringer;
+use ados_launch::{Launcher, Listed, Session, SystemEnd, SystemFault, system};
+use ados_launcher::StartFolder;
+use ados_machine::Request;
+use ados_text::Text;
+use ados_transfer::{Arrival, Mirror, MirrorOptions, push_word};
+use ados_world::World;
+use std::alloc::Global;
+use std::env;
+use std::io::Eprint;
+use std::process::Processes;
+use std::rt::{Env, Files};
+use std::time::Clock;
+
+// So many events a line that brings something in takes at most: the longest file comes in 16 pieces.
+const EVENTS: u64 = 100;
+
+/// The mirror of the folder, and how far it is.
+#[derive(Drop)]
+pub struct Share {
+    mirror: Mirror,
+    // the directory of this process
+    home: String,
+    // what was in the folder at the beginning has come in
+    is_filled: bool,
+}
+
+// What the event that comes next asks for.
+enum Due {
+    // the start of a program, by this shell
+    Start(u8),
+    // the end of the program of this shell
+    Wait(u8),
+    // anything else
+    Other,
+}
+
+impl Due {
+    // What the event that comes next asks for.
+    fn next(session: &Session<'_>, world: &World) -> Due
+        requires count { session.now.standing.taken < 2 ^ 64 - 1 }
+    {
+        match session.request(world) {
+            Some(Request::Start(job)) => Due::Start(job.shell),
+            Some(Request::Wait(child)) => Due::Wait(*child),
+            _ => Due::Other,
+        }
+    }
+}
+
+impl Share {
+    /// Makes the directory in a new world that the words name, and the commands by which files come in.
+    pub fn open<R: Env + AllocGlobal + Files + Clone + Drop + Clock>(
+        rt: &R,
+        words: &str,
+        options: MirrorOptions,
+        world: &mut World,
+    ) -> Result<Share, Fault>
+        requires agrees { Agrees world.old [] }
+        ensures agrees { OnOk result (Agrees world.new []) }
+    {
+        let alloc = rt.alloc();
+        let Ok(home) = env::current_dir(rt) else {
+            return Err(cannot_read(alloc, "."));
+        };
+        let home = String::from_str(alloc, home.as_path().as_str())?;
+        let mirror = Mirror::new(rt, words, options)?;
+        // These lines start no program.
+        let mut launcher = Listed::new(Vec::new(alloc));
+        let lines = mirror.first_lines(alloc, world.files())?;
+        run_lines(alloc, world, lines.as_slice(), &mut launcher)?;
+        if !launcher.is_unused() {
+            return Err(Fault::NotBrought);
+        }
+        Ok(Share {
+            mirror,
+            home,
+            is_filled: false,
+        })
+    }
+
+    /// The line that makes the directory the current one.
+    pub fn change_line(&self, alloc: Global) -> Result<Text, Fault> {
+        let mut line = Text::from_bytes(alloc, b"\"CD\"")?;
+        push_word(&mut line, &self.mirror.place().path(alloc)?, true)?;
+        Ok(line)
+    }
+
+    /// Before an event: at a program's start what changed is written to the folder, and before its end is told to the world
+    /// what changed in the folder comes in. `is_ready`: the lines were given that bring files in.
+    pub fn attend<R: AllocGlobal + Files + Eprint + Processes + Clone + Drop + Clock>(
+        &mut self,
+        rt: &R,
+        world: &mut World,
+        launcher: &mut Bringer<'_, R>,
+        session: &mut Session<'_>,
+        is_ready: bool,
+    ) -> Result<(), Fault>
+        requires count { session.old.standing.taken < 2 ^ 64 - 1 }
+        requires agrees { Agrees world.old launcher.old.calls }
+        requires children { IsOpenTable session.old.children launcher.old.calls }
+        ensures agrees { OnOk result (Agrees world.new launcher.new.calls) }
+        ensures children { OnOk result (IsOpenTable session.new.children launcher.new.calls) }
+        ensures standing { session.new.standing ≡ session.old.standing }
+    {
+        self.mirror.watch(world.files())?;
+        if !self.is_filled {
+            if is_ready && world.wants_line() {
+                self.bring_in(rt, world, launcher)?;
+                session.look(world);
+                self.is_filled = true;
+            }
+            return Ok(());
+        }
+        match Due::next(session, world) {
+            Due::Start(number) => {
+                self.write_out(rt, world)?;
+                launcher.set_folder(self.folder_of(rt.alloc(), world, number)?);
+            }
+            Due::Wait(number) => {
+                launcher.await_end(number);
+                self.bring_in(rt, world, launcher)?;
+                session.look(world);
+            }
+            Due::Other => {}
+        }
+        Ok(())
+    }
+
+    /// Writes what changed to the folder at the end. `false` where something could not be written, or had not come in.
+    pub fn close<R: AllocGlobal + Files + Eprint + Clone + Drop + Clock>(
+        &mut self,
+        rt: &R,
+        world: &World,
+    ) -> Result<bool, Fault> {
+        if self.is_filled {
+            self.write_out(rt, world)?;
+        }
+        Ok(!self.mirror.has_failed())
+    }
+
+    // Has what changed in the folder come in.
+    fn bring_in<R: AllocGlobal + Files + Eprint + Processes + Clone + Drop + Clock>(
+        &mut self,
+        rt: &R,
+        world: &mut World,
+        launcher: &mut Bringer<'_, R>,
+    ) -> Result<(), Fault>
+        requires agrees { Agrees world.old launcher.old.calls }
+        ensures agrees { OnOk result (Agrees world.new launcher.new.calls) }
+    {
+        for arrival in self.mirror.arrivals(rt, world.files())? {
+            let arrival = take_in(rt.alloc(), world, launcher, arrival)?;
+            self.mirror.settle(arrival, world.files())?;
+        }
+        self.tell_lines(rt);
+        Ok(())
+    }
+
+    // Writes what changed to the folder.
+    fn write_out<R: AllocGlobal + Files + Eprint + Clone + Drop + Clock>(
+        &mut self,
+        rt: &R,
+        world: &World,
+    ) -> Result<(), Fault> {
+        self.mirror.write_out(rt, world.files())?;
+        self.tell_lines(rt);
+        Ok(())
+    }
+
+    // The folder that fits the current directory of a shell.
+    fn folder_of(
+        &self,
+        alloc: Global,
+        world: &World,
+        number: u8,
+    ) -> Result<Option<StartFolder>, Fault> {
+        let Some(shell) = world.shell(number) else {
+            return Ok(None);
+        };
+        let Some(path) = self.mirror.folder_of(alloc, shell.directory())? else {
+            return Ok(None);
+        };
+        Ok(Some(StartFolder {
+            path,
+            home: String::from_str(alloc, self.home.as_str())?,
+        }))
+    }
+
+    // Writes the lines on standard error that the mirror has to tell.
+    fn tell_lines<R: Eprint>(&mut self, rt: &R) {
+        for line in &self.mirror.take_lines() {
+            tell(rt, line);
+        }
+    }
+}
+
+// Runs the lines of an arrival.
+fn take_in<R: Processes>(
+    alloc: Global,
+    world: &mut World,
+    launcher: &mut Bringer<'_, R>,
+    mut arrival: Arrival,
+) -> Result<Arrival, Fault>
+    requires agrees { Agrees world.old launcher.old.calls }
+    ensures agrees { OnOk result (Agrees world.new launcher.new.calls) }
+{
+    launcher.offer(arrival.bytes.take());
+    run_lines(alloc, world, arrival.lines.as_slice(), launcher)?;
+    launcher.offer(None);
+    Ok(arrival)
+}
+
+// Runs lines one after another, each alone in a shell of its own.
+fn run_lines<L: Launcher>(
+    alloc: Global,
+    world: &mut World,
+    lines: &[Text],
+    launcher: &mut L,
+) -> Result<(), Fault>
+    requires agrees { Agrees world.old (L.calls launcher.old) }
+    ensures agrees { OnOk result (Agrees world.new (L.calls launcher.new)) }
+{
+    for line in lines {
+        run_alone(alloc, world, line, launcher)?;
+    }
+    Ok(())
+}
+
+// Runs a line alone, whose output nobody wants. Where no shell is free it is not run.
+fn run_alone<L: Launcher>(
+    alloc: Global,
+    world: &mut World,
+    line: &Text,
+    launcher: &mut L,
+) -> Result<(), Fault>
+    requires agrees { Agrees world.old (L.calls launcher.old) }
+    ensures agrees { OnOk result (Agrees world.new (L.calls launcher.new)) }
+{
+    let mut printed = Vec::new(alloc);
+    let ran = system(alloc, world, line, launcher, EVENTS, &mut printed);
+    outcome(&ran)
+}
+
+// What it comes to that a line ran alone.
+fn outcome(ran: &Result<SystemEnd, SystemFault>) -> Result<(), Fault>
+    ensures { OnOk result (IsOk ran.now) }
+{
+    match ran {
+        Ok(SystemEnd::Ended(_) | SystemEnd::NoShell) => Ok(()),
+        Ok(SystemEnd::StillRunning(_)) => Err(Fault::NotBrought),
+        Err(_) => Err(Fault::Memory),
+    }
+}

@@ -1,0 +1,231 @@
+#!/usr/bin/env python3
+"""Changes a shared folder at random on both sides, and compares it with a model at each start of a program and at the end.
+
+usage: share_random.py PROGRAM ROOM [CHANGES [SEED]]
+
+A script changes files and directories, starts a program, which changes some too, and asks, and meanwhile others are changed. The
+model says what must stand: what one side changed comes to the other; where both changed this machine's stands; what the Shell
+changed and this machine deleted is written again; and what is not as it was at the last time is never deleted. So nothing that was
+written on this machine is ever lost but by what was done on this machine, or by the Shell that had seen it.
+The last line is 'N changes, M starts: ok'.
+"""
+import os, random, shutil, subprocess, sys
+
+STEPS = 120
+FILES = ['a', 'b', 'c', 'd', 'p/a', 'p/b', 'q/a', 'q/b', 'r/a']
+FOLDERS = ['p', 'q', 'r', 's']
+GONE, FOLDER = 'gone', 'folder'
+
+
+def below(side, folder):
+    return [path for path in side if path.startswith(folder + '/')]
+
+
+class Model:
+    """What stands in the Shell, on this machine, and at the last time on both."""
+
+    def __init__(self):
+        self.shell, self.machine, self.last = {}, {}, {}
+        self.told = set()
+
+    def of(self, path):
+        return (side.get(path, GONE) for side in (self.shell, self.machine, self.last))
+
+    @staticmethod
+    def put(side, path, value):
+        if value == GONE:
+            side.pop(path, None)
+        else:
+            side[path] = value
+
+    def write_out(self):
+        """What is there is written first, then what is gone is deleted, the deepest first."""
+        paths = sorted(set(self.shell) | set(self.last))
+        for path in [p for p in paths if p in self.shell] + [p for p in reversed(paths) if p not in self.shell]:
+            shell, machine, last = self.of(path)
+            if shell == last:
+                continue
+            if shell == GONE and machine == FOLDER and below(self.machine, path):
+                self.put(self.last, path, GONE)
+                self.told.add(path)
+            elif machine in (last, shell, GONE):
+                # a folder that was deleted on this machine is made again for what is in it
+                for one in (path.split('/')[0], path):
+                    if shell != GONE or one == path:
+                        self.put(self.machine, one, self.shell.get(one, GONE))
+                        self.put(self.last, one, self.shell.get(one, GONE))
+            else:
+                self.told.add(path)
+
+    def come_in(self):
+        paths = sorted(set(self.machine) | set(self.last))
+        for path in [p for p in reversed(paths) if p not in self.machine] + [p for p in paths if p in self.machine]:
+            shell, machine, last = self.of(path)
+            if machine == last:
+                continue
+            if machine == GONE and (shell != last or shell == FOLDER and below(self.shell, path)):
+                self.put(self.last, path, GONE)
+                continue
+            if machine != GONE and shell not in (last, machine):
+                self.told.add(path)
+            # so is a directory that was deleted in the Shell
+            for one in (path.split('/')[0], path):
+                if machine != GONE or one == path:
+                    self.put(self.shell, one, self.machine.get(one, GONE))
+                    self.put(self.last, one, self.machine.get(one, GONE))
+
+
+def change(random_, side, number):
+    """A change of a side: its line for the Shell and its line for sh."""
+    kind = random_.random()
+    if kind < 0.5:
+        path = random_.choice(FILES)
+        if '/' in path and path.split('/')[0] not in side:
+            return None
+        text = f'{number}' if random_.random() < 0.5 else f'{number % 10}'
+        side[path] = text + '\n'
+        return f'Echo >{path} {text}', f'echo {text} >{path}'
+    if kind < 0.7:
+        files = [path for path in side if path not in FOLDERS]
+        if not files:
+            return None
+        path = random_.choice(files)
+        del side[path]
+        return f'Delete {path} QUIET', f'rm {path}'
+    if kind < 0.8:
+        files = [path for path in side if path not in FOLDERS]
+        free = [path for path in FILES if path not in side and ('/' not in path or path.split('/')[0] in side)]
+        if not files or not free:
+            return None
+        path, new = random_.choice(files), random_.choice(free)
+        side[new] = side.pop(path)
+        return f'Rename {path} {new}', f'mv {path} {new}'
+    path = random_.choice(FOLDERS)
+    if path not in side:
+        side[path] = FOLDER
+        return f'MakeDir {path}', f'mkdir {path}'
+    if kind < 0.9:
+        return None
+    for one in below(side, path):
+        del side[one]
+    del side[path]
+    return f'Delete {path} ALL QUIET', f'rm -r {path}'
+
+
+def changes(random_, side, most, count):
+    lines = [change(random_, side, next(count)) for _ in range(random_.randint(0, most))]
+    return [line for line in lines if line]
+
+
+def tree(folder):
+    stands = {}
+    for above, folders, files in os.walk(folder):
+        for name in folders:
+            stands[os.path.relpath(os.path.join(above, name), folder)] = FOLDER
+        for name in files:
+            with open(os.path.join(above, name)) as file:
+                stands[os.path.relpath(os.path.join(above, name), folder)] = file.read()
+    return stands
+
+
+def plan(random_, count):
+    """The script, what each program does, what is done at each question, and what must stand at each start and at the end."""
+    model, script, acts, asks, wanted = Model(), ['FailAt 100'], [], [], []
+    done = 0
+    first = changes(random_, model.machine, 12, count)
+    model.come_in()
+    for _ in range(STEPS):
+        lines = changes(random_, model.shell, 3, count)
+        script += [line for line, _ in lines]
+        done += len(lines)
+        if random_.random() < 0.4:
+            lines = changes(random_, model.machine, 2, count)
+            script.append(f'Ask {len(asks)}?')
+            asks.append([line for _, line in lines])
+        else:
+            model.write_out()
+            wanted.append(dict(model.machine))
+            lines = changes(random_, model.machine, 3, count)
+            script.append(f'act {len(acts)}')
+            acts.append([line for _, line in lines])
+            model.come_in()
+        done += len(lines)
+    model.write_out()
+    wanted.append(dict(model.machine))
+    return [line for _, line in first], script, acts, asks, wanted, model.told, done
+
+
+def sh(lines, folder):
+    if lines:
+        subprocess.run(['sh', '-e', '-c', '\n'.join(lines)], cwd=folder, check=True)
+
+
+def await_prompt(pipe, number):
+    """Reads what comes up to the prompt of a question."""
+    end = f'{number}? '.encode()
+    said = b''
+    while not said.endswith(end):
+        byte = pipe.read(1)
+        if not byte:
+            raise SystemExit(f'the script ended before its question {number}: {said.decode()}')
+        said += byte
+
+
+def run(program, room, random_, count):
+    first, script, acts, asks, wanted, told, done = plan(random_, count)
+    shutil.rmtree(room, ignore_errors=True)
+    for name in ('shared', 'acts', 'seen'):
+        os.makedirs(os.path.join(room, name))
+    folder = os.path.join(room, 'shared')
+    sh(first, folder)
+    with open(os.path.join(room, 'script'), 'w') as file:
+        file.write('\n'.join(script) + '\n')
+    for number, lines in enumerate(acts):
+        with open(os.path.join(room, 'acts', str(number)), 'w') as file:
+            file.write('\n'.join(['set -e', *lines]) + '\n')
+    act = os.path.join(room, 'act')
+    with open(act, 'w') as file:
+        file.write(f'#!/bin/sh\ncp -R . {room}/seen/$1\n. {room}/acts/$1\n')
+    os.chmod(act, 0o755)
+    with open(os.path.join(room, 'faults'), 'w') as faults:
+        child = subprocess.Popen([program, '--host', f'act={act}', '--share', folder, os.path.join(room, 'script')],
+                                 stdin=subprocess.PIPE, stdout=subprocess.PIPE, stderr=faults, bufsize=0)
+        for number, lines in enumerate(asks):
+            await_prompt(child.stdout, number)
+            sh(lines, folder)
+            child.stdin.write(b'n\n')
+        child.stdin.close()
+        child.stdout.read()
+        child.wait()
+    for number, stands in enumerate(wanted):
+        came = tree(os.path.join(room, 'seen', str(number)) if number < len(acts) else folder)
+        if came != stands:
+            for path in sorted(set(came) | set(stands)):
+                if came.get(path) != stands.get(path):
+                    print(f'{path}: came {came.get(path)!r}, wanted {stands.get(path)!r}')
+            raise SystemExit(f'start {number} of {len(acts)} in {room}: FAILED')
+    with open(os.path.join(room, 'faults')) as file:
+        lines = [line.rstrip('\n') for line in file]
+    named = {line.rsplit(': ', 1)[-1] for line in lines if 'both changed' in line}
+    if not named <= told:
+        raise SystemExit(f'{room}: told of {sorted(named - told)}, where not both sides changed')
+    missing = {path for path in told if path not in FOLDERS} - named
+    if missing:
+        raise SystemExit(f'{room}: not told of {sorted(missing)}, where both sides changed')
+    return done, len(wanted)
+
+
+def main():
+    program, room = os.path.abspath(sys.argv[1]), os.path.abspath(sys.argv[2])
+    wanted = int(sys.argv[3]) if len(sys.argv) > 3 else 10000
+    seed = int(sys.argv[4]) if len(sys.argv) > 4 else 1
+    random_ = random.Random(seed)
+    count = iter(range(10, 10 ** 9))
+    done = starts = 0
+    while done < wanted:
+        more, seen = run(program, room, random_, count)
+        done, starts = done + more, starts + seen
+    print(f'{done} changes, {starts} starts: ok')
+
+
+main()
