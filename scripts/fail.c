@@ -1,8 +1,8 @@
-/* Lets calls of the system fail in a program, and in none that it starts. Built by scripts/fail-each-call and put before the
+/* Makes system calls fail in a program, but not in those that it starts. Built by scripts/fail-each-call and put before the
    C library by LD_PRELOAD. FAIL_CALL names the kind of the calls: `read`, of standard input; `write`, to standard output;
    `piece`, a read of a pipe that is not standard input; `wait`, for a process; `pipe`, the making of one; `start`, of a process.
-   Of these the one whose number, from 1, FAIL_AT gives fails with the error FAIL_ERRNO, or where that is 0 moves no byte, and
-   so does each after it where FAIL_ON is given; where it came, the file that FAIL_MARK names is made. Each read or write of the kind moves at most FAIL_BYTES bytes, where that is
+   Of these the one whose number, from 1, FAIL_AT gives fails with the error FAIL_ERRNO, or if that is 0 moves no byte, and
+   so does each after it if FAIL_ON is given; if it is made, the file FAIL_MARK is created. Each read or write of the kind moves at most FAIL_BYTES bytes, if that is
    given. A wait that fails has waited, unless it was interrupted. */
 #define _GNU_SOURCE
 #include <dlfcn.h>
@@ -34,7 +34,7 @@ __attribute__((constructor)) static void begin(void) {
 
 static int is_kind(const char *kind) { return failing && strcmp(kind, failing) == 0; }
 
-/* Counts a call of this kind, and tells whether it is the one that fails. */
+/* Counts a call of this kind, and returns whether it is the one that fails. */
 static int fails(const char *kind) {
     if (!is_kind(kind) || ++calls < at || (calls > at && !goes_on)) return 0;
     const char *file = getenv("FAIL_MARK");
@@ -83,7 +83,7 @@ ssize_t writev(int file, const struct iovec *parts, int count) {
     return next(file, parts, count);
 }
 
-/* A wait, or what it comes to where it fails. */
+/* A wait, or its result if it fails. */
 #define WAIT(wait)                         \
     if (fails("wait")) {                   \
         if (error != EINTR) (void)(wait);  \

@@ -1,16 +1,16 @@
-"""Runs a program again and again, and refuses one request for memory in each run: the first, the second, the third .."""
+"""Runs a program repeatedly, and makes one allocation fail in each run: the first, the second, the third .."""
 import os
 import subprocess
 import sys
 from concurrent.futures import ProcessPoolExecutor
 
 ROOT = os.path.dirname(os.path.dirname(os.path.realpath(__file__)))
-sys.path.insert(0, f"{ROOT}/examples")
+sys.path.insert(0, f"{ROOT}/tests")
 from real_programs import adopt, ran
 
 
 def workers():
-    """Processes, one a processor, each of which counts those that its own runs leave."""
+    """Processes, one for each processor, each of which counts those that its own runs leave."""
     return ProcessPoolExecutor(len(os.sched_getaffinity(0)), initializer=adopt)
 
 
@@ -22,7 +22,7 @@ def library(room, name):
 
 
 def was_marked(mark):
-    """Says whether a file was made, and removes it."""
+    """Returns whether a file was made, and removes it."""
     if not os.path.exists(mark):
         return False
     os.remove(mark)
@@ -30,15 +30,15 @@ def was_marked(mark):
 
 
 class Refusals:
-    """The library that refuses, in a folder of its own. After the first `each` requests of a program one in `step` is refused."""
+    """The library that makes allocations fail, in a folder of its own. After the first `each` of a program it is one in `step`."""
 
     def __init__(self, room, each, step):
         self.room, self.each, self.step = room, each, step
         self.library = library(room, "refuse")
 
     def runs(self, name, words, given, folder="."):
-        """Gives the number of each request that was refused, how that run ended, and whether the program waited for a process
-        that was not there.
+        """Gives the number of each allocation that failed, how that run ended, and whether the program waited for a process
+        that did not exist.
 
         The words are the program's, which runs in the folder, `given` is its standard input, and the name is that of no other
         run at the time.

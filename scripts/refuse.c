@@ -1,6 +1,6 @@
-/* Refuses one request for memory of a program, and none of those that it starts: the one whose number, from 1, REFUSE names.
+/* Makes one allocation of a program fail, and none of those that it starts: the one whose number, from 1, REFUSE names.
    Built by scripts/refusals.py and put before the C library by LD_PRELOAD. Where that request came, the file that REFUSED names
-   is made; and where the program waits for a process that is not there, as for one that it waited for before, that of MISSED. */
+   is made; and if the program waits for a process that does not exist, as for one that it waited for before, that of MISSED. */
 #define _GNU_SOURCE
 #include <dlfcn.h>
 #include <errno.h>

@@ -1,14 +1,14 @@
-"""Dialogues as they are written: what is typed stands behind `> `, what is printed below the line that prints it.
+"""The form of dialogues: what is typed is after `> `, what is printed is below the line that prints it.
 
-`>` alone types an empty line. Where no newline is printed (or typed) behind a line, the line ends in `\\`. A backslash
-at the end that is printed or typed itself is written twice, and a printed line that begins with `>` begins with `\\>`.
+`>` alone types an empty line. If no newline is printed (or typed) after a line, the line ends in `\\`. A backslash
+at the end that is itself printed or typed is written twice, and a printed line that begins with `>` is written with `\\>`.
 All is bytes.
 
-A file NAME.dialogue holds one. At its head, before the first typed line, may stand
+A file NAME.dialogue holds one. Before the first typed line it may have
 
-    words WORD ..    the program's words (absent: none)
-    error TEXT       a line on standard error (absent: none)
-    status N         the exit status (absent: 0)
+    words WORD ..    the program's arguments (default: none)
+    error TEXT       a line on standard error (default: none)
+    status N         the exit status (default: 0)
 """
 import os
 from typing import NamedTuple
@@ -17,11 +17,11 @@ ENDING = ".dialogue"
 
 
 class BadDialogue(Exception):
-    """What is no dialogue: a line before the first typed one says nothing, or one without a newline is not the last."""
+    """Not a dialogue: a line before the first typed one is unknown, or one without a newline is not the last."""
 
 
 class Dialogue(NamedTuple):
-    """A dialogue: the program's words, its parts in order, each a typed line and what is printed behind it, and its end."""
+    """A dialogue: the program's arguments, its parts in order, each a typed line and what is printed after it, and its end."""
 
     words: list
     parts: list
@@ -38,7 +38,7 @@ class Dialogue(NamedTuple):
 
 
 def unescaped(line):
-    """A written line as the bytes that it stands for, with their newline where they have one."""
+    """The bytes that a written line means, with their newline if they have one."""
     text = line.rstrip(b"\\")
     marks = len(line) - len(text)
     return text + b"\\" * (marks // 2) + (b"" if marks % 2 else b"\n")
@@ -50,7 +50,7 @@ def parts_of(lines):
     for line in lines:
         if line == b">" or line.startswith(b"> "):
             if parts and not parts[-1][0].endswith(b"\n"):
-                raise BadDialogue("a line is typed behind one without a newline")
+                raise BadDialogue("a line is typed after one without a newline")
             parts.append((unescaped(line[2:]), b""))
         else:
             typed, printed = parts[-1]
@@ -59,7 +59,7 @@ def parts_of(lines):
 
 
 def taken_apart(lines):
-    """A dialogue by its written lines, without their newlines. Raises BadDialogue where they are none."""
+    """A dialogue by its written lines, without their newlines. Raises BadDialogue if it is not valid."""
     words, error, status = [], b"", 0
     for place, line in enumerate(lines):
         if line.startswith(b">"):
@@ -72,7 +72,7 @@ def taken_apart(lines):
         elif head == b"status" and value.isdigit():
             status = int(value)
         else:
-            raise BadDialogue(f"before a line is typed, {line!r} says nothing")
+            raise BadDialogue(f"before a line is typed, {line!r} is unknown")
     return Dialogue(words, [], error, status)
 
 

@@ -1,7 +1,7 @@
-"""Runs a program that starts others, and tells which of these are left behind it.
+"""Runs a program that starts others, and reports which of these are left after it.
 
-A process whose parent has ended passes to this one, whether it still runs or nobody waited for its end: so the system
-counts those that are left.
+A process whose parent has ended is adopted by this one, whether it still runs or nobody waited for its end: so those that
+are left can be counted.
 """
 import ctypes
 import os
@@ -17,8 +17,8 @@ Ran = namedtuple("Ran", "out err status left")
 
 
 def adopt():
-    """Lets each process that loses its parent pass to this one, and signals do what they do at first: who started this one in the
-    background, or for a time without a terminal, may have had them ignored, which programs inherit."""
+    """Adopts each process that loses its parent, and restores the default of signals: whoever started this one in the
+    background, or without a terminal, may have ignored them, which programs inherit."""
     for it in [signal.SIGCHLD, signal.SIGHUP, signal.SIGINT, signal.SIGQUIT]:
         signal.signal(it, signal.SIG_DFL)
     if ctypes.CDLL(None, use_errno=True).prctl(PR_SET_CHILD_SUBREAPER, 1, 0, 0, 0) != 0:
