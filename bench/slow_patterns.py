@@ -1,6 +1,6 @@
 """A slow reading of patterns, apart from the crate: it tries all cuts.
 
-It writes what the program `bench_pattern` must print, where that reads the same lines:
+It writes what the program `bench_pattern` must print for the same lines:
 
     python3 bench/slow_patterns.py < crates/bench_pattern/stdin > crates/bench_pattern/stdout
 
@@ -13,7 +13,7 @@ def fold(c):
     return c.lower() if 'A' <= c <= 'Z' else c
 
 def read_class(t, i):
-    """t[i] == '['. (negated, members, end) or None where the class is open; faults told apart."""
+    """t[i] == '['. (negated, members, end) or None if the class is not closed; its faults are found elsewhere."""
     j = i + 1
     neg = j < len(t) and t[j] == '~'
     if neg:
@@ -130,7 +130,7 @@ def matches(rows, s):
     return any(row_matches(r, s) for r in rows)
 
 def literal(rows, text):
-    """literal where the text is one alternative and each item is a character or 'c"""
+    """literal if the text is one alternative and each item is a character or 'c"""
     return len(rows) == 1 and all(i[0] == 'c' for i in rows[0])
 
 SIGNS = "ab#~?%()|[]'-"
@@ -165,7 +165,7 @@ def table():
         lines.append(f"{L}: {patterns} patterns, {bad} bad, {literals} literal, {pairs} matches, digest {digest}")
     return '\n'.join(lines) + '\n'
 
-# what the program answers to a line
+# what the program prints for a line
 def answer(line):
     pattern, _, name = line.partition(' ')
     if len(pattern) > 255:
