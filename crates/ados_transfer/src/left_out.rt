@@ -64,8 +64,14 @@ pub fn options_left_out(alloc: Global, script: &[u8]) -> Result<Vec<LeftOut>, No
 }
 
 /// Writes blanks over those options in a script that the Shell leaves out and that say nothing which matters here.
-pub fn strike(alloc: Global, script: &mut [u8]) -> Result<(), NoMemory> {
-    for one in &options_left_out(alloc, script)? {
+///
+/// The script stays as long as it is, and each byte is as it was or a blank.
+#[tactic(auto, using(crate::proofs::StrikeLemmas::blanked_itself, crate::proofs::StrikeLemmas::blanked_again))]
+pub fn strike(alloc: Global, script: &mut [u8]) -> Result<(), NoMemory>
+    ensures { IsBlanked script.old script.new }
+{
+    let found = options_left_out(alloc, script)?;
+    for one in &found {
         for given in &one.options {
             if given.option.is_idle {
                 blank(script, given.from, given.to);
