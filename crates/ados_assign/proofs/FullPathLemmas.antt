@@ -1,4 +1,4 @@
--- Full paths lead back: their text names their steps, and these go down directories that are there.
+-- Full paths lead back: their text gives their steps, and these lead down existing directories.
 use Rattle.std.proofs.Common.{◌≡◌, ◌≤◌, ◌∙◌, ℕ, ◌&&◌, List, [], ◌∷◌, ◌++◌, Option, Some, None, length, refl, sym, ap, subst, arith, append-nil, append_assoc, nat_lt, nat_le}
 use Rattle.std.specs.Prelude.{codes, map, Ok, Err, IsSome, IsTrue, if◌then◌else◌}
 use Rattle.std.specs.List.{list_all}
@@ -43,7 +43,7 @@ written-slashed (name ∷ rest) =
 text-spelled : (place : Place) → text_of (path_to place) ≡ spelled_path place
 text-spelled place = ap (λ (t : List ℕ). codes "RAM:" ++ t) (written-slashed place)
 
--- its names may stand in it
+-- its names may be used in it
 steps-names : (names : Place) → list_all is_step (steps_into names) ≡ list_all is_name names
 steps-names [] = refl
 steps-names (name ∷ rest) = ap (λ b. is_name name && b) (steps-names rest)
@@ -53,7 +53,7 @@ names-path place names fits =
     let is : IsPath (path_to place) = record { parts = steps-names place ∙ names; fits = subst (λ (t : List ℕ). length t ≤ path_limit) (sym (text-spelled place)) fits } in
     ap path_of (sym (text-spelled place)) ∙ path-text (path_to place) is
 
--- a step into a directory goes on
+-- a step into a directory continues
 goes-on : (o : Option Entry) (next : Resolved) → IsTrue (is_some_directory o) → on_entry o next ≡ next
 goes-on None next h = cc
 goes-on (Some e) next h = ap (λ b. if b then next else Err WRONG_TYPE) h
@@ -75,7 +75,7 @@ pub spelled-back : SpelledPathsLeadBack
 spelled-back files place are is fits assigns current =
     ap (by_path (resolved assigns files current)) (names-path place is.names fits) ∙ walks files [] place are is.there
 
--- the name of an object is that of its place, but for case
+-- the name of an object is that of its place, except for case
 last-of : (above : Key) (name : Name) → last_name (above ++ name ∷ []) ≡ name
 last-of [] name = refl
 last-of (x ∷ []) name = refl
@@ -97,7 +97,7 @@ below-same files above (name ∷ rest) are =
 pub written-same : WrittenPlacesAreTheirs
 written-same files place are = below-same files [] place are
 
--- what may stand in a name may do so in either case
+-- a byte that may be used in a name may be so in either case
 byte-folded : (byte : ℕ) → is_name_byte (fold_of byte) ≡ is_name_byte byte
 byte-folded byte = grind (arith, nat_tests)
 

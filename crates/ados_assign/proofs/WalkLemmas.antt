@@ -1,4 +1,4 @@
--- A step down in the files: what stands below a place is what stands there by the map.
+-- A step down in the files: the entries below a place are those that the map has there.
 use Rattle.std.proofs.Common.{◌≡◌, ◌∙◌, [], ◌∷◌, ◌++◌, ap, sym}
 use Rattle.std.proofs.lemmas.List.{map-append}
 use Rattle.std.specs.FinMap as map

@@ -16,17 +16,17 @@ use Rattle.ados_assign.specs.Resolve.{by_path, resolved}
 abbrev pub LeadsTo : Files → Text → Place → Type 0
 LeadsTo files text place = (assigns : AssignMap) (current : Place) → by_path (resolved assigns files current) (path_of text) ≡ Ok place
 
--- an object is at a place, and each name that leads there is one that a path may have
+-- there is an object at a place, and each name that leads there is one that a path may have
 pub record IsThere (files : Files) (place : Place) : Type 0 where
   pub there : IsSome (map.get files (key_of place))
   pub names : IsTrue (list_all is_name place)
 
--- the path of a place, as its names are spelled, leads to it
+-- the path of a place, with its names as they are given, leads to it
 abbrev pub SpelledPathsLeadBack : Type 0
 SpelledPathsLeadBack = (files : Files) (place : Place) → AreFiles files → IsThere files place →
     length (spelled_path place) ≤ path_limit → LeadsTo files (spelled_path place) place
 
--- a place is the same one as it is written in the files
+-- a place as it is written in the files is the same place
 abbrev pub WrittenPlacesAreTheirs : Type 0
 WrittenPlacesAreTheirs = (files : Files) (place : Place) → AreNamed files → key_of (written_place files place) ≡ key_of place
 

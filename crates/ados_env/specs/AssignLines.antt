@@ -1,4 +1,4 @@
--- The lines that tell an assign.
+-- The lines in which an assign is printed.
 use Rattle.std.specs.Prelude.{List, [], ◌∷◌, ◌++◌, codes}
 use Rattle.std.specs.List.{flat_map}
 use Rattle.ados_text.specs.Text.{Text, Bytes}
@@ -9,16 +9,16 @@ use Rattle.ados_assign.specs.declared.assigns.Assign.{Assign}
 use Rattle.ados_assign.specs.declared.bindings.Binding.{Binding}
 use Rattle.ados_assign.specs.declared.bindings.Binding.TheVariants.{Dirs, Path, Defer}
 
--- each directory behind the first has a line of its own
+-- each directory after the first has a line of its own
 abbrev pub further_line : Files → Place → Bytes
 further_line files place = codes "+ " ++ full_path files place ++ codes "\n"
 
--- the full paths of directories, the first behind the name
+-- the full paths of directories, the first after the name
 abbrev pub directory_lines : Files → Text → List Place → Bytes
 directory_lines files name [] = []
 directory_lines files name (place ∷ places) = name ++ codes ": " ++ full_path files place ++ codes "\n" ++ flat_map (further_line files) places
 
--- a text stands in brackets, one of Defer in others
+-- a text is printed in brackets, one of Defer in others
 abbrev pub binding_lines : Files → Text → Binding → Bytes
 binding_lines files name (Dirs places) = directory_lines files name places
 binding_lines files name (Path text) = name ++ codes ": [" ++ text ++ codes "]\n"

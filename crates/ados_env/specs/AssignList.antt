@@ -14,12 +14,12 @@ use Rattle.ados_env.specs.AssignRequest.{changes_list}
 use Rattle.ados_env.specs.declared.assign_list.ListWork.{ListWork}
 use Rattle.ados_env.specs.declared.assign_request.Request.{Request}
 
--- ADD and REMOVE begin with the directories as they stand, and else with none
+-- ADD and REMOVE begin with the directories as they are, and every other request with none
 abbrev pub begun_with : Request → List Place → ListWork
 begun_with r before = record { removes = r.removes; before = before; list = if changes_list r then before else [] }
 
--- a directory that TARGET names is added at the end, unless it is there; or it is taken out, and then it has to be one of those
--- that stood
+-- a directory that TARGET names is added at the end, unless it is there; or it is removed, and then it has to be one of those
+-- that were there before
 abbrev pub worked_place : ListWork → Place → Result ListWork Codes
 worked_place work place =
     if work.removes then
@@ -31,7 +31,7 @@ abbrev pub worked_at : ListWork → Result Place Codes → Result ListWork Codes
 worked_at work (Err codes) = Err codes
 worked_at work (Ok place) = worked_place work place
 
--- the work behind the texts of TARGET in turn, unless one of them is refused
+-- the work after the texts of TARGET in order, unless one of them is refused
 abbrev pub and_then : Result ListWork Codes → (ListWork → Result ListWork Codes) → Result ListWork Codes
 and_then (Err codes) further = Err codes
 and_then (Ok work) further = further work

@@ -1,4 +1,4 @@
--- What Assign is told beside NAME, and what is wrong with it.
+-- What Assign is given besides NAME, and what is wrong with it.
 use Rattle.std.specs.Prelude.{Bool, true, false, not, ◌&&◌, ◌||◌, nat_lt, length, List, Option, Some, None, if◌then◌else◌}
 use Rattle.std.specs.Option.{option_or}
 use Rattle.ados_text.specs.Text.{Text}
@@ -9,7 +9,7 @@ use Rattle.ados_find.specs.declared.codes.Codes.{Codes}
 use Rattle.ados_find.specs.Codes.{failed}
 use Rattle.ados_env.specs.declared.assign_request.Request.{Request}
 
--- EXISTS tells; DEFER and PATH keep TARGET as a text; ADD and REMOVE change the directories of an assign
+-- EXISTS prints; DEFER and PATH keep TARGET as a text; ADD and REMOVE change the directories of an assign
 abbrev pub request_of : List Arg → Request
 request_of args = record {
   tells = is_on args 2;
@@ -44,7 +44,7 @@ request_fault r has_name =
     option_or (fault_if (are_two r || (r.tells && has_target r)) (failed TOO_MANY_ARGUMENTS))
     (fault_if (not has_name && (has_target r || (keeps_text r || changes_list r))) (failed ARGUMENT_MISSING))
 
--- and after it: ADD, PATH and DEFER ask for TARGET, and a text is one alone
+-- and after it: ADD, PATH and DEFER need TARGET, and PATH and DEFER only one
 abbrev pub targets_fault : Request → Option Codes
 targets_fault r =
     option_or (fault_if ((r.adds || keeps_text r) && not (has_target r)) (failed ARGUMENT_MISSING))

@@ -10,7 +10,7 @@ use Rattle.ados_find.specs.Shared.{SharedState}
 use Rattle.ados_env.specs.declared.commands.Command.{Command}
 use Rattle.ados_env.specs.declared.commands.Command.TheVariants.{Assign, Cd, GetEnv, Path, Resident, SetEnv, UnsetEnv, Which}
 
--- FILE of Resident, or NAME where that stands for it, as it does not where it names what is removed
+-- FILE of Resident, or else NAME, unless NAME is what is to be removed
 abbrev pub program_paths : Bool → Option Text → List Text → List Text
 program_paths removes (Some file) name = file ∷ []
 program_paths removes None name = if removes then [] else name
@@ -23,12 +23,12 @@ paths_in Path args = texts_at args 0
 paths_in Resident args = program_paths (is_on args 2) (text_at args 1) (texts_at args 0)
 paths_in command args = []
 
--- a word that is sought as a command's
+-- the devices of the search for a word as a command
 abbrev pub sought : SharedState → Parts → Option Text → List Text
 sought shared parts None = []
 sought shared parts (Some word) = searched shared parts.directory parts.settings.path word
 
--- the devices that it uses: those of its paths; ENV: where global variables are; and those to which the search of Which comes
+-- the devices that it uses: those of its paths; ENV: for global variables; and those that the search of Which reaches
 abbrev pub devices_of : Command → SharedState → Parts → List Arg → List Text
 devices_of SetEnv shared parts args = codes "ENV" ∷ []
 devices_of GetEnv shared parts args = codes "ENV" ∷ []

@@ -1,4 +1,4 @@
-// The lines that tell an assign.
+// The lines in which an assign is printed.
 ghost use Rattle.std.specs.Prelude.{◌≡◌, ◌++◌, OnOk};
 ghost use Rattle.std.specs.List.{flat_map};
 ghost use Rattle.ados_env.specs.AssignLines.{further_line, directory_lines, assign_lines};
@@ -65,7 +65,7 @@ fn push_further_line(output: &mut Vec<u8>, ram: &Ram, place: &Place) -> Result<(
     Ok(())
 }
 
-// A name and a text with what stands before and behind the text.
+// A name and a text, with what is printed before and after the text.
 fn push_text(
     output: &mut Vec<u8>,
     name: &Text,

@@ -14,9 +14,9 @@ use std::alloc::Global;
 /// The work of Assign on the directories of an assign.
 #[derive(Drop)]
 pub struct ListWork {
-    /// Directories are taken out.
+    /// Directories are removed.
     pub removes: bool,
-    /// The directories as they stood before.
+    /// The directories as they were before.
     pub before: SearchPath,
     /// The directories so far.
     pub list: SearchPath,
@@ -40,9 +40,9 @@ impl ListWork {
         })
     }
 
-    /// The work behind the texts of TARGET in turn.
+    /// The work after the texts of TARGET, in order.
     ///
-    /// What `directory_of` refuses, and 205 for a directory that is to be taken out of a list that has it not.
+    /// What `directory_of` refuses, and 205 for a directory that is to be removed from a list that does not have it.
     pub fn work_all(
         self,
         alloc: Global,
@@ -59,7 +59,7 @@ impl ListWork {
         work.work_all(alloc, shared, view, further)
     }
 
-    // A directory is added, or taken out.
+    // A directory is added, or removed.
     fn work(mut self, place: Place) -> Result<ListWork, Refusal>
         ensures { Gives result (worked_place self place) }
     {

@@ -1,4 +1,4 @@
-// What Assign is told beside NAME, and what is wrong with it.
+// What Assign is given besides NAME, and what is wrong with it.
 ghost use Rattle.std.specs.Prelude.{◌≡◌, IfOk};
 ghost use Rattle.ados_env.specs.AssignRequest.{are_two, changes_list, fault_if, has_target, keeps_text, request_fault, request_of, targets_fault};
 
@@ -7,10 +7,10 @@ use ados_readargs::Args;
 use ados_text::{NoMemory, Result2, Texts};
 use std::alloc::Global;
 
-/// What Assign is told beside NAME: its switches, and the texts of TARGET.
+/// What Assign is given besides NAME: its switches, and the texts of TARGET.
 #[derive(Drop)]
 pub struct Request {
-    /// The assign is told.
+    /// The assign is printed.
     pub tells: bool,
     /// TARGET is kept as a text up to its first use.
     pub defers: bool,
@@ -18,7 +18,7 @@ pub struct Request {
     pub follows: bool,
     /// The directories are added at the end.
     pub adds: bool,
-    /// The directories are taken out.
+    /// The directories are removed.
     pub removes: bool,
     /// The texts of TARGET.
     pub targets: Texts,
@@ -46,7 +46,7 @@ impl Request {
         self.defers || self.follows
     }
 
-    /// The directories of an assign that is there are changed.
+    /// The directories of an existing assign are changed.
     pub fn changes_list(&self) -> bool
         ensures { result ≡ changes_list self.now }
     {

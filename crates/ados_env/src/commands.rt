@@ -62,7 +62,7 @@ impl Command {
         }
     }
 
-    /// Whether its row reads what is in use.
+    /// Whether the command reads what is in use.
     #[tactic(auto, using(crate::proofs::InUseLemmas::ignores))]
     pub fn reads_in_use(self) -> bool
         ensures value { result ≡ reads_in_use self }
@@ -90,7 +90,7 @@ impl Command {
         }
     }
 
-    /// Whether its row reads what the shells are called and run from.
+    /// Whether the command reads what the shells are called and run from.
     #[tactic(auto, using(crate::proofs::ShellsLemmas::ignores))]
     pub fn reads_shells(self) -> bool
         ensures value { result ≡ reads_shells self }

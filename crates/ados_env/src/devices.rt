@@ -13,7 +13,7 @@ use ados_readargs::Args;
 use ados_text::{Name, NoMemory};
 use std::alloc::Global;
 
-/// Pushes the devices that the arguments of a command use behind those of a list, each with the devices to which the
+/// Adds the devices that the arguments of a command use to the end of a list, each with the devices to which the
 /// texts of assigns lead on from it.
 pub fn push_devices(
     alloc: Global,
@@ -84,7 +84,7 @@ fn push_program(
     }
 }
 
-// Those to which the search of a word comes.
+// Those that the search of a word reaches.
 fn push_sought(
     alloc: Global,
     shared: &Shared,

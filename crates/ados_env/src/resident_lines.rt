@@ -1,4 +1,4 @@
-// The resident list as Resident tells it: a line for each internal command, and one for each entry.
+// The resident list as Resident prints it: a line for each internal command, and one for each entry.
 ghost use Rattle.std.specs.Prelude.{◌≡◌, ◌++◌, IfOk, OnOk};
 ghost use Rattle.std.specs.List.{flat_map};
 ghost use Rattle.ados_env.specs.Resident.{entry_line, internal_line, list_line, list_lines};
@@ -8,12 +8,12 @@ use ados_text::{NoMemory, Text, push_left, push_right};
 use itoa::Buffer;
 use std::alloc::Global;
 
-// How many places a name takes at least, and what is told of it.
+// The minimum widths of a name and of what is printed after it.
 const NAME_WIDTH: usize = 20;
 
 const TOLD_WIDTH: usize = 4;
 
-// The lines of the list; those of entries of the system only where they are asked for.
+// The lines of the list; those of entries of the system only if they are asked for.
 pub fn list_lines(
     alloc: Global,
     residents: &Residents,
@@ -37,7 +37,7 @@ fn push_internals(output: &mut Vec<u8>, internals: &[Internal]) -> Result<(), No
     Ok(())
 }
 
-// An internal command is told to be one by a number, or to be disabled.
+// An internal command is marked as one by a number, or as disabled.
 fn push_internal(output: &mut Vec<u8>, internal: Internal) -> Result<(), NoMemory>
     ensures { OnOk result (output.new.items ≡ output.old.items ++ internal_line internal) }
 {
@@ -63,7 +63,7 @@ fn push_entries(
     Ok(())
 }
 
-// An entry is told with the number of shells that run from it, and one of the system by a number of its own.
+// An entry is printed with the number of shells that run from it, and one of the system with a number of its own.
 fn push_entry(
     output: &mut Vec<u8>,
     entry: &Resident,
@@ -84,7 +84,7 @@ fn push_entry(
     push_line(output, name, b"-1")
 }
 
-// Puts out a line of the list.
+// Adds a line of the list to the output.
 fn push_line(output: &mut Vec<u8>, name: &[u8], told: &[u8]) -> Result<(), NoMemory>
     ensures { OnOk result (output.new.items ≡ output.old.items ++ list_line name.now told.now) }
 {

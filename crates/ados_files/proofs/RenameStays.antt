@@ -1,4 +1,4 @@
--- What Rename leaves alone: each place that is not at or below FROM or TO.
+-- What Rename leaves unchanged: each place that is not at or below FROM or TO.
 use Rattle.std.proofs.Common.{◌≡◌, ℕ, Bool, true, false, not, ◌&&◌, ◌||◌, List, [], ◌∷◌, ◌++◌, Option, Some, None, Result, Ok, Err, refl, ap, ◌∙◌, if◌then◌else◌}
 use Rattle.std.specs.FinMap as map
 use Rattle.ados_text.specs.declared.codes.Result2.{Result2}

@@ -1,4 +1,4 @@
--- The commands on files do not read what the shells are called, nor what they run from.
+-- The commands on files read neither what the shells are called, nor what they run from.
 use Rattle.std.proofs.Common.{List, refl}
 use Rattle.ados_readargs.specs.declared.args.Arg.{Arg}
 use Rattle.ados_find.specs.Shared.{SharedState}

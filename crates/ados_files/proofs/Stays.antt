@@ -1,4 +1,4 @@
--- Work that keeps something of the shared parts, step by step.
+-- Work that keeps a property of the shared parts, step by step.
 use Rattle.std.proofs.Common.{Bool, List, [], ◌∷◌, Option, Some, None, refl, ◌∙◌}
 use Rattle.std.specs.List.{AllByRecursion}
 use Rattle.ados_text.specs.declared.codes.Result2.{Result2}
@@ -8,7 +8,8 @@ use Rattle.ados_find.specs.declared.codes.Codes.{Codes}
 use Rattle.ados_find.specs.Shared.{SharedState}
 use Rattle.ados_find.specs.Done.{Done, refused_or, unless, each}
 
--- how the shared parts stand to those before some work: no work keeps it, and so does one work behind another
+-- a relation between the shared parts and those before some work: it holds if there is no work, and for one work after
+-- another if for both
 pub record IsKept (R : SharedState → SharedState → Type 0) : Type 0 where
   pub same : (a : SharedState) → R a a
   pub joined : (a b c : SharedState) → R a b → R b c → R a c
@@ -21,7 +22,7 @@ pub kept-unless : {R : SharedState → SharedState → Type 0} → IsKept R → 
 kept-unless kept None done next h = h
 kept-unless kept (Some codes) done next h = kept.same done.shared
 
--- an act in turn on what it is good for
+-- an act on each item in turn, if the relation holds for the act on each
 pub kept-each : {R : SharedState → SharedState → Type 0} → IsKept R → {X : Type 0} (act : Done → X → Done) (P : X → Type 0) → ((done : Done) (x : X) → P x → R done.shared (act done x).shared) → (done : Done) (xs : List X) → AllByRecursion P xs → R done.shared (each act done xs).shared
 kept-each kept act P h done [] all = kept.same done.shared
 kept-each kept act P h done (x ∷ xs) all =

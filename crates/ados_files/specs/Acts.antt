@@ -11,30 +11,30 @@ use Rattle.ados_find.specs.Paths.{place_of}
 use Rattle.ados_files.specs.Names.{FoundPlaces, named}
 use Rattle.ados_files.specs.Lines.{say}
 
--- the files are new ones, or it stops at a fault
+-- the files are the new ones, or the work stops at a fault
 abbrev pub in_files : Option Result2 → Files → Done → Done
 in_files fault files done = refused_or fault done (record done { shared = with_files done.shared files })
 
--- and the path of a place, as it was, is told with some words
+-- the same, and the path of a place, as it was, is reported with some words
 abbrev pub in_files_saying : Option Result2 → Files → Bool → List (List ℕ) → List ℕ → Done → Done
 in_files_saying fault files quiet place words done =
     refused_or fault done
     (record done { shared = with_files done.shared files; output = say quiet done.output (full_path done.shared.files place ++ words) })
 
--- with the place that is there, or it stops
+-- an act with the place, or the work stops
 abbrev pub at_place : (Done → List (List ℕ) → Done) → Done → Result (List (List ℕ)) Codes → Done
 at_place act done (Err codes) = stopped_by codes done
 at_place act done (Ok place) = act done place
 
--- with the place to which a path leads, in the files as they then are
+-- an act with the place to which a path leads, in the files at that time
 abbrev pub at_path : (Done → List (List ℕ) → Done) → View → Done → List ℕ → Done
 at_path act view done text = at_place act done (place_of done.shared view.parts.directory text)
 
--- with each of the objects that are there, or it stops
+-- an act with each of the objects, or the work stops
 abbrev pub at_places : (Done → List (List ℕ) → Done) → Done → Result FoundPlaces Codes → Done
 at_places act done (Err codes) = stopped_by codes done
 at_places act done (Ok found) = each act done found.places
 
--- with each of the objects that an argument names, in the files as they then are
+-- an act with each of the objects that an argument names, in the files at that time
 abbrev pub at_names : (Done → List (List ℕ) → Done) → View → Done → List ℕ → Done
 at_names act view done text = at_places act done (named done.shared view.parts.directory text)

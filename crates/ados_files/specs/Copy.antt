@@ -26,13 +26,13 @@ use Rattle.ados_files.specs.Lines.{say}
 use Rattle.ados_files.specs.Jobs.{sources_of, all_jobs, jobs_onto}
 use Rattle.ados_files.specs.declared.jobs.Job.{Job}
 
--- the directories between a place and one below it, down to the last
+-- the directories between a place and one below it, from the top down
 abbrev pub between : List (List ℕ) → List (List ℕ) → List (List (List ℕ))
 between above [] = []
 between above (name ∷ []) = []
 between above (name ∷ next ∷ rest) = (above ++ name ∷ []) ∷ between (above ++ name ∷ []) (next ∷ rest)
 
--- a directory is made where nothing is; a file in its place is refused
+-- a directory is created if there is nothing; a file in its place is refused
 abbrev pub made_at : Done → List (List ℕ) → Option Entry → Done
 made_at done place None = made done place
 made_at done place (Some e) = cond (is_directory e) done (refused_or (Some WRONG_TYPE) done done)
@@ -40,11 +40,11 @@ made_at done place (Some e) = cond (is_directory e) done (refused_or (Some WRONG
 abbrev pub make_missing : Done → List (List ℕ) → Done
 make_missing done place = made_at done place (map.get done.shared.files (key_of place))
 
--- a file onto itself is refused
+-- a file copied onto itself is refused
 abbrev pub itself_fault : List (List ℕ) → List (List ℕ) → Option Result2
 itself_fault source target = if is_same_key (key_of source) (key_of target) then Some OBJECT_IN_USE else None
 
--- then where it cannot be read
+-- and then one that cannot be read
 abbrev pub copy_fault : InUse → Files → List (List ℕ) → List (List ℕ) → Option Result2
 copy_fault busy files source target =
     option_or (itself_fault source target) (read_fault (is_output busy (key_of source)) (map.get files (key_of source)))
@@ -64,7 +64,7 @@ copy_written view quiet source target e done =
 abbrev pub copy_unless : View → Bool → List (List ℕ) → List (List ℕ) → Entry → Done → Done
 copy_unless view quiet source target e done = unless done.stopped done (copy_written view quiet source target e done)
 
--- what is there goes to a place below TO: missing directories are made, and it is written
+-- the source, if it exists, is copied to a place below TO: missing directories are created, and it is written
 abbrev pub copy_entry : View → Bool → List (List ℕ) → Done → Job → Option Entry → Done
 copy_entry view quiet to done job None = done
 copy_entry view quiet to done job (Some e) =
@@ -76,7 +76,7 @@ copy_one view quiet to done job =
     refused_or (copy_fault view.busy done.shared.files job.source (to ++ job.names)) done
     (copy_entry view quiet to done job (map.get done.shared.files (key_of job.source)))
 
--- what stands at the one source, where there is just one that is named by its path
+-- the entry at the source, if there is just one that is named by its path
 abbrev pub first_entry : Files → List (List (List ℕ)) → Option Entry
 first_entry files [] = None
 first_entry files (place ∷ places) = map.get files (key_of place)
@@ -84,18 +84,18 @@ first_entry files (place ∷ places) = map.get files (key_of place)
 abbrev pub one_entry : Files → FoundPlaces → Option Entry
 one_entry files found = if found.literal then first_entry files found.places else None
 
--- TO is a directory: an absent one is made for just one directory, and else refused, as is a file
+-- TO has to be a directory: a missing one is created only for a single directory, and otherwise refused, as is a file
 abbrev pub directory_for : Bool → List (List ℕ) → Done → Option Entry → Done
 directory_for true to done there = made_at done to there
 directory_for false to done None = refused_or (Some DIRECTORY_NOT_FOUND) done done
 directory_for false to done (Some e) = made_at done to (Some e)
 
--- files go into a directory; the list of them is taken before the first write
+-- files are copied into a directory; the list of them is made before the first write
 abbrev pub copy_into : View → Bool → Bool → FoundPlaces → Done → List (List ℕ) → Done
 copy_into view all quiet found done to = (let files = done.shared.files in
     each (copy_one view quiet to) (directory_for (is_some_directory (one_entry files found)) to done (map.get files (key_of to))) (all_jobs all files found.places))
 
--- just one file, and a TO that is no directory: TO itself is written
+-- just one file, and a TO that is not a directory: TO itself is written
 abbrev pub is_onto : Files → FoundPlaces → List (List ℕ) → Bool
 is_onto files found to = is_some_file (one_entry files found) && not (is_some_directory (map.get files (key_of to)))
 
@@ -104,7 +104,7 @@ copy_found view all quiet found done to =
     if is_onto done.shared.files found to then each (copy_one view quiet to) done (jobs_onto found.places)
     else copy_into view all quiet found done to
 
--- the sources first, then TO
+-- first the sources are looked up, then TO
 abbrev pub copied_to : SharedState → View → Bool → Bool → FoundPlaces → Result (List (List ℕ)) Codes → Effect
 copied_to shared view all quiet found (Err codes) = answering shared codes
 copied_to shared view all quiet found (Ok to) = ended (copy_found view all quiet found (fresh shared) to)
@@ -113,7 +113,7 @@ abbrev pub copied_from : SharedState → View → Bool → Bool → Result Found
 copied_from shared view all quiet (Err codes) to = answering shared codes
 copied_from shared view all quiet (Ok found) to = copied_to shared view all quiet found (place_of shared view.parts.directory to)
 
--- without FROM an argument is missing; the template does not let TO be
+-- without FROM an argument is missing; the template ensures that TO is not
 abbrev pub copied_texts : SharedState → View → Bool → Bool → List (List ℕ) → Option (List ℕ) → Effect
 copied_texts shared view all quiet texts None = answering shared (failed ARGUMENT_MISSING)
 copied_texts shared view all quiet [] (Some to) = answering shared (failed ARGUMENT_MISSING)

@@ -1,4 +1,4 @@
--- Delete: objects taken out, with ALL what is below them first.
+-- Delete: objects are deleted, with ALL after all that is below them.
 use Rattle.std.specs.Prelude.{ℕ, Bool, true, false, List, [], ◌∷◌, ◌++◌, codes}
 use Rattle.std.specs.FinMap as map
 use Rattle.ados_readargs.specs.declared.args.Arg.{Arg}
@@ -18,7 +18,7 @@ use Rattle.ados_files.specs.Acts.{at_names}
 abbrev pub deleted_line : Files → List (List ℕ) → List ℕ
 deleted_line files place = full_path files place ++ codes "  Deleted\n"
 
--- one object is deleted, and its path is told as it was
+-- one object is deleted, and its path is reported as it was
 abbrev pub delete_one : View → Bool → Done → List (List ℕ) → Done
 delete_one view quiet done place =
     refused_or (delete_fault view.busy done.shared.files (key_of place)) done
@@ -27,7 +27,7 @@ delete_one view quiet done place =
       output = say quiet done.output (deleted_line done.shared.files place);
     })
 
--- what is deleted with a place: with ALL what is below it first
+-- the places that are deleted with a place: with ALL those below it first
 abbrev pub targets : Bool → Files → List (List ℕ) → List (List (List ℕ))
 targets true files place = contents (key_of place) (map.entries files) ++ place ∷ []
 targets false files place = place ∷ []

@@ -1,4 +1,4 @@
--- Dir: what is in a directory, its directories first.
+-- Dir: what is in a directory, with its directories first.
 use Rattle.std.specs.Prelude.{ℕ, Bool, cond, List, [], ◌∷◌, ◌++◌, codes, Option, Some, None, Result, Ok, Err, if◌then◌else◌}
 use Rattle.std.specs.FinMap as map
 use Rattle.ados_text.specs.declared.codes.Result2.{Result2}
@@ -27,15 +27,15 @@ abbrev pub file_line : Option Entry → List ℕ
 file_line None = []
 file_line (Some e) = cond (is_directory e) [] (codes "  " ++ e.name ++ 10 ∷ [])
 
--- the lines of the directories that are there
+-- the lines of the directories
 abbrev pub directories_text : Bool → Files → List (List (List ℕ)) → List ℕ
 directories_text kept files places = if kept then lines_by directory_line files places else []
 
--- the lines of the files that are there
+-- the lines of the files
 abbrev pub files_text : Bool → Files → List (List (List ℕ)) → List ℕ
 files_text kept files places = if kept then lines_by file_line files places else []
 
--- DIRS and FILES each keep their kind alone, and both keep both
+-- DIRS shows directories alone, FILES files alone; both or neither show both
 abbrev pub dir_text : Bool → Bool → Files → List (List (List ℕ)) → List ℕ
 dir_text dirs files ram places = directories_text (keeps dirs files) ram places ++ files_text (keeps files dirs) ram places
 
@@ -49,7 +49,7 @@ dir_at shared dirs files (Err codes) = answering shared codes
 dir_at shared dirs files (Ok bases) =
     dir_unless (list_fault (entry_at shared.files bases)) shared (dir_text dirs files shared.files (all_children shared.files bases))
 
--- without DIR the current directory
+-- the directories of DIR, or without it the current directory
 abbrev pub directories_given : SharedState → View → Option (List ℕ) → Result (List Place) Codes
 directories_given shared view None = Ok (view.parts.directory ∷ [])
 directories_given shared view (Some text) = bases_of shared view.parts.directory text

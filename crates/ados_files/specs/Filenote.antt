@@ -11,7 +11,7 @@ use Rattle.ados_find.specs.Done.{Done, fresh, refused_or, each, ended}
 use Rattle.ados_files.specs.Texts.{text_or_empty}
 use Rattle.ados_files.specs.Acts.{at_names}
 
--- one object takes the comment
+-- one object gets the comment
 abbrev pub note_one : List ℕ → Done → List (List ℕ) → Done
 note_one comment done place =
     refused_or (comment_fault done.shared.files (key_of place) comment) done

@@ -1,4 +1,4 @@
--- Join: files one behind the other, in a file.
+-- Join: files are written, one after the other, to a file.
 use Rattle.std.specs.Prelude.{ℕ, List, [], Option, Some, None}
 use Rattle.ados_text.specs.declared.codes.TheConstants.Result2.{ARGUMENT_MISSING}
 use Rattle.ados_readargs.specs.declared.args.Arg.{Arg}
@@ -20,11 +20,11 @@ write_one view bytes done place =
     refused_or (write_fault (is_output view.busy (key_of place)) done.shared.files (key_of place) (last_name place) bytes) done
     (record done { shared = with_files done.shared (write_of done.shared.files (key_of place) (last_name place) bytes) })
 
--- what was read is put out nowhere
+-- what was read is not output
 abbrev pub silent : Done → Done
 silent done = record done { output = [] }
 
--- all that was read is written, where nothing was refused
+-- all that was read is written, if nothing was refused
 abbrev pub written_to : View → List ℕ → Done → Done
 written_to view to read = unless read.stopped (silent read) (at_path (write_one view read.output) view (silent read) to)
 
@@ -32,7 +32,7 @@ written_to view to read = unless read.stopped (silent read) (at_path (write_one 
 abbrev pub joined_to : View → List (List ℕ) → Done → List ℕ → Done
 joined_to view texts done to = written_to view to (each (at_path (type_one view) view) done texts)
 
--- the template does not let TO be missing
+-- the template ensures that TO is not missing
 abbrev pub joined : SharedState → View → List (List ℕ) → Option (List ℕ) → Effect
 joined shared view texts None = answering shared (failed ARGUMENT_MISSING)
 joined shared view texts (Some to) = ended (joined_to view texts (fresh shared) to)

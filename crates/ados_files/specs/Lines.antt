@@ -9,21 +9,21 @@ use Rattle.ados_ram.specs.declared.entries.Body.{Body}
 use Rattle.ados_ram.specs.declared.entries.Body.TheVariants.{Directory, File}
 use Rattle.ados_ram.specs.declared.entries.Entry.{Entry}
 
--- a line is put out, unless QUIET
+-- a line is output, unless QUIET
 abbrev pub say : Bool → List ℕ → List ℕ → List ℕ
 say true output line = output
 say false output line = output ++ line
 
--- a kind is kept by its own switch, and where the other has none either
+-- a kind is listed if its own switch is on, or the other one is off
 abbrev pub keeps : Bool → Bool → Bool
 keeps own other = own || not other
 
--- the lines of what is at places, in order
+-- the lines of the entries at places, in order
 abbrev pub lines_by : (Option Entry → List ℕ) → Files → List (List (List ℕ)) → List ℕ
 lines_by line files [] = []
 lines_by line files (place ∷ places) = line (map.get files (key_of place)) ++ lines_by line files places
 
--- the letter of a bit that is set, and else `-`
+-- the letter of a bit that is set, and otherwise `-`
 abbrev pub letter : Bool → ℕ → ℕ
 letter true c = c
 letter false c = 45

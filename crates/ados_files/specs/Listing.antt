@@ -26,7 +26,7 @@ abbrev pub passes : Option Meaning → Entry → Bool
 passes None e = true
 passes (Some pattern) e = is_match pattern.form e.name
 
--- FILES and DIRS each keep their kind alone, and both keep both
+-- FILES shows files alone, DIRS directories alone; both or neither show both
 abbrev pub is_kept : Shape → Entry → Bool
 is_kept shape e = cond (is_directory e) (keeps shape.dirs shape.files) (keeps shape.files shape.dirs)
 
@@ -42,7 +42,7 @@ abbrev pub line_there : Shape → Option Entry → List ℕ
 line_there shape None = []
 line_there shape (Some e) = kept_line shape e
 
--- what places that are named by a path stand for: directories for their entries
+-- what places that are named by a path stand for: directories for the objects in them
 abbrev pub entries_of : Files → List Place → Option Entry → List Place
 entries_of files places None = []
 entries_of files places (Some e) = cond (is_directory e) (all_children files places) places
@@ -61,7 +61,7 @@ list_found shape done (Ok found) = list_places shape done (listed done.shared.fi
 abbrev pub list_text : Shape → View → Done → List ℕ → Done
 list_text shape view done text = list_found shape done (named_bases done.shared view.parts.directory text)
 
--- the entries of a directory
+-- the objects in a directory
 abbrev pub list_at : Shape → Done → List (List ℕ) → Done
 list_at shape done place =
     refused_or (list_fault (map.get done.shared.files (key_of place))) done
@@ -72,7 +72,7 @@ abbrev pub list_texts : Shape → View → Done → List (List ℕ) → Done
 list_texts shape view done [] = list_at shape done view.parts.directory
 list_texts shape view done (text ∷ texts) = each (list_text shape view) done (text ∷ texts)
 
--- the pattern of PAT, where it is given
+-- the pattern of PAT, if it is given
 abbrev pub some_pattern : Result Meaning Codes → Result (Option Meaning) Codes
 some_pattern (Err codes) = Err codes
 some_pattern (Ok pattern) = Ok (Some pattern)

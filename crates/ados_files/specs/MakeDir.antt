@@ -1,4 +1,4 @@
--- MakeDir: directories made by their paths.
+-- MakeDir: directories are created, by their paths.
 use Rattle.std.specs.Prelude.{ℕ, List, [], ◌∷◌}
 use Rattle.ados_text.specs.declared.codes.TheConstants.Result2.{ARGUMENT_MISSING}
 use Rattle.ados_readargs.specs.declared.args.Arg.{Arg}
@@ -12,7 +12,7 @@ use Rattle.ados_find.specs.Effects.{Effect, answering}
 use Rattle.ados_find.specs.Done.{Done, fresh, refused_or, each, ended}
 use Rattle.ados_files.specs.Acts.{at_path}
 
--- one directory is made
+-- one directory is created
 abbrev pub made : Done → List (List ℕ) → Done
 made done place =
     refused_or (make_dir_fault done.shared.files (key_of place) (last_name place)) done

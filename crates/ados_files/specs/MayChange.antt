@@ -1,4 +1,4 @@
--- What Copy, Delete and Rename may change. Each other place keeps the entry that it had.
+-- What Copy, Delete and Rename may change. Each other place keeps its entry.
 use Rattle.std.specs.Prelude.{Bool, false, ◌||◌, List, [], ◌∷◌, Option, Some, None, Result, Ok, Err}
 use Rattle.ados_text.specs.Text.{Text}
 use Rattle.ados_readargs.specs.declared.args.Arg.{Arg}
@@ -13,7 +13,7 @@ use Rattle.ados_files.specs.Acts.{at_names}
 use Rattle.ados_files.specs.Delete.{delete_place}
 use Rattle.ados_files.specs.Names.{FoundPlaces, named}
 
--- the key is at a place or below it, where there is one
+-- the key is at a place or below it, if there is one
 abbrev pub is_under : Result Place Codes → Key → Bool
 is_under (Err codes) key = false
 is_under (Ok place) key = is_at_or_below (key_of place) key
@@ -32,8 +32,8 @@ abbrev pub is_under_found : Result FoundPlaces Codes → Key → Bool
 is_under_found (Err codes) key = false
 is_under_found (Ok found) key = is_under_any found.places key
 
--- the key is at or below an object that one of the arguments names, each in the files as those before it left them: where M: has
--- two directories and both have x, the second of two M:x names the other x
+-- the key is at or below an object that one of the arguments names, each in the files as those before it left them: if
+-- M: has two directories and both have x, the second of two arguments M:x names the other x
 abbrev pub is_under_worked : (Done → Text → Done) → View → Done → List Text → Key → Bool
 is_under_worked act view done [] key = false
 is_under_worked act view done (text ∷ texts) key =
@@ -43,7 +43,7 @@ is_under_worked act view done (text ∷ texts) key =
 abbrev pub copy_may_change : SharedState → View → List Arg → Key → Bool
 copy_may_change shared view args key = is_under_path shared view (text_at args 1) key
 
--- Delete: the objects that its arguments name as it comes to them, and what is below them
+-- Delete: the objects that its arguments name when the turn of each comes, and what is below them
 abbrev pub delete_may_change : SharedState → View → List Arg → Key → Bool
 delete_may_change shared view args key =
     is_under_worked (at_names (delete_place view (is_on args 1) (is_on args 2)) view) view (fresh shared) (texts_at args 0) key

@@ -21,7 +21,7 @@ use Rattle.ados_find.specs.Paths.{place_of, bases_of}
 use Rattle.ados_pattern.specs.Matching.{is_match}
 use Rattle.ados_files.specs.Bases.{all_children, entry_at}
 
--- what a text that is no pattern answers
+-- what a command returns for a text that is not a pattern
 abbrev pub pattern_codes : PatternFault → Codes
 pattern_codes (BadPattern place) = erred INVALID_NAME
 pattern_codes TooLong = erred LINE_TOO_LONG
@@ -40,7 +40,7 @@ pub record FoundPlaces : Type 0 where
   pub literal : Bool
   pub places : List (List (List ℕ))
 
--- there is an entry, and its name is what the pattern says
+-- there is an entry, and its name matches
 abbrev pub wants : Form → Option Entry → Bool
 wants form None = false
 wants form (Some e) = is_match form e.name
@@ -51,7 +51,7 @@ matching form files [] = []
 matching form files (place ∷ places) =
     cond (wants form (map.get files (key_of place))) (place ∷ matching form files places) (matching form files places)
 
--- no match at all is a warning
+-- if nothing matches, there is a warning
 abbrev pub some_matches : List (List (List ℕ)) → Result FoundPlaces Codes
 some_matches [] = Err (warned OBJECT_NOT_FOUND)
 some_matches (place ∷ places) = Ok (record { literal = false; places = place ∷ places })
@@ -62,12 +62,12 @@ matches_in form files bases None = Err (erred DIRECTORY_NOT_FOUND)
 matches_in form files bases (Some e) =
     cond (is_directory e) (some_matches (matching form files (all_children files bases))) (Err (erred WRONG_TYPE))
 
--- the one object that is there
+-- the one object, if it exists
 abbrev pub the_one : List (List ℕ) → Option Entry → Result FoundPlaces Codes
 the_one place None = Err (erred OBJECT_NOT_FOUND)
 the_one place (Some e) = Ok (record { literal = true; places = place ∷ [] })
 
--- the same, where a path stands for the directories, or leads to the place
+-- the same, given the directories for which a path stands, and the place to which it leads
 abbrev pub matches_at : Form → Files → Result (List Place) Codes → Result FoundPlaces Codes
 matches_at form files (Err codes) = Err codes
 matches_at form files (Ok bases) = matches_in form files bases (entry_at files bases)
@@ -76,7 +76,7 @@ abbrev pub one_at : Files → Result (List (List ℕ)) Codes → Result FoundPla
 one_at files (Err codes) = Err codes
 one_at files (Ok place) = the_one place (map.get files (key_of place))
 
--- a literal piece is a name behind the path before it; a pattern stands for its matches in the directories of that path
+-- a literal piece is a name after the path before it; a pattern stands for its matches in the directories of that path
 abbrev pub named_by : SharedState → List (List ℕ) → List ℕ → Form → Option (List ℕ) → Result FoundPlaces Codes
 named_by shared directory head form (Some name) = one_at shared.files (place_of shared directory (head ++ name))
 named_by shared directory head form None = matches_at form shared.files (bases_of shared directory head)
@@ -96,7 +96,7 @@ piece_of text = drop (last_piece_of text) text
 abbrev pub named : SharedState → List (List ℕ) → List ℕ → Result FoundPlaces Codes
 named shared directory text = named_with shared directory (head_of text) (pattern_of (piece_of text))
 
--- the same where a literal path stands for all its directories, as a device alone does
+-- the same, with all directories of a literal path that stands for several, as a device alone does
 abbrev pub bases_there : List Place → Option Entry → Result FoundPlaces Codes
 bases_there bases None = Err (erred OBJECT_NOT_FOUND)
 bases_there bases (Some e) = Ok (record { literal = true; places = bases })

@@ -28,11 +28,11 @@ abbrev pub begins_with : ℕ → List ℕ → Bool
 begins_with sign [] = false
 begins_with sign (c ∷ cs) = c == sign
 
--- the letters of the flags: what is behind a `+` or `-` in front
+-- the letters of the flags: those after a leading `+` or `-`
 abbrev pub letters_of : List ℕ → List ℕ
 letters_of flags = if begins_with 43 flags || begins_with 45 flags then drop 1 flags else flags
 
--- the letter stands among them, case ignored
+-- the letter is among them, with case ignored
 abbrev pub has_letter : ℕ → List ℕ → Bool
 has_letter letter letters = list_any (λ c. fold_of c == letter) letters
 
@@ -50,14 +50,14 @@ bits_of letters =
       delete = has_letter 100 letters;
     }
 
--- each is the letter of a bit, case ignored
+-- each is the letter of a bit, with case ignored
 abbrev pub is_letter : ℕ → Bool
 is_letter c = has_letter (fold_of c) (codes "hsparwed")
 
 abbrev pub are_letters : List ℕ → Bool
 are_letters letters = list_all is_letter letters
 
--- whether bits are added, taken away, or set: not added and taken away at once
+-- whether bits are added, removed or set: they cannot be added and removed at once
 abbrev pub way_of : Bool → Bool → Result Way Result2
 way_of true true = Err TOO_MANY_ARGUMENTS
 way_of true false = Ok Add
@@ -94,7 +94,7 @@ changed_bits change old =
       delete = changed_bit change.way old.delete change.bits.delete;
     }
 
--- the bits of what is there; those of a new object where nothing is
+-- the bits of the object at a place; those of a new object if there is none
 abbrev pub bits_at : Option Entry → Bits
 bits_at None = fresh_bits
 bits_at (Some e) = e.bits

@@ -1,4 +1,4 @@
--- Rename: an object under another path, and with it all that is below it.
+-- Rename: an object gets another path, and so does all that is below it.
 use Rattle.std.specs.Prelude.{ℕ, not, ◌&&◌, List, [], ◌∷◌, ◌++◌, Option, Some, None, Result, Ok, Err, if◌then◌else◌}
 use Rattle.std.specs.FinMap as map
 use Rattle.ados_text.specs.declared.codes.Result2.{Result2}
@@ -16,12 +16,12 @@ use Rattle.ados_find.specs.Views.{View}
 use Rattle.ados_find.specs.Effects.{Effect, answering}
 use Rattle.ados_find.specs.Paths.{place_of}
 
--- into TO under its own name, where TO is a directory other than FROM; else to TO
+-- into TO under its own name, if TO is a directory other than FROM; otherwise to TO
 abbrev pub target_of : Files → List (List ℕ) → Entry → List (List ℕ) → List (List ℕ)
 target_of files from e to =
     if is_some_directory (map.get files (key_of to)) && not (is_same_key (key_of to) (key_of from)) then to ++ e.name ∷ [] else to
 
--- the object is renamed, and the current directories of all shells are to be carried along
+-- the object is renamed, and the current directories of all shells are to move along
 abbrev pub renamed_unless : Option Result2 → SharedState → List (List ℕ) → List (List ℕ) → Effect
 renamed_unless (Some fault) shared from to = answering shared (erred fault)
 renamed_unless None shared from to =
@@ -40,7 +40,7 @@ renamed_at shared view (Err codes) to = answering shared codes
 renamed_at shared view (Ok from) (Err codes) = answering shared codes
 renamed_at shared view (Ok from) (Ok to) = renamed_from shared view from (map.get shared.files (key_of from)) to
 
--- the template lets neither be missing
+-- the template ensures that neither is missing
 abbrev pub renamed_texts : SharedState → View → Option (List ℕ) → Option (List ℕ) → Effect
 renamed_texts shared view None to = answering shared (failed ARGUMENT_MISSING)
 renamed_texts shared view (Some from) None = answering shared (failed ARGUMENT_MISSING)

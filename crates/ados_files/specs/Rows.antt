@@ -1,4 +1,4 @@
--- What each command makes, by the shared parts, its shell's view and its arguments.
+-- The outcome of each command, given the shared parts, its shell's view and its arguments.
 use Rattle.std.specs.Prelude.{List}
 use Rattle.ados_readargs.specs.declared.args.Arg.{Arg}
 use Rattle.ados_find.specs.Shared.{SharedState}
@@ -17,7 +17,7 @@ use Rattle.ados_files.specs.Rename.{rename_row}
 use Rattle.ados_files.specs.Join.{join_row}
 use Rattle.ados_files.specs.Copy.{copy_row}
 
--- the row of a command
+-- the definition of a command
 abbrev pub row_of : Command → SharedState → View → List Arg → Effect
 row_of Copy shared view args = copy_row shared view args
 row_of Delete shared view args = delete_row shared view args

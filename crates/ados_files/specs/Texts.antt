@@ -1,7 +1,7 @@
 -- Texts of arguments.
 use Rattle.std.specs.Prelude.{ℕ, List, [], Option, Some, None}
 
--- the text that is given, and else the empty one
+-- the given text, or the empty one
 abbrev pub text_or_empty : Option (List ℕ) → List ℕ
 text_or_empty None = []
 text_or_empty (Some text) = text

@@ -1,4 +1,4 @@
--- Type: the bytes of files, as they are.
+-- Type: the bytes of files, unchanged.
 use Rattle.std.specs.Prelude.{ℕ, List, ◌++◌}
 use Rattle.std.specs.FinMap as map
 use Rattle.ados_readargs.specs.declared.args.Arg.{Arg}
@@ -13,7 +13,7 @@ use Rattle.ados_find.specs.Effects.{Effect}
 use Rattle.ados_find.specs.Done.{Done, fresh, refused_or, each, ended}
 use Rattle.ados_files.specs.Acts.{at_names}
 
--- the bytes of one file are put out
+-- the bytes of one file are output
 abbrev pub type_one : View → Done → List (List ℕ) → Done
 type_one view done place =
     refused_or (read_fault (is_output view.busy (key_of place)) (map.get done.shared.files (key_of place))) done

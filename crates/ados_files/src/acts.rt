@@ -15,7 +15,7 @@ use ados_ram::{FsFault, Place, Ram};
 use ados_text::{NoMemory, Text};
 use std::alloc::Global;
 
-/// What a command makes that does an act with each of a list.
+/// The outcome of a command that does an act with each item of a list.
 pub fn done_with<X, A: Act<X>>(
     alloc: Global,
     shared: &Shared,
@@ -30,7 +30,7 @@ pub fn done_with<X, A: Act<X>>(
     Ok(work.end())
 }
 
-/// What a command makes that does an act with each of the objects that its arguments name.
+/// The outcome of a command that does an act with each of the objects that its arguments name.
 pub fn done_with_named<A: Act<Place>>(
     alloc: Global,
     shared: &Shared,
@@ -43,7 +43,7 @@ pub fn done_with_named<A: Act<Place>>(
     done_with(alloc, shared, view, &Names { act, view }, texts)
 }
 
-/// The files go on as changed, or it stops at the refusal of the change.
+/// Continues with the changed files, or stops if the change is refused.
 pub fn go_on(shared: &Shared, work: &mut Work, change: Result<Ram, FsFault>) -> Result<(), NoMemory>
     ensures { (fault : Option Result2) → (files : Files) → Answers change fault → IfOk change (λ new. new ≡ files) →
         OnOk result (done_of shared.now work.new ≡ in_files fault files (done_of shared.now work.old)) }
@@ -57,7 +57,7 @@ pub fn go_on(shared: &Shared, work: &mut Work, change: Result<Ram, FsFault>) -> 
     }
 }
 
-/// As `go_on`, and says so with the path as it was, unless QUIET.
+/// As `go_on`, and reports it with the path as it was, unless QUIET.
 pub fn go_on_saying(
     shared: &Shared,
     work: &mut Work,
@@ -80,7 +80,7 @@ pub fn go_on_saying(
     }
 }
 
-// Stops at the refusal of a change.
+// Stops because a change is refused.
 fn stop(work: &mut Work, refusal: FsFault) -> Result<(), NoMemory>
     ensures { (shared : SharedState) → (fault : Option Result2) → (done : Done) → Answers {X = Files} (Err refusal) fault →
         OnOk result (done_of shared work.new ≡ refused_or fault (done_of shared work.old) done) }

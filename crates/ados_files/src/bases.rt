@@ -1,4 +1,4 @@
-// What is in the directories for which a path stands.
+// The objects in the directories for which a path stands.
 ghost use Rattle.std.specs.Prelude.{◌≡◌, ◌≤◌, ◌++◌, take, drop, length, IfOk, OnOk};
 ghost use Rattle.std.specs.Option.{option_copied};
 ghost use Rattle.ados_files.specs.Bases.{all_children, entry_at, further_children, has_name, new_in};
@@ -8,7 +8,7 @@ use ados_text::{Name, NoMemory};
 use std::alloc::Global;
 use std::slice;
 
-/// What is at the first of these directories.
+/// The entry at the first of these directories.
 pub fn entry_at<'a>(ram: &'a Ram, bases: &[Place]) -> Option<&'a Entry>
     ensures { option_copied result ≡ entry_at ram.now bases.now }
 {
@@ -18,7 +18,7 @@ pub fn entry_at<'a>(ram: &'a Ram, bases: &[Place]) -> Option<&'a Entry>
     }
 }
 
-/// What is in these directories, in their order. A name that several of them have counts at the first.
+/// The objects in these directories, in their order. A name that several of them have counts only at the first.
 pub fn all_children(alloc: Global, ram: &Ram, bases: &[Place]) -> Result<Vec<Place>, NoMemory>
     ensures { IfOk result (λ places. places.items ≡ all_children ram.now bases.now) }
 {
@@ -30,7 +30,7 @@ pub fn all_children(alloc: Global, ram: &Ram, bases: &[Place]) -> Result<Vec<Pla
     Ok(places)
 }
 
-// What is in those from a place in the list on.
+// The objects in the directories from an index of the list on.
 fn push_further(
     out: &mut Vec<Place>,
     ram: &Ram,
@@ -47,7 +47,7 @@ fn push_further(
     push_further(out, ram, bases, from + 1)
 }
 
-// Those of the places whose names nothing in the directories has.
+// Appends those of the places whose names are new: none of the directories has an object of the name.
 fn push_new(
     out: &mut Vec<Place>,
     ram: &Ram,
@@ -64,7 +64,7 @@ fn push_new(
     Ok(())
 }
 
-// Something in one of the directories has this name.
+// Whether one of the directories has an object of this name.
 fn has_name(ram: &Ram, bases: &[Place], name: &Name) -> Result<bool, NoMemory>
     ensures { IfOk result (λ there. there ≡ has_name ram.now bases.now name.now) }
 {

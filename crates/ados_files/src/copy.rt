@@ -99,14 +99,14 @@ fn copy_found(copy: &Copy, shared: &Shared, work: &mut Work, to: &Place) -> Resu
     each(&act, shared, work, &jobs)
 }
 
-// Just one file, and a TO that is no directory.
+// Whether the source is just one file, and TO is not a directory.
 fn is_onto(ram: &Ram, found: &Found, to: &Place) -> bool
     ensures { result ≡ is_onto ram.now found.now to.now }
 {
     is_file(one_entry(ram, found)) && !is_directory(ram.look(to))
 }
 
-// A file stands there.
+// Whether there is a file.
 fn is_file(there: Option<&Entry>) -> bool
     ensures { result ≡ is_some_file (option_copied there.entry) }
 {
@@ -116,7 +116,7 @@ fn is_file(there: Option<&Entry>) -> bool
     }
 }
 
-// What stands at the one source.
+// The entry at the source, if there is just one.
 fn one_entry<'a>(ram: &'a Ram, found: &Found) -> Option<&'a Entry>
     ensures { option_copied result ≡ one_entry ram.now found.now }
 {
@@ -147,7 +147,7 @@ fn copy_into(copy: &Copy, shared: &Shared, work: &mut Work, to: &Place) -> Resul
     each(&act, shared, work, &jobs)
 }
 
-// TO is a directory: an absent one is made for just one directory.
+// Makes sure that TO is a directory: a missing one is created only for a single directory.
 fn directory_for(one: bool, to: &Place, shared: &Shared, work: &mut Work) -> Result<(), NoMemory>
     ensures { OnOk result (done_of shared.now work.new ≡
         directory_for one to.now (done_of shared.now work.old) (map.get (version shared.now work.old.shared).files (key_of to.now))) }

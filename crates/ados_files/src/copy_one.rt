@@ -47,7 +47,7 @@ fn copy_one(copying: &Copying, shared: &Shared, work: &mut Work, job: &Job) -> R
     }
 }
 
-// A file onto itself is refused, and then one that cannot be read.
+// A file copied onto itself is refused, and then one that cannot be read.
 fn copy_fault(busy: &Busy, ram: &Ram, source: &Place, target: &Place) -> Option<Result2>
     ensures { result ≡ copy_fault busy.now ram.now source.now target.now }
 {
@@ -57,7 +57,7 @@ fn copy_fault(busy: &Busy, ram: &Ram, source: &Place, target: &Place) -> Option<
     ram.read(busy, source).err()
 }
 
-// Copies what is there.
+// Copies the source, if it exists.
 fn copy_entry(
     copying: &Copying,
     shared: &Shared,
@@ -79,7 +79,7 @@ fn copy_entry(
     }
 }
 
-// Makes the directories that are missing and writes a copy, unless it stopped.
+// Creates the missing directories and writes a copy, unless the work stopped.
 fn copy_below(
     copying: &Copying,
     shared: &Shared,
@@ -99,7 +99,7 @@ fn copy_below(
     }
 }
 
-// Makes the directories between TO and a file that are missing.
+// Creates the missing directories between TO and a file.
 fn make_between(to: &Place, shared: &Shared, work: &mut Work, job: &Job) -> Result<(), NoMemory>
     ensures { OnOk result (done_of shared.now work.new ≡ each make_missing (done_of shared.now work.old) (between to.now job.now.names)) }
 {
@@ -108,7 +108,7 @@ fn make_between(to: &Place, shared: &Shared, work: &mut Work, job: &Job) -> Resu
     each(&MakingMissing, shared, work, &places)
 }
 
-// Adds the directories between a place and one below it.
+// Appends the directories between a place and one below it.
 fn push_between(places: &mut Vec<Place>, above: &Place, names: &[Name]) -> Result<(), NoMemory>
     ensures { OnOk result (places.new.items ≡ places.old.items ++ between above.now names.now) }
 {
@@ -123,7 +123,7 @@ fn push_between(places: &mut Vec<Place>, above: &Place, names: &[Name]) -> Resul
     push_between(places, &next, rest)
 }
 
-/// The making of a directory that is missing.
+/// The creation of a directory that is missing.
 #[derive(Drop)]
 pub struct MakingMissing;
 
@@ -135,7 +135,7 @@ impl Act<Place> for MakingMissing {
     }
 }
 
-/// Makes a directory where it is missing.
+/// Creates a directory if it is missing.
 pub fn make_missing(shared: &Shared, work: &mut Work, place: &Place) -> Result<(), NoMemory>
     ensures { OnOk result (done_of shared.now work.new ≡ make_missing (done_of shared.now work.old) place.now) }
 {
@@ -150,7 +150,7 @@ pub fn make_missing(shared: &Shared, work: &mut Work, place: &Place) -> Result<(
     }
 }
 
-// Writes a copy, and says so.
+// Writes a copy, and reports it.
 fn copy_written(
     copying: &Copying,
     shared: &Shared,

@@ -11,7 +11,7 @@ use ados_readargs::Args;
 use ados_text::NoMemory;
 use std::alloc::Global;
 
-/// Delete takes objects out.
+/// Delete deletes objects.
 pub fn delete(
     alloc: Global,
     shared: &Shared,
@@ -29,7 +29,7 @@ pub fn delete(
     done_with_named(alloc, shared, view, &act, texts.as_slice())
 }
 
-/// The deleting of an object, with ALL behind what is below it.
+/// The deletion of an object, with ALL after all that is below it.
 #[derive(Drop)]
 pub struct Deleting<'a> {
     pub view: &'a ShellView<'a>,
@@ -45,7 +45,7 @@ impl<'a> Act<Place> for Deleting<'a> {
     }
 }
 
-/// The deleting of one object.
+/// The deletion of one object.
 #[derive(Drop)]
 pub struct DeletingOne<'a> {
     pub view: &'a ShellView<'a>,
@@ -60,7 +60,7 @@ impl<'a> Act<Place> for DeletingOne<'a> {
     }
 }
 
-// Deletes an object, with ALL behind what is below it.
+// Deletes an object, with ALL after all that is below it.
 fn delete_place(
     view: &ShellView,
     all: bool,
@@ -76,7 +76,7 @@ fn delete_place(
     each(&DeletingOne { view, quiet }, shared, work, &places)
 }
 
-// What is deleted with a place.
+// The places that are deleted with a place.
 fn targets(alloc: Global, all: bool, ram: &Ram, place: &Place) -> Result<Vec<Place>, NoMemory>
     ensures { IfOk result (λ places. places.items ≡ targets all ram.now place.now) }
 {

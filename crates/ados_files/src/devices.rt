@@ -12,8 +12,8 @@ use ados_readargs::Args;
 use ados_text::{Name, NoMemory};
 use std::alloc::Global;
 
-/// Pushes the devices that the arguments of a command use behind those of a list, each with the devices to which the
-/// texts of assigns lead on from it.
+/// Appends the devices that the arguments of a command use to a list, each with the devices to which the texts of
+/// assigns lead from it.
 #[tactic(auto, using(crate::proofs::DeviceLemmas::both_texts))]
 pub fn push_devices(
     alloc: Global,

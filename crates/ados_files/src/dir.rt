@@ -14,7 +14,7 @@ use ados_readargs::Args;
 use ados_text::{NoMemory, Text};
 use std::alloc::Global;
 
-/// Dir puts out what is in a directory.
+/// Dir shows what is in a directory.
 pub fn show_directory(
     alloc: Global,
     shared: &Shared,
@@ -36,7 +36,7 @@ pub fn show_directory(
     }
 }
 
-// Without DIR the current directory.
+// The directories of DIR, or without it the current directory.
 fn directories_given(
     alloc: Global,
     shared: &Shared,
@@ -108,7 +108,7 @@ fn push_files(output: &mut Vec<u8>, kept: bool, ram: &Ram, places: &[Place]) -> 
     push_lines(output, &FileLine, ram, places)
 }
 
-/// The line of a directory, if one is there.
+/// The line of a directory, if there is one.
 #[derive(Drop)]
 pub struct DirectoryLine;
 
@@ -126,7 +126,7 @@ impl Line for DirectoryLine {
     }
 }
 
-/// The line of a file, if one is there.
+/// The line of a file, if there is one.
 #[derive(Drop)]
 pub struct FileLine;
 

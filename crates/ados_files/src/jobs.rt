@@ -12,7 +12,7 @@ use ados_text::{NoMemory, Text};
 use std::alloc::Global;
 use std::slice;
 
-/// A file, and the names below TO under which it goes.
+/// A file to be copied, and the names of its copy below TO.
 #[derive(Drop)]
 pub struct Job {
     pub source: Place,
@@ -32,7 +32,7 @@ impl Job {
 
 ghost use Rattle.ados_files.specs.Jobs.{gathered, sources_of, job_below, jobs_below, jobs_there, all_jobs, jobs_onto};
 
-/// What the arguments of FROM name.
+/// The objects that the arguments of FROM name.
 pub fn sources_of(
     alloc: Global,
     shared: &Shared,
@@ -74,7 +74,7 @@ pub fn all_jobs(alloc: Global, all: bool, ram: &Ram, places: &[Place]) -> Result
     Ok(jobs)
 }
 
-// Adds the files that a source stands for.
+// Appends the files that a source stands for.
 fn push_jobs(jobs: &mut Vec<Job>, all: bool, ram: &Ram, place: &Place) -> Result<(), NoMemory>
     ensures { OnOk result (jobs.new.items ≡ jobs.old.items ++ jobs_there all ram.now place.now (map.get ram.now (key_of place.now))) }
 {
@@ -101,14 +101,14 @@ fn push_below(
     Ok(())
 }
 
-// A file below a directory goes under its path below it.
+// A file below a directory keeps its path below it.
 fn job_below(alloc: Global, ram: &Ram, directory: &Place, place: &Place) -> Result<Job, NoMemory>
     ensures { IfOk result (λ job. job ≡ job_below ram.now directory.now place.now) }
 {
     Job::new(place, names_below(alloc, ram, directory, place)?)
 }
 
-// The path of a file below a directory, with its names as they are written.
+// The path of a file from a directory above it, with its names as they are written.
 fn names_below(
     alloc: Global,
     ram: &Ram,
@@ -121,7 +121,7 @@ fn names_below(
     Place::root(alloc).joined(written.names_behind(directory))
 }
 
-// A file goes under its name.
+// A file keeps its name.
 fn push_named(jobs: &mut Vec<Job>, place: &Place, entry: &Entry) -> Result<(), NoMemory>
     ensures { OnOk result (jobs.new.items ≡ jobs.old.items ++ record { source = place.now; names = entry.now.name ∷ [] } ∷ []) }
 {
@@ -130,7 +130,7 @@ fn push_named(jobs: &mut Vec<Job>, place: &Place, entry: &Entry) -> Result<(), N
     Ok(())
 }
 
-/// Files that go to TO itself.
+/// Files that are copied to TO itself.
 pub fn jobs_onto(alloc: Global, places: &[Place]) -> Result<Vec<Job>, NoMemory>
     ensures { IfOk result (λ jobs. jobs.items ≡ jobs_onto places.now) }
 {

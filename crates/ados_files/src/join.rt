@@ -12,7 +12,7 @@ use ados_text::{NoMemory, Result2, Text};
 use std::alloc::Global;
 use std::{mem, slice};
 
-/// Join writes files, one behind the other, to a file.
+/// Join writes files, one after the other, to a file.
 pub fn join_files(
     alloc: Global,
     shared: &Shared,
@@ -33,7 +33,7 @@ pub fn join_files(
     done_with(alloc, shared, view, &act, slice::from_ref(&to))
 }
 
-/// The joining of files to one.
+/// The joining of files into one.
 #[derive(Drop)]
 pub struct Joining<'a> {
     pub view: &'a ShellView<'a>,
@@ -48,7 +48,7 @@ impl<'a> Act<Text> for Joining<'a> {
     }
 }
 
-// Reads all, and then writes it.
+// Reads all files, and then writes the target.
 fn joined_to(
     view: &ShellView,
     texts: &[Text],
@@ -71,7 +71,7 @@ fn joined_to(
     written_to(view, shared, work, to)
 }
 
-// Writes all that was read, where nothing was refused.
+// Writes all that was read, if nothing was refused.
 fn written_to(view: &ShellView, shared: &Shared, work: &mut Work, to: &Text) -> Result<(), NoMemory>
     ensures { OnOk result (done_of shared.now work.new ≡ written_to view.now to.now (done_of shared.now work.old)) }
 {

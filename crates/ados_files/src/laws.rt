@@ -1,4 +1,4 @@
-// Laws of the rows, over their definitions.
+// Laws of the commands, over their definitions.
 ghost use Rattle.std.specs.Prelude.{List};
 ghost use Rattle.ados_readargs.specs.declared.args.Arg.{Arg};
 ghost use Rattle.ados_ram.specs.Files.{OthersStay};
@@ -9,9 +9,9 @@ ghost use Rattle.ados_files.specs.Delete.{delete_row};
 ghost use Rattle.ados_files.specs.Rename.{rename_row};
 ghost use Rattle.ados_files.specs.MayChange.{copy_may_change, delete_may_change, rename_may_change};
 
-/// Copy, Delete and Rename leave other places alone, each with the entry that it had: Copy all that is not TO or below
-/// it; Delete all that is not at or below an object that one of its arguments names when it comes to that argument;
-/// Rename all that is not FROM or TO, or below one of them.
+/// Copy, Delete and Rename leave other places unchanged, each with its entry: Copy all that are not TO or below it;
+/// Delete all that are not at or below an object that one of its arguments names when that argument's turn comes; Rename
+/// all that are not FROM or TO, or below one of them.
 pub fn others_stay()
     ensures copy { (shared : SharedState) (view : View) (args : List Arg) → OthersStay (copy_may_change shared view args) shared.files (copy_row shared view args).shared.files }
     ensures delete { (shared : SharedState) (view : View) (args : List Arg) → OthersStay (delete_may_change shared view args) shared.files (delete_row shared view args).shared.files }

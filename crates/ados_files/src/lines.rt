@@ -10,7 +10,7 @@ use ados_ram::{Bits, Body, Entry, Place, Ram};
 use ados_text::{NoMemory, push_left, push_right};
 use itoa::Buffer;
 
-/// Puts out a text between two others.
+/// Appends a text between two others.
 pub fn put_between(
     output: &mut Vec<u8>,
     before: &[u8],
@@ -25,7 +25,7 @@ pub fn put_between(
     Ok(())
 }
 
-/// Puts out the path of a place with some words behind it, unless QUIET.
+/// Reports the path of a place with some words after it, unless QUIET.
 pub fn say_path(
     quiet: bool,
     output: &mut Vec<u8>,
@@ -43,16 +43,16 @@ pub fn say_path(
     Ok(())
 }
 
-/// The line of what stands at a place.
+/// The line of the entry at a place.
 pub trait Line {
     ghost line: { Self → Option Entry → List ℕ };
 
-    /// Puts it out.
+    /// Appends it to the output.
     fn push(&self, output: &mut Vec<u8>, there: Option<&Entry>) -> Result<(), NoMemory>
         ensures { OnOk result (output.new.items ≡ output.old.items ++ line self.now (option_copied there.entry)) };
 }
 
-/// Puts out the lines of places.
+/// Appends the lines of places.
 pub fn push_lines<L: Line>(
     output: &mut Vec<u8>,
     line: &L,
@@ -67,14 +67,14 @@ pub fn push_lines<L: Line>(
     Ok(())
 }
 
-/// A kind is kept by its own switch, and where the other has none either.
+/// Whether a kind is listed: if its own switch is on, or the other one is off.
 pub fn keeps(own: bool, other: bool) -> bool
     ensures { result ≡ keeps own other }
 {
     own || !other
 }
 
-/// Puts out the line of an object.
+/// Appends the line of an object.
 pub fn push_line(output: &mut Vec<u8>, entry: &Entry) -> Result<(), NoMemory>
     ensures { OnOk result (output.new.items ≡ output.old.items ++ list_line entry.now) }
 {
@@ -97,7 +97,7 @@ fn push_size(output: &mut Vec<u8>, body: &Body) -> Result<(), NoMemory>
     }
 }
 
-// The bits, a space before them and the end of the line behind them.
+// The bits, with a space before them and the end of the line after them.
 fn push_bits(output: &mut Vec<u8>, bits: Bits) -> Result<(), NoMemory>
     ensures { OnOk result (output.new.items ≡ output.old.items ++ (32 ∷ (bits_text bits ++ 10 ∷ []))) }
 {

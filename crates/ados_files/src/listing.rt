@@ -29,7 +29,7 @@ pub struct Shape {
 ghost use Rattle.ados_files.specs.Listing.{passes, is_kept, shown_line, kept_line, line_there, entries_of, listed};
 ghost use Rattle.ados_files.specs.Listing.{list_text, list_at, list_texts, pattern_given, list_row};
 
-/// List puts out lines of objects, and of what is in directories.
+/// List shows lines of objects, and of what is in directories.
 pub fn list(
     alloc: Global,
     shared: &Shared,
@@ -54,7 +54,7 @@ pub fn list(
     }
 }
 
-// The pattern of PAT, where it is given.
+// The pattern of PAT, if it is given.
 fn pattern_given(alloc: Global, text: Option<&Text>) -> Result<Option<Pattern>, Refusal>
     ensures { Gives result (pattern_given (option_copied text.entry)) }
 {
@@ -64,7 +64,7 @@ fn pattern_given(alloc: Global, text: Option<&Text>) -> Result<Option<Pattern>, 
     }
 }
 
-// Lists what arguments name; without one the current directory.
+// Lists what the arguments name, or the current directory if there are none.
 fn list_texts(
     alloc: Global,
     shared: &Shared,

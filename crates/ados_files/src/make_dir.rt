@@ -10,7 +10,7 @@ use ados_readargs::Args;
 use ados_text::{NoMemory, Result2};
 use std::alloc::Global;
 
-/// MakeDir makes directories.
+/// MakeDir creates directories.
 pub fn make_dir(
     alloc: Global,
     shared: &Shared,
@@ -28,7 +28,7 @@ pub fn make_dir(
     done_with(alloc, shared, view, &Paths { act: &Making, view }, texts)
 }
 
-/// The making of one directory.
+/// The creation of one directory.
 #[derive(Drop)]
 pub struct Making;
 
@@ -40,7 +40,7 @@ impl Act<Place> for Making {
     }
 }
 
-/// Makes a directory.
+/// Creates a directory.
 pub fn made(shared: &Shared, work: &mut Work, place: &Place) -> Result<(), NoMemory>
     ensures { OnOk result (done_of shared.now work.new ≡ made (done_of shared.now work.old) place.now) }
 {

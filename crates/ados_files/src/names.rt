@@ -42,7 +42,7 @@ impl Found {
         }
     }
 
-    /// The argument names just one object, by its path.
+    /// Whether the argument names just one object, by its path.
     pub fn is_literal(&self) -> bool
         ensures { result ≡ self.now.literal }
     {
@@ -59,9 +59,9 @@ impl Found {
 
 /// The objects that an argument names, from a current directory.
 ///
-/// 210 and 120 for a last piece that is no pattern, and 210 for a text that is no path. A literal path has the refusals
-/// of resolving, and 205 where nothing is there; a pattern those of resolving its directory, then 204 and 212 where none
-/// is there, and 205 as a warning where nothing matches.
+/// 210 and 120 for a last piece that is not a pattern, and 210 for a text that is not a path. A literal path has the
+/// refusals of resolving, and 205 if there is nothing; a pattern has those of resolving its directory, then 204 and 212
+/// if there is no such directory, and 205 as a warning if nothing matches.
 pub fn named(
     alloc: Global,
     shared: &Shared,
@@ -75,7 +75,7 @@ pub fn named(
     named_by(alloc, shared, directory, &head, &pattern)
 }
 
-/// The same where a literal path stands for all its directories, as a device alone does.
+/// The same, with all directories of a literal path that stands for several, as a device alone does.
 pub fn named_bases(
     alloc: Global,
     shared: &Shared,
@@ -120,7 +120,7 @@ pub fn pattern_of(alloc: Global, text: &Text) -> Result<Pattern, Refusal>
     }
 }
 
-// The objects that a pattern behind a path names.
+// The objects that a pattern after a path names.
 fn named_by(
     alloc: Global,
     shared: &Shared,
@@ -199,7 +199,7 @@ pub fn only(alloc: Global, place: &Place) -> Result<Vec<Place>, NoMemory>
     Ok(places)
 }
 
-/// Adds places to a list.
+/// Appends places to a list.
 pub fn push_places(out: &mut Vec<Place>, places: &[Place]) -> Result<(), NoMemory>
     ensures { OnOk result (out.new.items ≡ out.old.items ++ places.now) }
 {
@@ -248,7 +248,7 @@ fn matching(
     Ok(found)
 }
 
-// There is an entry, and its name matches.
+// Whether there is an entry, and its name matches.
 fn wants(pattern: &Pattern, there: Option<&Entry>) -> Result<bool, NoMemory>
     ensures { IfOk result (λ wanted. wanted ≡ wants pattern.now.form (option_copied there.entry)) }
 {
@@ -258,7 +258,7 @@ fn wants(pattern: &Pattern, there: Option<&Entry>) -> Result<bool, NoMemory>
     }
 }
 
-// No match at all is a warning.
+// Reports a warning if nothing matches.
 fn some_matches(places: Vec<Place>) -> Result<Found, Refusal>
     ensures { Gives result (some_matches places.items) }
 {

@@ -10,7 +10,7 @@ use ados_readargs::Args;
 use ados_text::{NoMemory, Result2, Text, fold};
 use std::alloc::Global;
 
-/// What is done with the bits that are given.
+/// How the given bits change those of an object.
 #[derive(Clone, Copy)]
 pub enum Way {
     Set,
@@ -58,7 +58,7 @@ fn protected_by(
     }
 }
 
-// The text that is given, and else the empty one.
+// The given text, or the empty one.
 fn text_or_empty(text: Option<&[u8]>) -> &[u8]
     ensures { result.now ≡ text_or_empty (option_map (λ t. t.now) text.entry) }
 {
@@ -99,7 +99,7 @@ fn way_of(add: bool, sub: bool) -> Result<Way, Result2>
     }
 }
 
-// The flags begin with this sign.
+// Whether the flags begin with this sign.
 fn begins_with(sign: u8, flags: &[u8]) -> bool
     ensures { result ≡ begins_with sign flags.now }
 {
@@ -109,7 +109,7 @@ fn begins_with(sign: u8, flags: &[u8]) -> bool
     }
 }
 
-// What is behind a sign in front.
+// The flags without a leading sign.
 fn letters_of(flags: &[u8]) -> &[u8]
     ensures { result.now ≡ letters_of flags.now }
 {
@@ -120,7 +120,7 @@ fn letters_of(flags: &[u8]) -> &[u8]
     }
 }
 
-// Each is the letter of a bit.
+// Whether each is the letter of a bit.
 fn are_letters(letters: &[u8]) -> bool
     ensures { result ≡ are_letters letters.now }
 {
@@ -133,7 +133,7 @@ fn is_letter(letter: u8) -> bool
     has_letter(fold(letter), b"hsparwed")
 }
 
-// The letter stands among others, case ignored.
+// Whether the letter is among others, with case ignored.
 fn has_letter(letter: u8, letters: &[u8]) -> bool
     ensures { result ≡ has_letter letter letters.now }
 {
@@ -181,7 +181,7 @@ fn changed_bits(change: Change, old: Bits) -> Bits
     }
 }
 
-// The bits of what is there.
+// The bits of the object at a place.
 fn bits_at(there: Option<&Entry>) -> Bits
     ensures { result ≡ bits_at (option_copied there.entry) }
 {

@@ -78,7 +78,7 @@ fn renamed_from(
     }
 }
 
-// Into a directory under its own name, or to the place itself.
+// A place in the target directory with the object's own name, or the target itself.
 fn target_of(ram: &Ram, from: &Place, entry: &Entry, to: &Place) -> Result<Place, NoMemory>
     ensures { IfOk result (λ place. place ≡ target_of ram.now from.now entry.now to.now) }
 {
@@ -88,7 +88,7 @@ fn target_of(ram: &Ram, from: &Place, entry: &Entry, to: &Place) -> Result<Place
     to.copy()
 }
 
-/// A directory stands there.
+/// Whether there is a directory.
 pub fn is_directory(there: Option<&Entry>) -> bool
     ensures { result ≡ is_some_directory (option_copied there.entry) }
 {

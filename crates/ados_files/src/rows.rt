@@ -1,4 +1,4 @@
-// What each command makes.
+// The outcome of each command.
 ghost use Rattle.std.specs.Prelude.{◌≡◌, IfOk};
 ghost use Rattle.ados_find.specs.Effects.{effect_of};
 ghost use Rattle.ados_files.specs.Rows.{row_of};
@@ -19,8 +19,7 @@ use ados_readargs::Args;
 use ados_text::NoMemory;
 use std::alloc::Global;
 
-/// What a command makes, by the shared parts, its shell's view, and the arguments that its template
-/// gave.
+/// The outcome of a command, given the shared parts, its shell's view, and the arguments by its template.
 pub fn run(
     alloc: Global,
     command: Command,

@@ -10,7 +10,7 @@ use ados_readargs::Args;
 use ados_text::NoMemory;
 use std::alloc::Global;
 
-/// Type puts out the bytes of files.
+/// Type writes the bytes of files to the output.
 pub fn type_files(
     alloc: Global,
     shared: &Shared,
@@ -23,7 +23,7 @@ pub fn type_files(
     done_with_named(alloc, shared, view, &Typing { view }, texts.as_slice())
 }
 
-/// The putting out of one file.
+/// The output of one file.
 #[derive(Drop)]
 pub struct Typing<'a> {
     pub view: &'a ShellView<'a>,
@@ -37,7 +37,7 @@ impl<'a> Act<Place> for Typing<'a> {
     }
 }
 
-// Puts out one file.
+// Outputs one file.
 fn type_one(
     view: &ShellView,
     shared: &Shared,

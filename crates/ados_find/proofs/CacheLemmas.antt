@@ -1,4 +1,4 @@
--- The cache: a pair more, and what a pair says of a text.
+-- The cache: one more pair, and what a pair says of a text.
 use Rattle.std.proofs.Common.{◌≡◌, ◌∙◌, ℕ, Bool, true, false, List, [], ◌∷◌, ◌++◌, Result, Ok, Err, refl, ap, sym, length, drop}
 use Rattle.std.specs.Prelude.{if◌then◌else◌}
 use Rattle.std.specs.List.{IsSplitAt}
@@ -22,7 +22,7 @@ use Rattle.ados_ram.specs.Files.{Files}
 pair_there : (old : List Known) (pair : Known) → Contains (pair ∷ old) pair
 pair_there old pair = Contains-append_left (pair ∷ []) old pair (Contains-push [] pair)
 
--- what was known before is kept, alone or with the pair behind it; or nothing
+-- what was known before is kept, alone or with the pair after it; or nothing
 pub kept_old : (old : List Known) (pair : Known) → IsKept old pair old
 unfolding IsKept
 kept_old old pair =
@@ -36,7 +36,7 @@ pub kept_none : (old : List Known) (pair : Known) → IsKept old pair []
 unfolding IsKept
 kept_none old pair = All-nil (Contains (pair ∷ old))
 
--- each pair is what resolving gives, also once a pair came of which that holds
+-- each pair is what resolving gives, also after a pair was kept for which that holds
 pub all_resolved : (assigns : AssignMap) (files : Files) (old new : List Known) (pair : Known) →
     AreResolved assigns files old → IsResolved assigns files pair → IsKept old pair new → AreResolved assigns files new
 unfolding IsKept
@@ -53,7 +53,7 @@ pub place_known : (s : SharedState) (directory place : Place) (text : Text) →
     text_resolved s.assigns s.files directory text ≡ Ok place → place_of s directory text ≡ Ok place
 place_known s directory place text e = rw (place_resolved s directory (path_of text), e) refl
 
--- a call of `push`, and one of a list that was emptied before
+-- a call of `push`, and one on a list that was emptied before
 pub kept_push : (ok : Bool) (old new : List Known) (pair : Known) → new ≡ (if ok then old ++ pair ∷ [] else old) → IsKept old pair new
 unfolding IsKept
 kept_push true old new pair e = All-same (Contains (pair ∷ old)) new (old ++ pair ∷ []) e (kept_more old pair)
@@ -64,7 +64,7 @@ unfolding IsKept
 kept_anew old new pair kept =
     All-weaker (Contains (pair ∷ [])) (Contains (pair ∷ old)) (λ x. Contains-append_left (pair ∷ []) old x) new kept
 
--- bytes cut at a place are its two parts
+-- bytes cut at a place are the two parts joined
 pub joined : (bytes front word start end : List ℕ) → IsSplitAt bytes (length front) start end → bytes_eq start front ≡ true → bytes_eq end word ≡ true →
     bytes ≡ front ++ word
 joined bytes front word start end (within, start-is, end-is, front-length, lengths) front-is word-is =

@@ -1,4 +1,4 @@
--- What a word that is no path stands for beside the resident list: what is found before C:, or else there.
+-- What a word that is not a path stands for apart from the resident list: what is found before C:, or otherwise there.
 use Rattle.std.proofs.Common.{◌≡◌, ◌∙◌, List, [], ◌∷◌, ◌++◌, false, Option, Some, None, Result, refl, ap}
 use Rattle.std.specs.Prelude.{codes}
 use Rattle.std.specs.Option.{option_or}
@@ -34,14 +34,14 @@ unfolding found_file
 plain-found s directory path word plain =
     rw (plain, first-append s (places_before s directory path word) (in_c s directory word ∷ []), or-none (file_at s (in_c s directory word))) refl
 
--- where a file is found before C:
+-- if a file is found before C:
 pub found-before : (s : SharedState) (directory : Place) (path : List Place) (word : Text) (found : Found) → is_path word ≡ false →
     first_before s directory path word ≡ Some found → found_file s directory path word ≡ found
 found-before s directory path word found plain is =
     plain-found s directory path word plain
     ∙ ap (λ before. file_or (option_or before (file_at s (in_c s directory word))) (directory_at s.files (place_of s directory word))) is
 
--- and where there is none
+-- and if there is none
 pub found-behind : (s : SharedState) (directory : Place) (path : List Place) (word : Text) → is_path word ≡ false →
     first_before s directory path word ≡ None → found_file s directory path word ≡ found_in_c s directory word
 found-behind s directory path word plain is =

@@ -20,6 +20,6 @@ IsResolved assigns files known = text_resolved assigns files known.directory kno
 abbrev pub AreResolved : AssignMap → Files → List Known → Type 0
 AreResolved assigns files pairs = All (IsResolved assigns files) pairs
 
--- what is known after a pair came: it was known before, or is the pair
+-- what is known after a pair was kept: it was known before, or is the pair
 unfoldable pub IsKept : List Known → Known → List Known → Type 0
 IsKept old pair new = All (Contains (pair ∷ old)) new

@@ -1,4 +1,4 @@
--- The devices that a search uses, by how far it came.
+-- The devices that a search uses, given how far it went.
 use Rattle.std.specs.Prelude.{List, [], ◌∷◌, codes}
 use Rattle.ados_text.specs.Text.{Text}
 use Rattle.ados_find.specs.declared.routes.Route.{Route}

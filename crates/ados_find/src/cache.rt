@@ -7,7 +7,7 @@ use ados_text::{Name, Text};
 use std::alloc::Global;
 use std::marker::Model;
 
-// So many paths are known at most.
+// The greatest number of paths that are known.
 const MOST: usize = 64;
 
 /// A path, as it was written, and the place to which it leads from a directory.
@@ -19,7 +19,7 @@ pub struct Known {
 }
 
 impl Known {
-    /// What is known of a path, written like this one; there is none if there is no memory for it.
+    /// What is known about a path, with this spelling; `None` if an allocation fails.
     pub fn of(directory: &Place, path: &Text, place: Place) -> Option<Known>
         ensures { IfSome result (λ known. known ≡ record { directory = directory.now; path = path.now; place = place }) }
     {
@@ -33,7 +33,7 @@ impl Known {
         }
     }
 
-    /// The path is a word behind these bytes, from this directory, all spelled alike.
+    /// Whether the path is a word after these bytes, from this directory, all with the same spelling.
     pub fn is(&self, directory: &Place, front: &[u8], word: &Text) -> bool
         ensures directory { IsTrue result → self.now.directory ≡ directory.now }
         ensures path { IsTrue result → self.now.path ≡ front.now ++ word.now }
@@ -43,7 +43,7 @@ impl Known {
     }
 }
 
-// The bytes are these two, one behind the other.
+// Whether the bytes are these two, one after the other.
 fn is_joined(bytes: &[u8], front: &[u8], word: &[u8]) -> bool
     ensures { IsTrue result → bytes.now ≡ front.now ++ word.now }
 {
@@ -53,7 +53,7 @@ fn is_joined(bytes: &[u8], front: &[u8], word: &[u8]) -> bool
     }
 }
 
-// The names are the same, letter for letter.
+// Whether the names are the same, byte for byte.
 fn are_spelled(names: &[Name], others: &[Name]) -> bool
     ensures { IsTrue result → names.now ≡ others.now }
 {
@@ -75,7 +75,7 @@ fn is_spelled(name: &Name, other: &Name) -> bool
 /// The paths whose places are known in one version of the files and assigns.
 #[derive(Drop)]
 pub struct Cache {
-    // There is none where nothing is known, so that an empty cache is small to move.
+    // `None` if nothing is known, so that an empty cache is small to move.
     known: Option<Box<Vec<Known>>>,
 }
 
@@ -89,7 +89,7 @@ impl Model for Cache {
 }
 
 impl Cache {
-    /// Nothing is known; it takes no memory.
+    /// Nothing is known; nothing is allocated.
     pub fn new() -> Cache
         ensures { result ≡ [] }
     {
@@ -106,7 +106,7 @@ impl Cache {
         }
     }
 
-    /// Keeps a pair, where there is memory for it; where the cache is full the others are forgotten.
+    /// Keeps a pair, unless an allocation fails; if the cache is full the others are forgotten.
     #[tactic(auto, using(crate::proofs::CacheLemmas::kept_none))]
     pub fn keep(&mut self, alloc: Global, pair: Known)
         ensures { IsKept self.old pair self.new }
@@ -118,7 +118,7 @@ impl Cache {
     }
 }
 
-// A pair alone, where there is memory for it.
+// A single pair, unless an allocation fails.
 fn first(alloc: Global, pair: Known) -> Option<Box<Vec<Known>>>
     ensures { IfSome result (λ pairs. IsKept [] pair pairs.value.items) }
 {
@@ -126,7 +126,7 @@ fn first(alloc: Global, pair: Known) -> Option<Box<Vec<Known>>>
     Some(pushed(pairs, pair))
 }
 
-// Pairs with one more, where there is memory for it. If they are as many as can be, it takes the place of all.
+// Pairs with one more, unless an allocation fails. If there are as many as can be, it replaces all.
 #[tactic(auto, using(crate::proofs::CacheLemmas::kept_anew))]
 fn pushed(pairs: Box<Vec<Known>>, pair: Known) -> Box<Vec<Known>>
     ensures { IsKept pairs.value.items pair result.value.items }
@@ -141,7 +141,7 @@ fn pushed(pairs: Box<Vec<Known>>, pair: Known) -> Box<Vec<Known>>
     pairs
 }
 
-// A pair more, where there is memory for it.
+// Appends a pair, unless an allocation fails.
 fn push(pairs: &mut Vec<Known>, pair: Known)
     ensures { IsKept pairs.old.items pair pairs.new.items }
 {

@@ -13,8 +13,8 @@ use ados_text::{Name, NoMemory, Text};
 use std::alloc::Global;
 
 impl Shared {
-    /// Pushes the device of a path's text, if it names one, behind those that are used, and then each device to which the
-    /// texts of assigns lead on from it.
+    /// Appends the device of a path's text, if it names one, to those that are used, and then each device to which the
+    /// texts of assigns lead from it.
     pub fn push_device_of(&self, used: &mut Vec<Name>, text: &Text) -> Result<(), NoMemory>
         ensures { OnOk result (used.new.items ≡ used.old.items ++ flat_map (reached self.now.assigns) (device_named text.now)) }
     {
@@ -24,7 +24,7 @@ impl Shared {
         }
     }
 
-    /// The same of each of these texts in turn.
+    /// The same for each of these texts in turn.
     pub fn push_devices_of(&self, used: &mut Vec<Name>, texts: &[Text]) -> Result<(), NoMemory>
         ensures { OnOk result (used.new.items ≡ used.old.items ++ flat_map (reached self.now.assigns) (flat_map device_named texts.now)) }
     {
@@ -34,7 +34,7 @@ impl Shared {
         Ok(())
     }
 
-    /// The same of the device of this name.
+    /// The same for the device of this name.
     pub fn push_device(
         &self,
         alloc: Global,
@@ -47,7 +47,7 @@ impl Shared {
         self.assigns.push_reached(used, device)
     }
 
-    /// The same of the devices that the search of a word uses, by how far it came.
+    /// The same for the devices that the search for a word uses, given how far the search went.
     pub fn push_searched(
         &self,
         alloc: Global,

@@ -4,7 +4,7 @@ use ados_ram::Place;
 use ados_text::Text;
 use std::alloc::Global;
 
-/// A path that the cache was asked for and does not know: as it was written, and from which directory.
+/// A path that was looked up in the cache and not found: as it was written, and from which directory.
 #[derive(Drop)]
 pub struct Question {
     pub directory: Place,
@@ -12,9 +12,9 @@ pub struct Question {
 }
 
 impl Shared {
-    /// What the cache may learn, so that a word which is sought in a directory, and then behind these bytes, is found
-    /// sooner: the first of these two paths that it does not know. There is none if it knows both or may not know it, or
-    /// if there is no memory for the question. No contract sees the cache.
+    /// What the cache may learn, so that a word that is looked up in a directory, and then after these bytes, is found
+    /// sooner: the first of these two paths that the cache does not have. `None` if it has both or may not have it, or
+    /// if an allocation fails. No contract sees the cache.
     pub fn question(
         &self,
         alloc: Global,
@@ -30,7 +30,7 @@ impl Shared {
         Box::new(alloc, Question { directory, path }).ok()
     }
 
-    // The first of the two paths that the cache does not know.
+    // The first of the two paths that the cache does not have.
     fn unknown_path(
         &self,
         alloc: Global,

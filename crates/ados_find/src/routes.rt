@@ -1,22 +1,22 @@
-// How far a word was sought: by it the devices are told that the search uses.
+// How far the search for a word went, which decides the devices that the search uses.
 use crate::search::Found;
 
-/// How far a word was sought.
+/// How far the search for a word went.
 #[derive(Clone, Copy)]
 pub enum Route {
     /// It was found on the resident list or before C:, and its search uses no device.
     Listed,
     /// The word is a path, whose device is used.
     ByPath,
-    /// The search came to C:.
+    /// The search reached C:.
     ToC,
 }
 
-/// What a search gives.
+/// The result of a search.
 #[derive(Drop)]
 pub struct Search {
     /// What the word stands for.
     pub found: Found,
-    /// How far it was sought.
+    /// How far the search went.
     pub route: Route,
 }

@@ -9,7 +9,7 @@ use Rattle.ados_text.specs.Text.{IsText, Text, to_ascii}
 use Rattle.ados_items.specs.Items.{is_blank}
 use Rattle.ados_flow.specs.Gathering.{Gathered, alone, before_plus, gathered, goes_on, leading, without_plus}
 
--- what a byte makes of the text behind it: whether that is blank, and what stands before its `+`
+-- what a byte makes of the text after it: whether that is blank, and what is before its `+`
 abbrev by_first : ℕ → Bool → Option Text → Option Text
 by_first c blank behind = if (c == 43) && blank then Some [] else option_map (λ front. c ∷ front) behind
 
@@ -21,7 +21,7 @@ none : before_plus [] ≡ None
 unfolding before_plus
 none = refl
 
--- no byte, no `+`
+-- without a byte there is no `+`
 pub none_in_none : (text : Text) → length text ≡ 0 → before_plus text ≡ None
 none_in_none [] e = none
 none_in_none (c ∷ cs) e = cc
@@ -37,7 +37,7 @@ blanks-end (x ∷ xs) c e = ap (λ b. is_blank x && b) (blanks-end xs c e) ∙ a
 no-plus : (c : ℕ) → is_blank c ≡ true → c == 43 ≡ false
 no-plus c e = grind (arith, nat_tests)
 
--- a byte that is no `+`, behind which there is none
+-- a byte alone that is not a `+`
 alone-without : (c : ℕ) → c == 43 ≡ false → before_plus (c ∷ []) ≡ None
 alone-without c n =
     first c []
@@ -113,7 +113,7 @@ led-leading commands last rest =
     ap (λ n. record { commands = (commands ++ without_plus last ∷ []) ++ rest.commands; taken = n }) total
     ∙ ap (λ cs. record { commands = cs; taken = length commands + suc rest.taken }) (append_assoc commands (without_plus last ∷ []) rest.commands)
 
--- a text that goes on, with a line behind it, while there is room
+-- a text that continues, with a line after it, while there is room
 pub went_on : (commands : List Text) (last line : Text) (rest : List Text) → length commands < 31 → goes_on last ≡ true
     → led (commands ++ without_plus last ∷ []) (gathered (31 - length (commands ++ without_plus last ∷ [])) line rest)
     ≡ led commands (gathered (31 - length commands) last (line ∷ rest))

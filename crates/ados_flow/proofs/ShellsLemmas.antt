@@ -1,4 +1,4 @@
--- No command here reads what the shells are called, nor what they run from.
+-- No command here reads what the shells are called or what they run from.
 use Rattle.std.proofs.Common.{List, [], Option, Some, None, Result, Ok, Err, ap, refl}
 use Rattle.std.specs.Prelude.{unwrap_or}
 use Rattle.ados_text.specs.Text.{Bytes, Text}

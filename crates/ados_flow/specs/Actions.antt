@@ -8,8 +8,8 @@ pub use Rattle.ados_flow.specs.declared.called.Called.{Called}
 use Rattle.ados_flow.specs.declared.actions.Action as code
 use Rattle.ados_flow.specs.declared.actions.Action.TheVariants as made
 
--- it answers; it ends its script with these codes, and elsewhere answers them; it answers, and its script goes on at
--- this line; it calls a script; or it asks for yes or no
+-- it answers; it ends its script with these codes, or answers them if it is in none; it answers, and its script continues
+-- at this line; it calls a script; or it asks for yes or no
 pub data Action : Type 0 where
   Does : Effect → Action
   Quits : Codes → Action

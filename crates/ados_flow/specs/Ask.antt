@@ -11,8 +11,8 @@ use Rattle.ados_find.specs.Shared.{SharedState}
 use Rattle.std.specs.Prelude.{List}
 use Rattle.ados_flow.specs.Actions.{Action, Asks, Does}
 
--- What a line says to a question: y and yes answer it with 5, n, no and an empty line with 0, case ignored; anything
--- else is no answer.
+-- What a line replies to a question: y and yes answer it with 5, n, no and an empty line with 0, case ignored; anything
+-- else is not an answer.
 abbrev pub reply_of : Text → Option Codes
 reply_of line =
     if is_same line (codes "y") || is_same line (codes "yes") then Some (warned NONE) else

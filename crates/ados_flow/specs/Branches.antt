@@ -1,4 +1,4 @@
--- Branches: If, Else and Skip, by which a script goes on at another line.
+-- Branches: If, Else and Skip, by which a script continues at another line.
 use Rattle.std.specs.Prelude.{List, Bool, not, Option, Some, None, Result, Ok, Err, if◌then◌else◌}
 use Rattle.ados_text.specs.declared.codes.TheConstants.Result2.{NONE, OBJECT_NOT_FOUND, WRONG_TYPE}
 use Rattle.ados_readargs.specs.declared.args.Arg.{Arg}
@@ -16,34 +16,34 @@ use Rattle.ados_flow.specs.Actions.{Action, Does, Jumps, Quits}
 use Rattle.ados_flow.specs.Frames.{ScriptLine}
 use Rattle.ados_flow.specs.Tests.{tested}
 
--- a script goes on where its jump leads, with 5 behind an EndSkip; where nothing is found it ends
+-- a script continues where its jump leads, with 5 after an EndSkip; if nothing is found it ends
 abbrev pub jumped : Jump → Action
 jumped (To line) = Jumps line went_well
 jumped (EndSkip line) = Jumps line (warned NONE)
 jumped Nowhere = Quits (failed OBJECT_NOT_FOUND)
 
--- a branch is taken in a script alone
+-- a branch is taken only in a script
 abbrev pub in_script : SharedState → Option ScriptLine → (ScriptLine → Action) → Action
 in_script shared None branch = Does (answering shared (failed WRONG_TYPE))
 in_script shared (Some here) branch = branch here
 
--- If whose test is known; NOT turns it round
+-- If whose test is known; NOT inverts it
 abbrev pub decided : SharedState → Bool → ScriptLine → Result Bool Codes → Action
 decided shared turned here (Err codes) = Does (answering shared codes)
 decided shared turned here (Ok held) =
     if (if turned then not held else held) then Does (answering shared went_well) else jumped (after_if here.lines here.line)
 
--- If goes on, or behind its Else or EndIf where its test fails
+-- If continues, or jumps after its Else or EndIf if its test fails
 abbrev pub if_row : SharedState → Option ScriptLine → View → List Arg → Action
 if_row shared script_line view args =
     in_script shared script_line (λ here. decided shared (is_on args 0) here (tested shared view args))
 
--- Else goes on behind its EndIf
+-- Else jumps after its EndIf
 abbrev pub else_row : SharedState → Option ScriptLine → Action
 else_row shared script_line = in_script shared script_line (λ here. jumped (after_else here.lines here.line))
 
--- Skip goes on behind the Lab with its LABEL, below it or with BACK from the first line on, or behind an EndSkip that
--- stands before that
+-- Skip jumps after the Lab with its LABEL, sought below it or with BACK from the first line on, or after an EndSkip that
+-- comes before that
 abbrev pub skip_row : SharedState → Option ScriptLine → List Arg → Action
 skip_row shared script_line args =
     in_script shared script_line (λ here. jumped (skip here.lines here.line (text_at args 0) (is_on args 1)))

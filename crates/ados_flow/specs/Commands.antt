@@ -1,4 +1,4 @@
--- The commands that flow: the text of each one's template.
+-- The commands of control flow: the text of each one's template.
 use Rattle.std.specs.Prelude.{[], Bool, true, false, codes}
 use Rattle.ados_text.specs.Text.{Text}
 use Rattle.ados_flow.specs.declared.commands.Command.{Command}
@@ -16,7 +16,7 @@ template_of_command Lab = codes "LABEL/F"
 template_of_command Quit = codes "RC/N"
 template_of_command Skip = codes "LABEL,BACK/S"
 
--- whether a command's row reads what is in use: a script that is an open output is not read
+-- whether a command reads what is in use: a script that is an open output is not read
 abbrev pub reads_in_use : Command → Bool
 reads_in_use Execute = true
 reads_in_use _ = false

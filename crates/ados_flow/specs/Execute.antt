@@ -26,16 +26,16 @@ use Rattle.ados_flow.specs.Actions.{Action, Does, Calls}
 abbrev pub is_separator : ℕ → Bool
 is_separator byte = byte == 58 || byte == 47
 
--- a word without a colon and a slash
+-- a word without a colon or a slash
 abbrev pub is_plain : Text → Bool
 is_plain word = is_none (position is_separator word)
 
--- a script is sought in S: where its name is plain and nothing has it
+-- a script is sought in S: if its name is plain and nothing has it
 abbrev pub script_place : SharedState → Place → Text → Place → Result Place Codes
 script_place shared directory word place =
     if is_plain word && is_none (finite.get shared.files (key_of place)) then place_of shared directory (codes "S:" ++ word) else Ok place
 
--- the answer to a fault of arguments, or of substitution; want of memory has no number, and neither comes to it
+-- the answer to a fault of arguments, or of substitution; neither is ever out of memory, which has no number
 abbrev pub fault_answer : SharedState → Result Result2 NoMemory → Action
 fault_answer shared (Ok number) = Does (answering shared (failed number))
 fault_answer shared (Err none) = Does (answering shared (failed NO_FREE_STORE))

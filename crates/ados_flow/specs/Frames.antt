@@ -1,4 +1,4 @@
--- Frames, and the code rule: when a frame ends, and which limit stands behind its end.
+-- Frames, and the code rule: when a frame ends, and which limit is in force after its end.
 use Rattle.std.specs.Prelude.{ℕ, zero, suc, pos, List, [], ◌∷◌, length, drop, ◌+◌, ◌-◌, Bool, true, false, ◌||◌, ◌&&◌, nat_le, Option, Some, None, if◌then◌else◌}
 use Rattle.ados_text.specs.Text.{Text}
 use Rattle.ados_text.specs.declared.codes.Code.{Code}
@@ -17,7 +17,7 @@ is_script Lines = false
 is_script (Tick before after) = false
 
 -- a frame that runs: what it is, its lines, the place of the next one, the line at which its command began, the limit
--- that stood at its beginning, its own output, which is open until it ends, and its last record
+-- in force at its beginning, its own output, which is open until it ends, and its last record
 pub record FrameState : Type 0 where
   pub kind : Kind
   pub lines : List Text
@@ -27,7 +27,7 @@ pub record FrameState : Type 0 where
   pub output : Option Target
   pub last : Option Record
 
--- where a command of a script stands: the script's lines, and the line at which it began
+-- where a command of a script is: the script's lines, and the line at which it began
 pub record ScriptLine : Type 0 where
   pub lines : List Text
   pub line : ℕ
@@ -37,16 +37,16 @@ script_line_by (Script name command) frame = Some (record { lines = frame.lines;
 script_line_by Lines frame = None
 script_line_by (Tick before after) frame = None
 
--- where a command of a frame stands, if the frame is a script
+-- where a command of a frame is, if the frame is a script
 abbrev pub script_line_of : Option FrameState → Option ScriptLine
 script_line_of None = None
 script_line_of (Some frame) = script_line_by frame.kind frame
 
--- a frame that goes on at a line
+-- a frame that continues at a line
 abbrev pub jumped : ℕ → FrameState → FrameState
 jumped line frame = record frame { position = line - 1 }
 
--- so many frames a shell has at most
+-- a shell has at most this many frames
 abbrev pub frame_limit : ℕ
 frame_limit = 32
 
@@ -71,17 +71,17 @@ abbrev pub scripts_in : List FrameState → ℕ
 scripts_in [] = 0
 scripts_in (frame ∷ frames) = if is_script frame.kind then suc (scripts_in frames) else scripts_in frames
 
--- a shell begins with limit 10, and it is 10 again where no script is left
+-- a shell begins with limit 10, and it is 10 again once no script is left
 abbrev pub first_limit : Code
 first_limit = record { 0 = pos 10 }
 
--- the limit behind the end of a script that began at a limit, where so many scripts run below it: that limit, and 10
--- where no script is left
+-- the limit after the end of a script that began at a limit, with this many scripts below it: that limit, or 10
+-- if no script is left
 abbrev pub limit_for : ℕ → Code → Code
 limit_for zero limit = first_limit
 limit_for (suc n) limit = limit
 
--- the same above these frames
+-- the same with these frames below it
 abbrev pub limit_behind : List FrameState → Code → Code
 limit_behind frames limit = limit_for (scripts_in frames) limit
 
@@ -90,7 +90,7 @@ abbrev pub line_taken : List FrameState → ℕ
 line_taken [] = 0
 line_taken (frame ∷ frames) = frame.line
 
--- the line of a frame's last record, and what it answered: 0, and all well, where it has none
+-- the line of a frame's last record, and what it answered: 0, and success, if it has none
 abbrev pub last_line : Option Record → ℕ
 last_line None = 0
 last_line (Some entry) = entry.line
@@ -104,7 +104,7 @@ abbrev pub is_at_limit : Option Record → Bool
 is_at_limit None = false
 is_at_limit (Some entry) = is_reached entry.limit entry.codes.code
 
--- a script alone ends early
+-- only a script ends early
 abbrev pub is_early : Kind → Option Record → Bool
 is_early kind last = is_script kind && is_at_limit last
 
@@ -116,11 +116,11 @@ entry_of frames answered limit = record { line = line_taken frames; codes = answ
 abbrev pub answered_frame : FrameState → List FrameState → Codes → Code → FrameState
 answered_frame frame frames answered limit = record frame { last = Some (entry_of (frame ∷ frames) answered limit) }
 
--- a frame ends where no line is left, and a script also where it quits and at the limit
+-- a frame ends if no line is left, and a script also if it quits or at the limit
 abbrev pub is_ended : Bool → Codes → Code → FrameState → Bool
 is_ended quits answered limit frame = is_over frame || (is_script frame.kind && (quits || is_reached limit answered.code))
 
--- the word of the command that made a script; other frames are no command's
+-- the word of the command that made a script; other frames are made by no command
 abbrev pub maker : Kind → Text
 maker (Script name command) = command
 maker Lines = []

@@ -1,4 +1,4 @@
--- What a Run takes: the commands of its shell, from its own text and further lines.
+-- What a Run takes: the commands of its shell, from its own text and the lines after it.
 use Rattle.std.specs.Prelude.{ℕ, zero, suc, List, [], ◌∷◌, ◌++◌, Bool, true, false, ◌==◌, ◌&&◌, Option, Some, None, is_some, unwrap_or, codes, if◌then◌else◌}
 use Rattle.std.specs.Fmt.{decimal}
 use Rattle.std.specs.List.{list_all}
@@ -9,16 +9,16 @@ use Rattle.ados_items.specs.declared.items.Item.TheVariants.{End}
 use Rattle.ados_items.specs.Items.{is_blank, item_at}
 pub use Rattle.ados_flow.specs.declared.gathering.Gathered.{Gathered}
 
--- a new shell is given so many commands at most
+-- a new shell is given at most this many commands
 abbrev pub run_limit : ℕ
 run_limit = 32
 
--- The text before the `+` that has only blanks behind it; none where a text has no such `+`.
+-- The text before the `+` that has only blanks after it; none if a text has no such `+`.
 unfoldable pub before_plus : Text → Option Text
 before_plus [] = None
 before_plus (c ∷ cs) = if (c == 43) && list_all is_blank cs then Some [] else option_map (λ front. c ∷ front) (before_plus cs)
 
--- the text goes on with a further line
+-- the text continues in the next line
 abbrev pub goes_on : Text → Bool
 goes_on text = is_some (before_plus text)
 
@@ -30,20 +30,20 @@ abbrev pub is_end : Item → Bool
 is_end (End at) = true
 is_end item = false
 
--- no command stands in the text, its `+` aside
+-- there is no command in the text, apart from its `+`
 unfoldable pub asks_nothing : Text → Bool
 asks_nothing text = is_end (item_at true (without_plus text) 0)
 
--- a text that takes no further line
+-- a text that takes no line after it
 abbrev pub alone : Text → Gathered
 alone text = record { commands = without_plus text ∷ []; taken = 0 }
 
--- a text that took a further line, before what that one gathers
+-- a text that took the next line, before what that one gathers
 abbrev pub leading : Text → Gathered → Gathered
 leading text rest = record { commands = without_plus text ∷ rest.commands; taken = suc rest.taken }
 
--- The commands of a Run by its text and the lines behind it, of which it takes so many at most: each text that goes
--- on takes one, and none keeps its `+`.
+-- The commands of a Run by its text and the lines after it, of which it takes at most this many: each text that
+-- continues takes one, and none keeps its `+`.
 abbrev pub gathered : ℕ → Text → List Text → Gathered
 gathered zero text lines = alone text
 gathered (suc room) text [] = alone text

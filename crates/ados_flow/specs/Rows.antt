@@ -1,4 +1,4 @@
--- What each command does, by the shared parts, where it stands, its shell's view and its arguments.
+-- What each command does, by the shared parts, its line in a script, its shell's view and its arguments.
 use Rattle.std.specs.Prelude.{List, Option}
 use Rattle.ados_readargs.specs.declared.args.Arg.{Arg}
 use Rattle.ados_find.specs.Codes.{went_well}
@@ -18,7 +18,7 @@ use Rattle.ados_flow.specs.Quit.{quit_row}
 abbrev pub marks : SharedState → Action
 marks shared = Does (answering shared went_well)
 
--- the row of a command, which stands at a line of a script or in none
+-- what a command does, which is at a line of a script or in none
 abbrev pub row_of : Command → SharedState → Option ScriptLine → View → List Arg → Action
 row_of Ask shared script_line view args = ask_row shared args
 row_of Else shared script_line view args = else_row shared script_line

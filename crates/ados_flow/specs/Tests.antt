@@ -33,7 +33,7 @@ is_given args Greater = is_some (text_at args 6)
 is_given args GreaterOrEqual = is_some (text_at args 7)
 is_given args Exists = is_some (text_at args 9)
 
--- just one is asked for
+-- exactly one is asked for
 abbrev pub only : List Test → Result Test Codes
 only [] = Err (failed ARGUMENT_MISSING)
 only (test ∷ []) = Ok test
@@ -70,7 +70,7 @@ abbrev pub judged : (Ordering → Bool) → Result Ordering Codes → Result Boo
 judged holds (Err codes) = Err codes
 judged holds (Ok ordering) = Ok (holds ordering)
 
--- the order of two words, where both are there
+-- the order of two words, if both are there
 abbrev pub order_by : Bool → Option Text → Option Text → Result Ordering Codes
 order_by by_value None right = Err (failed ARGUMENT_MISSING)
 order_by by_value (Some left) None = Err (failed ARGUMENT_MISSING)
@@ -107,6 +107,6 @@ abbrev pub tested_by : SharedState → View → List Arg → Result Test Codes �
 tested_by shared view args (Err codes) = Err codes
 tested_by shared view args (Ok test) = holds shared view args test
 
--- the one test that is asked for holds, or what If answers where that can't be told
+-- the one test that is asked for holds, or what If answers if that can't be decided
 abbrev pub tested : SharedState → View → List Arg → Result Bool Codes
 tested shared view args = tested_by shared view args (test_of args)

@@ -10,9 +10,9 @@ use std::alloc::Global;
 pub enum Action {
     /// It answers.
     Does(Outcome),
-    /// It ends its script with these codes, and elsewhere answers them.
+    /// It ends its script with these codes, or answers them if it is in none.
     Quits(Codes),
-    /// It answers these codes, and its script goes on at this line, counted from 1.
+    /// It answers these codes, and its script continues at this line, counted from 1.
     Jumps { line: usize, codes: Codes },
     /// It calls a script.
     Calls(Called),
@@ -25,7 +25,7 @@ impl Action {
     ghost use Rattle.ados_find.specs.Shared.{SharedState};
     ghost use Rattle.ados_flow.specs.Actions.{Does, acting};
 
-    /// It answers this, changes nothing and puts nothing out.
+    /// It answers this, changes nothing and prints nothing.
     pub fn answering(alloc: Global, codes: Codes) -> Action
         ensures { (shared : SharedState) → acting shared result ≡ Does (answering shared codes) }
     {

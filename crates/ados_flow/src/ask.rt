@@ -19,8 +19,8 @@ pub fn ask(alloc: Global, shared: &Shared, args: &Args) -> Result<Action, NoMemo
     }
 }
 
-/// What a line says to a question: `y` and `yes` answer it with 5, `n`, `no` and an empty line with 0, case ignored;
-/// `None` for anything else, which is no answer.
+/// What a line replies to a question: `y` and `yes` answer it with 5, `n`, `no` and an empty line with 0, case ignored;
+/// `None` for anything else, which is not an answer.
 pub fn reply_of(line: &Text) -> Option<Codes>
     ensures { result ≡ reply_of line.now }
 {

@@ -1,4 +1,4 @@
-// Branches: If, Else and Skip, by which a script goes on at another line.
+// Branches: If, Else and Skip, by which a script continues at another line.
 ghost use Rattle.std.specs.Prelude.{◌≡◌, IfOk};
 ghost use Rattle.std.specs.Option.{option_copied, option_map};
 ghost use Rattle.ados_text.specs.declared.codes.TheConstants.Result2.{WRONG_TYPE};
@@ -20,9 +20,9 @@ use ados_script::{Jump, Script};
 use ados_text::{NoMemory, Result2};
 use std::alloc::Global;
 
-/// If goes on, or behind its Else or EndIf where its test fails. NOT turns the test round.
+/// If continues, or jumps after its Else or EndIf if its test fails. NOT inverts the test.
 ///
-/// 212 where the newest frame is no script; then what `tested` refuses.
+/// 212 if the newest frame is not a script; then what `tested` refuses.
 pub fn branch(
     alloc: Global,
     shared: &Shared,
@@ -43,9 +43,9 @@ pub fn branch(
     }
 }
 
-/// Else goes on behind its EndIf.
+/// Else jumps after its EndIf.
 ///
-/// 212 where the newest frame is no script.
+/// 212 if the newest frame is not a script.
 pub fn pass_block(alloc: Global, frame: Option<&Frame>) -> Action
     ensures { (shared : SharedState) → acting shared result ≡ else_row shared (script_line_of (option_copied frame.entry)) }
 {
@@ -55,10 +55,10 @@ pub fn pass_block(alloc: Global, frame: Option<&Frame>) -> Action
     }
 }
 
-/// Skip goes on behind the Lab with its LABEL, below it or with BACK from the first line on, or behind an EndSkip that
-/// stands before that.
+/// Skip jumps after the Lab with its LABEL, sought below it or with BACK from the first line on, or after an EndSkip that
+/// comes before that.
 ///
-/// 212 where the newest frame is no script.
+/// 212 if the newest frame is not a script.
 pub fn skip(alloc: Global, frame: Option<&Frame>, args: &Args) -> Action
     ensures { (shared : SharedState) → acting shared result ≡ skip_row shared (script_line_of (option_copied frame.entry)) args.now }
 {
@@ -68,14 +68,14 @@ pub fn skip(alloc: Global, frame: Option<&Frame>, args: &Args) -> Action
     }
 }
 
-// Where a Skip leads that stands at a line.
+// Where a Skip at a line leads.
 fn skip_from(script: &Script, line: usize, args: &Args) -> Jump
     ensures { result ≡ skip_of script.now line (text_at args.now 0) (is_on args.now 1) }
 {
     script.skip(line, args.text(0), args.is_on(1))
 }
 
-// Where a command of the newest frame stands, if that is a script.
+// Where a command of the newest frame is, if that is a script.
 fn script_line(frame: Option<&Frame>) -> Option<(&Script, usize)>
     ensures { option_map (λ here. record { lines = here.0.now; line = here.1 }) result ≡ script_line_of (option_copied frame.entry) }
 {
@@ -85,7 +85,7 @@ fn script_line(frame: Option<&Frame>) -> Option<(&Script, usize)>
     }
 }
 
-// A script goes on where its jump leads, with 5 behind an EndSkip; where nothing is found it ends.
+// A script continues where its jump leads, with 5 after an EndSkip; if nothing is found it ends.
 fn jumped(jump: Jump) -> Action
     ensures { (shared : SharedState) → acting shared result ≡ jumped jump }
 {
@@ -102,7 +102,7 @@ fn jumped(jump: Jump) -> Action
     }
 }
 
-// What a branch answers that stands in no script.
+// What a branch answers outside a script.
 fn wrong_type(alloc: Global) -> Action
     ensures { (shared : SharedState) → acting shared result ≡ Does (answering shared (failed WRONG_TYPE)) }
 {

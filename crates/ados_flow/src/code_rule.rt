@@ -4,7 +4,7 @@ ghost use Rattle.ados_flow.specs.CodeRule.{is_reached};
 
 use ados_text::Code;
 
-/// The limit with which a shell begins, and which stands again where no script is left.
+/// The limit with which a shell begins, and which is in force again once no script is left.
 pub const FIRST_LIMIT: Code = Code(10);
 
 /// The code is at the limit, or above.

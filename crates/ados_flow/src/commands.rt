@@ -1,11 +1,11 @@
 ghost use Rattle.std.specs.Prelude.{◌≡◌};
 
-/// The commands that flow.
+/// The commands of control flow.
 #[derive(Clone, Copy)]
 pub enum Command {
     /// Ask, which asks for yes or no.
     Ask,
-    /// Else, which leads behind its EndIf.
+    /// Else, which jumps after its EndIf.
     Else,
     /// EndIf, which ends the block of an If.
     EndIf,
@@ -13,13 +13,13 @@ pub enum Command {
     EndSkip,
     /// Execute, which calls a script.
     Execute,
-    /// If, which leads behind its Else or EndIf where its test fails.
+    /// If, which jumps after its Else or EndIf if its test fails.
     If,
-    /// Lab, to which a Skip leads.
+    /// Lab, to which a Skip jumps.
     Lab,
     /// Quit, which ends a script.
     Quit,
-    /// Skip, which leads to a Lab.
+    /// Skip, which jumps to a Lab.
     Skip,
 }
 
@@ -47,7 +47,7 @@ impl Command {
         }
     }
 
-    /// Whether its row reads what is in use.
+    /// Whether the command reads what is in use.
     #[tactic(auto, using(crate::proofs::InUseLemmas::ignores))]
     pub fn reads_in_use(self) -> bool
         ensures value { result ≡ reads_in_use self }

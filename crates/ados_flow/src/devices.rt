@@ -15,7 +15,7 @@ use ados_readargs::Args;
 use ados_text::{Name, NoMemory, Text};
 use std::alloc::Global;
 
-/// Pushes the devices that the arguments of a command use behind those of a list, each with the devices to which the
+/// Adds the devices that the arguments of a command use to the end of a list, each with the devices to which the
 /// texts of assigns lead on from it.
 pub fn push_devices(
     alloc: Global,
@@ -37,7 +37,7 @@ pub fn push_devices(
     }
 }
 
-// Those of Execute: of its word, and S: where it looks there.
+// Those of Execute: of its word, and S: if it looks there.
 #[tactic(auto, using(crate::proofs::DeviceLemmas::two_parts))]
 fn push_of_script(
     alloc: Global,

@@ -17,7 +17,7 @@ use ados_script::Script;
 use ados_text::{NoMemory, Result2, Text};
 use std::alloc::Global;
 
-/// Execute calls the script FILE with ARGS. It is sought as the path, and where that is a plain name that nothing has,
+/// Execute calls the script FILE with ARGS. It is sought by its path, and if that is a plain name that nothing has,
 /// in S:.
 ///
 /// What finding, reading and substituting refuse: 202 for an open output, 204, 205, 210, 212, 218, 224 with 10; 114 to
@@ -70,7 +70,7 @@ fn call_found(
     }
 }
 
-/// Where a script stands: in S: where its name is plain and nothing has it.
+/// Where a script is: in S: if its name is plain and nothing has it.
 fn script_place(
     alloc: Global,
     shared: &Shared,
@@ -101,7 +101,7 @@ fn in_scripts(
     place_of(alloc, shared, directory, &path)
 }
 
-/// A word without a colon and a slash.
+/// A word without a colon or a slash.
 pub fn is_plain(word: &Text) -> bool
     ensures { result ≡ is_plain word.now }
 {

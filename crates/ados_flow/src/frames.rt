@@ -12,10 +12,10 @@ use std::alloc::Global;
 use std::marker::Model;
 use std::rc::Rc;
 
-/// So many frames a shell has at most.
+/// A shell has at most this many frames.
 pub const FRAME_LIMIT: usize = 32;
 
-/// What stays of a frame while it runs.
+/// What does not change of a frame while it runs.
 #[derive(Drop)]
 struct Fixed {
     kind: Kind,
@@ -52,7 +52,7 @@ impl Model for Frame {
 impl Frame {
     ghost use Rattle.ados_flow.specs.Frames.{FrameState, began, moved, further, jumped, script_line_of, answered_frame, is_over, is_ended, is_script, last_line, last_codes, is_early};
 
-    /// A frame that begins: what it is, its lines, the limit that stands, and its own output, if it has one.
+    /// A frame that begins: what it is, its lines, the limit in force, and its own output, if it has one.
     pub fn new(
         alloc: Global,
         kind: Kind,
@@ -76,7 +76,7 @@ impl Frame {
         })
     }
 
-    /// The same frame; what stays of it is shared.
+    /// The same frame; what does not change of it is shared.
     pub fn share(&self) -> Result<Frame, NoMemory>
         ensures { IfOk result (λ frame. frame ≡ self.now) }
     {
@@ -89,7 +89,7 @@ impl Frame {
         })
     }
 
-    /// The line that is due; `None` where none is left.
+    /// The next line; `None` if none is left.
     pub fn next_line(&self) -> Option<&Text>
         ensures line { option_copied result ≡ slice_get self.now.lines self.now.position }
         ensures below { OnSome result (self.now.position + 1 < 2 ^ 64) }
@@ -97,7 +97,7 @@ impl Frame {
         self.fixed.script.lines().get(self.position)
     }
 
-    /// The line that is due was taken.
+    /// The next line was taken.
     pub fn move_on(&mut self)
         requires { self.old.position + 1 < 2 ^ 64 }
         ensures { self.new ≡ moved self.old }
@@ -122,7 +122,7 @@ impl Frame {
         lines.get(self.position()..).unwrap_or(&[])
     }
 
-    /// So many of the lines that are not taken yet are taken.
+    /// This many of the lines that are not taken yet are taken.
     pub fn skip(&mut self, taken: usize)
         requires { self.old.position + taken < 2 ^ 64 }
         ensures { self.new ≡ jumped (suc (self.old.position + taken)) self.old }
@@ -130,14 +130,14 @@ impl Frame {
         self.position += taken;
     }
 
-    /// It goes on at a line, counted from 1.
+    /// It continues at a line, counted from 1.
     pub fn jump_to(&mut self, line: usize)
         ensures { self.new ≡ jumped line self.old }
     {
         self.position = line.saturating_sub(1);
     }
 
-    /// Where its command stands, if it is a script: the script, and the line at which the command began.
+    /// Where its command is, if it is a script: the script, and the line at which the command began.
     pub fn script_line(&self) -> Option<(&Script, usize)>
         ensures { option_map (λ here. record { lines = here.0.now; line = here.1 }) result ≡ script_line_of (Some self.now) }
     {
@@ -147,7 +147,7 @@ impl Frame {
         }
     }
 
-    /// A command of it answered, with this limit behind it.
+    /// A command of it answered, with this limit after it.
     pub fn answer(&mut self, answered: Codes, limit: Code)
         ensures { (below : List FrameState) → self.new ≡ answered_frame self.old below answered limit }
     {
@@ -165,8 +165,8 @@ impl Frame {
         self.fixed.script.lines().len() <= self.position
     }
 
-    /// The code rule: behind a command that answered this, with this limit behind it, the frame ends where no line is
-    /// left, and a script also where the command quits and where its code reaches the limit.
+    /// The code rule: after a command that answered this, with this limit after it, the frame ends if no line is
+    /// left, and a script also if the command quits or its code reaches the limit.
     pub fn is_ended(&self, quits: bool, answered: Codes, limit: Code) -> bool
         ensures { result ≡ is_ended quits answered limit self.now }
     {
@@ -187,7 +187,7 @@ impl Frame {
         matches!(self.fixed.kind, Kind::Script { .. })
     }
 
-    /// The limit that stood at its beginning.
+    /// The limit in force at its beginning.
     pub fn limit(&self) -> Code
         ensures { result ≡ self.now.limit }
     {
@@ -201,7 +201,7 @@ impl Frame {
         self.fixed.output.as_ref()
     }
 
-    /// The line of its last record; 0 where it has none.
+    /// The line of its last record; 0 if it has none.
     pub fn last_line(&self) -> usize
         ensures { result ≡ last_line self.now.last }
     {
@@ -211,7 +211,7 @@ impl Frame {
         }
     }
 
-    /// What its last command answered; all well where none has.
+    /// What its last command answered; success if none has.
     pub fn last_codes(&self) -> Codes
         ensures { result ≡ last_codes self.now.last }
     {
@@ -221,7 +221,7 @@ impl Frame {
         }
     }
 
-    /// It is a script whose last record was at its limit: where it ends, it ends early.
+    /// It is a script whose last record was at its limit: when it ends, it ends early.
     pub fn is_early(&self) -> bool
         ensures { result ≡ is_early self.now.kind self.now.last }
     {

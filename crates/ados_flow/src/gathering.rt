@@ -7,19 +7,19 @@ use ados_items::{Item, next_item};
 use ados_text::{NoMemory, Octets, Text, Texts, push_number};
 use std::alloc::Global;
 
-/// A new shell is given so many commands at most.
+/// A new shell is given at most this many commands.
 pub const RUN_LIMIT: usize = 32;
 
 /// The commands of a Run.
 #[derive(Drop)]
 pub struct Gathered {
-    /// Its own text, and each further line that it took; none keeps the `+` by which it went on.
+    /// Its own text, and each line that it took after that; none keeps the `+` by which it continued.
     pub commands: Texts,
-    /// How many further lines it took.
+    /// How many lines it took after its own text.
     pub taken: usize,
 }
 
-/// The text before the `+` that has only blanks behind it: with it a text goes on with a further line. `None` where a
+/// The text before the `+` that has only blanks after it: a text that has one continues in the next line. `None` if a
 /// text has no such `+`.
 #[tactic(auto, using(crate::proofs::GatheringLemmas::none_in_none, crate::proofs::GatheringLemmas::blank_behind, crate::proofs::GatheringLemmas::plus_behind, crate::proofs::GatheringLemmas::other_behind))]
 pub fn before_plus(mut text: &[u8]) -> Option<&[u8]>
@@ -35,7 +35,7 @@ pub fn before_plus(mut text: &[u8]) -> Option<&[u8]>
     None
 }
 
-/// The text without the `+` by which it goes on, if it has one.
+/// The text without the `+` by which it continues, if it has one.
 #[tactic(auto, using(crate::proofs::GatheringLemmas::front_stays))]
 pub fn without_plus(alloc: Global, text: &Text) -> Result<Text, NoMemory>
     ensures { IfOk result (λ front. front ≡ without_plus text.now) }
@@ -46,7 +46,7 @@ pub fn without_plus(alloc: Global, text: &Text) -> Result<Text, NoMemory>
     }
 }
 
-/// No command stands in the text, its `+` aside.
+/// There is no command in the text, apart from its `+`.
 #[tactic(auto, unfolding(crate::specs::Gathering::asks_nothing))]
 pub fn asks_nothing(text: &Text) -> bool
     ensures { result ≡ asks_nothing text.now }
@@ -56,7 +56,7 @@ pub fn asks_nothing(text: &Text) -> bool
     matches!(next_item(text, 0), Item::End(_))
 }
 
-/// The commands of a Run by its text and the lines behind it: each text that goes on takes one of these, up to 32
+/// The commands of a Run by its text and the lines after it: each text that continues takes one of these, up to 32
 /// commands.
 #[tactic(auto, using(crate::proofs::GatheringLemmas::went_on, crate::proofs::GatheringLemmas::took_none, crate::proofs::GatheringLemmas::none_left))]
 pub fn gather<'a>(alloc: Global, text: &'a Text, lines: &'a [Text]) -> Result<Gathered, NoMemory>
@@ -81,7 +81,7 @@ pub fn gather<'a>(alloc: Global, text: &'a Text, lines: &'a [Text]) -> Result<Ga
     Ok(Gathered { commands, taken })
 }
 
-// Adds a text without the `+` by which it goes on.
+// Adds a text without the `+` by which it continues.
 fn push_front(alloc: Global, commands: &mut Texts, text: &Text) -> Result<(), NoMemory>
     ensures { OnOk result (commands.new ≡ commands.old ++ without_plus text.now ∷ []) }
 {

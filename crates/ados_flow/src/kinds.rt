@@ -12,11 +12,11 @@ pub enum Kind {
     },
     /// The commands of a Run: the lines of its shell.
     Lines,
-    /// The command between two back-ticks.
+    /// The command of a command substitution, between two back-ticks.
     Tick {
-        /// What stands before them in the line that waits for it.
+        /// What is before them in the line that waits for it.
         before: Text,
-        /// What stands behind them there.
+        /// What is after them there.
         after: Text,
     },
 }

@@ -1,5 +1,5 @@
 #![tactic(auto)]
-//! What flows: frames, the rule by which they end, and the commands that call scripts, end them, and lead on in them.
+//! Control flow: frames, the rule by which they end, and the commands that call scripts, end them, and jump in them.
 
 mod actions;
 mod ask;

@@ -19,7 +19,7 @@ use ados_text::NoMemory;
 use std::alloc::Global;
 
 /// What a command does, by the shared parts, the newest frame, its shell's view, and the arguments that its template
-/// gave. It reads nothing of what the shells are called, nor of what they run from.
+/// gave. It reads neither what the shells are called nor what they run from.
 #[tactic(auto, using(crate::proofs::ShellsLemmas::ignores_shells))]
 pub fn run(
     alloc: Global,

@@ -50,7 +50,7 @@ impl Test {
 
     /// The one test that the arguments ask for.
     ///
-    /// 116 where they ask for none, and 118 where they ask for more than one.
+    /// 116 if they ask for none, and 118 if they ask for more than one.
     fn of(args: &Args) -> Result<Test, Refusal>
         ensures { Gives result (test_of args.now) }
     {
@@ -74,7 +74,7 @@ impl Test {
 
     // Whether it holds.
     //
-    // 116 where a word to compare is missing, and with VAL 115 where one is no number.
+    // 116 if a word to compare is missing, and with VAL 115 if one is not a number.
     fn holds(
         self,
         alloc: Global,
@@ -96,7 +96,7 @@ impl Test {
     }
 }
 
-// The one of these tests that the arguments ask for, behind the one that was found.
+// The one test that the arguments ask for, of these and the one that was found before.
 fn only(args: &Args, found: Option<Test>, tests: &[Test]) -> Result<Test, Refusal>
     ensures { Gives result (only (option_to_list found ++ filter (is_given args.now) tests.now)) }
 {
@@ -111,8 +111,8 @@ fn only(args: &Args, found: Option<Test>, tests: &[Test]) -> Result<Test, Refusa
 
 /// Whether the one test that the arguments ask for holds.
 ///
-/// 118 where they ask for more than one; 116 where they ask for none, or a word to compare is missing; with VAL 115
-/// where a word is no number. A path that can't be parsed or resolved leads to no object.
+/// 118 if they ask for more than one; 116 if they ask for none, or a word to compare is missing; with VAL 115
+/// if a word is not a number. A path that can't be parsed or resolved leads to no object.
 pub fn tested(
     alloc: Global,
     shared: &Shared,

@@ -1,4 +1,4 @@
--- where an item begins and ends: behind the place at which it was looked for, and within the line
+-- where an item begins and ends: at or after the place at which it was looked for, and within the line
 use Rattle.std.proofs.Common.{ℕ, ◌+◌, ◌-◌, ◌<◌, ◌≤◌, ◌≡◌, ◌∙◌, List, [], ◌∷◌, Bool, true, false, ◌==◌, ◌&&◌, Option, Some, None, length, drop, get_or, refl, ap, sym, arith}
 use Rattle.std.specs.List.{prefix_len, list_any}
 use Rattle.std.proofs.lemmas.List.{length-drop, get_or-drop}
@@ -9,7 +9,7 @@ use Rattle.ados_items.specs.declared.items.Item.{Item}
 use Rattle.ados_items.specs.declared.items.Item.TheVariants.{Word, Quoted, Equal, End, Unmatched}
 use Rattle.ados_items.specs.Items.{is_blank, is_word_byte, closing_from, quoted_of, item_by_first, item_at}
 
--- the item stands behind a place, within so many bytes; a word has one byte at least
+-- the item is at or after a place, and ends within n bytes; a word has at least one byte
 abbrev pub StandsBehind : ℕ → ℕ → Item → Type 0
 StandsBehind place end (Word from to) = (place ≤ from) × (from < to) × (to ≤ end)
 StandsBehind place end (Quoted from to) = (place < from) × (from ≤ to) × (to < end)
@@ -37,11 +37,11 @@ quoted-behind : (place end : ℕ) (found : Option ℕ) → Closes (place + 1) en
 quoted-behind place end (Some to) h = (omega arith, h.0, h.1)
 quoted-behind place end None h = tt
 
--- a word has one byte at least
+-- a word has at least one byte
 word-long : (test : ℕ → Bool) (c : ℕ) (cs : List ℕ) → test c ≡ true → 0 < prefix_len test (c ∷ cs)
 word-long test c cs e = rw e (omega arith)
 
--- the item that so many bytes begin with, the first of which is no blank
+-- the item with which bytes begin of which the first is not a blank
 by-first : (apart : Bool) (place end : ℕ) (bytes : List ℕ) → (0 < length bytes → place + length bytes ≡ end) → (0 < length bytes → is_blank (get_or bytes 0 0) ≡ false)
     → StandsBehind place end (item_by_first apart place bytes)
 by-first apart place end [] whole blank = tt
@@ -75,7 +75,7 @@ item-behind apart line place =
     ap is_blank (get_or-drop behind line 0 0 ∙ ap (λ k. get_or line k 0) (omega arith) ∙ sym (get_or-drop place line n 0))
     ∙ prefix_len_stops is_blank (drop place line) 0 (omega arith)))
 
--- where no byte is `;`, the end is the line's
+-- if no byte is `;`, the end is the line's
 abbrev pub IsAtEnd : ℕ → Item → Type 0
 IsAtEnd end (Word from to) = Unit {0}
 IsAtEnd end (Quoted from to) = Unit {0}

@@ -1,4 +1,4 @@
--- a text with no star stands for itself; what an item stands for is ASCII
+-- a text without a star stands for itself; the text of an item is ASCII
 use Rattle.std.proofs.Common.{ℕ, ◌≡◌, ◌<◌, List, [], ◌∷◌, Bool, true, false, ◌||◌, ◌==◌, map, slice_index_or, refl, ap, arith}
 use Rattle.std.specs.List.{list_any}
 use Rattle.std.proofs.lemmas.Bool.Decides.{nat_tests}

@@ -10,7 +10,7 @@ pub enum ItemFault {
     /// A quote at a word's start is never closed: fault 119.
     #[error("unmatched quotes")]
     Unmatched,
-    /// No memory for the words.
+    /// Out of memory for the words.
     #[error("no free store")]
     NoMemory,
 }

@@ -28,7 +28,7 @@ wanted-runs (Some shell) e = refl
 runs-where_wanted : (w : WorldState) → wants_line w ≡ true → is_over w ≡ false
 runs-where_wanted w e = runs-on w 1 (wanted-runs (shell_at w 1) (and_parts (wants_input (shell_at w 1)) (not (has_input (input_of w 1))) e).0)
 
--- where a line is wanted nothing is there to take
+-- if a line is wanted nothing is there to take
 nothing-to-take : (w : WorldState) → wants_line w ≡ true → has_input (input_of w 1) ≡ false
 nothing-to-take w e = opposite (has_input (input_of w 1)) (and_parts (wants_input (shell_at w 1)) (not (has_input (input_of w 1))) e).1
   where
@@ -36,14 +36,14 @@ nothing-to-take w e = opposite (has_input (input_of w 1)) (and_parts (wants_inpu
     opposite true h = cc
     opposite false h = refl
 
--- where a line is wanted the input's end is accepted
+-- if a line is wanted the input's end is accepted
 pub end-accepted : (w : WorldState) → wants_line w ≡ true → is_accepted (step_of w EndOfInput) ≡ true
 end-accepted w e =
     let left : is_over w ≡ false = runs-where_wanted w e in
     let none : (nat_lt 0 (length w.queue) || w.input_ended) ≡ false = nothing-to-take w e in
     grind (arith, common_steps)
 
--- where a line is wanted one of at most 512 bytes is accepted
+-- if a line is wanted one of at most 512 bytes is accepted
 pub line-accepted : (w : WorldState) (line : List ℕ) → wants_line w ≡ true → length line ≤ 512 → is_accepted (step_of w (Typed line)) ≡ true
 line-accepted w line e h =
     let left : is_over w ≡ false = runs-where_wanted w e in

@@ -1,4 +1,4 @@
--- The world and the launcher's list agree behind each event.
+-- The world and the launcher's list agree after each event.
 use Rattle.std.proofs.Common.{arith, ◌≡◌, ◌≢◌, ℕ, ◌<◌, List, [], ◌++◌, Bool, true, false, Option, Some, None, Result, Ok, Err, OnOk, refl, sym, ap, ◌∙◌, inl, inr, subst, get_or, length, slice_set, append-nil}
 use Rattle.std.proofs.lemmas.Bool.{cases_eq}
 use Rattle.std.proofs.lemmas.Grind.{common_steps}
@@ -37,7 +37,7 @@ pub accepted-is : (w now : WorldState) (event : Event) (out : Out) (response : R
 accepted-is w now event out (Accepted world given items) answer world_is = record { items = items; is = rw (world_is, answer) refl }
 accepted-is w now event out (Refused why) answer world_is = absurd answer
 
--- an event that is no launcher's answer keeps all rows
+-- an event that is not a launcher's answer keeps all rows
 event-agrees : (w now : WorldState) (event : Event) (out : Out) (calls : List Call) → Agrees w calls → is_launchers event ≡ false →
     IsAccepted now out (step_of w event) → Agrees now calls
 event-agrees w now event out calls agrees other accepted k =
@@ -49,11 +49,11 @@ given-agrees w now event out calls (Ok done) agrees other answer world =
     event-agrees w now event out calls agrees other (accepted-is w now event out (step_of w event) answer world)
 given-agrees w now event out calls (Err why) agrees other answer world = tt
 
--- where the world stays
+-- if the world does not change
 pub same-agrees : (w now : WorldState) (calls : List Call) → Agrees w calls → now ≡ w → Agrees now calls
 same-agrees w now calls agrees same = rw same agrees
 
--- the child of the shell that asks is one of which this is asked
+-- the child of the shell that asks is in a state in which this may be asked
 asked-of : (w : WorldState) (k : ℕ) (request : Request) → pending_of w k ≡ Some request → is_asked (Some request) (child_in w k) ≡ true
 asked-of w k request asked = subst (λ p. is_asked p (child_in w k) ≡ true) asked (requests-are w k)
 
@@ -69,7 +69,7 @@ row-here w k is_full (Start job) reply calls listed agrees asked named (fit, inr
 row-here w k is_full (Read n) reply calls listed agrees asked named (fit, inr none) = let no = none.1 in cc
 row-here w k is_full (Wait n) reply calls listed agrees asked named (fit, inr none) = let no = none.1 in cc
 
--- the rows of the others
+-- the rows of the other children
 row-there : (k j : ℕ) (is_full : Bool) (request : Request) (reply : Reply) (calls listed : List Call) → shell_named request ≡ k → Lists is_full request reply listed → j ≢ k →
     life_of j (calls ++ listed) ≡ life_of j calls
 row-there k j is_full request reply calls listed named (fit, inl listed_is) apart =
@@ -88,7 +88,7 @@ answer-agrees w now k is_full request reply out calls listed sane agrees asked l
       | inr apart ↦ row-there k j is_full request reply calls listed named lists apart ∙ (agrees j ∙ ap life_in (sym (moves.children j apart)))
     ]
 
--- where its answer was taken, the world and the list agree
+-- if its answer was taken, the world and the list agree
 pub answers-agree : {X E : Type 0} (w now : WorldState) (k : ℕ) (was_full is_full : Bool) (calls calls_now : List Call) (result : Result X E) (out : Out) → IsSane w → Agrees w calls →
     Answers w k was_full is_full calls calls_now (TakesAnswer w k result now out) → OnOk result (Agrees now calls_now)
 answers-agree w now k was_full is_full calls calls_now (Ok done) out sane agrees a =
@@ -113,7 +113,7 @@ whole-in Cut e = cc
 pub agrees-whole : (w : WorldState) (calls : List Call) → Agrees w calls → AreWhole calls
 agrees-whole w calls agrees k e = whole-in (child_in w k) (sym (agrees k) ∙ e)
 
--- behind a call each row is whole, whatever came of its answer
+-- after a call each row is whole, whatever became of its answer
 pub answers-whole : (w : WorldState) (k : ℕ) (was_full is_full : Bool) (calls calls_now : List Call) (outcome : Reply → Type 0) → IsSane w → Agrees w calls →
     Answers w k was_full is_full calls calls_now outcome → AreWhole calls_now
 answers-whole w k was_full is_full calls calls_now outcome sane agrees a j e =
@@ -125,7 +125,7 @@ answers-whole w k was_full is_full calls calls_now outcome sane agrees a j e =
       | inr apart ↦ agrees-whole w calls agrees j (sym (row-there k j is_full a.request a.reply calls a.asks.listed named a.asks.lists apart) ∙ is)
     ]
 
--- what a launcher's conditions ask for
+-- what a launcher's preconditions need
 pub state-asked : (w : WorldState) (k : ℕ) (request : Request) (calls : List Call) → IsSane w → Agrees w calls → pending_of w k ≡ Some request →
     MayAsk request (state_of (shell_named request) calls)
 state-asked w k request calls sane agrees asked =
@@ -134,7 +134,7 @@ state-asked w k request calls sane agrees asked =
 pub number-asked : (w : WorldState) (k : ℕ) (request : Request) → IsSane w → pending_of w k ≡ Some request → k < 21 → shell_named request < 21
 number-asked w k request sane asked few = rw (request-names w k request sane asked) few
 
--- the table behind a call
+-- the table after a call
 pub table-asked : (w : WorldState) (k : ℕ) (was_full is_full b : Bool) (request : Request) (reply : Reply) (calls calls_now : List Call) (table : List Bool) → IsSane w → Agrees w calls →
     IsOpenTable table calls → k < length table → pending_of w k ≡ Some request → Asks request reply was_full is_full calls calls_now →
     b ≡ is_open (life_in (behind_answer false request reply)) → IsOpenTable (slice_set table k b) calls_now
@@ -153,7 +153,7 @@ further-open (Some (Start job)) state asked = grind (arith, common_steps)
 further-open (Some (Read n)) state asked = grind (arith, common_steps)
 further-open (Some (Wait n)) state asked = grind (arith, common_steps)
 
--- the table of the open children by what the shells ask for
+-- the table of the open children according to what the shells ask for
 pub table-begins : (w : WorldState) (calls : List Call) (table : List Bool) → Agrees w calls → ((k : ℕ) → get_or table k false ≡ asks_further (pending_of w k)) → IsOpenTable table calls
 table-begins w calls table agrees filled k = filled k ∙ (further-open (pending_of w k) (child_in w k) (requests-are w k) ∙ ap is_open (sym (agrees k)))
 

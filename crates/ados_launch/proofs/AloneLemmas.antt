@@ -1,14 +1,12 @@
--- How far a line that runs alone has come.
-use Rattle.std.proofs.Common.{◌≡◌, ℕ, suc, ◌+◌, ◌≤◌, ◌<◌, List, [], ◌∷◌, ◌++◌, Bool, true, Option, Some, None, Ok, is_some, length, arith, refl, ap, sym, ◌∙◌, inl, inr, append_assoc, append-nil}
+-- How far a line that runs alone has got.
+use Rattle.std.proofs.Common.{◌≡◌, ℕ, suc, ◌+◌, ◌≤◌, List, [], ◌∷◌, ◌++◌, Bool, true, Option, Some, None, Ok, is_some, length, arith, refl, ap, sym, ◌∙◌, inl, inr, append_assoc, append-nil}
 use Rattle.std.proofs.lemmas.Bool.{cases_eq}
 use Rattle.ados_text.specs.Text.{Bytes, Text}
-use Rattle.ados_find.specs.declared.codes.Codes.{Codes}
 use Rattle.ados_machine.specs.declared.answers.Answer.{Answer as Reply}
 use Rattle.ados_machine.specs.declared.events.Event.{Event}
 use Rattle.ados_machine.specs.declared.events.Event.TheVariants.{Typed, EndOfInput, Turn, Answer, Break}
 use Rattle.ados_machine.specs.declared.events.Kind.{Kind}
 use Rattle.ados_machine.specs.declared.outs.Out.{Out}
-use Rattle.ados_machine.specs.declared.refusals.Refusal.TheVariants.{NoMemory}
 use Rattle.ados_machine.specs.declared.requests.Request.{Request}
 use Rattle.ados_machine.specs.Alone.{AreOf, alone, bytes_in}
 use Rattle.ados_machine.specs.Children.{child_by, child_in}
@@ -18,25 +16,21 @@ use Rattle.ados_machine.specs.Runs.{IsAnswer, Runs, world_after}
 use Rattle.ados_machine.specs.Shells.{ShellState}
 use Rattle.ados_machine.specs.Step.{Response, Accepted, Refused, is_accepted, step_of}
 use Rattle.ados_machine.specs.Whole.{opened, opened_shell}
-use Rattle.ados_machine.specs.World.{WorldState, shell_at, pending_by, pending_of, codes_at}
+use Rattle.ados_machine.specs.World.{WorldState, shell_at, pending_by, pending_of}
 use Rattle.ados_machine.proofs.Loops.{IsTaken, alone-turn, alone-reply, pending-hosted, turn-taken}
 use Rattle.ados_machine.proofs.Shells.{IsFree, found, found-set_other, free-number}
-use Rattle.ados_machine.proofs.Systems.{opened-stands, system-ended, system-late}
-use Rattle.ados_world.specs.Opened.{opening_fault}
+use Rattle.ados_machine.proofs.Systems.{opened-stands}
 use Rattle.ados_launcher.specs.declared.calls.Call.{Call}
 use Rattle.ados_launcher.specs.Lives.{life_in}
 use Rattle.ados_launch.specs.Agreement.{Agrees}
-use Rattle.ados_launch.specs.Alone.{EndedAs, IsNextOf, IsUntaken, RunsLine, RunsOn, StandsAt, TakesNext}
-use Rattle.ados_launch.specs.declared.alone.SystemFault.{SystemFault}
+use Rattle.ados_launch.specs.Alone.{IsNextOf, IsUntaken, TakesNext}
 use Rattle.ados_launch.specs.Asked.{AreAsked, Asks}
 use Rattle.ados_launch.specs.Taken.{Taken, Given, LongLine, events_in, outs_in}
-use Rattle.ados_launch.proofs.Sessions.{calls-more}
-use Rattle.ados_launch.proofs.Taken.{run-more, asked-more, asked-full}
 
 none-at : (shells : List (Option ShellState)) (k : ℕ) → IsFree shells (Some k) → found shells k ≡ None
 none-at shells k free = rw (free.1, free.2) refl
 
--- a shell that was just opened has no child, and before it none stood at its number
+-- a shell that was just opened has no child, and before it there was none at its number
 opened-child : (w : WorldState) (k : ℕ) (commands : List Text) (j : ℕ) → free_number w.shells ≡ Some k → child_in (opened w k commands) j ≡ child_in w j
 opened-child w k commands j free =
     let is : IsFree w.shells (Some k) = rw free at (free-number w.shells) in
@@ -49,13 +43,13 @@ opened-child w k commands j free =
 pub opened-agrees : (w : WorldState) (k : ℕ) (commands : List Text) (calls : List Call) → free_number w.shells ≡ Some k → Agrees w calls → Agrees (opened w k commands) calls
 opened-agrees w k commands calls free agrees j = agrees j ∙ ap life_in (sym (opened-child w k commands j free))
 
--- the answers among an event
+-- the answers in an event
 abbrev pub replies_in : Event → List Reply
-replies_in (Answer k reply) = reply ∷ []
-replies_in (Turn k) = []
-replies_in (Typed line) = []
+pub replies_in (Answer k reply) = reply ∷ []
+pub replies_in (Turn k) = []
+pub replies_in (Typed line) = []
 replies_in EndOfInput = []
-replies_in (Break k kind) = []
+pub replies_in (Break k kind) = []
 
 accepted-of : (response : Response) → IsTaken response → is_accepted response ≡ true
 accepted-of (Refused why) taken = absurd taken
@@ -108,7 +102,7 @@ pub turn-untaken : (w : WorldState) (k : ℕ) (is_full : Bool) (calls : List Cal
     (others : List Call) × IsUntaken is_full w k None others × (calls ≡ calls ++ others)
 turn-untaken w k is_full calls = ([], refl, sym (append-nil calls))
 
--- so many events were taken, and the steps of the shell that runs alone go on from here, whatever answers come
+-- this many events were taken, and the steps of the shell that runs alone go on from here, whatever answers come
 pub record Going (k : ℕ) (w : WorldState) (line : Text) (turns n : ℕ) (is_full : Bool) (world : WorldState) (before now : Bytes) (calls calls_now : List Call) : Type 0 where
   pub taken : List Taken
   pub answers : List Reply
@@ -202,117 +196,14 @@ are-more k (LongLine ∷ taken) answers event out pending are is = are-more k ta
 
 pub events-more : (taken : List Taken) (event : Event) (out : Out) → length (events_in (taken ++ Given event out ∷ [])) ≡ length (events_in taken) + 1
 events-more [] event out = refl
-events-more (Given first given ∷ taken) event out = let more = events-more taken event out in omega (arith, more)
-events-more (LongLine ∷ taken) event out = events-more taken event out
+pub events-more (Given first given ∷ taken) event out = let more = events-more taken event out in omega (arith, more)
+pub events-more (LongLine ∷ taken) event out = events-more taken event out
 
 pub bytes-more : (taken : List Taken) (event : Event) (out : Out) → bytes_in (outs_in (taken ++ Given event out ∷ [])) ≡ bytes_in (outs_in taken) ++ out.bytes
 bytes-more [] event out = append-nil out.bytes
-bytes-more (Given first given ∷ taken) event out =
+pub bytes-more (Given first given ∷ taken) event out =
     ap (λ bytes. given.bytes ++ bytes) (bytes-more taken event out) ∙ sym (append_assoc given.bytes (bytes_in (outs_in taken)) out.bytes)
-bytes-more (LongLine ∷ taken) event out = bytes-more taken event out
+pub bytes-more (LongLine ∷ taken) event out = bytes-more taken event out
 
 pub printed-more : (before mid last bytes more now : Bytes) → mid ≡ before ++ bytes → last ≡ mid ++ more → now ≡ bytes ++ more → last ≡ before ++ now
 printed-more before mid last bytes more now e f h = f ∙ (ap (λ xs. xs ++ more) e ∙ (append_assoc before bytes more ∙ ap (λ xs. before ++ xs) (sym h)))
-
-abbrev pub going-more : (k : ℕ) (w : WorldState) (line : Text) (turns n : ℕ) (was_full is_full : Bool) (world next : WorldState) (before mid last : Bytes)
-    (calls mid_calls calls_now : List Call) (out : Out) →
-    Going k w line turns n was_full world before mid calls mid_calls → (was_full ≡ true → is_full ≡ true) → is_some (shell_at world k) ≡ true →
-    TakesNext k world is_full mid_calls next calls_now out → last ≡ mid ++ out.bytes → Going k w line turns (n + 1) is_full next before last calls calls_now
-going-more k w line turns n was_full is_full world next before mid last calls mid_calls calls_now out g stays runs t grown = record {
-  taken = g.taken ++ Given t.event out ∷ [];
-  answers = g.answers ++ replies_in t.event;
-  listed = g.listed ++ t.listed;
-  run = rw t.world_is (run-more (opened w k (line ∷ [])) g.taken world (Given t.event out) g.run t.accepted);
-  events_are = are-more k g.taken g.answers t.event out (pending_of world k) g.events_are t.is_next;
-  asked = asked-more is_full (opened w k (line ∷ [])) g.taken g.listed world (Given t.event out) t.listed
-      (asked-full was_full is_full (opened w k (line ∷ [])) g.taken g.listed stays g.asked) g.run t.asked t.when_full;
-  calls_are = calls-more calls mid_calls calls_now g.listed t.listed g.calls_are t.calls_are;
-  count = events-more g.taken t.event out ∙ ap (λ m. m + 1) g.count;
-  printed = printed-more before mid last (bytes_in (outs_in g.taken)) out.bytes _ g.printed grown (bytes-more g.taken t.event out);
-  steps = λ left all rest.
-      ap (λ answers. alone k turns answers (opened w k (line ∷ [])) before) (append_assoc g.answers (replies_in t.event) rest)
-      ∙ (g.steps (suc left) (omega (arith, all)) (replies_in t.event ++ rest)
-      ∙ rw (t.world_is, grown) (steps-on k left world t.event out mid (shell_at world k) refl runs t.is_next t.accepted rest));
-}
-
-none-behind : (calls now listed : List Call) → now ≡ calls ++ listed → now ≡ calls ++ (listed ++ [])
-none-behind calls now listed e = e ∙ ap (λ xs. calls ++ xs) (sym (append-nil listed))
-
-abbrev pub runs-line : (k : ℕ) (w : WorldState) (line : Text) (turns n : ℕ) (was_full is_full : Bool) (world : WorldState) (before now : Bytes) (calls mid_calls calls_now others : List Call) →
-    opening_fault w line ≡ None → free_number w.shells ≡ Some k → (was_full ≡ true → is_full ≡ true) → calls_now ≡ mid_calls ++ others →
-    (g : Going k w line turns n was_full world before now calls mid_calls) → RunsLine k w line is_full g.taken g.answers world calls calls_now others
-runs-line k w line turns n was_full is_full world before now calls mid_calls calls_now others good free stays e g = record {
-  no_fault = good;
-  free = free;
-  run = g.run;
-  events_are = g.events_are;
-  listed = g.listed;
-  asked = asked-full was_full is_full (opened w k (line ∷ [])) g.taken g.listed stays g.asked;
-  calls_are = calls-more calls mid_calls calls_now g.listed others g.calls_are e;
-}
-
-pub going-ended : (k : ℕ) (w : WorldState) (line : Text) (turns n left : ℕ) (is_full : Bool) (world : WorldState) (before now : Bytes) (calls calls_now : List Call) (codes : Codes) →
-    Going k w line turns n is_full world before now calls calls_now → opening_fault w line ≡ None → free_number w.shells ≡ Some k → k ≤ length w.ended → left + n ≡ turns →
-    shell_at world k ≡ None → codes ≡ codes_at world k → EndedAs w line turns is_full world before now calls calls_now codes
-going-ended k w line turns n left is_full world before now calls calls_now codes g good free room all gone told =
-    let e = system-ended turns k w line g.answers before now left world free room (g.steps left all) gone in
-    record {
-      k = k;
-      taken = g.taken;
-      answers = g.answers;
-      left = left;
-      bytes = e.0;
-      runs = runs-line k w line turns n is_full is_full world before now calls calls_now calls_now [] good free (λ is. is) (sym (append-nil calls_now)) g;
-      count = omega (arith, all, g.count);
-      meaning = rw told e.2;
-      written = e.1;
-    }
-
-pub going-late : (k : ℕ) (w : WorldState) (line : Text) (turns : ℕ) (is_full : Bool) (world : WorldState) (before now : Bytes) (calls calls_now : List Call) (shell : ShellState) →
-    Going k w line turns turns is_full world before now calls calls_now → opening_fault w line ≡ None → free_number w.shells ≡ Some k → shell_at world k ≡ Some shell →
-    RunsOn w line turns is_full world before now calls calls_now k
-going-late k w line turns is_full world before now calls calls_now shell g good free runs =
-    let e = system-late turns k w line g.answers before now 0 world shell free (g.steps 0 (omega arith)) refl runs in
-    record {
-      taken = g.taken;
-      answers = g.answers;
-      runs = runs-line k w line turns turns is_full is_full world before now calls calls_now calls_now [] good free (λ is. is) (sym (append-nil calls_now)) g;
-      count = g.count;
-      meaning = e.2;
-      written = g.printed;
-    }
-
--- where an event was not taken
-pub stands-untaken : (k : ℕ) (w : WorldState) (line : Text) (turns n : ℕ) (was_full is_full : Bool) (world : WorldState) (before now : Bytes) (calls mid_calls calls_now : List Call) (fault : SystemFault) →
-    Going k w line turns n was_full world before now calls mid_calls → opening_fault w line ≡ None → free_number w.shells ≡ Some k → (was_full ≡ true → is_full ≡ true) → is_some (shell_at world k) ≡ true → n < turns →
-    (others : List Call) × IsUntaken is_full world k fault.answer others × (calls_now ≡ mid_calls ++ others) →
-    fault.refusal ≡ NoMemory → fault.events ≡ n → fault.unwritten ≡ [] → StandsAt w line turns is_full fault world before now calls calls_now k
-stands-untaken k w line turns n was_full is_full world before now calls mid_calls calls_now fault g good free stays runs within untaken why count none = record {
-  taken = g.taken;
-  answers = g.answers;
-  others = untaken.0;
-  runs = runs-line k w line turns n was_full is_full world before now calls mid_calls calls_now untaken.0 good free stays untaken.2 g;
-  count = g.count ∙ sym count;
-  refusal_is = why;
-  stops = inl (runs, omega (arith, count, within), untaken.1, none);
-  written = rw none (append-nil now ∙ g.printed);
-}
-
--- where there was no room for what the last event printed
-pub stands-unwritten : (k : ℕ) (w : WorldState) (line : Text) (turns n : ℕ) (was_full is_full : Bool) (world next : WorldState) (before mid : Bytes)
-    (calls mid_calls calls_now : List Call) (out : Out) (fault : SystemFault) →
-    Going k w line turns n was_full world before mid calls mid_calls → opening_fault w line ≡ None → free_number w.shells ≡ Some k → (was_full ≡ true → is_full ≡ true) → is_some (shell_at world k) ≡ true → n < turns →
-    TakesNext k world is_full mid_calls next calls_now out → fault.refusal ≡ NoMemory → fault.events ≡ n + 1 → fault.answer ≡ None → fault.unwritten ≡ out.bytes → 0 < length fault.unwritten →
-    StandsAt w line turns is_full fault next before mid calls calls_now k
-stands-unwritten k w line turns n was_full is_full world next before mid calls mid_calls calls_now out fault g good free stays runs within t why count none bytes some =
-    let more = going-more k w line turns n was_full is_full world next before mid (mid ++ out.bytes) calls mid_calls calls_now out g stays runs t refl in
-    record {
-      taken = more.taken;
-      answers = more.answers;
-      others = [];
-      runs = runs-line k w line turns (n + 1) is_full is_full next before (mid ++ out.bytes) calls calls_now calls_now [] good free (λ is. is) (sym (append-nil calls_now)) more;
-      count = more.count ∙ sym count;
-      refusal_is = why;
-      stops = inr (omega (arith, count, within), (g.taken, t.event, out, refl, bytes), some, none, refl);
-      written = rw bytes more.printed;
-    }

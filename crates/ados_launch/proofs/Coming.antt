@@ -23,7 +23,7 @@ behind-at s w (AtStart shell) place is = ap (behind_place s w) (ap place_of is �
 behind-at s w (AtFurther shell) place is = ap (behind_place s w) (ap place_of is ∙ place_at place)
 behind-at s w (AtBreak shell kind) place is = grind (arith, common_steps)
 
--- the schedule goes on behind what was due at a place
+-- the schedule goes on after what was due at a place
 pub behind_next : (s : Standing) (w : WorldState) (place : ℕ) → standing_behind s w (next_at place) ≡ behind_place s w place
 behind_next s w place = behind-at s w (next_at place) place refl
 
@@ -59,7 +59,7 @@ pub in-round : (w : WorldState) (next : found.Next) → MayCome w next → IsInR
 in-round w (BreakFound at) may = tt
 in-round w (DueFound due_at) may = may.0
 
--- where something comes next, something is due
+-- if something comes next, something is due
 pub record Due (s : Standing) (w : WorldState) : Type 0 where
   pub place : ℕ
   pub due_is : Some place ≡ due s.round w
@@ -74,7 +74,7 @@ next-running s w next in_round e =
     let low : d.place < 61 = due_below s.round d.place w in_round d.due_is in
     (d.place, omega (arith, low), due_comes s.round d.place w d.due_is)
 
--- the schedule stays in its places
+-- the schedule keeps to its places
 pub standing-in_round : (s : Standing) (w : WorldState) (next : found.Next) → s.round.place ≤ 61 → IsInRound next → (standing_behind s w (next_as next)).round.place ≤ 61
 standing-in_round s w (BreakFound at) in_round is = in_round
 standing-in_round s w (DueFound due_at) in_round is = rw (behind_next s w due_at.place) (behind_in_round due_at.place is)
@@ -88,11 +88,11 @@ none-due : (f : ℕ → Next) (place : Option ℕ) → option_map f place ≡ No
 none-due f None e = refl
 none-due f (Some k) e = cc
 
--- where nothing comes next, nothing is due
+-- if nothing comes next, nothing is due
 pub next-none : (s : Standing) (w : WorldState) → next_in s w ≡ None → None ≡ due s.round w
 next-none s w e = sym (none-due (next_by (first_before (s.taken + 1) (breaks_left s w))) (due s.round w) e)
 
--- by the test whether something is due
+-- the same, by testing whether something is due
 pub due-none : (place : Option ℕ) (over : Bool) → over ≡ is_none place → over ≡ true → None ≡ place
 due-none None over is told = refl
 due-none (Some k) over is told = cc

@@ -45,7 +45,7 @@ held_line xs ys i e =
 short_kind : (n : ℕ) → n ≤ 512 → kind_of_length n ≡ Short
 short_kind n h = grind (arith, common_steps)
 
--- the first byte 10 stands in front, within 513 bytes
+-- the first byte 10 is among the first 513 bytes
 pub taken_front : (front back later kept now : List ℕ) (i : ℕ) → position is_newline front ≡ Some i → i < length front → length front ≤ 513
     → kept ≡ take i (front ++ back) → now ≡ drop (i + 1) (front ++ back) → TakesLine ((front ++ back) ++ later) Short kept (Some (now ++ later))
 taken_front front back later kept now i e within few k n =

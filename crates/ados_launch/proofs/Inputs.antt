@@ -1,4 +1,4 @@
--- What an event makes of the input: shell 1 ends only where it has ended.
+-- What an event does to the input: shell 1 ends only if the input has ended.
 use Rattle.std.proofs.Common.{◌≡◌, ◌≢◌, ℕ, zero, suc, ◌-◌, ◌∷◌, List, [], Option, Some, None, Ok, true, false, not, ◌&&◌, refl, ap, sym, ◌∙◌, is_some, slice_get, slice_set, ◌⊎◌, inl, inr, arith, Bool}
 use Rattle.std.specs.Prelude.{if◌then◌else◌}
 use Rattle.std.proofs.lemmas.Bool.{cases_Bool, and_parts, true≢false}
@@ -42,7 +42,7 @@ first-set [] i shell e = cc
 first-set (found ∷ shells) zero shell e = refl
 first-set (found ∷ shells) (suc i) shell e = e
 
--- a shell that begins stands at another number, or is itself the first
+-- a shell that begins is at another number, or is itself the first
 first-begun : (begun : Option Begun) (number : Option ℕ) (shells : List (Option ShellState)) → is_some (flatten (slice_get shells 0)) ≡ true → is_some (flatten (slice_get (with_begun begun number shells) 0)) ≡ true
 first-begun None number shells e = e
 first-begun (Some begun) None shells e = e
@@ -66,14 +66,14 @@ first-broken : (breaking : Option Breaking) (shells : List (Option ShellState)) 
 first-broken None shells e = e
 first-broken (Some breaking) shells e = first-numbered breaking.breaks breaking.shell shells e
 
--- what stands at a number is replaced: at the first by a shell
+-- the shell at a number is replaced: the first by a shell
 first-replaced : (shells : List (Option ShellState)) (i : ℕ) (now : Option ShellState) → (i ≡ 0 → is_some now ≡ true) → is_some (flatten (slice_get shells 0)) ≡ true
     → is_some (flatten (slice_get (slice_set shells i now) 0)) ≡ true
 first-replaced [] i now some e = cc
 first-replaced (found ∷ shells) zero now some e = some refl
 first-replaced (found ∷ shells) (suc i) now some e = e
 
--- shell 1 runs on behind each turn that takes something
+-- shell 1 runs on after each turn that takes something
 first-left : (k : ℕ) (moved : Option Renamed) (turned : Turned) → k ≡ 1 → is_some (left k moved turned) ≡ true
 first-left k moved turned one = rw one refl
 
@@ -82,7 +82,7 @@ first-unset [] i some = refl
 first-unset (found ∷ shells) zero some = absurd (some refl)
 first-unset (found ∷ shells) (suc i) some = refl
 
--- a typed line leaves the shells and the input's end as they are
+-- a typed line leaves the shells and the input's end unchanged
 pub typed-takes : (w : WorldState) (out : Out) (line : List ℕ) → takes_input w ≡ true → takes_input (world_after w (Ok out) (step_of w (Typed line))) ≡ true
 typed-takes w out line e = grind (arith, common_steps)
 
@@ -110,7 +110,7 @@ turning-ends input frames course (Waiting (ForStart starting)) e = cc
 turning-ends input frames course (Waiting (ForPiece child)) e = cc
 turning-ends input frames course (Waiting (ForEnd child)) e = cc
 
--- nor where its scripts end at a break
+-- nor if its scripts end at a break
 placed-ends : (t : Turning) (input : Input) (frames : List FrameState) (course : Course) → in_place_of t input frames course ≡ Ends → t ≡ Ends
 placed-ends (Refuses why) input frames course e = cc
 placed-ends Ends input frames course e = refl
@@ -148,7 +148,7 @@ turned-takes w out k (Some shell) at e =
     (λ none. let nothing : None ≡ Some shell = rw none at at in cc)
     e
 
--- a turn leaves the input as it is, and shell 1 ends only where it has ended
+-- a turn leaves the input unchanged, and shell 1 ends only if it has ended
 pub turn-takes : (w : WorldState) (out : Out) (k : ℕ) → takes_input w ≡ true → takes_input (world_after w (Ok out) (step_of w (Turn k))) ≡ true
 turn-takes w out k e =
     elim (cases_Bool (is_over w)) [
@@ -156,7 +156,7 @@ turn-takes w out k e =
       | inr running ↦ rw running (turned-takes w out k (shell_at w k) refl e)
     ]
 
--- no shell ends by an answer but a background shell
+-- only a background shell ends by an answer
 replied-never : (input : Input) (frames : List FrameState) (deed : Option Deed) → replied input frames deed ≡ Ends → ⊥
 replied-never input frames None e = cc
 replied-never input frames (Some deed) e = cc
@@ -191,7 +191,7 @@ break-takes w out k kind e =
       | inr running ↦ rw running (broken-takes w out k kind (shell_at w k) e)
     ]
 
--- where shell 1 takes input and waits for no launcher, a line is wanted or shell 1 is ready
+-- if shell 1 takes input and does not wait for a launcher, a line is wanted or shell 1 is ready
 due-by-phase : (input : Input) (k : ℕ) (frames : List FrameState) (phase : Phase) → request_of k phase ≡ None → can_take input frames phase ≡ false →
     (phase_takes frames phase && not (has_input input)) ≡ true
 due-by-phase input k [] Ready none e = grind (arith, common_steps)

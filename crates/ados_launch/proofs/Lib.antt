@@ -17,6 +17,7 @@ pub mod Agreeing
 pub mod Waits
 pub mod Outcomes
 pub mod AloneLemmas
+pub mod AloneRuns
 pub mod NewPair
 pub mod Leading
 pub mod LeadingAlone

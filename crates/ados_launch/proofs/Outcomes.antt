@@ -1,4 +1,4 @@
--- What a schedule came to, at each way to end.
+-- The result of a schedule, for each way in which it can end.
 use Rattle.std.proofs.Common.{◌≡◌, ℕ, ◌+◌, ◌<◌, ◌≤◌, List, [], ◌++◌, Bool, true, length, take, Option, Some, Result, Ok, Err, arith, sym, subst, ◌∙◌, ◌⊎◌, append-nil}
 use Rattle.std.specs.Prelude.{IsErrAnd}
 use Rattle.std.specs.Io.KnownBytes.{Appends}
@@ -99,7 +99,7 @@ comes-by turns breaks before now (Err Read) P is memory read write out = read is
 comes-by turns breaks before now (Err Write) P is memory read write out = write is
 comes-by turns breaks before now (Err Turns) P is memory read write out = out is
 
--- a drive that came to its end, behind which no child is open
+-- a drive that reached its end, after which no child is open
 pub drives-end : (turns : ℕ) (breaks : List BreakAt) (before now : Moment) (end : End) → ComesToEnd turns breaks before now end → Agrees now.world now.calls → Drives turns breaks before now (Ok end)
 drives-end turns breaks before now end c agrees =
     let over : AreOver now.calls = calls-over now.world now.calls agrees c.no_shell in
@@ -111,7 +111,7 @@ drives-end turns breaks before now end c agrees =
       over = over;
     }
 
--- a drive that stopped, behind which the open children were waited for
+-- a drive that stopped, after which the open children were waited for
 pub drives-fault : (turns : ℕ) (breaks : List BreakAt) (before mid : Moment) (calls : List Call) (is_full : Bool) (fault : DriveFault) → is_full ≡ mid.is_full → ComesTo turns breaks before mid (Err fault)
     → WaitsForOpen mid.calls calls → AreOver calls → Drives turns breaks before (record mid { calls = calls; is_full = is_full }) (Err fault)
 drives-fault turns breaks before mid calls is_full fault full c waits over =

@@ -1,4 +1,4 @@
--- Where nothing is due no shell is left: a background shell that asks for nothing is ready, since its input is at its end, and
+-- If nothing is due no shell is left: a background shell that asks for nothing is ready, since its input is at its end, and
 -- shell 1 is ready or wants a line.
 use Rattle.std.proofs.Common.{◌≡◌, ◌≢◌, ℕ, zero, suc, ◌∷◌, List, [], Option, Some, None, true, false, not, ◌&&◌, refl, ap, sym, ◌∙◌, ◌≤◌, is_some, length, slice_get, nat_lt, arith, inl, inr, Bool}
 use Rattle.std.proofs.lemmas.Bool.{cases_Bool, true≢false}
@@ -57,7 +57,7 @@ first-found : (input : Input) (found : Option ShellState) → (wants_input found
 first-found input None wants ready none = refl
 first-found input (Some shell) wants ready none = absurd (first-phase input shell.parts.number shell.frames shell.phase none wants ready)
 
--- where nothing may come no shell is left at a number from 1 to 20
+-- if nothing may come no shell is left at a number from 1 to 20
 none-left : (w : WorldState) (k : ℕ) → IsIdle w → k ≤ 20 → shell_at w k ≡ None
 none-left w zero idle h = refl
 none-left w (suc zero) idle h =
@@ -84,7 +84,7 @@ none-any [] none = refl
 none-any (None ∷ shells) none = none-any shells (λ i. none (suc i))
 none-any (Some shell ∷ shells) none = let found = none 0 in cc
 
--- where nothing may come no shell is left
+-- if nothing may come no shell is left
 pub over : (w : WorldState) → length w.shells ≡ 20 → IsIdle w → is_over w ≡ true
 over w size idle = ap not (none-any w.shells (λ i. none-there w (suc i) size idle))
 
@@ -102,7 +102,7 @@ over-none w (suc i) over = none-in w.shells i (unset (list_any is_some w.shells)
     unset true e = cc
     unset false e = refl
 
--- and then each row of lives has come to its end
+-- and then each row of lives is at its end
 pub calls-over : (w : WorldState) (calls : List Call) → Agrees w calls → is_over w ≡ true → AreOver calls
 calls-over w calls agrees over k = agrees k ∙ ap (λ o. life_in (child_by o)) (over-none w k over)
 

@@ -1,4 +1,4 @@
--- What was taken of a line, where there was no memory for it.
+-- What was taken of a line, if there was no memory for it.
 use Rattle.std.proofs.Common.{◌≡◌, ℕ, suc, ◌+◌, ◌<◌, ◌≤◌, List, [], ◌∷◌, length, drop, Option, Some, arith, refl, ap, sym, ◌∙◌, subst, length-append, inl, inr}
 use Rattle.std.specs.Prelude.{if◌then◌else◌}
 use Rattle.std.proofs.Math.Seq.{drop-append_seam}
@@ -15,7 +15,7 @@ use Rattle.ados_launch.specs.Taken.{left_after}
 use Rattle.ados_launch.proofs.Scanning.{Scanned, overlong_kind}
 use Rattle.ados_launch.proofs.Sessions.{Driven, next-is}
 
--- behind a line and the byte 10 behind it stands the rest
+-- after a line and the byte 10 after it comes the rest
 drop-line : (bytes : List ℕ) → drop (length (line_of bytes) + 1) bytes ≡ rest_of bytes
 drop-line [] = refl
 drop-line (b ∷ bytes) =
@@ -61,14 +61,14 @@ part-whole bytes kind kept now other t = record {
 pub part-kind : (bytes : List ℕ) (kind other : LineKind) (kept : List ℕ) (now : Option (List ℕ)) → kind ≡ other → (other ≡ Overlong → ⊥) → TakesLine bytes kind kept now → TakesPart bytes now
 part-kind bytes kind other kept now is differs t = part-whole bytes kind kept now (λ e. differs (sym is ∙ e)) t
 
--- where a line comes next, and where anything else does
+-- if a line comes next, and if anything else does
 pub part-at-line : (next : Next) (bytes : List ℕ) (now : Option (List ℕ)) → next ≡ AtLine → TakesPart bytes now → TakesPartAt next bytes now
 part-at-line next bytes now at p = record { part = p; none = λ other. absurd (other at) }
 
 pub part-at-none : (next : Next) (bytes : List ℕ) (now : Option (List ℕ)) → now ≡ Some bytes → TakesPartAt next bytes now
 part-at-none next bytes now e = record { part = part-none bytes now e; none = λ other. refl }
 
--- for what comes next no further was read than the line that is due
+-- for what comes next nothing was read past the line that is due
 pub no-further : (before mid : Moment) (breaks : List BreakAt) (n : ℕ) (standing : Standing) (rest : Option (List ℕ)) (next : Next) (held : List ℕ) (left : Option (List ℕ)) (d : Driven before mid breaks n standing rest)
     → next_in standing mid.world ≡ Some next → length held < 4096 → Known rest (λ bytes. TakesPartAt next bytes (ahead held left))
     → Known before.left (λ bytes. ReadsNoFurther (next_behind breaks before.world d.taken mid.world) (left_after bytes d.taken) left)

@@ -60,7 +60,7 @@ pub behind_in_round : (k : ℕ) → k < 61 → place_behind k ≤ 61
 behind_in_round zero h = omega arith
 behind_in_round (suc k) h = omega arith
 
--- where something is due, something may come
+-- if something is due, something may come
 pub running : (round : Round) (k : ℕ) (w : WorldState) → round.place ≤ 61 → Some k ≡ due round w → IsRunning w
 running round k w h e =
     let low : k < 61 = due_below round k w h e in
@@ -82,7 +82,7 @@ not_due w place e =
       | inr off ↦ off
     ]
 
--- where nothing is due, nothing may come
+-- if nothing is due, nothing may come
 pub idle : (round : Round) (w : WorldState) → None ≡ due round w → IsIdle w
 idle round w e k h = not_due w k (none_range (is_due w none_answered) 61 0 k (none_of (in_this_round round w) (in_next_round w) e) (omega arith) (omega (arith, h)))
 

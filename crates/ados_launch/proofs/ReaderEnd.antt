@@ -20,7 +20,7 @@ Reads w left = (takes_input w ≡ true) ⊎ (left ≡ [])
 not_end : (n : ℕ) → kind_of_length n ≡ End → ⊥
 not_end n e = grind (arith, common_steps)
 
--- only where nothing is left does the end come
+-- only if nothing is left does the end come
 end_empty : (left : List ℕ) → kind_of left ≡ End → rest_of left ≡ []
 end_empty [] e = refl
 end_empty (b ∷ bytes) e = absurd (not_end (length (line_of (b ∷ bytes))) e)
@@ -46,7 +46,7 @@ run-reads w left (Given event out ∷ taken) last run lines r =
 run-reads w left (LongLine ∷ taken) last run lines r =
     run-reads w (left_behind left LongLine) taken last run lines.1 (item-reads w left LongLine lines.0 r)
 
--- where nothing may come shell 1 takes no input
+-- if nothing may come shell 1 takes no input
 idle-takes : (w : WorldState) → IsIdle w → takes_input w ≡ true → ⊥
 idle-takes w idle e =
     elim (takes-due w (idle-pending w 1 idle (omega arith) (omega arith)) e) [
@@ -59,7 +59,7 @@ none_ahead held None xs e h = cc
 none_ahead [] (Some ys) xs e h = cc
 none_ahead (b ∷ held) (Some ys) xs e h = cc
 
--- where nothing is due any more, the reader came to its end
+-- if nothing is due any longer, the reader reached its end
 pub reader-ended : (w : WorldState) (bytes : List ℕ) (taken : List Taken) (last : WorldState) (held : List ℕ) (left : Option (List ℕ))
     → Runs w (events_in taken) (outs_in taken) last → AreRead bytes taken → ahead held left ≡ Some (left_after bytes taken) → IsIdle last → takes_input w ≡ true → left ≡ Some []
 reader-ended w bytes taken last held left run lines left_is idle e =

@@ -1,4 +1,4 @@
--- One call more: what it does to each row of lives.
+-- One more call: what it does to each row of lives.
 use Rattle.std.proofs.Common.{◌≡◌, ◌≢◌, ℕ, List, [], ◌∷◌, ◌++◌, Bool, true, false, Some, refl, sym, ◌∙◌, inl, inr, arith, fold, append-nil, ◌==◌}
 use Rattle.std.specs.Prelude.{if◌then◌else◌, MatchBool}
 use Rattle.std.proofs.lemmas.Bool.{cases_Bool}
@@ -20,7 +20,7 @@ use Rattle.ados_launch.specs.Asked.{Asks, MayAsk, call_of}
 pub life-more : (k : ℕ) (calls : List Call) (call : Call) → life_of k (calls ++ call ∷ []) ≡ life_behind k (life_of k calls) call
 life-more k calls call = fold-append (λ life c. life_behind k life c) Between calls (call ∷ [])
 
--- a mark changes what is asked for next, and not how far the row is
+-- a mark changes what is asked for next, and not the state of the row
 unmarked-start : (marked : Bool) (reply : Answer) → life_in (behind_start marked reply) ≡ life_in (behind_start false reply)
 unmarked-start true reply = grind (arith, common_steps)
 unmarked-start false reply = refl
@@ -34,7 +34,7 @@ unmarked marked (Start job) reply = unmarked-start marked reply
 unmarked marked (Read n) reply = unmarked-read marked reply
 unmarked marked (Wait n) reply = refl
 
--- the child of which a start, or a read, is asked
+-- the child for which a start, or a read, is asked
 pub asked-start : (job : Job) (state : ChildState) → is_asked (Some (Start job)) state ≡ true → state ≡ Closed
 asked-start job state asked = grind (arith, common_steps)
 
@@ -60,13 +60,13 @@ life-here k marked (Start job) reply state named fit asked = rw (asked-start job
 life-here k marked (Read n) reply state named fit asked = rw (asked-read n state asked) (was-read k n reply named fit ∙ sym (unmarked-read marked reply))
 life-here k marked (Wait n) reply state named fit asked = waited k n reply state named fit asked
 
--- the other rows stay
+-- the other rows are unchanged
 pub life-there : (j k : ℕ) (request : Request) (reply : Answer) (life : Life) → shell_named request ≡ k → j ≢ k → life_behind j life (call_of request reply) ≡ life
 life-there j k (Start job) reply life named apart = grind (arith, common_steps)
 life-there j k (Read n) reply life named apart = grind (arith, common_steps)
 life-there j k (Wait n) reply life named apart = grind (arith, common_steps)
 
--- what a launcher's conditions ask for, by the row
+-- what a launcher's preconditions need, by the row
 abbrev IsStateOf : Life → ChildState → Type 0
 IsStateOf Between state = state ≡ Closed
 IsStateOf InReads state = state ≡ Reading
@@ -79,7 +79,7 @@ state-in Reading apart = refl
 state-in Waiting apart = refl
 state-in Cut apart = absurd (apart refl)
 
--- a launcher knows no mark
+-- a launcher does not know about marks
 start-known : (reply : Answer) → behind_start false reply ≢ Cut
 start-known reply e = grind (arith, common_steps)
 
@@ -133,7 +133,7 @@ may-by (Wait n) Cut other life asked e h = let is : other ≡ Reading = rw e at 
 may-by (Wait n) Closed other life asked e h = cc
 may-by (Wait n) Reading other life asked e h = cc
 
--- what is asked of a child may be asked by the row
+-- what is asked for a child is allowed by the row
 pub may-ask : (k : ℕ) (calls : List Call) (request : Request) (state : ChildState) → is_asked (Some request) state ≡ true → life_of k calls ≡ life_in state → MayAsk request (state_of k calls)
 may-ask k calls request state asked e = may-by request state (state_of k calls) (life_of k calls) asked e (all-state k Between Closed calls refl)
 
@@ -147,7 +147,7 @@ open-not-closed Broken state h o e = cc
 pub open-state : (k : ℕ) (calls : List Call) → is_open (life_of k calls) ≡ true → state_of k calls ≢ Closed
 open-state k calls o e = open-not-closed (life_of k calls) (state_of k calls) (all-state k Between Closed calls refl) o e
 
--- what a launcher lists of a start, a read and a wait
+-- what a launcher lists for a start, a read and a wait
 pub asks-start : (job : Job) (reply : Answer) (was_full is_full : Bool) (calls calls_now : List Call) → answers_start reply ≡ true
     → MatchBool is_full ((calls_now ≡ calls) × (reply ≡ Memory)) (calls_now ≡ calls ++ Starts job reply ∷ []) → (was_full ≡ true → is_full ≡ true) → Asks (Start job) reply was_full is_full calls calls_now
 asks-start job reply was_full true calls calls_now fit listed stays = record {

@@ -8,7 +8,7 @@ use Rattle.std.specs.Io.KnownBytes.{Consumes, IsAtEnd, Keeps}
 use Rattle.ados_launch.specs.Lines.{line_of, rest_of, kind_of, kind_of_length, TakesLine}
 use Rattle.ados_launch.specs.declared.lines.LineKind.TheVariants.{End, Short, Overlong}
 
--- front was taken of the bytes and has no byte 10; the first 512 of it are kept, and later is still to come
+-- `front` was taken of the bytes and has no byte 10; its first 512 bytes are kept, and `later` is still to come
 pub record Scanned (bytes : List ℕ) (n : ℕ) (now : Option (List ℕ)) (kept : List ℕ) : Type 0 where
   pub front : List ℕ
   pub later : List ℕ
@@ -112,7 +112,7 @@ takes_end bytes n now next kept z s h e =
     let left : next ≡ Some s.later = kept_next s.later now next s.now_is e in
     record { kind_is = rw empty refl; kept_is = λ k. cc; now_is = λ _. left ∙ (ap Some none ∙ ap (λ xs. Some (rest_of xs)) (sym empty)); cut_is = λ k. cc }
 
--- the input ended behind n bytes
+-- the input ended after n bytes
 pub takes_last : (bytes : List ℕ) (n : ℕ) (now next : Option (List ℕ)) (kept : List ℕ) → 0 < n → n ≤ 65536 → Scanned bytes n now kept → IsAtEnd now → Keeps now next → TakesLine bytes (kind_of_length n) kept next
 takes_last bytes n now next kept some within s h e =
     let none : s.later ≡ [] = ended_empty s.later now s.now_is h in
@@ -126,7 +126,7 @@ takes_last bytes n now next kept some within s h e =
       cut_is = λ k. absurd (within_kind n within k);
     }
 
--- byte 10 came behind n bytes
+-- byte 10 came after n bytes
 pub takes_broken : (bytes : List ℕ) (n : ℕ) (now next : Option (List ℕ)) (kept : List ℕ) → n ≤ 65536 → Scanned bytes n now kept → Consumes now next (10 ∷ []) → TakesLine bytes (kind_of_length n) kept next
 takes_broken bytes n now next kept within s h =
     let first = consumed_first s.later now next 10 s.now_is h in

@@ -1,4 +1,4 @@
--- How far a session has come.
+-- How far a session has got.
 use Rattle.std.proofs.Common.{◌≡◌, ℕ, ◌+◌, ◌<◌, ◌≤◌, List, [], ◌∷◌, ◌++◌, Bool, true, length, take, Option, Some, Result, Ok, Err, arith, refl, ap, sym, subst, ◌∙◌, ◌⊎◌, inl, inr, append_assoc, append-nil}
 use Rattle.std.proofs.KnownBytes.{Appends-nil, Appends-trans}
 use Rattle.std.proofs.Math.Seq.{take-append-add}
@@ -18,7 +18,7 @@ use Rattle.ados_launch.specs.Schedule.{Next, Standing, first_standing, next_behi
 use Rattle.ados_launch.specs.Session.{AreDropped, LeavesOverlong, Moment, Session, Stands, StandsCut, TakesAt}
 use Rattle.ados_launch.proofs.Taken.{run-more, order-more, standing-more, along-full, along-more, asked-more, asked-full, lines-more, left-more, written-more, count-more}
 
--- so many were taken, and all of their bytes written; the schedule goes on, with this left to read
+-- this many were taken, and all of their bytes written; the schedule goes on, with this left to read
 pub record Driven (before now : Moment) (breaks : List BreakAt) (n : ℕ) (standing : Standing) (rest : Option (List ℕ)) : Type 0 where
   pub taken : List Taken
   pub listed : List Call
@@ -77,7 +77,7 @@ driven-more before mid now breaks n standing behind rest later next out d here s
   calls_are = calls-more before.calls mid.calls now.calls d.listed t.listed d.calls_are t.calls_are;
 }
 
--- a front of the last one's bytes was written
+-- a prefix of the last one's bytes was written
 pub driven-cut : (before mid now : Moment) (breaks : List BreakAt) (n m : ℕ) (standing : Standing) (rest later : Option (List ℕ)) (next : Next) (out : List ℕ)
     → Driven before mid breaks n standing rest → next_in standing mid.world ≡ Some next → (mid.is_full ≡ true → now.is_full ≡ true)
     → TakesAt mid.world rest now.is_full mid.calls next now.world later now.calls out → Agrees now.world now.calls → m < length out → Appends mid.contents now.contents (take m out)
@@ -104,7 +104,7 @@ full-session was_full is_full before breaks listed taken last stays s = record {
   agreed = along-full was_full is_full before.world before.calls taken listed stays s.asked s.agreed;
 }
 
--- so it stands, with other calls behind; the world and what is written stay
+-- the same with more calls after; the world and what is written are unchanged
 abbrev pub stands-behind : (before mid now : Moment) (breaks : List BreakAt) (n : ℕ) (standing : Standing) (rest : Option (List ℕ)) (others : List Call)
     → (mid.is_full ≡ true → now.is_full ≡ true) → now.world ≡ mid.world → now.contents ≡ mid.contents → now.calls ≡ mid.calls ++ others → Driven before mid breaks n standing rest
     → Stands before now breaks n others
@@ -129,18 +129,18 @@ why-read before mid breaks n standing rest d faults old new held later same few 
 why-read before mid breaks n standing rest d faults old new held later same few (inr long) =
     inr (long.0 ∙ same, λ bytes e. let begins = long.1 (left_after bytes d.taken) (d.left_is bytes e) in (begins.0, (held, few, begins.1)))
 
--- behind what was taken this comes next
+-- after what was taken this comes next
 pub next-is : (before mid : Moment) (breaks : List BreakAt) (n : ℕ) (standing : Standing) (rest : Option (List ℕ)) (next : Next) (d : Driven before mid breaks n standing rest)
     → next_in standing mid.world ≡ Some next → next_behind breaks before.world d.taken mid.world ≡ Some next
 next-is before mid breaks n standing rest next d here = subst (λ s. next_in s mid.world ≡ Some next) d.standing_is here
 
--- the call whose answer was not taken is for what comes next behind what was taken
+-- the call whose answer was not taken is for what comes next after what was taken
 pub next-dropped : (before mid : Moment) (breaks : List BreakAt) (n : ℕ) (standing : Standing) (rest : Option (List ℕ)) (next : Next) (dropped : List Call) (d : Driven before mid breaks n standing rest)
     → next_in standing mid.world ≡ Some next → AreDropped mid.world (Some next) dropped → AreDropped mid.world (next_behind breaks before.world d.taken mid.world) dropped
 next-dropped before mid breaks n standing rest next dropped d here one =
     subst (λ found. AreDropped mid.world found dropped) (sym (next-is before mid breaks n standing rest next d here)) one
 
--- whatever the schedule came to, a session was taken
+-- whatever the result of the schedule, a session was taken
 whole-session : (turns n : ℕ) (before now : Moment) (breaks : List BreakAt) (dropped : List Call) → n ≤ turns → (s : Stands before now breaks n dropped)
     → AreDropped now.world (next_behind breaks before.world s.taken now.world) dropped → TakesSession turns breaks before now
 whole-session turns n before now breaks dropped within s one = record {

@@ -1,4 +1,4 @@
--- What was taken, with one more behind it.
+-- What was taken, with one more after it.
 use Rattle.std.proofs.Common.{◌≡◌, ℕ, ◌+◌, List, [], ◌∷◌, ◌++◌, Bool, true, length, Option, Some, None, refl, ap, sym, ◌∙◌, append_assoc, append-nil, length-append, inl, inr}
 use Rattle.ados_machine.specs.declared.answers.Answer.{Answer as Reply}
 use Rattle.ados_machine.specs.declared.events.Event.TheVariants.{Typed, EndOfInput, Turn, Answer, Break}
@@ -40,7 +40,7 @@ starts-more (Starts job reply ∷ later) more none others = none
 starts-more (Reads n reply ∷ later) more none others = starts-more later more none others
 starts-more (Waits n reply ∷ later) more none others = starts-more later more none others
 
--- where nothing was listed for an answer the launcher is full
+-- if nothing was listed for an answer the launcher is full
 unlisted-full : (is_full : Bool) (request : Option Request) (reply : Reply) → ListsOf is_full request reply [] → is_full ≡ true
 unlisted-full is_full None reply lists = absurd lists
 unlisted-full is_full (Some request) reply (fit, inl here) = cc
@@ -84,7 +84,7 @@ asked-more is_full w (LongLine ∷ taken) listed last item more asked run next f
   asked-more is_full w taken asked.1 last item more asked.5 run next full,
 )
 
--- a launcher that is full stays so
+-- a launcher that is full stays full
 lists-full : (was_full is_full : Bool) (request : Option Request) (reply : Reply) (listed : List Call) → (was_full ≡ true → is_full ≡ true) → ListsOf was_full request reply listed
     → ListsOf is_full request reply listed
 lists-full was_full is_full None reply listed stays lists = lists
@@ -122,7 +122,7 @@ along-full was_full is_full w calls [] listed stays asked along = along
 along-full was_full is_full w calls (item ∷ taken) listed stays asked along =
     (along.0, along-full was_full is_full (world_behind w item) (calls ++ asked.0) taken asked.1 stays asked.5 along.1)
 
--- and with one more behind it, where they agree
+-- and with one more after it, if they agree
 pub along-more : (is_full : Bool) (w : WorldState) (calls : List Call) (taken : List Taken) (listed : List Call) (last : WorldState) (item : Taken) (more calls_now : List Call) (asked : AreAsked is_full w taken listed)
     (run : Runs w (events_in taken) (outs_in taken) last) (next : IsAsked is_full last item more) (full : is_full ≡ true → AreNoStarts more) → AgreesAlong is_full w calls taken listed asked → calls_now ≡ calls ++ (listed ++ more)
     → Agrees (world_behind last item) calls_now → AgreesAlong is_full w calls (taken ++ item ∷ []) (listed ++ more) (asked-more is_full w taken listed last item more asked run next full)

@@ -175,6 +175,6 @@ pub next-short : (bytes : List ℕ) (kind : LineKind) (kept : List ℕ) (now : O
 next-short bytes kind kept now text slice t e said same =
     ((sym t.kind_is ∙ e, said ∙ ap text_of (same ∙ t.kept_is e)), t.now_is (λ k. cc))
 
--- as many bytes of an overlong line were taken as show it
+-- as many bytes of an overlong line were taken as show that it is one
 pub next-overlong : (bytes : List ℕ) (kind : LineKind) (kept : List ℕ) (now : Option (List ℕ)) → TakesLine bytes kind kept now → kind ≡ Overlong → BeginsOverlong bytes now
 next-overlong bytes kind kept now t e = (sym t.kind_is ∙ e, t.cut_is e)

@@ -1,4 +1,4 @@
--- Two sessions that began alike take the same.
+-- Two sessions that begin alike take the same.
 use Rattle.std.proofs.Common.{◌≡◌, ℕ, List, [], ◌∷◌, ◌++◌, Bool, true, false, Option, Some, None, Ok, refl, ap, sym, subst, ◌∙◌, ◌⊎◌, inl, inr}
 use Rattle.std.specs.Prelude.{if◌then◌else◌}
 use Rattle.ados_machine.specs.declared.answers.Answer.{Answer as Reply}
@@ -19,7 +19,7 @@ use Rattle.ados_launch.specs.Schedule.{Next, AtBreak, AtFurther, AtLine, AtStart
 use Rattle.ados_launch.specs.Taken.{Taken, Given, LongLine, AreRead, IsAccepted, IsNext, events_in, left_behind, outs_in, world_behind}
 use Rattle.ados_launch.proofs.Taken.{starts-more}
 
--- what an accepted event gives is one
+-- the output of an accepted event is unique
 same-given : (event : Event) (out other : Out) (response : Response) → IsAnswer event (Ok out) response → IsAnswer event (Ok other) response → out ≡ other
 same-given event out other (Accepted world given items) a b = a ∙ sym b
 same-given event out other (Refused why) a b = absurd a
@@ -42,7 +42,7 @@ no-start (Start job) reply calls all is none e = rw e at none
 no-start (Read n) reply calls all is none e = cc
 no-start (Wait n) reply calls all is none e = cc
 
--- what is behind the calls for one thing that was taken
+-- what follows the calls for one thing that was taken
 abbrev Behind : List Call → List Call → Type 0
 Behind [] later = AreNoStarts later
 Behind (call ∷ calls) later = Unit {0}
@@ -51,7 +51,7 @@ has-behind : (k : ℕ) (reply : Reply) (out : Out) (now later : List Call) → H
 has-behind k reply out [] later has = has
 has-behind k reply out (call ∷ calls) later has = tt
 
--- the answer to a request is one, by the list of calls
+-- the answer to a request is unique, given the list of calls
 same-reply : (request : Request) (reply reply' : Reply) (full full' : Bool) (now later now' later' more : List Call) → Lists full request reply now → Lists full' request reply' now' → Behind now later → Behind now' later'
     → now' ++ later' ≡ (now ++ later) ++ more → (full ≡ true → AreNoStarts more) → reply ≡ reply'
 same-reply request reply reply' full full' now later now' later' more (fit, inl is) (fit', inl is') behind behind' e none =
@@ -73,7 +73,7 @@ same-answer None reply reply' full full' now later now' later' more lists lists'
 same-answer (Some request) reply reply' full full' now later now' later' more lists lists' behind behind' e none =
     same-reply request reply reply' full full' now later now' later' more lists lists' behind behind' e none
 
--- the next thing by its place
+-- the next thing, by its place
 answer-next : (b c : Bool) (k j : ℕ) → (if b then AtStart k else AtFurther k) ≡ (if c then AtStart j else AtFurther j) → k ≡ j
 answer-next true true k j e = cc
 answer-next true false k j e = cc
@@ -123,7 +123,7 @@ same-break w bytes full full' (Given (Turn k) out) other now later now' later' s
 same-break w bytes full full' (Given (Answer k reply) out) other now later now' later' s t is e = let no = unbroken (answers_start reply) k in cc
 same-break w bytes full full' LongLine other now later now' later' s t is e = cc
 
--- a line, the end of the input, or a long line: the bytes tell which
+-- a line, the end of the input, or a long line: the bytes determine which
 same-line : (w : WorldState) (bytes : List ℕ) (full full' : Bool) (item other : Taken) (now later now' later' : List Call) → Step w bytes full item now later → Step w bytes full' other now' later'
     → next_of item ≡ AtLine → next_of other ≡ AtLine → item ≡ other
 same-line w bytes full full' (Given (Typed line) out) (Given (Typed line') out') now later now' later' s t e f =
@@ -185,7 +185,7 @@ same-item w bytes full full' (Given (Turn k) out) other now later now' later' mo
 same-item w bytes full full' (Given (Answer k reply) out) other now later now' later' more s t e calls none = same-call w bytes full full' k reply out other now later now' later' more s t e calls none
 same-item w bytes full full' (Given (Break k kind) out) other now later now' later' more s t e calls none = same-break w bytes full full' (Given (Break k kind) out) other now later now' later' s t refl e
 
--- the calls behind those for an item that both took
+-- the calls after those for an item that both took
 behind-same : (item : Taken) (w : WorldState) (full full' : Bool) (now later now' later' more : List Call) → IsAsked full w item now → IsAsked full' w item now' → HasCall item now later → HasCall item now' later'
     → now' ++ later' ≡ (now ++ later) ++ more → (full ≡ true → AreNoStarts more) → later' ≡ later ++ more
 behind-same (Given (Typed line) out) w full full' now later now' later' more a b has has' e none = rw (a, b) at e

@@ -102,7 +102,7 @@ pub all-over : (table : List Bool) (n : ℕ) (before after : List Call) → IsWa
 all-over table n before after w h t past j =
     w j ∙ over-by (nat_lt j n) (life_of j before) (h j) (λ e. sym (t j) ∙ past j e)
 
--- the open children below n, rising
+-- the open children below n, in ascending order
 abbrev pub open_below : List Call → ℕ → List ℕ
 open_below calls n = filter (λ k. is_open (life_of k calls)) (range_with_len 0 n)
 
@@ -125,7 +125,7 @@ range-more n = ap (range_with_len 0) (add-one n) ∙ (range-from n 0 ∙ ap (λ 
 below-more : (calls : List Call) (n : ℕ) → open_below calls (n + 1) ≡ open_below calls n ++ (if is_open (life_of n calls) then n ∷ [] else [])
 below-more calls n = ap (filter (λ k. is_open (life_of k calls))) (range-more n) ∙ filter-append (λ k. is_open (life_of k calls)) (range_with_len 0 n) (n ∷ [])
 
--- one wait was asked for each open child below n, by rising number, and nothing else
+-- one wait was asked for each open child below n, in ascending order of number, and nothing else
 pub record WaitsBelow (n : ℕ) (before after : List Call) : Type 0 where
   pub waits : List Call
   pub calls_are : after ≡ before ++ waits
@@ -170,7 +170,7 @@ filter-none : (test : ℕ → Bool) (xs : List ℕ) → ((k : ℕ) → test k �
 filter-none test [] none = refl
 filter-none test (x ∷ xs) none = rw (none x) (filter-none test xs none)
 
--- where no child is open none is waited for
+-- if no child is open none is waited for
 pub none-open : (calls : List Call) → ((k : ℕ) → life_of k calls ≡ Between) → AreWaitsFor calls []
 none-open calls between = (ap (map Some) (sym (filter-none (λ k. is_open (life_of k calls)) (range_with_len 0 21) (λ k. ap is_open (between k)))), tt)
 

@@ -1,4 +1,4 @@
--- Agreement: what the requests of a world and the list of a launcher's calls have to do with one another.
+-- Agreement: how the requests of a world relate to the list of a launcher's calls.
 use Rattle.std.specs.Prelude.{◌≡◌, ◌≢◌, ℕ, List, [], ◌∷◌, ◌++◌, map, Bool, true, false, Option, Some, None, get_or, filter}
 use Rattle.std.specs.List.{range_with_len}
 use Rattle.ados_machine.specs.declared.answers.Answer.{Answer}
@@ -8,8 +8,8 @@ use Rattle.ados_launcher.specs.declared.calls.Call.{Call}
 use Rattle.ados_launcher.specs.declared.calls.Call.TheVariants.{Start, Read, Wait}
 use Rattle.ados_launcher.specs.Lives.{Between, Broken, life_of, life_in, is_open}
 
--- Each row of lives is one so far, and its open child is the one that the world reads or waits for: no end of its reads is
--- listed where the world reads it or has broken it, and that end is listed where the world waits for it and has not.
+-- Each row of lives is well-formed so far, and its open child is the one that the world reads or waits for: the end of its
+-- reads is not listed if the world reads it or has broken it, and is listed if the world waits for it and has not.
 abbrev pub Agrees : WorldState → List Call → Type 0
 Agrees w calls = (k : ℕ) → life_of k calls ≡ life_in (child_in w k)
 
@@ -21,7 +21,7 @@ AreWhole calls = (k : ℕ) → life_of k calls ≢ Broken
 abbrev pub AreOver : List Call → Type 0
 AreOver calls = (k : ℕ) → life_of k calls ≡ Between
 
--- the numbers of the open children, rising
+-- the numbers of the open children, in ascending order
 abbrev pub open_children : List Call → List ℕ
 open_children calls = filter (λ k. is_open (life_of k calls)) (range_with_len 0 21)
 
@@ -31,24 +31,24 @@ waited_child (Start job answer) = None
 waited_child (Read n answer) = None
 waited_child (Wait n answer) = Some n
 
--- waits, with answers of their kind
+-- these calls are waits, with answers of their kind
 abbrev pub AreWaits : List Call → Type 0
 AreWaits [] = Unit {0}
 AreWaits (Start job answer ∷ calls) = ⊥
 AreWaits (Read n answer ∷ calls) = ⊥
 AreWaits (Wait n answer ∷ calls) = (answers_wait answer ≡ true) × AreWaits calls
 
--- one wait for each child that is open behind these calls, by rising number, and nothing else
+-- one wait for each child that is open after these calls, in ascending order of number, and nothing else
 abbrev pub AreWaitsFor : List Call → List Call → Type 0
 AreWaitsFor calls waits = (map waited_child waits ≡ map Some (open_children calls)) × AreWaits waits
 
--- these waits were asked for behind the calls, and nothing else
+-- these waits were asked for after the calls, and nothing else
 pub record WaitsForOpen (before after : List Call) : Type 0 where
   pub waits : List Call
   pub calls_are : after ≡ before ++ waits
   pub are_for_open : AreWaitsFor before waits
 
--- the open children of a launcher by its calls, in a table by their numbers
+-- the open children of a launcher according to its calls, in a table by number
 abbrev pub IsOpenTable : List Bool → List Call → Type 0
 IsOpenTable table calls = (k : ℕ) → get_or table k false ≡ is_open (life_of k calls)
 

@@ -24,13 +24,13 @@ use Rattle.ados_launch.specs.Agreement.{Agrees}
 use Rattle.ados_launch.specs.Asked.{AreAsked, AreNoStarts, IsAsked, ListsOf}
 use Rattle.ados_launch.specs.Taken.{Taken, Given, events_in, outs_in}
 
--- the next event of a shell: an answer where it waits for one, and else a turn
+-- the next event of a shell: an answer if it waits for one, otherwise a turn
 abbrev pub IsNextOf : ℕ → Option Request → Event → Type 0
 IsNextOf k None (Turn j) = j ≡ k
 IsNextOf k (Some request) (Answer j reply) = j ≡ k
 IsNextOf k pending event = ⊥
 
--- A shell took its next event, which gave this; the launcher was asked for the answer, where it is one, and for nothing else.
+-- A shell took its next event, which gave this; the launcher was asked for the answer, if it is one, and for nothing else.
 pub record TakesNext (k : ℕ) (w : WorldState) (is_full : Bool) (calls : List Call) (now : WorldState) (calls_now : List Call) (out : Out) : Type 0 where
   pub event : Event
   pub listed : List Call
@@ -46,7 +46,7 @@ abbrev pub IsUntaken : Bool → WorldState → ℕ → Option Reply → List Cal
 IsUntaken is_full w k None others = others ≡ []
 IsUntaken is_full w k (Some reply) others = ListsOf is_full (pending_of w k) reply others
 
--- the world and the launcher's list agree, once an answer that was not taken is given
+-- the world and the launcher's list agree, once an untaken answer is given
 abbrev pub AgreesOnceTaken : WorldState → ℕ → Option Reply → List Call → Type 0
 AgreesOnceTaken w k None calls = Agrees w calls
 AgreesOnceTaken w k (Some reply) calls = (out : Out) → IsAnswer (Answer k reply) (Ok out) (step_of w (Answer k reply)) →
@@ -57,9 +57,9 @@ abbrev pub AgreesBehind : WorldState → Option ℕ → Option Reply → List Ca
 AgreesBehind w None answer calls = Agrees w calls
 AgreesBehind w (Some k) answer calls = AgreesOnceTaken w k answer calls
 
--- In a world a shell was opened for a line that has no fault, with the lowest number that was free. It took these events, with these answers among
--- them; no other event was taken, and the last world stands behind them. The launcher was asked for each of the answers once, in their
--- order, and then for these others.
+-- In a world a shell was opened for a line that has no fault, with the lowest number that was free. It took these events,
+-- with these answers among them; no other event was taken, and the result is the last world. The launcher was asked for each
+-- of the answers once, in their order, and then for these others.
 pub record RunsLine (k : ℕ) (w : WorldState) (line : Text) (is_full : Bool) (taken : List Taken) (answers : List Reply) (last : WorldState) (calls calls_now others : List Call) : Type 0 where
   pub no_fault : opening_fault w line ≡ None
   pub free : free_number w.shells ≡ Some k
@@ -81,7 +81,7 @@ pub record EndedAs (w : WorldState) (line : Text) (turns : ℕ) (is_full : Bool)
   pub meaning : IsEnd k w (whole turns k w (line ∷ []) answers) left codes last bytes
   pub written : now ≡ before ++ bytes
 
--- The shell runs on behind so many events: by what the line means one more is due.
+-- The shell runs on after this many events: by the meaning of the line one more is due.
 pub record RunsOn (w : WorldState) (line : Text) (turns : ℕ) (is_full : Bool) (last : WorldState) (before now : Bytes) (calls calls_now : List Call) (k : ℕ) : Type 0 where
   pub taken : List Taken
   pub answers : List Reply
@@ -100,12 +100,12 @@ abbrev pub StopsAtEvent : Bool → ℕ → SystemFault → WorldState → ℕ �
 StopsAtEvent is_full turns fault w k others =
     (is_some (shell_at w k) ≡ true) × (fault.events < turns) × IsUntaken is_full w k fault.answer others × (fault.unwritten ≡ [])
 
--- There was no room for what the last event printed, which is handed back; nothing was asked for a further one.
+-- There was no room for what the last event printed, which is handed back; nothing was asked for another one.
 abbrev pub StopsAtBytes : ℕ → SystemFault → List Taken → List Call → Type 0
 StopsAtBytes turns fault taken others =
     (fault.events ≤ turns) × AreOfLast fault.unwritten taken × (0 < length fault.unwritten) × (fault.answer ≡ None) × (others ≡ [])
 
--- The shell stands after the events that the fault counts, and may have ended with the last of them.
+-- The shell has taken the events that the fault counts, and may have ended with the last of them.
 pub record StandsAt (w : WorldState) (line : Text) (turns : ℕ) (is_full : Bool) (fault : SystemFault) (last : WorldState) (before now : Bytes) (calls calls_now : List Call) (k : ℕ) : Type 0 where
   pub taken : List Taken
   pub answers : List Reply
@@ -125,18 +125,18 @@ abbrev pub IfRunning : {E : Type 0} → Result SystemEnd E → (ℕ → Type 0) 
 IfRunning (Ok (StillRunning k)) P = P k
 IfRunning result P = Unit {0}
 
--- what holds where no shell was opened
+-- what holds if no shell was opened
 abbrev pub IfUnopened : Result SystemEnd SystemFault → Type 0 → Type 0
 IfUnopened (Ok NoShell) P = P
 IfUnopened (Ok (Ended codes)) P = Unit {0}
 IfUnopened (Ok (StillRunning k)) P = Unit {0}
 IfUnopened (Err fault) P = IfNone fault.shell P
 
--- the fault then says nothing of events, answers and bytes
+-- the fault then gives no events, answers or bytes
 abbrev pub IsUnopened : SystemFault → Type 0
 IsUnopened fault = (fault.events ≡ 0) × (fault.answer ≡ None) × (fault.unwritten ≡ [])
 
--- why none was opened, by the first fault of an opening and the lowest free number
+-- why none was opened, given the first fault of an opening and the lowest free number
 abbrev pub UnopenedFor : Result SystemEnd SystemFault → Option Refusal → Option ℕ → Type 0
 UnopenedFor (Ok done) fault free = (fault ≡ None) × (free ≡ None)
 UnopenedFor (Err why) fault free = Refuses (Err why.refusal) fault free × IsUnopened why

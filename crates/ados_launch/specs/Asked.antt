@@ -1,4 +1,4 @@
--- Asked: what a launcher is asked for, of the events that a run takes.
+-- Asked: what a launcher is asked for, given the events that a run takes.
 use Rattle.std.specs.Prelude.{◌≡◌, ◌≢◌, ◌⊎◌, ℕ, List, [], ◌∷◌, ◌++◌, Bool, true, false, Option, Some, None, Result, Ok, MatchResult}
 use Rattle.ados_machine.specs.declared.answers.Answer.{Answer as Reply}
 use Rattle.ados_machine.specs.declared.answers.Answer.TheVariants.{Memory}
@@ -28,21 +28,21 @@ call_of (Start job) reply = Starts job reply
 call_of (Read n) reply = Reads n reply
 call_of (Wait n) reply = Waits n reply
 
--- The request may be made of a child that is so far: a start where there is none, a read while its output is read, and a wait
--- of one that is open, also before the end of its reads.
+-- The request may be made of a child in this state: a start if there is none, a read while its output is read, and a wait
+-- for one that is open, even before the end of its reads.
 abbrev pub MayAsk : Request → ChildState → Type 0
 MayAsk (Start job) state = state ≡ Closed
 MayAsk (Read n) state = state ≡ Reading
 MayAsk (Wait n) state = state ≢ Closed
 
--- What a launcher lists of it: the call, with an answer of its kind. A start that finds no room is answered Memory, and is
--- not listed; the launcher is full then, and stays so.
+-- What a launcher lists for it: the call, with an answer of its kind. A start that finds no room is answered Memory, and is
+-- not listed; the launcher is full then, and stays full.
 abbrev pub Lists : Bool → Request → Reply → List Call → Type 0
 Lists is_full request reply listed =
     (fits request reply ≡ true)
     × ((listed ≡ call_of request reply ∷ []) ⊎ ((listed ≡ []) × (is_start request ≡ true) × (reply ≡ Memory) × (is_full ≡ true)))
 
--- where there is a request
+-- the same, if there is a request
 abbrev pub ListsOf : Bool → Option Request → Reply → List Call → Type 0
 ListsOf is_full None reply listed = ⊥
 ListsOf is_full (Some request) reply listed = Lists is_full request reply listed
@@ -63,7 +63,7 @@ AreNoStarts (Starts job reply ∷ calls) = ⊥
 AreNoStarts (Reads n reply ∷ calls) = AreNoStarts calls
 AreNoStarts (Waits n reply ∷ calls) = AreNoStarts calls
 
--- an answer that was taken without a call is one of a launcher that is full: it lists no start behind it
+-- an answer that was taken without a call is an answer of a full launcher: it lists no start after it
 abbrev pub HasCall : Taken → List Call → List Call → Type 0
 HasCall (Given (Answer k reply) out) [] later = AreNoStarts later
 HasCall (Given (Answer k reply) out) (call ∷ calls) later = Unit {0}
@@ -73,13 +73,13 @@ HasCall (Given (Turn k) out) now later = Unit {0}
 HasCall (Given (Break k kind) out) now later = Unit {0}
 HasCall LongLine now later = Unit {0}
 
--- for all of it, one after another, each once
+-- the same for everything that was taken, in order, each once
 abbrev pub AreAsked : Bool → WorldState → List Taken → List Call → Type 0
 AreAsked is_full w [] listed = listed ≡ []
 AreAsked is_full w (item ∷ taken) listed =
     (now later : List Call) × (listed ≡ now ++ later) × IsAsked is_full w item now × HasCall item now later × AreAsked is_full (world_behind w item) taken later
 
--- A request was made to a launcher, which answered so: what it listed.
+-- A request was made to a launcher, which gave this answer: what it listed.
 pub record Asks (request : Request) (reply : Reply) (was_full is_full : Bool) (calls calls_now : List Call) : Type 0 where
   pub listed : List Call
   pub calls_are : calls_now ≡ calls ++ listed
@@ -87,7 +87,7 @@ pub record Asks (request : Request) (reply : Reply) (was_full is_full : Bool) (c
   pub when_full : is_full ≡ true → AreNoStarts listed
   pub stays : was_full ≡ true → is_full ≡ true
 
--- What shell k waits for was asked of a launcher, and this is what its answer led to.
+-- A launcher was asked for what shell k waits for, and this is the result of its answer.
 pub record Answers (w : WorldState) (k : ℕ) (was_full is_full : Bool) (calls calls_now : List Call) (outcome : Reply → Type 0) : Type 0 where
   pub request : Request
   pub pending_is : pending_of w k ≡ Some request
@@ -95,7 +95,7 @@ pub record Answers (w : WorldState) (k : ℕ) (was_full is_full : Bool) (calls c
   pub asks : Asks request reply was_full is_full calls calls_now
   pub led_to : outcome reply
 
--- the world took the answer for shell k, which gave this; or it stays as it was
+-- the world took the answer for shell k, which gave this; or the world is unchanged
 abbrev pub TakesAnswer : {X E : Type 0} → WorldState → ℕ → Result X E → WorldState → Out → Reply → Type 0
 TakesAnswer w k result now out reply = MatchResult result
     (λ _. IsAnswer (Answer k reply) (Ok out) (step_of w (Answer k reply)) × (now ≡ world_after w (Ok out) (step_of w (Answer k reply))))

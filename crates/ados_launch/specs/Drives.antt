@@ -1,4 +1,4 @@
--- Drives: how a world comes out of a drive, by its result.
+-- Drives: the state of a world after a drive, by its result.
 use Rattle.std.specs.Prelude.{◌≡◌, ◌⊎◌, ℕ, ◌+◌, ◌<◌, ◌≤◌, List, [], ◌++◌, length, take, true, Some, Result, Ok, Err}
 use Rattle.std.specs.Io.KnownBytes.{Appends}
 use Rattle.ados_machine.specs.declared.events.BreakAt.{BreakAt}
@@ -20,13 +20,13 @@ use Rattle.ados_launch.specs.Taken.{Taken, written_for, left_after}
 abbrev pub ReadsWell : Moment → Moment → Type 0
 ReadsWell before now = now.read_faults ≡ before.read_faults
 
--- no write failed, and none took nothing
+-- no write failed, and none stalled (wrote nothing)
 abbrev pub WritesWell : Moment → Moment → Type 0
 WritesWell before now = (now.write_faults ≡ before.write_faults) × (now.stalls ≡ before.stalls)
 
 -- The end of a run.
 pub record ComesToEnd (turns : ℕ) (breaks : List BreakAt) (before now : Moment) (end : End) : Type 0 where
-  -- as many were taken as it says, all of their bytes were written, and nothing else was asked of the launcher
+  -- as many were taken as the result says, all of their bytes were written, and nothing else was asked of the launcher
   pub stands : Stands before now breaks end.events []
   pub within : end.events ≤ turns
   pub no_shell : is_over now.world ≡ true
@@ -34,21 +34,21 @@ pub record ComesToEnd (turns : ℕ) (breaks : List BreakAt) (before now : Moment
   pub result2 : end.result2 ≡ (codes_at now.world 1).result2
   pub reads_well : ReadsWell before now
   pub writes_well : WritesWell before now
-  -- the reader came to its end, unless shell 1 or its input had ended before
+  -- the reader reached its end, unless shell 1 or its input had ended before
   pub reader_ended : Known before.left (λ bytes. takes_input before.world ≡ true → now.left ≡ Some [])
 
--- As many as were allowed were taken, all of their bytes were written, and something is due.
+-- As many as allowed were taken, all of their bytes were written, and something is due.
 pub record StopsAtTurns (turns : ℕ) (breaks : List BreakAt) (before now : Moment) : Type 0 where
   pub stands : Stands before now breaks turns []
   pub running : IsRunning now.world
-  -- for what is due nothing was read: what is left stands behind the lines that were taken, but for less than 4,096 bytes
-  -- that came with them
+  -- nothing was read for what is due: what is left follows the lines that were taken, except for fewer than 4,096 bytes
+  -- that were read with them
   pub unread : Known before.left (λ bytes. IsReadAhead (left_after bytes stands.taken) now.left)
   pub reads_well : ReadsWell before now
   pub writes_well : WritesWell before now
 
--- Less than were allowed were taken, all of their bytes were written, and something is due, for which there was no memory; one
--- call at most was made for it.
+-- Fewer than allowed were taken, all of their bytes were written, and something is due, for which there was no memory; at most
+-- one call was made for it.
 pub record StopsAtMemory (turns : ℕ) (breaks : List BreakAt) (before now : Moment) : Type 0 where
   pub n : ℕ
   pub few : n < turns
@@ -56,15 +56,15 @@ pub record StopsAtMemory (turns : ℕ) (breaks : List BreakAt) (before now : Mom
   pub stands : Stands before now breaks n dropped
   pub dropped_is : AreDropped now.world (next_behind breaks before.world stands.taken now.world) dropped
   pub running : IsRunning now.world
-  -- what is left stands behind the lines that were taken, or in or behind the line that is due, but for less than 4,096 bytes
-  -- that came with them
+  -- what is left follows the lines that were taken, or is in or after the line that is due, except for fewer than 4,096 bytes
+  -- that were read with them
   pub unread : Known before.left (λ bytes. ReadsNoFurther (next_behind breaks before.world stands.taken now.world) (left_after bytes stands.taken) now.left)
   pub reads_well : ReadsWell before now
   pub writes_well : WritesWell before now
 
--- Less than were allowed were taken, all of their bytes were written, and a line is due: its read failed, or it is too long to
--- be read. Then no read failed, and what is left stands behind its first 65,537 bytes, but for less than 4,096 bytes that came
--- with them.
+-- Fewer than allowed were taken, all of their bytes were written, and a line is due: its read failed, or it is too long to
+-- be read. In the second case no read failed, and what is left follows its first 65,537 bytes, except for fewer than 4,096
+-- bytes that were read with them.
 pub record StopsAtRead (turns : ℕ) (breaks : List BreakAt) (before now : Moment) : Type 0 where
   pub n : ℕ
   pub few : n < turns
@@ -74,17 +74,17 @@ pub record StopsAtRead (turns : ℕ) (breaks : List BreakAt) (before now : Momen
       ⊎ (ReadsWell before now × Known before.left (λ bytes. LeavesOverlong (left_after bytes stands.taken) now.left))
   pub writes_well : WritesWell before now
 
--- All bytes but some of the last one's were written, at whose write the writer failed or took nothing.
+-- All bytes were written except some of the last one's, at which a write failed or wrote nothing.
 pub record StopsAtWrite (turns : ℕ) (breaks : List BreakAt) (before now : Moment) : Type 0 where
   pub n : ℕ
   pub within : n ≤ turns
   pub stands : StandsCut before now breaks n
-  -- it alone failed, or took nothing
+  -- it alone failed, or wrote nothing
   pub cause : ((now.write_faults ≡ before.write_faults + 1) × (now.stalls ≡ before.stalls))
       ⊎ ((now.write_faults ≡ before.write_faults) × (now.stalls ≡ one_more before.stalls))
   pub reads_well : ReadsWell before now
 
--- what the schedule came to
+-- the result of the schedule
 abbrev pub ComesTo : ℕ → List BreakAt → Moment → Moment → Result End DriveFault → Type 0
 ComesTo turns breaks before now (Ok end) = ComesToEnd turns breaks before now end
 ComesTo turns breaks before now (Err Turns) = StopsAtTurns turns breaks before now
@@ -93,8 +93,8 @@ ComesTo turns breaks before now (Err Read) = StopsAtRead turns breaks before now
 ComesTo turns breaks before now (Err Write) = StopsAtWrite turns breaks before now
 
 -- What was taken, however it ended, is a session: a run of the machine, which accepted each event, in the order of the schedule.
--- The launcher listed what was asked for it, and behind that at most one call, for the answer that comes next and was not
--- taken. A front of its bytes was written.
+-- The launcher listed what was asked for it, and after that at most one call, for the answer that comes next and was not
+-- taken. A prefix of its bytes was written.
 pub record TakesSession (turns : ℕ) (breaks : List BreakAt) (before now : Moment) : Type 0 where
   pub taken : List Taken
   pub listed : List Call
@@ -112,9 +112,9 @@ pub record Drives (turns : ℕ) (breaks : List BreakAt) (before now : Moment) (r
   pub called : List Call
   -- At every end, whatever the reader, the writer and the launcher do, a session was taken.
   pub takes : TakesSession turns breaks before (record now { calls = called })
-  -- What the result says holds of it.
+  -- What the result says is true of the session.
   pub comes_to : ComesTo turns breaks before (record now { calls = called }) result
-  -- Then each child that was open was waited for once, by rising number, and nothing else was asked.
+  -- Then each open child was waited for once, in ascending order of number, and nothing else was asked.
   pub waits : WaitsForOpen called now.calls
   -- At every end no child is open, and each was waited for once: the calls for each number are a row of whole lives.
   pub over : AreOver now.calls

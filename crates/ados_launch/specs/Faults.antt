@@ -13,12 +13,12 @@ CountsFault before after result = MatchResult result (λ _. after ≡ before) (�
 abbrev pub one_more : ℕ → ℕ
 one_more count = min (count + 1) (2 ^ 64 - 1)
 
--- taking nothing of a buffer that is not empty adds one, any other answer keeps the count
+-- writing nothing of a buffer that is not empty adds one, any other answer keeps the count
 abbrev pub CountsStall : {E : Type 0} → ℕ → ℕ → Result ℕ E → ℕ → Type 0
 CountsStall before after result room =
     MatchResult result (λ n. after ≡ (if (n == 0) && nat_lt 0 room then one_more before else before)) (λ _. after ≡ before)
 
--- why a run stops where the next line was not taken
+-- why a run stops if the next line was not taken
 abbrev pub drive_fault : LineFault → DriveFault
 drive_fault Unread = Read
 drive_fault OutOfMemory = Memory

@@ -1,4 +1,4 @@
--- The laws of the machine, of sessions.
+-- The laws of the machine, applied to sessions.
 use Rattle.std.specs.Prelude.{◌≡◌, ◌⊎◌, ◌++◌, ℕ, List, [], Bool, true, Option, Some}
 use Rattle.ados_resident.specs.declared.hosts.HostEntry.{HostEntry}
 use Rattle.ados_machine.specs.declared.events.BreakAt.{BreakAt}
@@ -30,12 +30,12 @@ SessionsEndFramesOnce = (w : WorldState) (left : Option (List ℕ)) (breaks : Li
 abbrev pub NewPairsAgree : Type 0
 NewPairsAgree = (w : WorldState) (hosts : List HostEntry) (calls : List Call) → w ≡ fresh_world hosts → calls ≡ [] → Agrees w calls
 
--- the one is a front of the other
+-- the one is a prefix of the other
 abbrev pub IsFront : List Taken → List Taken → Type 0
 IsFront front taken = (rest : List Taken) × (taken ≡ front ++ rest)
 
--- Of two sessions from the same world, with the same bytes and breaks, and with the same list of calls, of which one may be
--- longer, what the one took is a front of what the other took. A launcher that is full lists no further start.
+-- Of two sessions from the same world, with the same bytes and breaks, and with the same list of calls except that one may be
+-- longer, what the one took is a prefix of what the other took. A launcher that is full lists no more starts.
 abbrev pub SessionsAreUnique : Type 0
 SessionsAreUnique = (w : WorldState) (bytes : List ℕ) (breaks : List BreakAt) (before before' : List Call) (is_full is_full' : Bool) (listed more : List Call) (taken taken' : List Taken) (last last' : WorldState) →
     Session w (Some bytes) breaks before is_full listed taken last → Session w (Some bytes) breaks before' is_full' (listed ++ more) taken' last' → (is_full ≡ true → AreNoStarts more) →

@@ -1,4 +1,4 @@
--- What leads from a world to another: events that it accepts, and shells that are opened for lines.
+-- How one world leads to another: by events that it accepts, and by shells that are opened for lines.
 use Rattle.std.specs.Prelude.{◌≡◌, ℕ, List, [], ◌∷◌, Option, Some, None, Result, Ok}
 use Rattle.ados_text.specs.Text.{Text}
 use Rattle.ados_machine.specs.declared.events.Event.{Event}
@@ -10,19 +10,19 @@ use Rattle.ados_machine.specs.Whole.{opened}
 use Rattle.ados_machine.specs.World.{WorldState}
 use Rattle.ados_world.specs.Opened.{opening_fault}
 
--- an event with what it gives, or a shell of this number that is opened for a line
+-- an event with its output, or a shell with this number that is opened for a line
 pub data Act : Type 0 where
   Takes : (event : Event) (out : Out) → Act
   Opens : (number : ℕ) (line : Text) → Act
 
--- one after another the machine accepts the events and opens the shells, and the last world stands behind them
-abbrev pub IsLed : WorldState → List Act → WorldState → Type 0
-IsLed w [] last = last ≡ w
-IsLed w (Takes event out ∷ acts) last =
-    IsAnswer event (Ok out) (step_of w event) × IsLed (world_after w (Ok out) (step_of w event)) acts last
-IsLed w (Opens k line ∷ acts) last =
-    (free_number w.shells ≡ Some k) × (opening_fault w line ≡ None) × IsLed (opened w k (line ∷ [])) acts last
+-- in order the machine accepts the events and opens the shells, and the result is the last world
+abbrev pub ActsLead : WorldState → List Act → WorldState → Type 0
+ActsLead w [] last = last ≡ w
+ActsLead w (Takes event out ∷ acts) last =
+    IsAnswer event (Ok out) (step_of w event) × ActsLead (world_after w (Ok out) (step_of w event)) acts last
+ActsLead w (Opens k line ∷ acts) last =
+    (free_number w.shells ≡ Some k) × (opening_fault w line ≡ None) × ActsLead (opened w k (line ∷ [])) acts last
 
 -- there are such acts
-abbrev pub LeadsTo : WorldState → WorldState → Type 0
-LeadsTo w last = (acts : List Act) × IsLed w acts last
+abbrev pub Reaches : WorldState → WorldState → Type 0
+Reaches w last = (acts : List Act) × ActsLead w acts last

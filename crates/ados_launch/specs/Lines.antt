@@ -11,37 +11,37 @@ abbrev pub line_of : List ℕ → List ℕ
 line_of [] = []
 line_of (byte ∷ bytes) = if is_newline byte then [] else byte ∷ line_of bytes
 
--- the bytes behind the first byte 10
+-- the bytes after the first byte 10
 abbrev pub rest_of : List ℕ → List ℕ
 rest_of [] = []
 rest_of (byte ∷ bytes) = if is_newline byte then bytes else rest_of bytes
 
--- a line of the input that has at most so many bytes is answered once, however long it is
+-- a line of the input that has at most this many bytes gets one answer, however long it is
 abbrev pub input_limit : ℕ
 input_limit = 65536
 
--- the kind of a line of this length
+-- the kind of a line with this length
 abbrev pub kind_of_length : ℕ → LineKind
 kind_of_length n = if nat_le n line_limit then Short else if nat_le n input_limit then Long else Overlong
 
--- what comes next from these bytes
+-- the kind of what comes next in these bytes
 abbrev pub kind_of : List ℕ → LineKind
 kind_of [] = End
 kind_of (byte ∷ bytes) = kind_of_length (length (line_of (byte ∷ bytes)))
 
--- what is left behind as many bytes of an overlong line as show that it is one
+-- what is left after the bytes that show that a line is overlong
 abbrev pub behind_overlong : List ℕ → List ℕ
 behind_overlong bytes = drop (input_limit + 1) bytes
 
--- what is still to be read: the bytes read ahead, and then what the reader has left
+-- what is still to be read: the bytes read ahead, and then what is left in the reader
 abbrev pub ahead : List ℕ → Option (List ℕ) → Option (List ℕ)
 ahead held left = prepend_known held left
 
--- what holds of the bytes, where they are known
+-- what holds of the bytes, if they are known
 abbrev pub Known : Option (List ℕ) → (List ℕ → Type 0) → Type 0
 Known known P = (bytes : List ℕ) → known ≡ Some bytes → P bytes
 
--- these bytes begin with an overlong line, and as many were taken as show it
+-- these bytes begin with an overlong line, and as many were taken as show that
 abbrev pub BeginsOverlong : List ℕ → Option (List ℕ) → Type 0
 BeginsOverlong bytes now = (kind_of bytes ≡ Overlong) × (now ≡ Some (behind_overlong bytes))
 
@@ -49,7 +49,7 @@ BeginsOverlong bytes now = (kind_of bytes ≡ Overlong) × (now ≡ Some (behind
 abbrev pub IsUnreadable : ℕ → ℕ → Option (List ℕ) → Option (List ℕ) → Type 0
 IsUnreadable before now left rest = (now ≡ before + 1) ⊎ ((now ≡ before) × Known left (λ bytes. BeginsOverlong bytes rest))
 
--- of these bytes the next line was taken: what comes, the line where it is short, and what is left
+-- the next line was taken from these bytes: its kind, the line if it is short, and what is left
 pub record TakesLine (bytes : List ℕ) (kind : LineKind) (kept : List ℕ) (now : Option (List ℕ)) : Type 0 where
   pub kind_is : kind ≡ kind_of bytes
   pub kept_is : kind ≡ Short → kept ≡ line_of bytes

@@ -1,12 +1,12 @@
--- What is taken from a reader for what comes next, where there is no memory for it.
+-- What is taken from a reader for what comes next, if there is no memory for it.
 use Rattle.std.specs.Prelude.{◌≡◌, ◌≢◌, ℕ, ◌+◌, ◌≤◌, List, drop, length, Option, Some}
 use Rattle.ados_launch.specs.Lines.{input_limit, line_of}
 use Rattle.ados_launch.specs.Schedule.{AtLine, Next}
 use Rattle.ados_launch.specs.Session.{IsReadAhead}
 
--- For what comes next no further was read than the line that is due. Of what was left to read so many bytes were taken: none,
--- unless it is a line; then at most that line and the byte 10 behind it, and no more than 65,537. Less than 4,096 bytes behind
--- them were read ahead.
+-- For what comes next nothing was read past the line that is due. Of what was left to read a number of bytes were taken: none
+-- if it is not a line; otherwise at most that line and the byte 10 after it, and no more than 65,537. Fewer than 4,096 bytes
+-- after them were read ahead.
 pub record ReadsNoFurther (next : Option Next) (left : List ℕ) (now : Option (List ℕ)) : Type 0 where
   pub count : ℕ
   pub none : next ≢ Some AtLine → count ≡ 0
@@ -14,7 +14,7 @@ pub record ReadsNoFurther (next : Option Next) (left : List ℕ) (now : Option (
   pub few : count ≤ input_limit + 1
   pub left_is : IsReadAhead (drop count left) now
 
--- Of these bytes so many were taken: nothing past the line with which they begin and the byte 10 behind it, and no more than
+-- Some of these bytes were taken: nothing past the line with which they begin and the byte 10 after it, and no more than
 -- show that a line is overlong.
 pub record TakesPart (bytes : List ℕ) (now : Option (List ℕ)) : Type 0 where
   pub count : ℕ
@@ -22,7 +22,7 @@ pub record TakesPart (bytes : List ℕ) (now : Option (List ℕ)) : Type 0 where
   pub few : count ≤ input_limit + 1
   pub now_is : now ≡ Some (drop count bytes)
 
--- Where this comes next, some of the bytes may have been taken for it, if it is a line.
+-- If this comes next, some of the bytes may have been taken for it, provided that it is a line.
 pub record TakesPartAt (next : Next) (bytes : List ℕ) (now : Option (List ℕ)) : Type 0 where
   pub part : TakesPart bytes now
   pub none : next ≢ AtLine → part.count ≡ 0

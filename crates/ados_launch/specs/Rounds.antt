@@ -1,6 +1,6 @@
--- The rounds in which events come, by their places. At place 0 a line is read as long as one is wanted. At places 1 to 20
+-- The rounds in which events come, by place. At place 0 lines are read for as long as one is wanted. At places 1 to 20
 -- the shells take their turns, at places 21 to 40 their starts are answered, and at places 41 to 60 their reads and waits, each
--- shell when its place comes. A shell that had an answer in a round is answered no second read or wait in it.
+-- shell when its place comes. A shell that had an answer in a round gets no second read or wait answered in it.
 use Rattle.std.specs.Prelude.{◌≡◌, ℕ, zero, suc, ◌+◌, ◌-◌, ◌≤◌, List, Option, Some, None, Bool, true, false, not, ◌&&◌, nat_lt, get_or, slice_set, if◌then◌else◌}
 use Rattle.std.proofs.Math.ListN.{replicate}
 use Rattle.std.specs.List.{find, range_with_len}
@@ -32,7 +32,7 @@ comes w place =
     (if nat_lt place 21 then is_ready w place else
     (if nat_lt place 41 then asks_start (pending_of w (place - 20)) else asks_further (pending_of w (place - 40))))
 
--- it is due, but for a read or a wait of a shell that had an answer in this round
+-- something is due at it: what may come there, except for a read or a wait of a shell that had an answer in this round
 abbrev pub is_due : WorldState → List Bool → ℕ → Bool
 is_due w answered place = comes w place && not (nat_lt 40 place && get_or answered (place - 40) false)
 
@@ -50,7 +50,7 @@ in_this_round round w = find (is_due w round.answered) (range_with_len round.pla
 abbrev pub in_next_round : WorldState → Option ℕ
 in_next_round w = find (is_due w none_answered) (range_with_len 0 61)
 
--- the place of the next event: between two events the world stays as it is
+-- the place of the next event: between two events the world does not change
 abbrev pub due : Round → WorldState → Option ℕ
 due round w = option_or (in_this_round round w) (in_next_round w)
 
@@ -62,22 +62,22 @@ answered_if (Some place) answered = answered
 abbrev pub answered_by : Round → WorldState → List Bool
 answered_by round w = answered_if (in_this_round round w) round.answered
 
--- the place from which a round goes on: lines are read as long as they are wanted
+-- the place from which a round goes on: lines are read for as long as they are wanted
 abbrev pub place_behind : ℕ → ℕ
 place_behind zero = 0
 place_behind (suc k) = suc k + 1
 
--- the shell has had an answer whose place this is
+-- the shell to which this place belongs has had an answer
 abbrev pub marked : ℕ → List Bool → List Bool
 marked place answered =
     if nat_lt place 21 then answered else
     (if nat_lt place 41 then slice_set answered (place - 20) true else slice_set answered (place - 40) true)
 
--- where the round stands behind what came at a place
+-- the round after what came at a place
 abbrev pub round_behind : Round → WorldState → ℕ → Round
 round_behind round w place = record { place = place_behind place; answered = marked place (answered_by round w) }
 
--- where it stands behind what was found to be due, in this round or as the first of another
+-- the round after what was found to be due, in this round or as the first of another
 abbrev pub passed_round : Round → Due → Round
 passed_round round found = record { place = place_behind found.place; answered = marked found.place (if found.begins then none_answered else round.answered) }
 

@@ -1,4 +1,4 @@
--- The order in which events come: the breaks of a list, each before the event whose number it names, and else what is due in
+-- The order in which events come: the breaks of a list, each before the event whose number it names, otherwise what is due in
 -- the rounds.
 use Rattle.std.specs.Prelude.{◌≡◌, ℕ, ◌+◌, ◌-◌, ◌<◌, List, [], ◌∷◌, drop, Option, Some, None, option_map, is_some, Bool, true, not, ◌&&◌, nat_le, nat_lt, if◌then◌else◌}
 use Rattle.std.specs.List.{prefix_len}
@@ -14,7 +14,7 @@ use Rattle.ados_launch.specs.declared.schedule.Next.TheVariants.{Break as BreakF
 use Rattle.ados_launch.specs.Rounds.{comes, due, first_round, passed_round, round_behind}
 use Rattle.ados_launch.specs.Taken.{Taken, Given, LongLine, world_behind}
 
--- Where a schedule stands: the round; the breaks of its list that were neither given nor passed over; and how many events and
+-- The state of a schedule: the round; the breaks of its list that were neither given nor passed over; and how many events and
 -- long lines were taken.
 pub record Standing : Type 0 where
   pub round : Round
@@ -47,7 +47,7 @@ place_of (AtTurn shell) = shell
 place_of (AtStart shell) = shell + 20
 place_of (AtFurther shell) = shell + 40
 
--- a break whose shell is not there is passed over before the event of its number, for good
+-- a break whose shell does not run is passed over before the event with its number, for good
 abbrev pub is_passed : ℕ → WorldState → BreakAt → Bool
 is_passed number w at = nat_le at.event number && not (is_some (shell_at w at.shell))
 
@@ -55,7 +55,7 @@ is_passed number w at = nat_le at.event number && not (is_some (shell_at w at.sh
 abbrev pub breaks_left : Standing → WorldState → List BreakAt
 breaks_left s w = drop (prefix_len (is_passed (s.taken + 1) w) s.breaks) s.breaks
 
--- the first of these breaks, where it comes before the event of this number
+-- the first of these breaks, if it comes before the event with this number
 abbrev pub first_before : ℕ → List BreakAt → Option BreakAt
 first_before number [] = None
 first_before number (at ∷ breaks) = if nat_le at.event number then Some at else None
@@ -65,15 +65,15 @@ abbrev pub next_by : Option BreakAt → ℕ → Next
 next_by None place = next_at place
 next_by (Some at) place = AtBreak at.shell at.kind
 
--- what comes next: where nothing is due no break comes either
+-- what comes next: if nothing is due no break comes either
 abbrev pub next_in : Standing → WorldState → Option Next
 next_in s w = option_map (next_by (first_before (s.taken + 1) (breaks_left s w))) (due s.round w)
 
--- the place of what comes next, where it is no break
+-- the place of what comes next, if it is not a break
 abbrev pub place_due : Standing → WorldState → Option ℕ
 place_due s w = if is_some (first_before (s.taken + 1) (breaks_left s w)) then None else due s.round w
 
--- where the schedule stands behind what came: a break leaves the round as it is
+-- the schedule after what came: a break leaves the round unchanged
 abbrev pub behind_place : Standing → WorldState → ℕ → Standing
 behind_place s w place = record { round = round_behind s.round w place; breaks = breaks_left s w; taken = s.taken + 1 }
 
@@ -84,7 +84,7 @@ standing_behind s w (AtTurn shell) = behind_place s w (place_of (AtTurn shell))
 standing_behind s w (AtStart shell) = behind_place s w (place_of (AtStart shell))
 standing_behind s w (AtFurther shell) = behind_place s w (place_of (AtFurther shell))
 
--- what was found to come next, and where the schedule stands behind it once the breaks before it were passed over
+-- what was found to come next, and the schedule after it once the breaks before it were passed over
 abbrev pub next_as : found.Next → Next
 next_as (BreakFound at) = AtBreak at.shell at.kind
 next_as (DueFound due_at) = next_at due_at.place
@@ -103,7 +103,7 @@ abbrev pub IsInRound : found.Next → Type 0
 IsInRound (BreakFound at) = Unit {0}
 IsInRound (DueFound due_at) = due_at.place < 61
 
--- what an event is in a schedule
+-- what an event is to a schedule
 abbrev pub next_of_event : Event → Next
 next_of_event (Typed line) = AtLine
 next_of_event EndOfInput = AtLine
@@ -111,22 +111,22 @@ next_of_event (Turn k) = AtTurn k
 next_of_event (Answer k reply) = if answers_start reply then AtStart k else AtFurther k
 next_of_event (Break k kind) = AtBreak k kind
 
--- what was taken is this: long lines are read where lines are
+-- what a thing that was taken is to a schedule: long lines are read at the place of lines
 abbrev pub next_of : Taken → Next
 next_of (Given event out) = next_of_event event
 next_of LongLine = AtLine
 
--- from here on, in this world, each was the next that came
+-- from here on, in this world, each was the next to come
 abbrev pub InOrder : Standing → WorldState → List Taken → Type 0
 InOrder s w [] = Unit {0}
 InOrder s w (item ∷ taken) = (next_in s w ≡ Some (next_of item)) × InOrder (standing_behind s w (next_of item)) (world_behind w item) taken
 
--- where the schedule stands behind all of it
+-- the schedule after all of it
 abbrev pub standing_after : Standing → WorldState → List Taken → Standing
 standing_after s w [] = s
 standing_after s w (item ∷ taken) = standing_after (standing_behind s w (next_of item)) (world_behind w item) taken
 
--- what comes next behind what was taken from a world
+-- what comes next after what was taken from a world
 abbrev pub next_behind : List BreakAt → WorldState → List Taken → WorldState → Option Next
 next_behind breaks w taken now = next_in (standing_after (first_standing breaks) w taken) now
 

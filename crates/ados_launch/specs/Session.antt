@@ -16,8 +16,8 @@ use Rattle.ados_launch.specs.Taken.{Taken, events_in, outs_in, bytes_of, written
 use Rattle.ados_launch.specs.Asked.{IsAsked, AreAsked, AreNoStarts, call_of}
 use Rattle.ados_launch.specs.Schedule.{InOrder, Next, first_standing, next_of, next_of_event}
 
--- What stands at a moment of a drive: the world; what the reader has left, and how many of its reads have failed; what the
--- writer holds, how many of its writes have failed, and how many took nothing; and the launcher's calls, and whether it is full.
+-- The state at a moment of a drive: the world; what the reader has left, and how many of its reads have failed; what the
+-- writer holds, how many of its writes have failed, and how many wrote nothing; and the launcher's calls, and whether it is full.
 pub record Moment : Type 0 where
   pub world : WorldState
   pub left : Option (List ℕ)
@@ -28,7 +28,7 @@ pub record Moment : Type 0 where
   pub calls : List Call
   pub is_full : Bool
 
--- what stands at the moment at which a world, a reader, a writer and a launcher are so, by what can be told of the three
+-- the state at the moment at which a world, a reader, a writer and a launcher are as given, by what is known of the last three
 abbrev pub moment_of : {S K L : Type 0} → (S → Option (List ℕ)) → (S → ℕ) → (K → Option (List ℕ)) → (K → ℕ) → (K → ℕ) → (L → List Call) → (L → Bool)
     → WorldState → S → K → L → Moment
 moment_of left read_faults contents write_faults stalls calls is_full world reader writer launcher = record {
@@ -43,14 +43,14 @@ moment_of left read_faults contents write_faults stalls calls is_full world read
 }
 
 -- Before each thing that was taken the world and the launcher's list agree. So a child is waited for before the end of its reads
--- just where the world has broken it.
+-- exactly if the world has broken it.
 abbrev pub AgreesAlong : (is_full : Bool) (w : WorldState) (calls : List Call) (taken : List Taken) (listed : List Call) → AreAsked is_full w taken listed → Type 0
 AgreesAlong is_full w calls [] listed asked = Agrees w calls
 AgreesAlong is_full w calls (item ∷ taken) listed asked =
     Agrees w calls × AgreesAlong is_full (world_behind w item) (calls ++ asked.0) taken asked.1 asked.5
 
--- From a world, with a reader that had this left, these breaks, and a launcher that had these calls, is full in the end or not
--- and then listed those, this was taken, and the last world stands behind it.
+-- From a world, with a reader that had this left, these breaks, and a launcher that had these calls, is or is not full in the end
+-- and then listed those, this was taken, and the result is the last world.
 pub record Session (w : WorldState) (left : Option (List ℕ)) (breaks : List BreakAt) (calls : List Call) (is_full : Bool) (listed : List Call) (taken : List Taken) (last : WorldState) : Type 0 where
   -- the events are a run of the machine, which accepted each
   pub run : Runs w (events_in taken) (outs_in taken) last
@@ -60,10 +60,10 @@ pub record Session (w : WorldState) (left : Option (List ℕ)) (breaks : List Br
   pub lines : Known left (λ bytes. AreRead bytes taken)
   -- the answers are the launcher's: each request was called once, and in their order
   pub asked : AreAsked is_full w taken listed
-  -- each was called where the launcher's list and the world agreed
+  -- each was called when the launcher's list and the world agreed
   pub agreed : AgreesAlong is_full w calls taken listed asked
 
--- The call is one for the answer that comes next: for what its shell asks for, with an answer of that kind.
+-- The call is for the answer that comes next: for what its shell asks for, with an answer of that kind.
 pub record IsForNext (w : WorldState) (next : Option Next) (call : Call) : Type 0 where
   pub number : ℕ
   pub request : Request
@@ -79,7 +79,7 @@ AreDropped w next [] = Unit {0}
 AreDropped w next (call ∷ []) = IsForNext w next call
 AreDropped w next (call ∷ other ∷ calls) = ⊥
 
--- From one moment to another so many events and long lines were taken, and all of their bytes were written. The launcher listed
+-- Between two moments this many events and long lines were taken, and all of their bytes were written. The launcher listed
 -- what was asked for them, and then these other calls.
 pub record Stands (before now : Moment) (breaks : List BreakAt) (n : ℕ) (others : List Call) : Type 0 where
   pub taken : List Taken
@@ -89,7 +89,7 @@ pub record Stands (before now : Moment) (breaks : List BreakAt) (n : ℕ) (other
   pub written : Appends before.contents now.contents (written_for taken)
   pub calls_are : now.calls ≡ before.calls ++ (listed ++ others)
 
--- So many were taken, and of the last one's bytes some were not written.
+-- This many were taken, and some bytes of the last one were not written.
 pub record StandsCut (before now : Moment) (breaks : List BreakAt) (n : ℕ) : Type 0 where
   pub taken : List Taken
   pub item : Taken
@@ -101,16 +101,16 @@ pub record StandsCut (before now : Moment) (breaks : List BreakAt) (n : ℕ) : T
   pub written : Appends before.contents now.contents (written_for taken ++ take length_written (bytes_of item))
   pub calls_are : now.calls ≡ before.calls ++ listed
 
--- of what is left to read, less than 4,096 bytes were taken from the reader
+-- of what is left to read, fewer than 4,096 bytes were taken from the reader
 abbrev pub IsReadAhead : List ℕ → Option (List ℕ) → Type 0
 IsReadAhead left now = (held : List ℕ) × (length held < 4096) × (ahead held now ≡ Some left)
 
--- of what was left to read, the bytes by which a line shows that it is overlong were taken from the reader, and less than 4,096
--- behind them
+-- of what was left to read, the bytes that show that a line is overlong were taken from the reader, and fewer than 4,096
+-- after them
 abbrev pub LeavesOverlong : List ℕ → Option (List ℕ) → Type 0
 LeavesOverlong left now = (kind_of left ≡ Overlong) × IsReadAhead (behind_overlong left) now
 
--- One thing was taken: the world behind it, what is left to read, and the bytes that are to be written.
+-- One thing was taken: the world after it, what is left to read, and the bytes that are to be written.
 pub record Takes (w : WorldState) (left : Option (List ℕ)) (item : Taken) (now : WorldState) (rest : Option (List ℕ)) (bytes : List ℕ) : Type 0 where
   pub accepted : IsAccepted w item
   pub world_is : now ≡ world_behind w item

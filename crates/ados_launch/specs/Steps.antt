@@ -8,13 +8,13 @@ use Rattle.ados_launch.specs.Lines.{ahead}
 use Rattle.ados_launch.specs.Schedule.{Next, AtBreak, AtLine, AtTurn, AtStart, AtFurther, Standing, next_in, standing_behind}
 use Rattle.ados_launch.specs.Session.{Moment, TakesAt}
 
--- where a session stands: its schedule, the bytes that were read ahead, and which children are open, by their numbers
+-- the state of a session: its schedule, the bytes that were read ahead, and which children are open, by number
 pub record SessionState : Type 0 where
   pub standing : Standing
   pub held : List ℕ
   pub children : List Bool
 
--- what the event asks of the launcher that comes next
+-- what the next event asks of the launcher
 abbrev pub request_at : WorldState → Option Next → Option Request
 request_at w (Some (AtStart k)) = pending_of w k
 request_at w (Some (AtFurther k)) = pending_of w k

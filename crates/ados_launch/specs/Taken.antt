@@ -11,7 +11,7 @@ use Rattle.ados_machine.specs.Runs.{IsAnswer, world_after}
 use Rattle.ados_launch.specs.declared.lines.LineKind.TheVariants.{End, Short, Long}
 use Rattle.ados_launch.specs.Lines.{line_of, rest_of, kind_of}
 
--- an event that the machine accepts, with what it gives, or a long line, which is no event
+-- an event that the machine accepts, with what it gives, or a long line, which is not an event
 pub data Taken : Type 0 where
   Given : (event : Event) (out : Out) → Taken
   LongLine : Taken
@@ -28,7 +28,7 @@ outs_in [] = []
 outs_in (Given event out ∷ taken) = Ok out ∷ outs_in taken
 outs_in (LongLine ∷ taken) = outs_in taken
 
--- what is written in place of a line that the machine does not take
+-- what is written instead of a line that the machine does not take
 abbrev pub long_line_text : List ℕ
 long_line_text = codes "Line too long" ++ 10 ∷ []
 
@@ -37,22 +37,22 @@ abbrev pub bytes_of : Taken → List ℕ
 bytes_of (Given event out) = out.bytes
 bytes_of LongLine = long_line_text
 
--- what is written for all that was taken, one behind the other
+-- what is written for all that was taken, in order
 abbrev pub written_for : List Taken → List ℕ
 written_for [] = []
 written_for (item ∷ taken) = bytes_of item ++ written_for taken
 
--- the world behind it; a long line leaves it as it is
+-- the world after it; a long line leaves it unchanged
 abbrev pub world_behind : WorldState → Taken → WorldState
 world_behind w (Given event out) = world_after w (Ok out) (step_of w event)
 world_behind w LongLine = w
 
--- the machine accepts it, and gives just this
+-- the machine accepts it, and gives exactly this
 abbrev pub IsAccepted : WorldState → Taken → Type 0
 IsAccepted w (Given event out) = IsAnswer event (Ok out) (step_of w event)
 IsAccepted w LongLine = Unit {0}
 
--- the bytes of a line as text: `?` for each past ASCII
+-- the bytes of a line as text: `?` for each byte above ASCII
 abbrev pub text_of : List ℕ → List ℕ
 text_of line = map to_ascii line
 
@@ -75,7 +75,7 @@ IsOfReader (Given (Answer k reply) out) = ⊥
 IsOfReader (Given (Break k kind) out) = ⊥
 IsOfReader LongLine = Unit {0}
 
--- what is left of the bytes behind it
+-- what is left of the bytes after it
 abbrev pub left_behind : List ℕ → Taken → List ℕ
 left_behind bytes (Given (Typed line) out) = rest_of bytes
 left_behind bytes (Given EndOfInput out) = rest_of bytes
@@ -89,7 +89,7 @@ abbrev pub AreRead : List ℕ → List Taken → Type 0
 AreRead bytes [] = Unit {0}
 AreRead bytes (item ∷ taken) = IsNext bytes item × AreRead (left_behind bytes item) taken
 
--- what is left of the bytes behind all of it
+-- what is left of the bytes after all of it
 abbrev pub left_after : List ℕ → List Taken → List ℕ
 left_after bytes [] = bytes
 left_after bytes (item ∷ taken) = left_after (left_behind bytes item) taken

@@ -16,7 +16,7 @@ use ados_world::{Answer, Codes, Draft, Event, Refusal, World};
 use std::alloc::{AllocError, Global};
 use thiserror::Error;
 
-/// What a line came to that ran alone.
+/// The result of a line that ran alone.
 #[derive(Clone, Copy, PartialEq, Eq, Debug)]
 pub enum SystemEnd {
     /// Its shell ended, with these last codes.
@@ -27,20 +27,20 @@ pub enum SystemEnd {
     StillRunning(u8),
 }
 
-/// Why a line that ran alone did not go on, and where it stands.
+/// Why a line that ran alone did not go on, and how far it got.
 #[derive(Debug, Drop, Error)]
 #[error("{refusal}")]
 pub struct SystemFault {
-    /// Why: one of those for which no shell is opened, or want of memory.
+    /// Why: one of the refusals for which no shell is opened, or out of memory.
     pub refusal: Refusal,
-    /// The shell that was opened, if one was: it stands after the events that were taken, and may have ended with the last
-    /// of them; its codes tell then how.
+    /// The shell that was opened, if one was: it has taken the events that are counted, and may have ended with the last
+    /// of them; its codes then give the result.
     pub shell: Option<u8>,
     /// How many events were taken.
     pub events: u64,
     /// An answer that the launcher gave and the shell did not take. A step with it goes on.
     pub answer: Option<Answer>,
-    /// What the last event printed, where there was no room for it.
+    /// What the last event printed, if there was no room for it.
     pub unwritten: Octets,
 }
 
@@ -64,19 +64,19 @@ impl SystemFault {
 /// Runs a line alone, in a shell that is opened for it: the shell takes turns and the launcher's answers until it ends, and
 /// what it prints is appended to `out`. The other shells take no turn meanwhile.
 ///
-/// `Ended` gives the last codes of the shell, and `NoShell` comes where all numbers from 2 to 20 are taken. At most `turns`
-/// events, turns and answers, are given; where the shell still runs after the last of them the call answers `StillRunning`.
+/// `Ended` gives the last codes of the shell, and `NoShell` is the result if all numbers from 2 to 20 are taken. At most `turns`
+/// events, turns and answers, are given; if the shell still runs after the last of them the result is `StillRunning`.
 /// The launcher is asked for no answer that is not one of these events.
 ///
-/// A line for which no shell is opened is refused with `Over` where no shell is left, then `LineTooLong` for more than 512
-/// bytes, then `NoMemory`; the world, the launcher and `out` are then as they were. Where memory is wanting later the fault
-/// says where the shell stands, and holds what would else be lost: the answer to the event for which there was no memory,
-/// or the last event's bytes, for which `out` had no room: there are some then. A shell that still runs goes on by steps of the world: that
-/// answer, and then turns and further answers. A child that is open stays open at each return.
+/// A line for which no shell is opened is refused with `Over` if no shell is left, then `LineTooLong` for more than 512
+/// bytes, then `NoMemory`; the world, the launcher and `out` are then unchanged. If an allocation fails later the fault
+/// gives the shell, and holds what would otherwise be lost: the answer to the event for which there was no memory,
+/// or the last event's bytes, if `out` had no room for them: there are some then. A shell that still runs goes on by steps
+/// of the world: that answer, and then turns and more answers. A child that is open stays open at each return.
 ///
 /// Before the call every child that the launcher lists and that is not open was read to its end and waited for once. The open
 /// ones are those that the world reads, no end of whose reads is listed, and those that it waits for, whose end is listed. A
-/// new world and a new launcher have none. It is so again after a call, once an answer that was not taken is given.
+/// new world and a new launcher have none. The same holds after a call, once an answer that was not taken is given.
 pub fn system<L: Launcher>(
     alloc: Global,
     world: &mut World,
@@ -87,19 +87,19 @@ pub fn system<L: Launcher>(
 ) -> Result<SystemEnd, SystemFault>
     requires agrees { Agrees world.old (L.calls launcher.old) }
 
-    // The direct meaning of the line, with the launcher's answers, comes to its end after as many events, with these codes,
+    // The direct meaning of the line, with the launcher's answers, reaches its end after as many events, with these codes,
     // this world and these bytes.
     ensures ended { IfEnded result (EndedAs world.old line.now turns (L.is_full launcher.new) world.new
         out.old.items out.new.items (L.calls launcher.old) (L.calls launcher.new)) }
     // All events were taken, and by the direct meaning one more is due.
     ensures running { IfRunning result (RunsOn world.old line.now turns (L.is_full launcher.new) world.new
         out.old.items out.new.items (L.calls launcher.old) (L.calls launcher.new)) }
-    // No shell was opened: for want of a number, or by a fault.
+    // No shell was opened: no number was free, or there was a fault.
     ensures unopened { IfUnopened result
         (UnopenedFor result (opening_fault world.old line.now) (free_number world.old.shells)) }
     ensures untouched { IfUnopened result
         ((world.new ≡ world.old) × (launcher.new ≡ launcher.old) × (out.new ≡ out.old)) }
-    // At a later fault the shell stands after the events that it took, and nothing is lost.
+    // At a later fault the shell has taken these events, and nothing is lost.
     ensures fault { IfErr result (λ fault. IfSome fault.shell
         (StandsAt world.old line.now turns (L.is_full launcher.new) fault world.new
         out.old.items out.new.items (L.calls launcher.old) (L.calls launcher.new))) }
@@ -143,7 +143,7 @@ pub fn system<L: Launcher>(
     }
 }
 
-// Appends what an event printed. Where it printed nothing no room is needed.
+// Appends what an event printed. If it printed nothing no room is needed.
 fn append(out: &mut Vec<u8>, printed: &[u8]) -> Result<(), AllocError>
     ensures grown { OnOk result (out.new.items ≡ out.old.items ++ printed.now) }
     ensures kept { OnErr result (out.new.items ≡ out.old.items) }
@@ -155,10 +155,10 @@ fn append(out: &mut Vec<u8>, printed: &[u8]) -> Result<(), AllocError>
     out.extend_from_slice(printed)
 }
 
-// Gives a background shell that runs its next event: the launcher's answer to what it waits for, or else a turn. The draft
-// holds then what the event gives.
+// Gives a background shell that runs its next event: the launcher's answer to what it waits for, otherwise a turn. The draft
+// then holds what the event gives.
 //
-// An error is want of memory: the world is as it was, and the answer, if one was asked for, comes with the error.
+// An error means out of memory: the world is unchanged, and the answer, if one was asked for, comes with the error.
 fn next_event<L: Launcher>(
     world: &mut World,
     launcher: &mut L,

@@ -14,7 +14,7 @@ use ados_launcher::Launcher;
 use ados_machine::{Answer, Request};
 use ados_world::{Draft, Event, World};
 
-// Has the launcher answer what the shell of a number asks for. The table of open children follows.
+// Lets a launcher answer what the shell with this number asks for, and updates the table of open children.
 pub fn answer<L: Launcher>(
     world: &mut World,
     launcher: &mut L,
@@ -53,7 +53,7 @@ pub fn ask<L: Launcher>(launcher: &mut L, request: &Request) -> Answer
     }
 }
 
-// The child is open behind this answer to what was asked for it.
+// The child is open after this answer to the request.
 fn runs_behind(request: &Request, answer: &Answer) -> bool
     ensures { result ≡ is_open (life_in (behind_answer false request.now answer.now)) }
 {

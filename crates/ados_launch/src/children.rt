@@ -10,12 +10,12 @@ use crate::rounds::asks_further;
 use ados_launcher::Launcher;
 use ados_world::World;
 
-// Which children are open, by what the shells of a world ask for.
+// Which children are open, according to what the shells of a world ask for.
 pub fn open_children(world: &World) -> [bool; 21]
     ensures { (k : ℕ) → get_or result k false ≡ asks_further (pending_of world.now k) }
 {
     let mut children = [false; 21];
-    // By this it is known that no shell has a number past 20.
+    // This shows that no shell has a number above 20.
     let _running = world.shells();
     for number in 0..21u8 {
         children[usize::from(number)] = asks_further(world, number);
@@ -23,7 +23,7 @@ pub fn open_children(world: &World) -> [bool; 21]
     children
 }
 
-// Waits once for each open child, by rising number.
+// Waits once for each open child, in ascending order of number.
 pub fn wait_for_open<L: Launcher>(launcher: &mut L, children: &[bool; 21])
     requires children { IsOpenTable children.now (L.calls launcher.old) }
     requires whole { AreWhole (L.calls launcher.old) }

@@ -9,24 +9,24 @@ use std::io::{Read, Write};
 
 /// A reader whose failed reads are counted.
 pub trait Source {
-    /// The bytes that reads will give from here on, where they are known.
+    /// The bytes that reads will give from here on, if they are known.
     ghost left: { Self → Option (List ℕ) };
 
     /// How many reads have failed.
     ghost faults: { Self → ℕ };
 
-    /// Sees the world that is about to take a line.
+    /// Shows the reader the world that is about to take a line.
     ///
-    /// A reader of a program's own may choose by it what its reads give next, where that is not known; others do nothing.
+    /// A program's own reader may choose by it what its reads give next, if that is not known; other readers do nothing.
     fn heed(&mut self, _world: &World)
         ensures left { left self.new ≡ left self.old }
         ensures faults { faults self.new ≡ faults self.old }
     {}
 
-    /// Reads some bytes into the front of the buffer, and gives their number.
+    /// Reads some bytes into the beginning of the buffer, and gives their number.
     ///
-    /// 0 comes only at the end, or where the buffer is empty. An `Err` loses no byte and adds one to
-    /// the faults; one whose kind is `Interrupted` is an `Err` as any other.
+    /// 0 is returned only at the end, or if the buffer is empty. An `Err` loses no byte and adds one to
+    /// the faults; one whose kind is `Interrupted` is an `Err` like any other.
     fn read(&mut self, buffer: &mut [u8]) -> io::Result<usize>
         requires { faults self.old < 2 ^ 64 - 1 }
         ensures bound { ReadsAtMost result buffer.new }
@@ -34,21 +34,21 @@ pub trait Source {
         ensures counted { CountsFault (faults self.old) (faults self.new) result };
 }
 
-/// A writer whose failed writes are counted, and those that took nothing.
+/// A writer whose failed writes are counted, and those that wrote nothing.
 pub trait Sink {
-    /// The bytes that it holds, where they are known.
+    /// The bytes that it holds, if they are known.
     ghost contents: { Self → Option (List ℕ) };
 
     /// How many writes have failed.
     ghost faults: { Self → ℕ };
 
-    /// How many writes took nothing of a buffer that was not empty; the count stops at 2^64 - 1.
+    /// How many writes wrote nothing of a buffer that was not empty; the count stops at 2^64 - 1.
     ghost stalls: { Self → ℕ };
 
-    /// Writes a front of the buffer, and gives its length.
+    /// Writes a prefix of the buffer, and gives its length.
     ///
     /// An `Err` writes nothing and adds one to the faults; one whose kind is `Interrupted` is an
-    /// `Err` as any other. `Ok(0)` of a buffer that is not empty adds one to the stalls.
+    /// `Err` like any other. `Ok(0)` of a buffer that is not empty adds one to the stalls.
     fn write(&mut self, buffer: &[u8]) -> io::Result<usize>
         requires { faults self.old < 2 ^ 64 - 1 }
         ensures bound { WritesAtMost result buffer.now }
@@ -57,7 +57,7 @@ pub trait Sink {
         ensures stalled { CountsStall (stalls self.old) (stalls self.new) result (length buffer.now) };
 }
 
-/// One of std's readers or writers, with its faults counted.
+/// A reader or writer of std, with its faults counted.
 #[derive(Drop)]
 pub struct Counted<T> {
     inner: T,

@@ -30,14 +30,14 @@ pub struct End {
 }
 
 impl End {
-    /// The end of a run that leaves this world, after so many events.
+    /// The end of a run that leaves this world, after this many events.
     pub fn of(world: &World, events: u64) -> End
         ensures code { result.code ≡ (codes_at world.now 1).code }
         ensures result2 { result.result2 ≡ (codes_at world.now 1).result2 }
         ensures events { result.events ≡ events }
         ensures shells { length world.now.shells ≡ 20 }
     {
-        // By this it is known how many numbers a world has.
+        // This shows how many numbers a world has.
         let _running = world.shells();
         let codes = world.codes(1);
         End {
@@ -48,12 +48,12 @@ impl End {
     }
 }
 
-/// How far a world is driven, and the breaks that come meanwhile.
+/// How far a world is driven, and the breaks that are given meanwhile.
 #[derive(Clone, Copy)]
 pub struct Drive<'a> {
     /// Where the memory for lines and outputs comes from.
     pub alloc: Global,
-    /// So many events and long lines are taken at most.
+    /// The most events and long lines that are taken.
     pub turns: u64,
     /// The breaks, in the order in which they come.
     pub breaks: &'a [BreakAt],
@@ -64,30 +64,30 @@ impl Drive<'_> {
     /// prints.
     ///
     /// A round: while the world wants a line one is read, up to byte 10 or the end, and typed, with `?`
-    /// in place of each byte past ASCII; at the reader's end the input ends. Then each shell from 1 to
+    /// in place of each byte above ASCII; at the reader's end the input ends. Then each shell from 1 to
     /// 20 takes a turn if it is ready when its place comes. Then each start that a shell asks for is
-    /// answered, by rising number, and then each read and each wait of a shell that had no answer in this
-    /// round. What an event prints is written before the next. In place of a line of 513 to 65,536
-    /// bytes, which is no event but counts as one, `Line too long` and a newline are written. The run
-    /// ends where no shell is left.
+    /// answered, in ascending order of number, and then each read and each wait of a shell that had no answer in this
+    /// round. What an event prints is written before the next event. Instead of a line of 513 to 65,536
+    /// bytes, which is not an event but counts as one, `Line too long` and a newline are written. The run
+    /// ends if no shell is left.
     ///
-    /// Before each event or long line, and before its line is read or the launcher called for it, breaks are given: as long as the
-    /// first that is left names the number of the next event, counted from 1, or an earlier one. A break is an event too, and
-    /// counts as one; one of a shell that is not there is passed over and does not count. The list is taken as it stands; what is
-    /// left of it at the end is not given.
+    /// Before each event or long line, and before its line is read or the launcher called for it, breaks are given: for as
+    /// long as the first that is left names the number of the next event, counted from 1, or an earlier one. A break is an event
+    /// too, and counts as one; one of a shell that does not run is passed over and does not count. The list is taken in its own
+    /// order; what is left of it at the end is not given.
     ///
-    /// At most `turns` events and long lines are taken, and for a further one no line is read and the
-    /// launcher is not called. At a fault the world stands behind the events that it accepted, and what they print is
-    /// written, but for what a `Write` kept back; a line that was read and not accepted is lost, and so is an answer. Then
-    /// each child that is open is waited for once, by rising number. `Read`: the reader failed, or a line has more than
-    /// 65,536 bytes. `Write`: the writer failed, or took nothing. `Turns`: a further event was due. `Memory`: there was
-    /// none for the next line or event; no byte past that line is taken. A read or write that is interrupted has failed, and is
-    /// not tried again.
+    /// At most `turns` events and long lines are taken, and for another one no line is read and the
+    /// launcher is not called. At a fault the world has taken the events that it accepted, and what they print is written,
+    /// except for what a `Write` fault kept back; a line that was read and not accepted is lost, and so is an answer. Then each
+    /// child that is open is waited for once, in ascending order of number. `Read`: the reader failed, or a line has more than
+    /// 65,536 bytes. `Write`: the writer failed, or wrote nothing. `Turns`: another event was due. `Memory`: there was no
+    /// memory for the next line or event; no byte past that line is taken. A read or write that is interrupted has failed, and
+    /// is not tried again.
     ///
     /// Before the call the reader's faults and the writer's are below 2^64 - 1, and the launcher's list agrees with the world as
     /// for [`system`](crate::system); a new world and a new launcher do. After a fault the pair is not driven again: the world
     /// still asks for children that are gone. Bytes are read ahead of the
-    /// lines, as many as come with a read: those read and not taken are lost at the return, also to a second call with the
+    /// lines, as many as come with a read: those read and not taken are lost at the return, even to a second call with the
     /// same reader.
     pub fn run<L: Launcher, S: Source, K: Sink>(
         &self,
@@ -104,7 +104,7 @@ impl Drive<'_> {
             (moment_of S.left S.faults K.contents K.faults K.stalls L.calls L.is_full world.old reader.old writer.old launcher.old)
             (moment_of S.left S.faults K.contents K.faults K.stalls L.calls L.is_full world.new reader.new writer.new launcher.new)
             result }
-        // Where no event is allowed the reader and the writer stay as they are.
+        // If no event is allowed the reader and the writer are unchanged.
         ensures untouched { self.now.turns ≡ 0 → (reader.new ≡ reader.old) × (writer.new ≡ writer.old) }
     {
         let mut children = open_children(world);

@@ -25,7 +25,7 @@ use std::alloc::Global;
 
 const LONG_LINE_TEXT: &[u8] = b"Line too long\n";
 
-// Takes what comes next: a break, or what is due. The draft holds then what is to be written.
+// Takes what comes next: a break, or what is due. The draft then holds what is to be written.
 pub fn take_next<L: Launcher, S: Source>(
     alloc: Global,
     world: &mut World,
@@ -78,8 +78,8 @@ pub fn take_next<L: Launcher, S: Source>(
     }
 }
 
-// Takes the event that is due at this place: the next line, the turn of a shell, or a launcher's answer. The draft holds
-// then what is to be written.
+// Takes the event that is due at this place: the next line, the turn of a shell, or a launcher's answer. The draft then
+// holds what is to be written.
 fn take_event<L: Launcher, S: Source>(
     alloc: Global,
     world: &mut World,
@@ -136,7 +136,7 @@ pub fn shell_answered(place: u8) -> u8
 }
 
 // Shows the reader the world, reads a line and gives it to the world, or the end of the input. A long one is not given, and a
-// text is written in its place.
+// text is written instead.
 fn take_line<S: Source>(
     alloc: Global,
     world: &mut World,
@@ -177,7 +177,7 @@ fn take_line<S: Source>(
     }
 }
 
-// Gives the world an event that it accepts, unless memory is wanting.
+// Gives the world an event that it accepts, unless an allocation fails.
 pub fn give(world: &mut World, event: &Event, draft: &mut Draft) -> Result<(), DriveFault>
     requires { is_accepted (step_of world.old event.now) ≡ true }
     ensures answer { OnOk result (IsAnswer event.now (Ok (out_of draft.new)) (step_of world.old event.now)) }
@@ -187,12 +187,12 @@ pub fn give(world: &mut World, event: &Event, draft: &mut Draft) -> Result<(), D
 {
     match world.step_into(event, draft) {
         Ok(()) => Ok(()),
-        // An event that is accepted is refused for want of memory alone.
+        // An event that is accepted is refused only if an allocation fails.
         Err(_) => Err(DriveFault::Memory),
     }
 }
 
-// Gives the world a line that it accepts, unless memory is wanting.
+// Gives the world a line that it accepts, unless an allocation fails.
 fn give_line(world: &mut World, line: Text) -> Result<(), DriveFault>
     requires { is_accepted (step_of world.old (Event.Typed line)) ≡ true }
     ensures answer { OnOk result (IsAnswer (Event.Typed line) (Ok (giving [] None [])) (step_of world.old (Event.Typed line))) }

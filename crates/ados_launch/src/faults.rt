@@ -15,10 +15,10 @@ pub enum DriveFault {
     /// The reader failed, or gave a line of more than 65,536 bytes.
     #[error("read fault")]
     Read,
-    /// The writer failed, or took nothing.
+    /// The writer failed, or wrote nothing.
     #[error("write fault")]
     Write,
-    /// As many events as were allowed were taken, and a further one is due.
+    /// As many events as allowed were taken, and another one is due.
     #[error("turn limit reached")]
     Turns,
     /// There was no memory for the next line or event.

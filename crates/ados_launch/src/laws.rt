@@ -5,8 +5,8 @@ use ados_machine::{
     each_end_is_reported_once, each_frame_ends_once, scripts_end_where_the_rule_says,
 };
 
-/// In every session, however it ends, of a world in which no script runs on behind a failure: in every shell each
-/// script ends early exactly at its first command whose code reaches the limit behind it. The reports of every
+/// In every session, however it ends, of a world in which no script runs on after a failure: in every shell each
+/// script ends early exactly at its first command whose code reaches the limit after it. The reports of every
 /// session are the ends of its scripts, one each and in order. Each frame ends once, by the name under which it began.
 pub fn sessions_obey_the_laws()
     ensures limits { SessionsObeyLimits }
@@ -24,7 +24,7 @@ pub fn new_pairs_agree()
 {}
 
 /// The world, the reader's bytes, the breaks and the launcher's list of calls determine what is taken: of two sessions that begin
-/// alike, where one's list may go on behind the other's, what the one took is a front of what the other took.
+/// alike, if the one's list may go on after the other's, what the one took is a prefix of what the other took.
 pub fn sessions_are_unique()
     ensures { SessionsAreUnique }
 {}

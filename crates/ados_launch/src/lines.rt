@@ -16,7 +16,7 @@ const INPUT_LINE_BYTES: u32 = 65_536;
 /// What comes next from an input.
 #[derive(Clone, Copy, PartialEq, Eq, Debug)]
 pub enum LineKind {
-    /// No line: no byte is left.
+    /// No line: no bytes are left.
     End,
     /// A line of at most 512 bytes.
     Short,
@@ -49,9 +49,9 @@ impl From<AllocError> for LineFault {
 ///
 /// A last line without byte 10 counts if it is not empty. `line` then holds a short line; of any
 /// other it holds at most the first 512 bytes. Of an overlong line 65,537 bytes are taken. The source
-/// is read only where a byte of the line, or its end, was not read ahead.
+/// is read only if a byte of the line, or its end, was not read ahead.
 ///
-/// `Read`: a read failed. `NoMemory`: no memory to hold the line. After both the bytes taken so far
+/// `Read`: a read failed. `NoMemory`: no memory to hold the line. After either the bytes taken so far
 /// are lost, which are bytes of this line.
 pub fn next_line<S: Source>(
     held: &mut ReadAhead,
@@ -91,7 +91,7 @@ pub fn next_line<S: Source>(
     Ok(LineKind::Overlong)
 }
 
-// Takes a short line that was read ahead whole, and the byte 10 behind it; where there is none nothing
+// Takes a short line that was read ahead whole, and the byte 10 after it; if there is no such line nothing
 // is taken.
 fn take_held(held: &mut ReadAhead, line: &mut Vec<u8>) -> Result<bool, AllocError>
     requires { line.old.items ≡ [] }

@@ -11,7 +11,7 @@ const BUFFER_BYTES: usize = 4096;
 
 /// The bytes that were read from a source and not yet taken.
 ///
-/// They are lost when it is let go: what comes next from the source is what stands behind them.
+/// They are lost when it is dropped: what comes next from the source is what follows them.
 #[derive(Drop)]
 pub struct ReadAhead {
     buffer: [u8; BUFFER_BYTES],
@@ -39,9 +39,9 @@ impl ReadAhead {
         }
     }
 
-    /// Takes the next byte: of those read ahead, or of the source where there is none.
+    /// Takes the next byte: of those read ahead, otherwise of the source.
     ///
-    /// `None` comes at the source's end. An `Err` is a failed read.
+    /// `None` is returned at the source's end. An `Err` is a failed read.
     pub fn next<S: Source>(&mut self, source: &mut S) -> io::Result<Option<u8>>
         requires { S.faults source.old < 2 ^ 64 - 1 }
         ensures byte { IfOk result (λ next. IfSome next (λ byte.
@@ -67,7 +67,7 @@ impl ReadAhead {
         &self.buffer[self.from..self.to]
     }
 
-    /// Takes so many of the bytes that were read ahead.
+    /// Takes this many of the bytes that were read ahead.
     pub fn skip(&mut self, count: usize)
         requires { count ≤ length self.old }
         ensures rest { self.new ≡ drop count self.old }
@@ -87,7 +87,7 @@ impl ReadAhead {
         byte
     }
 
-    // Reads ahead, by one read, and gives the number of bytes; 0 comes only at the end.
+    // Reads ahead, by one read, and gives the number of bytes; it is 0 only at the end.
     fn refill<S: Source>(&mut self, source: &mut S) -> io::Result<usize>
         requires faults { S.faults source.old < 2 ^ 64 - 1 }
         requires empty { self.old ≡ [] }

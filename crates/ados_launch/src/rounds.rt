@@ -23,7 +23,7 @@ use ados_world::World;
 // The places of a round: 0 for the lines, and three for each shell: its turns, its starts, its reads and waits.
 const PLACES: u8 = 61;
 
-/// Where a round stands.
+/// The state of a round.
 #[derive(Clone, Copy)]
 pub struct Round {
     /// The place from which it goes on.
@@ -52,7 +52,7 @@ impl Round {
         }
     }
 
-    // What is due next: at the first place of this round at which something may come, or else of the next round, in which no
+    // What is due next: at the first place of this round at which something may come, otherwise of the next round, in which no
     // shell had an answer yet. To ask for it changes nothing.
     pub fn next(&self, world: &World) -> Option<Due>
         requires { self.now.place ≤ 61 }
@@ -68,7 +68,7 @@ impl Round {
         }
     }
 
-    // The round goes on behind what was due.
+    // The round goes on after what was due.
     pub fn pass(&mut self, found: Due)
         requires { found.place < 61 }
         ensures { self.new ≡ passed_round self.old found }
@@ -88,7 +88,7 @@ impl Round {
         (self.place..PLACES).find(|place| self.is_due(world, *place))
     }
 
-    // Something may come at this place, and it is no read or wait of a shell that had an answer in this round.
+    // Something may come at this place, and it is not a read or wait of a shell that had an answer in this round.
     fn is_due(&self, world: &World, place: u8) -> bool
         ensures { result ≡ is_due world.now self.now.answered place }
     {
@@ -104,7 +104,7 @@ impl Round {
             .unwrap_or(false)
     }
 
-    // The shell whose start, read or wait has this place had an answer in this round.
+    // The shell whose start, read or wait is at this place had an answer in this round.
     fn mark(&mut self, place: u8)
         requires { place < 61 }
         ensures { self.new ≡ record self.old { answered = marked place self.old.answered } }
@@ -166,7 +166,7 @@ pub fn asks_further(world: &World, number: u8) -> bool
     )
 }
 
-// The place behind an event: lines are read as long as they are wanted.
+// The place after an event: lines are read for as long as they are wanted.
 fn behind(place: u8) -> u8
     requires { place < 61 }
     ensures { result ≡ place_behind place }

@@ -30,7 +30,7 @@ pub enum Next {
     Due(Due),
 }
 
-/// Where a schedule stands.
+/// The state of a schedule.
 #[derive(Drop)]
 pub struct Schedule<'a> {
     round: Round,
@@ -60,8 +60,8 @@ impl<'a> Schedule<'a> {
         }
     }
 
-    // What comes next, if anything does: a break that comes before what is due, or that. Breaks before it whose shells are not
-    // there are passed over.
+    // What comes next, if anything does: a break that comes before what is due, or what is due. Breaks before it whose shells do
+    // not run are passed over.
     pub fn next(&mut self, world: &World) -> Option<Next>
         requires round { self.old.round.place ≤ 61 }
         requires count { self.old.taken < 2 ^ 64 - 1 }
@@ -79,7 +79,7 @@ impl<'a> Schedule<'a> {
         }
     }
 
-    // The schedule goes on behind what came.
+    // The schedule goes on after what came.
     pub fn pass(&mut self, next: Next)
         requires place { IsInRound next }
         requires count { self.old.taken < 2 ^ 64 - 1 }
@@ -92,7 +92,7 @@ impl<'a> Schedule<'a> {
         self.taken += 1;
     }
 
-    // The place that is due, where no break comes before it.
+    // The place that is due, if no break comes before it.
     pub fn place(&self, world: &World) -> Option<u8>
         requires round { self.now.round.place ≤ 61 }
         requires count { self.now.taken < 2 ^ 64 - 1 }
@@ -123,7 +123,7 @@ impl<'a> Schedule<'a> {
         self.round.next(world).is_none()
     }
 
-    // Passes over the breaks that come before the next event and whose shells are not there.
+    // Passes over the breaks that come before the next event and whose shells do not run.
     fn pass_over(&mut self, world: &World)
         requires { self.old.taken < 2 ^ 64 - 1 }
         ensures { self.new ≡ record self.old { breaks = breaks_left self.old world.now } }
@@ -132,7 +132,7 @@ impl<'a> Schedule<'a> {
         self.breaks = &self.breaks[count..];
     }
 
-    // The first of the breaks, where it comes before the next event.
+    // The first of the breaks, if it comes before the next event.
     fn first_before(&self) -> Option<BreakAt>
         requires { self.now.taken < 2 ^ 64 - 1 }
         ensures { result ≡ first_before (self.now.taken + 1) self.now.breaks }

@@ -3,7 +3,7 @@ ghost use Rattle.std.specs.Prelude.{◌≡◌, ◌⊎◌, ◌<◌, ◌^◌, ◌-
 ghost use Rattle.std.specs.Option.{option_copied};
 ghost use Rattle.ados_machine.specs.World.{codes_at, pending_of};
 ghost use Rattle.ados_launch.specs.Agreement.{Agrees, AreOver, AreWhole, IsOpenTable, WaitsForOpen};
-ghost use Rattle.ados_launch.specs.Leads.{LeadsTo};
+ghost use Rattle.ados_launch.specs.Leads.{Reaches};
 ghost use Rattle.ados_launch.specs.Rounds.{asks_further, due};
 ghost use Rattle.ados_launch.specs.Schedule.{first_standing, next_in};
 ghost use Rattle.ados_launch.specs.Steps.{TakesOne, request_at};
@@ -33,7 +33,7 @@ pub struct Session<'a> {
     held: ReadAhead,
     line: Vec<u8>,
     draft: Draft,
-    // the open children by their numbers
+    // The open children by their numbers.
     children: [bool; 21],
 }
 
@@ -49,7 +49,7 @@ impl<'a> Model for Session<'a> {
 }
 
 impl<'a> Session<'a> {
-    /// A session of this world begins, with these breaks.
+    /// A session with this world begins, with these breaks.
     pub fn new(alloc: Global, world: &World, breaks: &'a [BreakAt]) -> Session<'a>
         ensures standing { result.standing ≡ first_standing breaks.now }
         ensures held { result.held ≡ [] }
@@ -65,7 +65,7 @@ impl<'a> Session<'a> {
         }
     }
 
-    /// What the event asks of the launcher that comes next; `None` where it asks nothing, or nothing comes.
+    /// What the next event asks of the launcher; `None` if it asks nothing, or nothing comes.
     #[tactic(auto, using(crate::proofs::Requests::request_none, crate::proofs::Requests::request_low, crate::proofs::Requests::request_high))]
     pub fn request<'w>(&self, world: &'w World) -> Option<&'w Request>
         requires count { self.now.standing.taken < 2 ^ 64 - 1 }
@@ -79,9 +79,9 @@ impl<'a> Session<'a> {
         }
     }
 
-    /// Takes the event that comes next, or a long line, and writes what it prints; `false` where nothing comes.
+    /// Takes the event that comes next, or a long line, and writes what it prints; `false` if nothing comes.
     ///
-    /// Each error of [`Drive::run`](crate::Drive::run) but `Turns`. No further event is taken after one.
+    /// Each error of [`Drive::run`](crate::Drive::run) except `Turns`. No more events are taken after one.
     pub fn take<L: Launcher, S: Source, K: Sink>(
         &mut self,
         world: &mut World,
@@ -101,7 +101,7 @@ impl<'a> Session<'a> {
         // Nothing comes.
         ensures over { IfOk result (λ is_taken. is_taken ≡ false → (next_in self.old.standing world.old ≡ None) × (world.new ≡ world.old)) }
         // However it ends, what happened is that the machine accepted an event, or nothing.
-        ensures leads { LeadsTo world.old world.new }
+        ensures leads { Reaches world.old world.new }
         ensures unmoved { (IsErrOf result DriveFault.Read ⊎ IsErrOf result DriveFault.Memory) → world.new ≡ world.old }
         ensures no_turns { IsErrOf result DriveFault.Turns → ⊥ }
         ensures stays { L.is_full launcher.old ≡ true → L.is_full launcher.new ≡ true }
@@ -132,7 +132,7 @@ impl<'a> Session<'a> {
         Ok(true)
     }
 
-    /// Looks which children are open, after lines ran alone in the world.
+    /// Looks up which children are open, after lines ran alone in the world.
     pub fn look(&mut self, world: &World)
         ensures children { (k : ℕ) → get_or self.new.children k false ≡ asks_further (pending_of world.now k) }
         ensures standing { self.new.standing ≡ self.old.standing }
@@ -141,14 +141,14 @@ impl<'a> Session<'a> {
         self.children = open_children(world);
     }
 
-    /// Nothing comes any more.
+    /// Nothing comes any longer.
     pub fn is_over(&self, world: &World) -> bool
         ensures { result ≡ is_none (due self.now.standing.round world.now) }
     {
         self.schedule.is_over(world)
     }
 
-    /// How the run ended that leaves this world.
+    /// How the run that leaves this world ended.
     pub fn end(&self, world: &World) -> End
         ensures code { result.code ≡ (codes_at world.now 1).code }
         ensures result2 { result.result2 ≡ (codes_at world.now 1).result2 }
@@ -158,7 +158,7 @@ impl<'a> Session<'a> {
         End::of(world, self.schedule.taken())
     }
 
-    /// Waits for each open child once, by rising number. No event is taken after it.
+    /// Waits for each open child once, in ascending order of number. No event is taken after it.
     pub fn abandon<L: Launcher>(&self, launcher: &mut L)
         requires children { IsOpenTable self.now.children (L.calls launcher.old) }
         requires whole { AreWhole (L.calls launcher.old) }

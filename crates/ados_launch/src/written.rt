@@ -5,14 +5,14 @@ ghost use Rattle.ados_launch.specs.Faults.{one_more};
 use crate::Sink;
 use thiserror::Error;
 
-/// The writer failed, or took nothing.
+/// The writer failed, or wrote nothing.
 #[derive(Clone, Copy, PartialEq, Eq, Debug, Error)]
 #[error("write fault")]
 pub struct WriteFault;
 
 /// Writes all of the bytes, by as many writes as that takes.
 ///
-/// `WriteFault`: a write failed or took nothing, and a front of the bytes was written.
+/// `WriteFault`: a write failed or wrote nothing, and a prefix of the bytes was written.
 pub fn write_whole<K: Sink>(writer: &mut K, bytes: &[u8]) -> Result<(), WriteFault>
     requires { K.faults writer.old < 2 ^ 64 - 1 }
     ensures whole { OnOk result (Appends (K.contents writer.old) (K.contents writer.new) bytes.now) }

@@ -16,7 +16,7 @@ opens-none table calls none empty k =
       | inr past ↦ get_or_past (replicate 21 false) k false (rw (length-replicate 21 false) past)
     ])
 
--- a place that is written, by whether a program stands there: one whose program was read, one behind a start, and one whose
+-- a place that is written, and whether there is a program at it: one whose program was read, one after a start, and one whose
 -- program was waited for
 pub table-read : {X : Type 0} (places : List (Option X)) (k : ℕ) (was now : Option X) → was ≡ get_or places k was → is_some now ≡ is_some was → map is_some (slice_set places k now) ≡ map is_some places
 table-read places k was now is held = map-set_same is_some places k now was (held ∙ ap is_some is)

@@ -9,15 +9,15 @@ use Rattle.ados_launcher.specs.Lives.{is_open, life_in, state_of}
 abbrev pub none_open : List Bool
 none_open = replicate 21 false
 
--- whether a child is open behind a start that was answered so
+-- whether a child is open after a start with this answer
 abbrev pub open_behind : Answer → Bool → Bool
 open_behind Started was_open = true
 open_behind answer was_open = was_open
 
--- the table behind such a start of child k
+-- the table after a start of child k with this answer
 abbrev pub table_behind : ℕ → Answer → List Bool → List Bool
 table_behind k answer table = slice_set table k (open_behind answer (get_or table k false))
 
--- a child is open by the table just where it is by the list of the calls
+-- a child is open by the table exactly if it is by the list of the calls
 abbrev pub AreOpen : List Bool → List Call → Type 0
 AreOpen table calls = (k : ℕ) → get_or table k false ≡ is_open (life_in (state_of k calls))

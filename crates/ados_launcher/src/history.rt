@@ -1,10 +1,10 @@
-//! A list that the contracts alone see: it takes no memory, and its calls do nothing as the program runs.
+//! A list that only the contracts see: it takes no memory, and its calls do nothing when the program runs.
 ghost use Rattle.std.specs.Prelude.{◌≡◌, List, [], ◌∷◌, ◌++◌};
 ghost use Rattle.std.specs.Borrow.{ftrue};
 
 use std::marker::{Model, PhantomData};
 
-/// What came so far, the newest last.
+/// The items so far, the newest last.
 #[derive(Drop)]
 pub struct History<T> {
     of: PhantomData<T>,
@@ -17,14 +17,14 @@ impl<T> Model for History<T> {
 }
 
 impl<T> History<T> {
-    /// Nothing came.
+    /// No items.
     pub fn new() -> History<T>
         ensures { result.items ≡ [] }
     {
         History { of: PhantomData }
     }
 
-    /// What came so far, and then this.
+    /// The items so far, and then this one.
     pub fn and(&self, item: &T) -> History<T>
         ensures { result.items ≡ self.now.items ++ item.now ∷ [] }
     {

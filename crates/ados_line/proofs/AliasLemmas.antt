@@ -1,4 +1,4 @@
--- where there is no alias, a line stays as it is
+-- without aliases a line stays as it is
 use Rattle.std.proofs.Common.{◌≡◌, List, ℕ, [], ◌∷◌, length, refl}
 use Rattle.ados_items.specs.declared.items.Item.{Item}
 use Rattle.ados_items.specs.declared.items.Item.TheVariants.{Word, Quoted, Equal, End, Unmatched}

@@ -15,7 +15,7 @@ pub comment_from-item : (n : ℕ) (line : List ℕ) (place : ℕ) (item : Item) 
     → comment_from (suc n) line place ≡ comment_behind (λ to. comment_from n line to) line item
 comment_from-item n line place item e = ap (λ it. comment_behind (λ to. comment_from n line to) line it) (sym e)
 
--- where no byte is `;`, the line has no comment
+-- if no byte is `;`, the line has no comment
 behind-end : (next : ℕ → ℕ) (line : List ℕ) (item : Item) → IsAtEnd (length line) item → ((to : ℕ) → length line ≤ next to)
     → length line ≤ comment_behind next line item
 behind-end next line (Word from to) end goes = goes to
@@ -32,7 +32,7 @@ from-end (suc n) line place none =
 pub whole : (line : List ℕ) → list_any (λ c. c == 59) line ≡ false → without_comment line ≡ line
 whole line none = take_all (comment_start line) line (from-end (length line + 1) line 0 none)
 
--- where the line's end is an item, nothing stands there but a comment
+-- if the line's end is an item, only a comment can follow it
 abbrev EndDrops : List ℕ → Item → Type 0
 EndDrops line (End at) = IsDropped (drop at line)
 EndDrops line (Word from to) = Unit {0}
@@ -55,7 +55,7 @@ first-drops line place (c ∷ cs) e =
 end-drops : (line : List ℕ) (place : ℕ) → EndDrops line (item_at true line place)
 end-drops line place = let place' = place + prefix_len is_blank (drop place line) in first-drops line place' (drop place' line) refl
 
--- the items from a place on stand up to another, where a comment begins or the line ends
+-- the items from a place on lead up to another, where a comment begins or the line ends
 abbrev StopsFrom : List ℕ → ℕ → ℕ → Type 0
 StopsFrom line at place = ((items : List Item) × StandUpTo at line place items) × IsDropped (drop at line)
 
@@ -80,7 +80,7 @@ from-stops (suc n) line place within enough =
     item-stops (λ to. comment_from n line to) line place (item_at true line place) refl (item-behind true line place) (end-drops line place)
     (λ to more end. from-stops n line to end (omega arith))
 
--- what is kept of a line ends at its comment
+-- the text kept of a line ends at its comment
 pub up-to-comment : (line : List ℕ) → IsUpToComment line (without_comment line)
 up-to-comment line =
     let stops = from-stops (length line + 1) line 0 (omega arith) (omega arith) in

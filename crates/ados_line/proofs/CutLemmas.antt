@@ -1,5 +1,5 @@
--- the cut of a line, one item after another: `step` is what is left of the whole before the item, and `read` what
--- was read behind it
+-- the cut of a line, one item after another: `step` is the rest of the whole cut before the item, and `read` what has
+-- been read after it
 use Rattle.std.proofs.Common.{ℕ, ◌≡◌, ◌∙◌, Result, Ok, Err, ap, sym, subst, inl, inr}
 use Rattle.ados_line.specs.declared.faults.LineFault.{LineFault}
 use Rattle.ados_line.specs.declared.cuts.Cut.{Cut}
@@ -7,7 +7,7 @@ use Rattle.ados_line.specs.declared.cuts.Reading.{Reading}
 use Rattle.ados_line.specs.declared.cuts.Reading.TheVariants.{Onward, Done}
 use Rattle.ados_line.specs.Steps.{Goes, IsCut}
 
--- it goes on
+-- the cut continues
 pub cut-onward : (next : ℕ → Cut → Result Cut LineFault) (step whole : Result Cut LineFault) (reading : Reading) (to : ℕ) (read : Cut)
     → Goes next (Ok reading) read step → reading ≡ Onward to → whole ≡ step → whole ≡ next to read
 cut-onward next step whole reading to read goes e h =
@@ -21,7 +21,7 @@ cut-done next step whole reading read goes e h =
     let P : Reading → Type 0 = λ r. Goes next (Ok r) read step in
     inr (sym (h ∙ subst P e goes))
 
--- a fault, or no memory
+-- a fault, or a failed allocation
 pub cut-fault : (next : ℕ → Cut → Result Cut LineFault) (step whole : Result Cut LineFault) (fault : LineFault) (read : Cut)
     → Goes next (Err fault) read step → whole ≡ step → IsCut (Err fault) whole
 cut-fault next step whole fault read goes h = elim goes [ inl e ↦ inl (ap Err e) | inr e ↦ inr (sym (h ∙ e)) ]

@@ -21,7 +21,7 @@ use Rattle.ados_line.specs.Pieces.{sign_bytes, written, EndsAt, is_signed, comma
 use Rattle.ados_line.proofs.PieceLemmas.{Parts, spans-between, spans-rest, none-left, kept-parts, blank-parts, run-blank-parts, rest-parts, name-parts}
 use Rattle.ados_line.proofs.CutSteps.{Comes, both-signed, lift, no-equal-at, sign-here, signed, stop, taken-named, unsigned, wide}
 
--- what is known of the line's cut from a later place on
+-- what is known about the line's cut from a later place on
 abbrev GoesOn : (ℕ → Cut → Result Cut LineFault) → List ℕ → Result Cut LineFault → ℕ → Type 0
 GoesOn next line answer place = (to : ℕ) (read : Cut) → place < to → to ≤ length line → next to read ≡ answer → Comes line to read answer
 
@@ -34,7 +34,7 @@ sign-long Input = refl
 sign-long Output = refl
 sign-long Append = refl
 
--- a redirection by the item behind its sign, which ends at a place
+-- a redirection whose name is the item after its sign, and ends at a place
 signed-parts : (next : ℕ → Cut → Result Cut LineFault) (line : List ℕ) (read : Cut) (answer : Result Cut LineFault) (from : ℕ) (sign : Sign) (item : Item) (to : ℕ)
     → sign_at line from ≡ Some sign → is_both line from ≡ false
     → item_at false line (from + width_of sign) ≡ item → EndsAt to item → from + width_of sign ≤ to → to ≤ length line → is_taken sign read ≡ false
@@ -76,7 +76,7 @@ redirected-parts next line read answer from sign found single inside goes =
     (λ taken e. stop line from read TooManyArguments answer inside (second sign found single (taken-named sign read ∙ taken)) e)
     (λ free e. named-parts next line read answer from sign _ found single inside refl (item-behind false line (from + width_of sign)) free goes e)
 
--- blanks in front of a word that is no piece of the arguments
+-- blanks before a word that is not a piece of the arguments
 blanks-lift : (line : List ℕ) (read : Cut) (answer : Result Cut LineFault) (place from to : ℕ) → item_at true line place ≡ Word from to
     → place ≤ from → from ≤ length line → is_run read.command ≡ false
     → Comes line from (with_blanks read.command (bytes_between line place from) read) answer → Comes line place read answer
@@ -112,7 +112,7 @@ word-parts next line read answer place from to same before long within other goe
     (stop line from _ NotImplemented answer (omega arith) (both two) e))
     (λ single e. sign-parts next line read answer place from to (sign_at line from) refl single same before long within other goes e)
 
--- any item where the command is not Run
+-- any item if the command is not Run
 item-parts : (next : ℕ → Cut → Result Cut LineFault) (line : List ℕ) (read : Cut) (answer : Result Cut LineFault) (place : ℕ) (item : Item) → item_at true line place ≡ item
     → place ≤ length line → StandsBehind place (length line) item → is_run read.command ≡ false → GoesOn next line answer place
     → cut_item next line place read item ≡ answer → Comes line place read answer
@@ -136,7 +136,7 @@ item-parts next line read answer place (End at) same inside stands other goes e 
 item-parts next line read answer place (Unmatched from) same inside stands other goes e =
     stop line place read UnmatchedQuotes answer inside (open_item from other same) e
 
--- behind Run: the rest of the line, where no sign begins
+-- after Run: the rest of the line, if no sign begins there
 abbrev rested : List ℕ → ℕ → Cut → Result Cut LineFault
 rested line place read = Ok (with_rest (drop place line) read)
 
@@ -147,7 +147,7 @@ rest-left line read answer place inside runs none e =
     let spans = spans-rest line place inside in
     subst P e (rest-parts line place (length line) (drop place line) read _ read.command refl runs spans (runs, spans.1, none) (none-left line (length line) _))
 
--- blanks in front of a sign behind Run
+-- blanks before a sign after Run
 run-lift : (line : List ℕ) (read : Cut) (answer : Result Cut LineFault) (place from to : ℕ) → item_at true line place ≡ Word from to
     → place ≤ from → from ≤ length line → is_run read.command ≡ true → (begins line 60 from || begins line 62 from) ≡ true
     → Comes line from read answer → Comes line place read answer
@@ -230,13 +230,13 @@ by-cut line (Ok read) h found e =
     subst P same (came-parts line read read.command refl (parts-from (length line + 1) line 0 nothing_read (Ok read) (omega arith) (omega arith) h))
 by-cut line (Err fault) h found e = cc
 
--- what a line came to, if it was cut
+-- what a line is read as, if it was cut
 pub of_pieces : (result : Result Expanded LineFault) (line : List ℕ) → Gives result (expanded_by (cut_of line)) → IfOk result (IsOfPieces line)
 of_pieces (Ok found) line (inl none) = cc
 of_pieces (Ok found) line (inr same) = by-cut line _ refl found (sym same)
 of_pieces (Err fault) line h = tt
 
--- the pieces in front of a place are so long
+-- the length of the pieces before a place
 ends-at : (line bytes : List ℕ) (end : ℕ) → bytes ++ drop end line ≡ line → end ≤ length line → end ≡ length bytes
 ends-at line bytes end e within =
     let whole = length-append bytes (drop end line) in

@@ -1,4 +1,4 @@
--- where a sign stands, and how the cut of a line comes to a fault
+-- where a sign is, and how the cut of a line reaches a fault
 use Rattle.std.proofs.Common.{ℕ, ◌+◌, ◌-◌, ◌<◌, ◌≤◌, ◌≡◌, ◌∙◌, List, [], ◌∷◌, ◌++◌, true, false, ◌==◌, ◌||◌, Option, Some, None, Result, Ok, Err, length, drop, refl, ap, subst, arith, inl, inr}
 use Rattle.std.specs.Prelude.{slice_index}
 use Rattle.std.specs.List.{prefix_len}
@@ -23,7 +23,7 @@ byte-here line at byte e above = elim (cases_lt at (length line)) [
   | inr h ↦ let past = get_or_past line at 0 h in let same = eqb-true _ _ e in absurd (omega arith)
 ]
 
--- the bytes of a sign stand where it was found
+-- the bytes of a sign are at the place where it was found
 pub sign-here : (line : List ℕ) (from : ℕ) (sign : Sign) → sign_at line from ≡ Some sign → drop from line ≡ sign_bytes sign ++ drop (from + width_of sign) line
 sign-here line from sign =
     let Q : Sign → Type 0 = λ s. drop from line ≡ sign_bytes s ++ drop (from + width_of s) line in
@@ -42,7 +42,7 @@ wide Input = omega arith
 wide Output = omega arith
 wide Append = omega arith
 
--- where no sign stands, a word begins with none
+-- at a place without a sign, a word does not begin with one
 pub unsigned : (line : List ℕ) (from : ℕ) → sign_at line from ≡ None → (begins line 60 from || begins line 62 from) ≡ false
 unsigned line from =
     let P : Option Sign → Type 0 = λ found. found ≡ None → (begins line 60 from || begins line 62 from) ≡ false in
@@ -51,20 +51,20 @@ unsigned line from =
     (λ _. cond_both (slice_index line (from + 1) == 62) (Some Append) (Some Output) P (λ _ e. cc) (λ _ e. cc))
     (λ second _. rw (first, second) refl))
 
--- where one stands, the word begins with it
+-- at a place with a sign, the word begins with it
 pub signed : (line : List ℕ) (from : ℕ) (sign : Sign) → sign_at line from ≡ Some sign → (begins line 60 from || begins line 62 from) ≡ true
 signed line from sign =
     let P : Option Sign → Type 0 = λ found. found ≡ Some sign → (begins line 60 from || begins line 62 from) ≡ true in
     cond_both (begins line 60 from) (Some Input) _ P (λ first _. rw first refl) (λ first.
     cond_both (begins line 62 from) _ None P (λ second _. rw (first, second) refl) (λ _ e. cc))
 
--- so too where `<>` stands
+-- the same at a place with `<>`
 pub both-signed : (line : List ℕ) (from : ℕ) → is_both line from ≡ true → (begins line 60 from || begins line 62 from) ≡ true
 both-signed line from two =
     let first : begins line 60 from ≡ true = (and_parts (begins line 60 from) (slice_index line (from + 1) == 62) two).0 in
     rw first refl
 
--- where `=` is a byte as any other, it is no item
+-- where `=` is a byte as any other, it is not an item
 no-equal : (place at : ℕ) (bytes : List ℕ) → item_by_first false place bytes ≡ Equal at → ⊥
 no-equal place at [] = λ e. cc
 no-equal place at (c ∷ cs) =
@@ -82,20 +82,20 @@ no-equal-at line place at =
     let behind = place + prefix_len is_blank (drop place line) in
     no-equal behind at (drop behind line)
 
--- What the cut of a line from a place on comes to: its pieces up to the end, or pieces up to a place and the fault there.
+-- What the cut of a line from a place on gives: its pieces up to the end, or pieces up to a place and the fault there.
 abbrev pub Comes : List ℕ → ℕ → Cut → Result Cut LineFault → Type 0
 Comes line place before (Ok after) = Parts line place (length line) before after
 Comes line place before (Err fault) =
     (end : ℕ) × (after : Cut) × Parts line place end before after × (end ≤ length line) × IsFaultAt line after.command (is_named after.input after.output) end fault
 
--- a fault stands at a place
+-- a fault at a place
 pub stop : (line : List ℕ) (place : ℕ) (read : Cut) (fault : LineFault) (answer : Result Cut LineFault) → place ≤ length line
     → IsFaultAt line read.command (is_named read.input read.output) place fault → Err fault ≡ answer → Comes line place read answer
 stop line place read fault answer within here e =
     let P : Result Cut LineFault → Type 0 = λ it. Comes line place read it in
     subst P e (place, read, none-left line place read, within, here)
 
--- one piece in front
+-- one piece before the others
 pub lift : (line : List ℕ) (place to : ℕ) (before read : Cut) (answer : Result Cut LineFault)
     → ((end : ℕ) (after : Cut) → Parts line to end read after → Parts line place end before after)
     → Comes line to read answer → Comes line place before answer

@@ -1,4 +1,4 @@
--- what a raw line came to is made of its pieces and segments
+-- what a raw line is read as is made of its pieces and segments
 use Rattle.std.proofs.Common.{◌≡◌, ◌∙◌, ◌≤◌, List, [], ◌∷◌, ◌++◌, ℕ, Result, Ok, Err, IfOk, length, take, drop, refl, ap, sym, arith, inl, inr, nat_lt}
 use Rattle.std.proofs.lemmas.List.{take-append-drop}
 use Rattle.std.proofs.lemmas.Bool.{cond_both}
@@ -48,7 +48,7 @@ made (Ok found) aliases v raw (inl none) = cc
 made (Ok found) aliases v raw (inr same) = made-raw aliases v raw found (sym same)
 made (Err fault) aliases v raw h = tt
 
--- what a line came to behind its tick
+-- what a line is read as after its command substitution
 resumed-made : (kept after : List ℕ) (found : Expanded) → length (kept ++ after) ≤ line_limit → read_behind (length kept) (kept ++ after) ≡ Ok found
     → (read : List Letter) × (behind : List Letter) × IsSeam kept (kept ++ after) read behind
     × (length (kept ++ after) ≤ line_limit) × IsRead (text_of read) behind found

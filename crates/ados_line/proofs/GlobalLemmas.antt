@@ -1,4 +1,4 @@
--- A line without a `$` asks for no variable, where no alias puts one in.
+-- A line without a `$` asks for no variable, if no alias inserts one.
 use Rattle.std.proofs.Common.{◌≡◌, ◌∙◌, ℕ, zero, suc, List, [], ◌∷◌, ◌++◌, Bool, false, ◌==◌, length, take, flat_map, refl, ap}
 use Rattle.std.specs.List.{list_any}
 use Rattle.std.proofs.lemmas.Bool.{or_parts}
@@ -21,7 +21,7 @@ none-beyond locals (Plain c ∷ ls) none =
     rw parts.0 (none-beyond locals ls parts.1)
 none-beyond locals (Starred c ∷ ls) none = none-beyond locals ls (rest-none 36 (Starred c) (flat_map written ls) none)
 
--- what a line has not, no part of it has
+-- a byte that a line does not have, no part of it has
 none-before : (n : ℕ) (bytes : List ℕ) → list_any (is_byte 36) bytes ≡ false → list_any (is_byte 36) (take n bytes) ≡ false
 none-before zero bytes none = refl
 none-before (suc n) [] none = refl

@@ -19,7 +19,7 @@ pub letters-onward : (next : ℕ → List Letter) (whole new : List Letter) (to 
     → whole ≡ new ++ next place
 letters-onward next whole new to place h e = h ∙ ap (λ o. new ++ behind next o) e
 
--- where an open quote stands
+-- the place of an open quote
 abbrev OpensBehind : ℕ → Item → Type 0
 OpensBehind place (Unmatched from) = place ≤ from
 OpensBehind place (Word from to) = Unit {0}
@@ -69,7 +69,7 @@ written-paired false (c ∷ cs) =
     (λ e. written-paired true cs ∙ ap (λ b. b ∷ cs) (sym (eqb-true c 42 e)))
     (λ _. ap (λ l. c ∷ l) (written-paired false cs))
 
--- a line goes on from one place up to another, and then from there
+-- a line continues from one place up to another, and then from there
 on : (line : List ℕ) (from to : ℕ) → from ≤ to → bytes_between line from to ++ drop to line ≡ drop from line
 on line from to h =
     let e : from + (to - from) ≡ to = omega arith in
@@ -84,7 +84,7 @@ pairs-written : (bytes rest : List ℕ) (ls : List Letter) → flat_map written 
 pairs-written bytes rest ls h =
     flat_map-append written (paired false bytes) ls ∙ ap (λ l. l ++ flat_map written ls) (written-paired false bytes) ∙ ap (λ l. bytes ++ l) h
 
--- what is read from a place on is all that stands there
+-- what is read from a place on is the whole line from there
 abbrev Reads : (ℕ → List Letter) → List ℕ → ℕ → Type 0
 Reads next line place = (to : ℕ) → place < to → to ≤ length line → flat_map written (next to) ≡ drop to line
 

@@ -1,4 +1,4 @@
--- pieces one after another: what they leave of a line's cut
+-- pieces one after another: what they add to a line's cut
 use Rattle.std.proofs.Common.{ℕ, ◌+◌, ◌-◌, ◌≤◌, ◌≡◌, ◌∙◌, List, [], ◌∷◌, ◌++◌, true, false, Option, Some, None, length, drop, refl, ap, sym, subst, arith, append_assoc, append-nil}
 use Rattle.std.specs.Option.{option_or}
 use Rattle.std.specs.Prelude.{is_some, option_to_list}
@@ -12,7 +12,7 @@ use Rattle.ados_line.specs.declared.cuts.Cut.{Cut}
 use Rattle.ados_line.specs.Cut.{with_piece, with_blanks, with_name, is_taken, is_run, with_rest}
 use Rattle.ados_line.specs.Pieces.{Piece, Blank, Kept, Redirected, Rest, sign_bytes, written, IsPieceAt, command_behind, Stand, kept, command_of, args_of, inputs, outputs}
 
--- the command and the arguments, where a command was read or not
+-- the command and the arguments, whether a command has been read or not
 abbrev pub command_from : Option (List ℕ) → List Piece → Option (List ℕ)
 command_from None pieces = command_of pieces
 command_from (Some command) pieces = Some command
@@ -21,7 +21,7 @@ abbrev pub args_from : Option (List ℕ) → List Piece → List ℕ
 args_from None pieces = args_of pieces
 args_from (Some command) pieces = flat_map (kept command) pieces
 
--- pieces that are the line from a place on up to an end, and what was read behind them by what was read before
+-- pieces that are the line from a place on up to an end, and what has been read after them by what was read before
 pub record Adds (line : List ℕ) (place end : ℕ) (before after : Cut) (pieces : List Piece) : Type 0 where
   pub joined : flat_map written pieces ++ drop end line ≡ drop place line
   pub placed : Stand line before.command place pieces
@@ -33,13 +33,13 @@ pub record Adds (line : List ℕ) (place end : ℕ) (before after : Cut) (pieces
 abbrev pub Parts : List ℕ → ℕ → ℕ → Cut → Cut → Type 0
 Parts line place end before after = (pieces : List Piece) × Adds line place end before after pieces
 
--- a line goes on from one place up to another, and then from there
+-- a line continues from one place up to another, and then from there
 pub between : (line : List ℕ) (from to : ℕ) → from ≤ to → drop from line ≡ bytes_between line from to ++ drop to line
 between line from to h =
     let e : from + (to - from) ≡ to = omega arith in
     sym (ap (λ l. bytes_between line from to ++ l) (sym (drop-drop (to - from) from line ∙ ap (λ k. drop k line) e)) ∙ take-append-drop (to - from) (drop from line))
 
--- so many bytes of the line stand from one place up to another
+-- these bytes are the line from one place up to another
 abbrev pub Spans : List ℕ → ℕ → ℕ → List ℕ → Type 0
 Spans line place to bytes = (drop place line ≡ bytes ++ drop to line) × (place + length bytes ≡ to)
 
@@ -54,7 +54,7 @@ spans-rest line place within =
     let left = length-drop place line in
     (sym (append-nil (drop place line)) ∙ ap (λ l. drop place line ++ l) (sym (drop_all (length line) line (omega arith))), omega (arith, left))
 
--- one piece, and those behind it
+-- one piece, and those after it
 stand-more : (line : List ℕ) (command : Option (List ℕ)) (place to : ℕ) (piece : Piece) (pieces : List Piece) → IsPieceAt line command place piece
     → place + length (written piece) ≡ to → Stand line (command_behind command piece) to pieces → Stand line command place (piece ∷ pieces)
 stand-more line command place to piece pieces here e rest =
@@ -72,7 +72,7 @@ args-none : (command : Option (List ℕ)) (args : List ℕ) → args ≡ args ++
 args-none None args = sym (append-nil args)
 args-none (Some text) args = sym (append-nil args)
 
--- no piece stands from a place up to it
+-- no piece is needed from a place up to itself
 pub none-left : (line : List ℕ) (end : ℕ) (read : Cut) → Parts line end end read read
 none-left line end read = (
   [],
@@ -118,7 +118,7 @@ kept-parts line place to end bytes text read after (Some command) e spans here p
       },
     )
 
--- blanks that are no part of Run's line leave what they are; in front of the command they are dropped
+-- blanks that are not part of Run's line are kept; before the command they are dropped
 blank-kept : (command bytes : List ℕ) (pieces : List Piece) → is_run (Some command) ≡ false → bytes ++ flat_map (kept command) pieces ≡ flat_map (kept command) (Blank bytes ∷ pieces)
 blank-kept command bytes pieces other = ap (λ l. l ++ flat_map (kept command) pieces) (sym (cond-false (is_run (Some command)) [] bytes other))
 
@@ -151,7 +151,7 @@ blank-parts line place to end bytes read after (Some command) e other spans here
       },
     )
 
--- blanks in front of Run's redirections leave nothing
+-- blanks before Run's redirections add nothing
 run-blank : (command bytes : List ℕ) (pieces : List Piece) → is_run (Some command) ≡ true → flat_map (kept command) pieces ≡ flat_map (kept command) (Blank bytes ∷ pieces)
 run-blank command bytes pieces runs = ap (λ l. l ++ flat_map (kept command) pieces) (sym (cond-true (is_run (Some command)) [] bytes runs))
 
@@ -195,7 +195,7 @@ none-listed : {A : Type 0} (o : Option A) → is_some o ≡ false → option_to_
 none-listed None e = refl
 none-listed (Some x) e = cc
 
--- a redirection leaves nothing in the command and the arguments
+-- a redirection adds nothing to the command and the arguments
 passed-command : (command : Option (List ℕ)) (sign : Sign) (behind name : List ℕ) (pieces : List Piece)
     → command_from command pieces ≡ command_from command (Redirected sign behind name ∷ pieces)
 passed-command None sign behind name pieces = refl

@@ -1,4 +1,4 @@
--- the cut of a line in which neither a quote nor a sign stands
+-- the cut of a line that holds neither a quote nor a sign
 use Rattle.std.proofs.Common.{ℕ, zero, suc, ◌+◌, ◌<◌, ◌≤◌, ◌≡◌, ◌∙◌, List, [], ◌∷◌, ◌++◌, true, false, ◌==◌, ◌||◌, Some, None, Result, Ok, length, drop, get_or, refl, ap, sym, arith, append_assoc}
 use Rattle.std.specs.List.{prefix_len, list_any}
 use Rattle.std.proofs.lemmas.Bool.{both_ways, cond_both, or_parts}
@@ -42,7 +42,7 @@ unquoted line place none =
     first-unquoted behind (drop behind line)
     (ap is_mark (get_or-drop behind line 0 0 ∙ ap (λ k. get_or line k 0) (omega arith)) ∙ unmarked line behind none)
 
--- no sign of a redirection stands in the line
+-- the line holds no sign of a redirection
 no-sign-byte : (line : List ℕ) (at : ℕ) → list_any is_mark line ≡ false → ((get_or line at 0 == 60) ≡ false) × ((get_or line at 0 == 62) ≡ false)
 no-sign-byte line at none = or_parts _ _ (or_parts (get_or line at 0 == 34) _ (unmarked line at none)).1
 
@@ -57,7 +57,7 @@ no-sign line from none =
     let out-not : (get_or line from 0 == 62) ≡ false = (no-sign-byte line from none).1 in
     rw (in-not, out-not) refl
 
--- what stands behind the command joins the arguments as it is
+-- the text after the command is appended to the arguments unchanged
 abbrev Rests : (ℕ → Cut → Result Cut LineFault) → List ℕ → List ℕ → ℕ → Type 0
 Rests next line command place = (to : ℕ) (args : List ℕ) → place < to → to ≤ length line
     → next to (with_arguments command args) ≡ Ok (with_arguments command (args ++ drop to line))

@@ -10,7 +10,7 @@ use Rattle.ados_line.specs.declared.references.Reference.{Reference}
 use Rattle.ados_line.specs.Letters.{singly, spelled, letters_of}
 use Rattle.ados_line.specs.Values.{Variables, Segment, Literal, covered, further, is_name_byte, is_of_name, is_plain, is_this, braced, bare, reference, name_of, by_value, by_reference, first_segment, segments, values, IsReference, IsSegment, AreSegments, IsInSegments}
 
--- the segments of a row of characters are those characters
+-- the segments of a list of characters are those characters
 take-on : (n : ℕ) (ls : List Letter) → take n ls ++ drop (length (take n ls)) ls ≡ ls
 take-on zero ls = refl
 take-on (suc n) [] = refl
@@ -67,7 +67,7 @@ named (Plain c ∷ ls) = by (is_name_byte c) refl (named ls)
     by true e rest = simp e (named-more c (prefix_len is_of_name ls) ls (name-ascii c e) rest)
     by false e rest = simp e refl
 
--- the character at a place, and those up to behind it
+-- the character at a place, and those up to and including it
 taken-on : (ls : List Letter) (n : ℕ) (l : Letter) → slice_get ls n ≡ Some l → take (suc n) ls ≡ take n ls ++ l ∷ []
 taken-on [] n l e = cc
 taken-on (x ∷ ls) zero l e = cc
@@ -142,7 +142,7 @@ segments-known v (suc taken) [] = tt
 segments-known v (suc taken) (l ∷ ls) = segments-known v taken ls
 segments-known v zero (l ∷ ls) = (first-known v l ls, segments-known v (further (first_segment v l ls)) ls)
 
--- a line with its variables put in is its segments
+-- a line with its variables expanded is its segments
 pub in_segments : (v : Variables) (line : List ℕ) → IsInSegments v line (values v 0 (letters_of line))
 in_segments v line = (
   segments v 0 (letters_of line),

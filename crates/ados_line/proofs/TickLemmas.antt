@@ -19,7 +19,7 @@ use Rattle.ados_line.specs.Ticks.{is_tick, text_of, unticked, by_second, by_firs
 use Rattle.ados_line.proofs.CutPieces.{of_pieces}
 use Rattle.ados_line.proofs.SegmentLemmas.{plain-is}
 
--- no back-tick on its own was found
+-- no back-tick without a star before it was found
 no-more : (l : Letter) (ls : List Letter) → is_tick l ≡ false → HasNoTick ls → HasNoTick (l ∷ ls)
 no-more l ls here rest = λ k d lt. by k d lt
   where
@@ -37,7 +37,7 @@ none-from at (l ∷ ls) =
 none-found : (ls : List Letter) → position is_tick ls ≡ None → HasNoTick ls
 none-found ls e = none-from 0 ls (sym (position_from-zero is_tick ls) ∙ e)
 
--- one was found: it stands at its place, and none in front of it
+-- one was found: it is at its place, and none before it
 found-here : (ls : List Letter) (place : ℕ) → position is_tick ls ≡ Some place → ls ≡ take place ls ++ (Plain 96 ∷ drop (place + 1) ls)
 found-here ls place e =
     let at = position-Some is_tick ls place (Plain 0) e in
@@ -51,7 +51,7 @@ found-first ls place e =
     All-from_get_or (λ l. is_tick l ≡ false) (take place ls) (Plain 0)
     (λ k lt. ap is_tick (get_or-take place ls k (Plain 0) (omega arith)) ∙ at.2 k (omega arith))
 
--- what characters came to
+-- what characters are read as
 pair-read : (kept : List ℕ) (ls : List Letter) (place : ℕ) (second : Option ℕ) (found : Expanded) → position is_tick ls ≡ Some place
     → position is_tick (drop (place + 1) ls) ≡ second
     → then_cut (by_second (kept ++ unticked (take place ls)) (drop (place + 1) ls) second) ≡ Ok found → IsRead kept ls found
@@ -88,7 +88,7 @@ first-read kept ls (Some place) found e h = pair-read kept ls place _ found e re
 pub is_read : (kept : List ℕ) (ls : List Letter) (found : Expanded) → then_cut (parted kept ls) ≡ Ok found → IsRead kept ls found
 is_read kept ls found h = first-read kept ls _ found refl h
 
--- the characters that end within so many bytes are these bytes, but for a star that goes with the byte behind them
+-- the characters that end within `size` bytes are these bytes, except for a star that is read with the byte after it
 abbrev Ends : List ℕ → List Letter → Type 0
 Ends kept before = (flat_map written before ≡ kept) ⊎ (flat_map written before ++ 42 ∷ [] ≡ kept)
 

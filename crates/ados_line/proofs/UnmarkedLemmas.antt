@@ -24,7 +24,7 @@ first-ascii c cs h = h 0 0 (omega arith)
 rest-ascii : (c : ℕ) (cs : List ℕ) → IsText (c ∷ cs) → IsText cs
 rest-ascii c cs h = λ k d lt. h (suc k) d (omega arith)
 
--- the byte of a text in which no mark stands
+-- the byte of a text without this mark
 abbrev pub is_byte : ℕ → ℕ → Bool
 is_byte mark c = c == mark
 
@@ -36,7 +36,7 @@ bared-plain mark (Starred c) bytes none text =
     let other : (c == mark) ≡ false = (or_parts (c == mark) _ (or_parts (42 == mark) _ none).1).0 in
     rw other (ap (λ b. 42 ∷ b ∷ []) (kept c (first-ascii c bytes (rest-ascii 42 (c ∷ bytes) text))))
 
--- and what follows it
+-- and the bytes after it
 pub rest-none : (mark : ℕ) (letter : Letter) (bytes : List ℕ) → list_any (is_byte mark) (written letter ++ bytes) ≡ false → list_any (is_byte mark) bytes ≡ false
 rest-none mark (Plain c) bytes none = (or_parts _ _ none).1
 rest-none mark (Starred c) bytes none = (or_parts _ _ (or_parts _ _ none).1).1
@@ -77,7 +77,7 @@ no_values v line none text =
 
 pub ruleset plain_values = (no_values)
 
--- characters without this mark are the same as they stand, and without the stars before it
+-- characters without this mark are the same as written, and without the stars before it
 spelled-plain : (letter : Letter) (bytes : List ℕ) → IsText (written letter ++ bytes) → spelled letter ≡ written letter
 spelled-plain (Plain c) bytes text = ap (λ b. b ∷ []) (kept c (first-ascii c bytes text))
 spelled-plain (Starred c) bytes text = ap (λ b. 42 ∷ b ∷ []) (kept c (first-ascii c bytes (rest-ascii 42 (c ∷ bytes) text)))
@@ -92,7 +92,7 @@ parts-unticked (suc n) (l ∷ ls) none text =
     ∙ ap (λ x. x ++ (text_of (take n ls) ++ unticked (drop n ls))) (spelled-plain l bytes text)
     ∙ ap (λ x. written l ++ x) (parts-unticked n ls (rest-none 96 l bytes none) (rest-text l bytes text))
 
--- a text without a back-tick is whole
+-- a text without a back-tick is not split
 rest-unmarked : (n : ℕ) (ls : List Letter) → list_any (is_byte 96) (flat_map written ls) ≡ false → list_any (is_byte 96) (flat_map written (drop n ls)) ≡ false
 rest-unmarked zero ls none = none
 rest-unmarked (suc n) [] none = none

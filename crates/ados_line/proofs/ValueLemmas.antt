@@ -1,4 +1,4 @@
--- the values of a row of characters, character by character
+-- the values of a list of characters, character by character
 use Rattle.std.proofs.Common.{◌≡◌, ◌∙◌, ℕ, zero, suc, ◌+◌, ◌-◌, ◌<◌, ◌≤◌, List, ◌∷◌, ◌++◌, length, drop, get_or, sym, ap, arith, append_assoc, append-nil, inr, Ok, nat_lt}
 use Rattle.std.proofs.lemmas.List.{drop_more, drop_all}
 use Rattle.std.proofs.lemmas.Bool.{cond-false}
@@ -33,7 +33,7 @@ segment-put v whole text new taken count place ls rest d lt same none e f g =
     ∙ ap (λ n. new ++ values v n rest) (sym f)
     ∙ ap (λ l. new ++ values v count l) same
 
--- all was put, and it is short enough
+-- all is expanded, and it is short enough
 pub all-put : (v : Variables) (whole text : List ℕ) (taken place : ℕ) (ls : List Letter) → length ls ≤ place → length text ≤ 512
     → whole ≡ text ++ values v taken (drop place ls) → Gives (Ok text) (limited whole)
 all-put v whole text taken place ls past short e =

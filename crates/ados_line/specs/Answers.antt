@@ -1,14 +1,14 @@
--- What a call answers, by a definition that knows no want of memory.
+-- What a call returns, by a definition in which no allocation fails.
 use Rattle.std.specs.Prelude.{◌≡◌, ◌⊎◌, length, nat_lt, Result, Ok, Err, if◌then◌else◌}
 use Rattle.ados_text.specs.Text.{Text}
 use Rattle.ados_line.specs.declared.faults.LineFault.{LineFault}
 use Rattle.ados_line.specs.declared.faults.LineFault.TheVariants.{LineTooLong, NoMemory}
 use Rattle.ados_line.specs.Cut.{line_limit}
 
--- a line has at most so many bytes
+-- a line has at most `line_limit` bytes
 abbrev pub limited : Text → Result Text LineFault
 limited text = if nat_lt line_limit (length text) then Err LineTooLong else Ok text
 
--- the answer is the definition's, or memory was wanting
+-- the result is the definition's, or an allocation failed
 abbrev pub Gives : {X : Type 0} → Result X LineFault → Result X LineFault → Type 0
 Gives result whole = (result ≡ Err NoMemory) ⊎ (result ≡ whole)

@@ -6,7 +6,7 @@ use Rattle.ados_items.specs.declared.items.Item.TheVariants.{Word, Quoted, Equal
 use Rattle.ados_items.specs.Items.{item_at}
 use Rattle.ados_line.specs.Pieces.{EndsAt}
 
--- where the comment begins, or the line ends, behind an item; `next` gives it from a place on
+-- where the comment begins, or the line ends, from an item on; `next` gives it from a place on
 abbrev pub comment_behind : (ℕ → ℕ) → Text → Item → ℕ
 comment_behind next line (Word from to) = next to
 comment_behind next line (Quoted from to) = next (to + 1)
@@ -14,7 +14,7 @@ comment_behind next line (Equal place) = next (place + 1)
 comment_behind next line (End place) = place
 comment_behind next line (Unmatched from) = length line
 
--- the same from a place on, over at most so many items
+-- the same from a place on, over at most `count` items
 abbrev pub comment_from : ℕ → Text → ℕ → ℕ
 comment_from zero line place = length line
 comment_from (suc count) line place = comment_behind (λ to. comment_from count line to) line (item_at true line place)
@@ -23,11 +23,11 @@ comment_from (suc count) line place = comment_behind (λ to. comment_from count 
 abbrev pub comment_start : Text → ℕ
 comment_start line = comment_from (length line + 1) line 0
 
--- A line up to its comment: all of it where it has none.
+-- A line up to its comment: all of it if it has none.
 abbrev pub without_comment : Text → Text
 without_comment line = take (comment_start line) line
 
--- at a place behind which no item ends: the comment begins, or a quote that none closes takes the rest of the line
+-- at a place that no other item follows: the comment begins, or a quote that is not closed takes the rest of the line
 abbrev pub StopsAt : Text → ℕ → Item → Type 0
 StopsAt line at (Word from to) = ⊥
 StopsAt line at (Quoted from to) = ⊥
@@ -35,17 +35,17 @@ StopsAt line at (Equal place) = ⊥
 StopsAt line at (End place) = at ≡ place
 StopsAt line at (Unmatched from) = at ≡ length line
 
--- the items stand in the line one after another from a place on, and after the last it stops at a place
+-- the items follow one another in the line from a place on, and after the last it stops at a place
 abbrev pub StandUpTo : ℕ → Text → ℕ → List Item → Type 0
 StandUpTo at line place [] = StopsAt line at (item_at true line place)
 StandUpTo at line place (item ∷ items) = (to : ℕ) × (item_at true line place ≡ item) × EndsAt to item × StandUpTo at line to items
 
--- what is dropped of a line is nothing, or begins with `;`
+-- the text dropped from a line is empty, or begins with `;`
 abbrev pub IsDropped : Text → Type 0
 IsDropped [] = Unit {0}
 IsDropped (c ∷ cs) = c ≡ 59
 
--- What is kept of a line, items one after another, ends at the first `;` outside quotes, or is the whole line.
+-- The text kept of a line, items one after another, ends at the first `;` outside quotes, or is the whole line.
 pub record IsUpToComment (line kept : Text) : Type 0 where
   pub place : ℕ
   pub items : List Item

@@ -1,6 +1,6 @@
--- The cut of a line: its command, its arguments, and the redirections of its input and its output. The pieces
--- that are no redirection stay, as they stand, in the arguments. Behind Run only the redirections that stand directly
--- there are read, and the rest of the line is its arguments, whatever it holds.
+-- The cut of a line: its command, its arguments, and the redirections of its input and its output. The pieces that are
+-- not redirections stay, unchanged, in the arguments. After Run only the redirections that directly follow it are read,
+-- and the rest of the line is its arguments, whatever it holds.
 use Rattle.std.specs.Prelude.{ℕ, zero, suc, ◌+◌, [], ◌∷◌, ◌++◌, Bool, true, false, Option, Some, None, is_some, Result, Ok, Err, length, drop, codes, if◌then◌else◌}
 use Rattle.ados_text.specs.Text.{Text, is_same}
 use Rattle.ados_items.specs.declared.items.Item.{Item}
@@ -15,16 +15,16 @@ use Rattle.ados_line.specs.declared.lines.Expanded.{Expanded}
 use Rattle.ados_line.specs.declared.lines.Expanded.TheVariants.{Nothing, Ready}
 use Rattle.ados_line.specs.Signs.{is_both, sign_at, width_of}
 
--- how the cut goes on from a place, behind what was read
+-- how the cut continues from a place, after what has been read
 abbrev pub Next : Type 0
 Next = ℕ → Cut → Result Cut LineFault
 
--- the first item is the command, and each further piece of the line joins the arguments
+-- the first item is the command, and each later piece of the line is appended to the arguments
 abbrev pub with_piece : Option Text → Text → Text → Cut → Cut
 with_piece None value piece read = record read { command = Some value }
 with_piece (Some command) value piece read = record read { args = read.args ++ piece }
 
--- blanks in front of the command are dropped
+-- blanks before the command are dropped
 abbrev pub with_blanks : Option Text → Text → Cut → Cut
 with_blanks None blanks read = read
 with_blanks (Some command) blanks read = record read { args = read.args ++ blanks }
@@ -35,20 +35,20 @@ with_name Input name read = record read { input = Some name }
 with_name Output name read = record read { output = Some (record { name = name; append = false }) }
 with_name Append name read = record read { output = Some (record { name = name; append = true }) }
 
--- a redirection by the item behind its sign: a quoted item, or a run up to a blank or `;`
+-- the redirection whose name is the item after its sign: a quoted item, or a run up to a blank or `;`
 abbrev pub named : Next → Text → Sign → Cut → Item → Result Cut LineFault
 named next line sign read (Word from to) = next to (with_name sign (value_of line (Word from to)) read)
 named next line sign read (Quoted from to) = next (to + 1) (with_name sign (value_of line (Quoted from to)) read)
 named next line sign read (Unmatched from) = Err UnmatchedQuotes
 named next line sign read _ = Err ArgumentMissing
 
--- one input and one output are taken
+-- an input, or an output, was named before: a line takes one of each
 abbrev pub is_taken : Sign → Cut → Bool
 is_taken Input read = is_some read.input
 is_taken Output read = is_some read.output
 is_taken Append read = is_some read.output
 
--- the redirection whose sign stands at a place; the blanks in front of it were read
+-- the redirection whose sign is at a place; the blanks before it have been read
 abbrev pub redirected : Next → Text → ℕ → Cut → Sign → Result Cut LineFault
 redirected next line place read sign =
     if is_taken sign read then Err TooManyArguments else named next line sign read (item_at false line (place + width_of sign))
@@ -63,7 +63,7 @@ abbrev pub cut_word : Next → Text → ℕ → Cut → ℕ → ℕ → Result C
 cut_word next line place read from to =
     if is_both line from then Err NotImplemented else by_sign next line place read from to (sign_at line from)
 
--- an item of the line, behind a place up to which this was read
+-- an item of the line, after a place up to which the line has been read
 abbrev pub cut_item : Next → Text → ℕ → Cut → Item → Result Cut LineFault
 cut_item next line place read (Word from to) = cut_word next line place read from to
 cut_item next line place read (Quoted from to) =
@@ -78,27 +78,27 @@ abbrev pub is_run : Option Text → Bool
 is_run None = false
 is_run (Some command) = is_same command (codes "Run")
 
--- the rest of the line, as it stands
+-- the rest of the line, unchanged
 abbrev pub with_rest : Text → Cut → Cut
 with_rest rest read = record read { args = read.args ++ rest }
 
--- a word behind Run: a redirection, or the rest of the line begins at the blanks in front of it
+-- a word after Run: a redirection, or the rest of the line begins at the blanks before it
 abbrev pub run_word : Next → Text → ℕ → Cut → ℕ → Option Sign → Result Cut LineFault
 run_word next line place read from (Some sign) = redirected next line from read sign
 run_word next line place read from None = Ok (with_rest (drop place line) read)
 
--- an item behind Run: only a word may begin with a sign
+-- an item after Run: only a word may begin with a sign
 abbrev pub run_item : Next → Text → ℕ → Cut → Item → Result Cut LineFault
 run_item next line place read (Word from to) =
     if is_both line from then Err NotImplemented else run_word next line place read from (sign_at line from)
 run_item next line place read _ = Ok (with_rest (drop place line) read)
 
--- an item, behind the command that was read, if one was
+-- an item, by the command that has been read, if there is one
 abbrev pub cut_behind : Next → Text → ℕ → Cut → Item → Result Cut LineFault
 cut_behind next line place read item =
     if is_run read.command then run_item next line place read item else cut_item next line place read item
 
--- the items from a place on, at most so many
+-- the items from a place on, at most `count`
 abbrev pub cut_from : ℕ → Text → ℕ → Cut → Result Cut LineFault
 cut_from zero line place read = Ok read
 cut_from (suc count) line place read = cut_behind (cut_from count line) line place read (item_at true line place)
@@ -106,7 +106,7 @@ cut_from (suc count) line place read = cut_behind (cut_from count line) line pla
 abbrev pub nothing_read : Cut
 nothing_read = record { command = None; args = []; input = None; output = None }
 
--- The cut of a line, or the fault that stands first in it. A line has no more items than bytes.
+-- The cut of a line, or the first fault in it. A line has no more items than bytes.
 abbrev pub cut_of : Text → Result Cut LineFault
 cut_of line = cut_from (length line + 1) line 0 nothing_read
 
@@ -119,6 +119,6 @@ abbrev pub expanded_by : Result Cut LineFault → Result Expanded LineFault
 expanded_by (Ok read) = Ok (came_to read.command read)
 expanded_by (Err fault) = Err fault
 
--- a line has at most so many bytes
+-- the greatest number of bytes of a line
 abbrev pub line_limit : ℕ
 line_limit = 512

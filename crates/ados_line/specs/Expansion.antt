@@ -1,6 +1,6 @@
--- What a raw line comes to where aliases, variables and back-ticks stand: its comment is dropped, then its alias is put
--- in, then its variables, and what came out is a tick at its first pair of back-ticks, or else is cut. Where a tick has
--- ended its output is put in place of the pair, and the next pair is looked for behind it.
+-- What a raw line that may hold aliases, variables and back-ticks is read as: its comment is dropped, then its alias is
+-- expanded, then its variables, and the resulting text is a command substitution at its first pair of back-ticks, or
+-- else is cut. After a command substitution its output replaces the pair, and the next pair is looked for after it.
 use Rattle.std.specs.Prelude.{◌≤◌, ℕ, ◌-◌, List, [], ◌++◌, length, take, map, slice_index, ◌==◌, nat_lt, Result, Ok, Err, if◌then◌else◌}
 use Rattle.ados_text.specs.Text.{Bytes, Text, to_ascii}
 use Rattle.ados_vars.specs.Vars.{Pairs}
@@ -20,7 +20,7 @@ use Rattle.ados_line.specs.Pieces.{IsOfPieces}
 use Rattle.ados_line.specs.Ticks.{text_of, unticked, parted_behind, HasNoTick, IsTick, IsSeam}
 use Rattle.ados_line.specs.Values.{Variables, values, IsInSegments}
 
--- a line with its variables put in has at most 512 bytes too
+-- a line with its variables expanded has at most 512 bytes too
 abbrev pub with_values : Variables → Text → Result Text LineFault
 with_values variables line = limited (values variables 0 (letters_of line))
 
@@ -30,7 +30,7 @@ then_cut (Ok (Whole text)) = expanded_by (cut_of text)
 then_cut (Ok (Ticked tick)) = Ok (Tick tick)
 then_cut (Err fault) = Err fault
 
--- a text, of which so many bytes are kept as they are
+-- a text whose first `size` bytes are kept as they are
 abbrev pub read_behind : ℕ → Text → Result Expanded LineFault
 read_behind size text = then_cut (parted_behind size text)
 
@@ -38,7 +38,7 @@ abbrev pub then_read : Result Text LineFault → Result Expanded LineFault
 then_read (Ok text) = read_behind 0 text
 then_read (Err fault) = Err fault
 
--- a line without its comment, behind its alias
+-- a line without its comment, with its alias expanded
 abbrev pub expanded_line : Variables → Text → Result Expanded LineFault
 expanded_line variables line = then_read (with_values variables line)
 
@@ -47,7 +47,7 @@ unfoldable pub expanded_in : Pairs → Variables → Text → Result Expanded Li
 expanded_in aliases variables raw =
     if nat_lt line_limit (length raw) then Err LineTooLong else expanded_line variables (with_alias aliases (without_comment raw))
 
--- what a tick wrote, as text: one newline at its end is dropped, and each other one is a space
+-- the output of a command substitution, as text: one newline at its end is dropped, and each other one becomes a space
 abbrev pub without_newline : Bytes → Bytes
 without_newline bytes = if slice_index bytes (length bytes - 1) == 10 then take (length bytes - 1) bytes else bytes
 
@@ -57,26 +57,27 @@ spaced c = if c == 10 then 32 else to_ascii c
 abbrev pub tick_text : Bytes → Text
 tick_text output = map spaced (without_newline output)
 
--- a line whose tick has ended, by what stands up to the end of the output and what stands behind it
+-- a line after its command substitution, by the text up to the end of the output and the text after it
 abbrev pub resumed_at : Text → Text → Result Expanded LineFault
 resumed_at kept after = if nat_lt line_limit (length (kept ++ after)) then Err LineTooLong else read_behind (length kept) (kept ++ after)
 
--- a line whose tick has ended
+-- a line after its command substitution
 unfoldable pub resumed_of : Text → Bytes → Text → Result Expanded LineFault
 resumed_of before output after = resumed_at (before ++ tick_text output) after
 
--- What characters came to behind a text that is kept as it is: the tick of their first pair of back-ticks, or, where no
--- back-tick stands on its own, the pieces of the text without the stars before back-ticks.
+-- What characters are read as after a text that is kept as it is: the tick of their first pair of back-ticks, or, if
+-- there is no back-tick without a star before it, the pieces of the text without the stars before back-ticks.
 abbrev pub IsRead : Text → List Letter → Expanded → Type 0
 IsRead kept letters Nothing = HasNoTick letters × IsOfPieces (kept ++ unticked letters) Nothing
 IsRead kept letters (Ready line) = HasNoTick letters × IsOfPieces (kept ++ unticked letters) (Ready line)
 IsRead kept letters (Tick tick) = IsTick kept letters tick
 
--- What a line came to is a tick or pieces of a text, and that text the line's segments joined.
+-- What a line is read as is a tick or pieces of a text, and that text is the line's segments joined.
 abbrev pub IsMade : Variables → Text → Expanded → Type 0
 IsMade variables line found = (text : Text) × IsInSegments variables line text × (length text ≤ line_limit) × IsRead [] (letters_of text) found
 
--- What a line came to behind its tick is a tick or pieces of the text with the output in place, read behind that.
+-- What a line is read as after its command substitution is a tick or pieces of the text with the output in place, read
+-- after the output.
 abbrev pub IsResumed : Text → Bytes → Text → Expanded → Type 0
 IsResumed before output after found =
     let kept = before ++ tick_text output in

@@ -1,10 +1,10 @@
--- The numbers of a line's faults.
+-- The AmigaDOS error numbers of a line's faults.
 use Rattle.ados_text.specs.declared.codes.Result2.{Result2}
 use Rattle.ados_text.specs.declared.codes.TheConstants.Result2.{ARGUMENT_MISSING, TOO_MANY_ARGUMENTS, UNMATCHED_QUOTES, LINE_TOO_LONG, NOT_IMPLEMENTED, NO_FREE_STORE}
 use Rattle.ados_line.specs.declared.faults.LineFault.{LineFault}
 use Rattle.ados_line.specs.declared.faults.LineFault.TheVariants as fault
 
--- the number by which a line's fault is answered
+-- the error number (Result2) of a line's fault
 abbrev pub result2_of : LineFault → Result2
 result2_of fault.ArgumentMissing = ARGUMENT_MISSING
 result2_of fault.TooManyArguments = TOO_MANY_ARGUMENTS

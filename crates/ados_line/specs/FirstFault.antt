@@ -1,4 +1,4 @@
--- Where the first fault of a line's cut stands: behind pieces that have none.
+-- Where the first fault of a line's cut is: after pieces without faults.
 use Rattle.std.specs.Prelude.{◌≡◌, ℕ, ◌+◌, List, ◌++◌, Bool, true, false, length, Option, Some, None, is_some, option_to_list}
 use Rattle.std.specs.List.{flat_map}
 use Rattle.ados_text.specs.Text.{Text}
@@ -19,9 +19,9 @@ is_named input output Input = is_some input
 is_named input output Output = is_some output
 is_named input output Append = is_some output
 
--- The fault that stands at a place of a line, behind this command, if one was kept, where some signs were named before: a
--- second input or output; one without a name; `<>`; and a quote that is not closed, in the place of the name, or as an item.
--- Behind Run an item is no fault.
+-- The fault at a place of a line, after this command, if there is one already, and after some signs were named: a second
+-- input or output; one without a name; `<>`; and a quote that is not closed, in the place of the name, or as an item.
+-- After Run an item is not a fault.
 pub data IsFaultAt (line : Text) (command : Option Text) (named : Sign → Bool) (place : ℕ) : LineFault → Type 0 where
   second : (sign : Sign) → sign_at line place ≡ Some sign → is_both line place ≡ false → named sign ≡ true
       → IsFaultAt line command named place TooManyArguments
@@ -33,8 +33,8 @@ pub data IsFaultAt (line : Text) (command : Option Text) (named : Sign → Bool)
   open_item : (from : ℕ) → is_run command ≡ false → item_at true line place ≡ Unmatched from
       → IsFaultAt line command named place UnmatchedQuotes
 
--- The fault is the first of the line: pieces of it stand up to a place, one input and one output among them at most, and
--- what stands there is the fault.
+-- The fault is the first of the line: pieces of it lead up to a place, one input and one output among them at most, and
+-- at that place is the fault.
 pub record IsFirstFault (line : Text) (fault : LineFault) : Type 0 where
   pub pieces : List Piece
   pub rest : Text

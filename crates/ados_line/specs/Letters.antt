@@ -1,4 +1,5 @@
--- A line character by character, as quotes have it read: inside them a star and the byte behind it are one character.
+-- A line character by character, as it is read inside and outside quotes: inside them a star and the byte after it are
+-- one character.
 use Rattle.std.specs.Prelude.{ℕ, zero, suc, ◌+◌, List, [], ◌∷◌, ◌++◌, map, length, drop, Bool, true, false, ◌==◌, Option, Some, None, if◌then◌else◌}
 use Rattle.ados_text.specs.Text.{to_ascii}
 use Rattle.ados_items.specs.declared.items.Item.{Item}
@@ -17,7 +18,7 @@ abbrev pub spelled : Letter → List ℕ
 spelled (Plain c) = to_ascii c ∷ []
 spelled (Starred c) = 42 ∷ to_ascii c ∷ []
 
--- the same, where the star before a mark goes
+-- the same, without the star before a mark
 abbrev pub bared : ℕ → Letter → List ℕ
 bared mark (Plain c) = to_ascii c ∷ []
 bared mark (Starred c) = if c == mark then to_ascii c ∷ [] else 42 ∷ to_ascii c ∷ []
@@ -26,14 +27,14 @@ bared mark (Starred c) = if c == mark then to_ascii c ∷ [] else 42 ∷ to_asci
 abbrev pub singly : List ℕ → List Letter
 singly bytes = map Plain bytes
 
--- inside quotes a star goes with the byte behind it; `starred` says that a star stands before
+-- inside quotes a star and the byte after it are one character; `starred` says that the byte before was such a star
 abbrev pub paired : Bool → List ℕ → List Letter
 paired false [] = []
 paired true [] = Plain 42 ∷ []
 paired true (c ∷ cs) = Starred c ∷ paired false cs
 paired false (c ∷ cs) = if c == 42 then paired true cs else Plain c ∷ paired false cs
 
--- the characters from a place on, where an item stands behind it; `next` gives those behind the item
+-- the characters from a place on, with this item after the place; `next` gives those after the item
 abbrev pub letters_behind : (ℕ → List Letter) → List ℕ → ℕ → Item → List Letter
 letters_behind next line place (Word from to) = singly (bytes_between line place to) ++ next to
 letters_behind next line place (Quoted from to) =
@@ -42,7 +43,7 @@ letters_behind next line place (Equal at) = singly (bytes_between line place (at
 letters_behind next line place (End at) = singly (drop place line)
 letters_behind next line place (Unmatched from) = singly (bytes_between line place from) ++ paired false (drop from line)
 
--- the same over at most so many items
+-- the same over at most `count` items
 abbrev pub letters_from : ℕ → List ℕ → ℕ → List Letter
 letters_from zero line place = []
 letters_from (suc count) line place = letters_behind (letters_from count line) line place (item_at true line place)
@@ -51,7 +52,7 @@ letters_from (suc count) line place = letters_behind (letters_from count line) l
 abbrev pub letters_of : List ℕ → List Letter
 letters_of line = letters_from (length line + 1) line 0
 
--- what stands behind an item, if anything may
+-- the characters from the end of an item on, if anything may follow it
 abbrev pub behind : (ℕ → List Letter) → Option ℕ → List Letter
 behind next None = []
 behind next (Some to) = next to

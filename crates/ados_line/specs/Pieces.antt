@@ -1,5 +1,5 @@
--- A line as its pieces, in order: what is kept of it, and the redirections that are taken out; behind Run's own
--- redirections all that is left is one piece.
+-- A line as its pieces, in order: the text that is kept, and the redirections that are removed; after Run's own
+-- redirections the rest of the line is one piece.
 use Rattle.std.specs.Prelude.{◌≡◌, ℕ, ◌+◌, ◌≤◌, ◌<◌, List, [], ◌∷◌, ◌++◌, Bool, true, false, ◌||◌, Option, Some, None, length, option_to_list, if◌then◌else◌}
 use Rattle.std.specs.List.{flat_map}
 use Rattle.std.specs.Option.{option_or}
@@ -16,8 +16,8 @@ use Rattle.ados_line.specs.declared.lines.Expanded.TheVariants.{Nothing, Ready, 
 use Rattle.ados_line.specs.Cut.{is_run}
 use Rattle.ados_line.specs.Signs.{begins, is_both, sign_at, width_of}
 
--- A piece of a line, as it is written: bytes in which no item begins; an item with the blanks in front of it, and its
--- text; a redirection, by its sign, what stands behind the sign, and the name; or the rest of a line.
+-- A piece of a line, as it is written: bytes in which no item begins; an item with the blanks before it, and its text; a
+-- redirection, by its sign, the text after the sign, and the name; or the rest of a line.
 pub data Piece : Type 0 where
   Blank : Text → Piece
   Kept : Text → Text → Piece
@@ -45,7 +45,7 @@ EndsAt place (Equal at) = place ≡ at + 1
 EndsAt place (End at) = ⊥
 EndsAt place (Unmatched from) = ⊥
 
--- no item begins before a place: where none is left, the place is the line's end
+-- no item begins before a place: if there are no more items, the place is the line's end
 abbrev pub StopsBefore : Text → ℕ → Item → Type 0
 StopsBefore line place (Word from to) = place ≤ from
 StopsBefore line place (Quoted from to) = place < from
@@ -61,10 +61,10 @@ is_signed line (Equal at) = false
 is_signed line (End at) = false
 is_signed line (Unmatched from) = false
 
--- What a piece is that stands at a place of the line, behind the command, if one was kept: no item begins in blanks; a
--- piece that is kept ends with the item there, which begins with no sign; a redirection is the longest sign, with the item
--- behind it, whose text is the name. Behind Run no item is kept: blanks stand there only in front of a sign, and what
--- begins with none is the rest of the line.
+-- What a piece at a place of the line has to be, after the command, if there is one already: no item begins in blanks; a
+-- piece that is kept ends with the item there, which does not begin with a sign; a redirection is the longest sign, with
+-- the item after it, whose text is the name. After Run no item is kept: blanks are only before a sign, and the text that
+-- does not begin with a sign is the rest of the line.
 abbrev pub IsPieceAt : Text → Option Text → ℕ → Piece → Type 0
 IsPieceAt line command place (Blank bytes) =
     let item = item_at true line place in
@@ -78,14 +78,14 @@ IsPieceAt line command place (Redirected sign behind name) =
 IsPieceAt line command place (Rest bytes) =
     (is_run command ≡ true) × (place + length bytes ≡ length line) × (is_signed line (item_at true line place) ≡ false)
 
--- the command behind a piece: the first item that is kept
+-- the command after a piece: the first item that is kept
 abbrev pub command_behind : Option Text → Piece → Option Text
 command_behind command (Blank bytes) = command
 command_behind command (Kept bytes text) = option_or command (Some text)
 command_behind command (Redirected sign behind name) = command
 command_behind command (Rest bytes) = command
 
--- the pieces stand in the line from a place on, one behind another
+-- the pieces follow one another in the line from a place on
 abbrev pub Stand : Text → Option Text → ℕ → List Piece → Type 0
 Stand line command place [] = Unit {0}
 Stand line command place (piece ∷ pieces) =
@@ -96,7 +96,7 @@ pub record ArePieces (line : Text) (pieces : List Piece) : Type 0 where
   pub joined : flat_map written pieces ≡ line
   pub placed : Stand line None 0 pieces
 
--- what a piece leaves in the arguments of a command: blanks in front of Run's redirections leave nothing
+-- what a piece adds to the arguments of a command: blanks before Run's redirections add nothing
 abbrev pub kept : Text → Piece → Text
 kept command (Blank bytes) = if is_run (Some command) then [] else bytes
 kept command (Kept bytes text) = bytes
@@ -111,7 +111,7 @@ command_of (Kept bytes text ∷ pieces) = Some text
 command_of (Redirected sign behind name ∷ pieces) = command_of pieces
 command_of (Rest bytes ∷ pieces) = command_of pieces
 
--- the arguments are what is kept behind the command, joined as it stands
+-- the arguments are the text kept after the command, joined unchanged
 abbrev pub args_of : List Piece → Text
 args_of [] = []
 args_of (Blank bytes ∷ pieces) = args_of pieces
@@ -129,14 +129,14 @@ output_by Input name = []
 output_by Output name = record { name = name; append = false } ∷ []
 output_by Append name = record { name = name; append = true } ∷ []
 
--- the input, where the piece names one
+-- the input, if the piece names one
 abbrev pub inputs : Piece → List Text
 inputs (Blank bytes) = []
 inputs (Kept bytes text) = []
 inputs (Redirected sign behind name) = input_by sign name
 inputs (Rest bytes) = []
 
--- the output, where the piece names one
+-- the output, if the piece names one
 abbrev pub outputs : Piece → List Redirection
 outputs (Blank bytes) = []
 outputs (Kept bytes text) = []
@@ -150,7 +150,7 @@ pub record IsSaid (line : Line) (pieces : List Piece) : Type 0 where
   pub input : flat_map inputs pieces ≡ option_to_list line.input
   pub output : flat_map outputs pieces ≡ option_to_list line.output
 
--- What a line came to is made of its pieces; where it asks for nothing no item is kept. A line that is cut is no tick.
+-- What a line is read as is made of its pieces; if it is `Nothing`, no item is kept. A line that is cut is never a `Tick`.
 abbrev pub IsOfPieces : Text → Expanded → Type 0
 IsOfPieces line Nothing = (pieces : List Piece) × ArePieces line pieces × (command_of pieces ≡ None)
 IsOfPieces line (Ready said) = (pieces : List Piece) × ArePieces line pieces × IsSaid said pieces

@@ -4,7 +4,7 @@ use Rattle.ados_text.specs.Text.{Text}
 use Rattle.ados_line.specs.declared.signs.Sign.{Sign}
 use Rattle.ados_line.specs.declared.signs.Sign.TheVariants.{Input, Output, Append}
 
--- the byte at a place is this one, at the start of a word: a byte behind `=` goes on with a word
+-- the byte at a place is this one, at the start of a word: a byte after `=` continues a word
 abbrev pub begins : Text → ℕ → ℕ → Bool
 begins line byte place = (slice_index line place == byte) && not (nat_lt 0 place && (slice_index line (place - 1) == 61))
 
@@ -12,7 +12,7 @@ begins line byte place = (slice_index line place == byte) && not (nat_lt 0 place
 abbrev pub is_both : Text → ℕ → Bool
 is_both line place = begins line 60 place && (slice_index line (place + 1) == 62)
 
--- The sign at a place, if one stands there at a word's start; `>>` is one sign.
+-- The sign at a place, if there is one at a word's start; `>>` is one sign.
 abbrev pub sign_at : Text → ℕ → Option Sign
 sign_at line place =
     if begins line 60 place then Some Input else

@@ -1,4 +1,4 @@
--- What one step of the cut of a line says of the whole.
+-- What one step of the cut of a line says about the whole cut.
 use Rattle.std.specs.Prelude.{◌≡◌, ◌⊎◌, Some, None, Result, Ok, Err}
 use Rattle.ados_text.specs.Text.{Text}
 use Rattle.ados_line.specs.declared.faults.LineFault.{LineFault}
@@ -8,14 +8,14 @@ use Rattle.ados_line.specs.declared.cuts.Reading.{Reading}
 use Rattle.ados_line.specs.declared.cuts.Reading.TheVariants.{Onward, Done}
 use Rattle.ados_line.specs.Cut.{Next}
 
--- with what was read, the cut goes on with `next` from a place, or is done, or has this fault, unless memory was
--- wanting
+-- with what has been read, the cut continues with `next` from a place, or is done, or has this fault, unless an
+-- allocation failed
 abbrev pub Goes : Next → Result Reading LineFault → Cut → Result Cut LineFault → Type 0
 Goes next (Ok (Onward to)) read whole = whole ≡ next to read
 Goes next (Ok Done) read whole = whole ≡ Ok read
 Goes next (Err fault) read whole = (fault ≡ NoMemory) ⊎ (whole ≡ Err fault)
 
--- the answer is this cut or this fault, or memory was wanting
+-- the result is this cut or this fault, or an allocation failed
 abbrev pub IsCut : Result Cut LineFault → Result Cut LineFault → Type 0
 IsCut result whole = (result ≡ Err NoMemory) ⊎ (result ≡ whole)
 

@@ -1,5 +1,6 @@
--- Back-ticks: the first two of a line that stand on their own part it into what stands in front, the command between them
--- and what stands behind. Inside quotes a star before a back-tick goes, and the back-tick stands for itself.
+-- Back-ticks, the signs of command substitution: the first two of a line without a star before them split it into the
+-- text before them, the command between them and the text after them. Inside quotes a star before a back-tick is
+-- removed, and the back-tick stands for itself.
 use Rattle.std.specs.Prelude.{◌≡◌, ◌⊎◌, ℕ, suc, ◌+◌, ◌-◌, List, [], ◌∷◌, ◌++◌, length, take, drop, position, Bool, false, nat_le, Option, Some, None, Result, Ok, Err, if◌then◌else◌}
 use Rattle.std.specs.List.{flat_map, All}
 use Rattle.ados_text.specs.Text.{Text}
@@ -13,18 +14,18 @@ use Rattle.ados_line.specs.declared.ticks.Parted.TheVariants.{Whole, Ticked}
 use Rattle.ados_line.specs.Letters.{written, spelled, bared, letters_of}
 use Rattle.ados_line.specs.Values.{is_plain}
 
--- a back-tick on its own
+-- a back-tick without a star before it
 abbrev pub is_tick : Letter → Bool
 is_tick letter = is_plain 96 letter
 
--- characters as they stand, and without the stars before back-ticks
+-- characters as they are written, and without the stars before back-ticks
 abbrev pub text_of : List Letter → Text
 text_of letters = flat_map spelled letters
 
 abbrev pub unticked : List Letter → Text
 unticked letters = flat_map (bared 96) letters
 
--- the second back-tick ends the command; what stands behind it stays as it is
+-- the second back-tick ends the command; the text after it stays as it is
 abbrev pub by_second : Text → List Letter → Option ℕ → Result Parted LineFault
 by_second before rest None = Err UnmatchedQuotes
 by_second before rest (Some place) =
@@ -36,43 +37,43 @@ by_first kept letters None = Ok (Whole (kept ++ unticked letters))
 by_first kept letters (Some place) =
     (let rest = drop (place + 1) letters in by_second (kept ++ unticked (take place letters)) rest (position is_tick rest))
 
--- characters parted at their first two back-ticks, behind a text that is kept as it is
+-- characters split at their first two back-ticks, after a text that is kept as it is
 abbrev pub parted : Text → List Letter → Result Parted LineFault
 parted kept letters = by_first kept letters (position is_tick letters)
 
--- how many characters end within so many bytes
+-- how many characters end within `size` bytes
 abbrev pub within_bytes : ℕ → List Letter → ℕ
 within_bytes size [] = 0
 within_bytes size (l ∷ ls) = if nat_le (length (written l)) size then suc (within_bytes (size - length (written l)) ls) else 0
 
--- characters parted behind the first ones, which are kept as they are
+-- characters split after the first `count` ones, which are kept as they are
 abbrev pub parted_at : ℕ → List Letter → Result Parted LineFault
 parted_at count letters = parted (text_of (take count letters)) (drop count letters)
 
--- A line parted behind its first bytes, which are kept as they are. A star there and the byte behind it may be one
--- character, which is read.
+-- A line split after its first `size` bytes, which are kept as they are. A star there and the byte after it may be one
+-- character, which is then read.
 abbrev pub parted_behind : ℕ → Text → Result Parted LineFault
 parted_behind size line = (let letters = letters_of line in parted_at (within_bytes size letters) letters)
 
--- no back-tick stands on its own among the characters
+-- there is no back-tick without a star before it among the characters
 abbrev pub HasNoTick : List Letter → Type 0
 HasNoTick letters = All (λ letter. is_tick letter ≡ false) letters
 
--- characters are these three rows, with a back-tick on its own between each two, and none within the first two
+-- the characters are these three lists, with a back-tick between each two, and none within the first two
 pub record ArePairAt (letters before command after : List Letter) : Type 0 where
   pub joined : letters ≡ before ++ (Plain 96 ∷ (command ++ (Plain 96 ∷ after)))
   pub first : HasNoTick before
   pub second : HasNoTick command
 
--- A tick is what its characters say, behind a text that is kept: stars before back-ticks are gone in front of the pair and
--- between its two, and what stands behind it is as it was.
+-- A tick is what its characters say, after a text that is kept: stars before back-ticks are removed before the pair and
+-- between the two, and the text after it stays as it was.
 abbrev pub IsTick : Text → List Letter → Tick → Type 0
 IsTick kept letters tick =
     (before : List Letter) × (command : List Letter) × (after : List Letter) × ArePairAt letters before command after
     × (tick.before ≡ kept ++ unticked before) × (tick.command ≡ unticked command) × (tick.after ≡ text_of after)
 
--- A line's characters up to the end of what is kept of it, and those that are read: a star at that end goes with the byte
--- behind it.
+-- A line's characters up to the end of the kept text, and those that are read: a star at that end is read with the byte
+-- after it.
 pub record IsSeam (kept line : Text) (before behind : List Letter) : Type 0 where
   pub joined : before ++ behind ≡ letters_of line
   pub ends : (flat_map written before ≡ kept) ⊎ (flat_map written before ++ 42 ∷ [] ≡ kept)

@@ -1,5 +1,5 @@
--- The variables of a line: it is a row of segments, and each is a character that stands for itself, or a reference that
--- stands for a value. Values are not read again.
+-- The variables of a line: it is a list of segments, and each is a character that stands for itself, or a reference that
+-- stands for a value. Values are not expanded again.
 use Rattle.std.specs.Prelude.{◌≡◌, ◌⊎◌, ℕ, zero, suc, ◌+◌, ◌-◌, List, [], ◌∷◌, ◌++◌, length, take, drop, slice_get, Bool, false, ◌==◌, ◌&&◌, ◌||◌, nat_lt, nat_le, Option, Some, None, if◌then◌else◌}
 use Rattle.std.specs.List.{flat_map, prefix_len}
 use Rattle.std.specs.Option.{option_or}
@@ -18,7 +18,7 @@ use Rattle.ados_line.specs.Letters.{singly, spelled, bared, letters_of}
 abbrev pub Variables : Type 0
 Variables = List ℕ → Option (List ℕ)
 
--- a local variable, of which these are seen, or else a global one
+-- the value of a local variable, of which these are visible, or else of a global one
 abbrev pub variables_of : Pairs → AssignMap → Files → Variables
 variables_of locals assigns files name = option_or (value_in locals name) (global_of assigns files name)
 
@@ -33,7 +33,7 @@ abbrev pub is_of_name : Letter → Bool
 is_of_name (Plain c) = is_name_byte c
 is_of_name (Starred c) = false
 
--- the character is this byte, on its own
+-- the character is this byte, without a star before it
 abbrev pub is_plain : ℕ → Letter → Bool
 is_plain byte (Plain c) = c == byte
 is_plain byte (Starred c) = false
@@ -42,8 +42,8 @@ abbrev pub is_this : ℕ → Option Letter → Bool
 is_this byte None = false
 is_this byte (Some letter) = is_plain byte letter
 
--- the reference whose `$` stands before these characters, by the places of its name and of its end: `name`, as long
--- as it goes, or `{name}`
+-- the reference whose `$` is before these characters, by the places of its name and of its end: `name`, as long as it
+-- goes, or `{name}`
 abbrev pub braced : List Letter → ℕ → Option Reference
 braced rest to = if nat_lt 1 to && is_this 125 (slice_get rest to) then Some (record { from = 1; to = to; end = to + 1 }) else None
 
@@ -63,17 +63,17 @@ pub data Segment : Type 0 where
   Literal : Letter → Segment
   Value : List Letter → List ℕ → Segment
 
--- the characters that a segment takes up
+-- the characters that a segment covers
 abbrev pub covered : Segment → List Letter
 covered (Literal letter) = letter ∷ []
 covered (Value letters value) = Plain 36 ∷ letters
 
--- how many it has behind its first
+-- how many it has after its first
 abbrev pub further : Segment → ℕ
 further (Literal letter) = 0
 further (Value letters value) = length letters
 
--- the text that it stands for: the star before a `$` goes
+-- the text that it stands for: the star before a `$` is removed
 abbrev pub meant : Segment → List ℕ
 meant (Literal letter) = bared 36 letter
 meant (Value letters value) = value
@@ -91,18 +91,18 @@ by_reference variables letter rest (Some r) = by_value letter (take r.end rest) 
 abbrev pub first_segment : Variables → Letter → List Letter → Segment
 first_segment variables letter rest = if is_plain 36 letter then by_reference variables letter rest (reference rest) else Literal letter
 
--- the segments of a row of characters, behind so many that belong to the segment before
+-- the segments of a list of characters, after the `taken` ones that belong to the segment before
 abbrev pub segments : Variables → ℕ → List Letter → List Segment
 segments variables taken [] = []
 segments variables (suc taken) (l ∷ ls) = segments variables taken ls
 segments variables zero (l ∷ ls) =
     (let segment = first_segment variables l ls in segment ∷ segments variables (further segment) ls)
 
--- what the characters stand for, behind so many of a segment before
+-- what the characters stand for, after the `taken` ones of the segment before
 abbrev pub values : Variables → ℕ → List Letter → List ℕ
 values variables taken letters = flat_map meant (segments variables taken letters)
 
--- the characters behind the `$` of a reference to a name: the name, or the name in braces
+-- the characters after the `$` of a reference to a name: the name, or the name in braces
 abbrev pub IsReference : List Letter → List ℕ → Type 0
 IsReference letters name = (letters ≡ singly name) ⊎ (letters ≡ Plain 123 ∷ (singly name ++ Plain 125 ∷ []))
 
@@ -115,12 +115,12 @@ abbrev pub AreSegments : Variables → List Segment → Type 0
 AreSegments variables [] = Unit {0}
 AreSegments variables (segment ∷ row) = IsSegment variables segment × AreSegments variables row
 
--- a row of segments is a line's characters, in order, and stands for a text
+-- a list of segments is a line's characters, in order, and stands for a text
 pub record Stands (variables : Variables) (line text : List ℕ) (row : List Segment) : Type 0 where
   pub covers : flat_map covered row ≡ letters_of line
   pub known : AreSegments variables row
   pub means : flat_map meant row ≡ text
 
--- a text is a line with its variables put in: its segments joined, each a character of the line or one value
+-- a text is a line with its variables expanded: its segments joined, each a character of the line or one value
 abbrev pub IsInSegments : Variables → List ℕ → List ℕ → Type 0
 IsInSegments variables line text = (row : List Segment) × Stands variables line text row

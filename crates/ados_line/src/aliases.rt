@@ -1,15 +1,13 @@
 ghost use Rattle.std.specs.Prelude.{◌≡◌, ◌+◌, ◌++◌, ◌≤◌, length, unwrap_or, IfOk, IfSome, OnOk};
-ghost use Rattle.std.specs.List.{prefix_len};
 ghost use Rattle.ados_text.specs.Text.{IsText};
-ghost use Rattle.ados_items.specs.Items.{is_blank};
 ghost use Rattle.ados_line.specs.Alias.{hole_from, filled, with_alias};
 
-use ados_items::{Item, next_item, value};
+use ados_items::{Item, blanks, next_item, value};
 use ados_text::{Name, NoMemory, Text};
 use ados_vars::Aliases;
 use std::alloc::Global;
 
-/// A line whose first word names an alias, with the alias's text in its place; `None` where it names none.
+/// A line whose first word names an alias, with the alias's text in place of the word; `None` if it names none.
 #[tactic(auto, using(ados_text::proofs::TextLemmas::parts, crate::proofs::AliasLemmas::no_aliases))]
 pub fn replace_alias(
     alloc: Global,
@@ -36,7 +34,7 @@ pub fn replace_alias(
     Ok(Some(replaced))
 }
 
-// Adds an alias's text with the rest of the line.
+// Appends an alias's text with the rest of the line: in place of the text's first `[]`, or after it.
 #[tactic(auto, using(ados_text::proofs::TextLemmas::parts))]
 fn push_filled(out: &mut Text, text: &Text, rest: &[u8]) -> Result<(), NoMemory>
     requires { IsText rest.now }
@@ -67,14 +65,4 @@ fn hole(text: &[u8]) -> Option<usize>
         }
     }
     None
-}
-
-// How many blanks a text begins with.
-fn blanks(rest: &[u8]) -> usize
-    ensures value { result ≡ prefix_len is_blank rest.now }
-    ensures within { result ≤ length rest.now }
-{
-    rest.iter()
-        .take_while(|byte| **byte == b' ' || **byte == b'\t')
-        .count()
 }

@@ -5,8 +5,8 @@ use ados_items::{Item, next_item};
 
 /// A line without its comment, which begins at the first `;` outside quotes.
 ///
-/// A quote that none closes takes the rest of the line, so that no comment begins behind it. It
-/// takes no memory. A line without any `;`, as nearly all are, is not looked at further.
+/// A quote that is not closed takes the rest of the line, so that no comment begins after it. No memory is allocated. A
+/// line without any `;`, as nearly all are, is not searched item by item.
 #[tactic(auto, using(crate::proofs::CommentLemmas::whole))]
 pub fn without_comment(line: &[u8]) -> &[u8]
     ensures { result.now ≡ without_comment line.now }
@@ -17,7 +17,7 @@ pub fn without_comment(line: &[u8]) -> &[u8]
     &line[..comment_start(line).min(line.len())]
 }
 
-// Where a line's comment begins; where it has none, the line's end.
+// Where a line's comment begins, or the line's end if it has none.
 fn comment_start(line: &[u8]) -> usize
     ensures { result ≡ comment_start line.now }
 {

@@ -1,24 +1,22 @@
 ghost use Rattle.std.specs.Prelude.{◌≡◌, ◌≤◌, true, false, length, drop, Ok, IfOk, OnOk};
-ghost use Rattle.std.specs.List.{list_any};
 ghost use Rattle.ados_text.specs.Text.{IsText};
 ghost use Rattle.ados_items.specs.Items.{item_at, value_of, bytes_between, IsWithin};
-ghost use Rattle.ados_line.specs.Cut.{Next, with_piece, with_blanks, with_name, named, is_taken, redirected, cut_word, cut_item, run_item, cut_behind, cut_of, is_run, with_rest, nothing_read};
-ghost use Rattle.ados_line.specs.Signs.{is_mark};
-ghost use Rattle.ados_line.specs.Steps.{Goes, IsCut, with_arguments};
+ghost use Rattle.ados_line.specs.Cut.{Next, with_piece, with_blanks, with_name, named, is_taken, redirected, cut_word, cut_item, run_item, cut_behind, is_run, with_rest, nothing_read};
+ghost use Rattle.ados_line.specs.Steps.{Goes, with_arguments};
 
 use crate::faults::LineFault;
 use crate::lines::Redirection;
 use crate::signs::{Sign, is_both, sign_at};
-use ados_items::{Item, next_item, next_word, value};
+use ados_items::{Item, between, next_item, next_word, value};
 use ados_text::{NoMemory, Text};
 use std::alloc::Global;
 
-/// What was read of a line.
+/// What has been read of a line.
 #[derive(Drop)]
 pub struct Cut {
     /// The first item's text.
     pub command: Option<Text>,
-    /// The pieces behind the command that are no redirection, as they stand.
+    /// The pieces after the command that are not redirections, unchanged.
     pub args: Text,
     /// The name of the input.
     pub input: Option<Text>,
@@ -26,18 +24,18 @@ pub struct Cut {
     pub output: Option<Redirection>,
 }
 
-/// Where reading goes on behind an item.
+/// Where reading continues after an item.
 #[derive(Clone, Copy)]
 pub enum Reading {
     /// At this place.
     Onward(usize),
-    /// Nowhere: the line is read.
+    /// Nowhere: the whole line has been read.
     Done,
 }
 
 impl Cut {
-    // Nothing was read.
-    fn of_nothing(alloc: Global) -> Cut
+    /// Nothing has been read.
+    pub fn of_nothing(alloc: Global) -> Cut
         ensures { result ≡ nothing_read }
     {
         Cut {
@@ -48,14 +46,14 @@ impl Cut {
         }
     }
 
-    // The item is the command, and all of the line from a place on its arguments.
-    fn of_command(alloc: Global, line: &[u8], item: &Item, to: usize) -> Result<Cut, NoMemory>
+    /// The item is the command, and the line from a place on is its arguments.
+    pub fn of_command(alloc: Global, line: &[u8], item: &Item, to: usize) -> Result<Cut, NoMemory>
         requires { IsText line.now }
         ensures { IfOk result (λ read. read ≡ with_arguments (value_of line.now item.now) (drop to line.now)) }
     {
         let command = value(alloc, line, item)?;
         let mut args = Text::new(alloc);
-        args.push_bytes(piece(line, to, line.len()))?;
+        args.push_bytes(between(line, to, line.len()))?;
         Ok(Cut {
             command: Some(command),
             args,
@@ -64,8 +62,8 @@ impl Cut {
         })
     }
 
-    // The first item is the command, and each further piece of the line joins the arguments; the
-    // piece goes from `place` up to `to`.
+    // The first item is the command, and each later piece of the line is appended to the arguments; the piece is the
+    // line from `place` up to `to`.
     fn take_piece(
         &mut self,
         alloc: Global,
@@ -83,11 +81,11 @@ impl Cut {
                 self.args.reserve(line.len().saturating_sub(to))?;
                 Ok(())
             }
-            Some(_) => self.args.push_bytes(piece(line, place, to)),
+            Some(_) => self.args.push_bytes(between(line, place, to)),
         }
     }
 
-    // Blanks in front of the command are dropped.
+    // Blanks before the command are dropped.
     fn take_blanks(&mut self, blanks: &[u8]) -> Result<(), NoMemory>
         requires { IsText blanks.now }
         ensures { OnOk result (self.new ≡ with_blanks self.old.command blanks.now self.old) }
@@ -114,7 +112,7 @@ impl Cut {
         }
     }
 
-    // The redirection by the item behind its sign.
+    // The redirection whose name is the item after its sign.
     fn take_named(
         &mut self,
         alloc: Global,
@@ -140,7 +138,7 @@ impl Cut {
         }
     }
 
-    // A line takes one input and one output.
+    // Whether an input or an output was named before: a line takes one of each.
     fn is_taken(&self, sign: Sign) -> bool
         ensures { result ≡ is_taken sign self.now }
     {
@@ -151,7 +149,7 @@ impl Cut {
         }
     }
 
-    // The redirection whose sign stands at `place`; the blanks in front of it were read.
+    // The redirection whose sign is at `place`; the blanks before it have been read.
     fn take_redirection(
         &mut self,
         alloc: Global,
@@ -187,7 +185,7 @@ impl Cut {
         }
         match sign_at(line, from) {
             Some(sign) => {
-                self.take_blanks(piece(line, place, from))?;
+                self.take_blanks(between(line, place, from))?;
                 self.take_redirection(alloc, line, from, sign)
             }
             None => {
@@ -197,7 +195,7 @@ impl Cut {
         }
     }
 
-    // The command is Run.
+    // Whether the command is Run.
     fn is_run(&self) -> bool
         ensures { result ≡ is_run self.now.command }
     {
@@ -212,10 +210,10 @@ impl Cut {
         requires { IsText line.now }
         ensures { OnOk result (self.new ≡ with_rest (drop place line.now) self.old) }
     {
-        self.args.push_bytes(piece(line, place, line.len()))
+        self.args.push_bytes(between(line, place, line.len()))
     }
 
-    // An item behind Run: a redirection of Run's own, or the rest of the line begins.
+    // An item after Run: a redirection of Run's own, or the start of the rest of the line.
     fn take_behind_run(
         &mut self,
         alloc: Global,
@@ -243,8 +241,13 @@ impl Cut {
         }
     }
 
-    // The item at a place up to which the line was read.
-    fn take_next(&mut self, alloc: Global, line: &[u8], place: usize) -> Result<Reading, LineFault>
+    /// Takes the item after `place`, up to which the line has been read.
+    pub fn take_next(
+        &mut self,
+        alloc: Global,
+        line: &[u8],
+        place: usize,
+    ) -> Result<Reading, LineFault>
         requires { IsText line.now }
         ensures { (next : Next) →
             Goes next result self.new (cut_behind next line.now place self.old (item_at true line.now place)) }
@@ -257,7 +260,7 @@ impl Cut {
         }
     }
 
-    // The item behind a place up to which the line was read, where the command is not Run.
+    // The item after `place`, up to which the line has been read, if the command is not Run.
     fn take_item(
         &mut self,
         alloc: Global,
@@ -280,78 +283,10 @@ impl Cut {
                 Ok(Reading::Onward(at + 1))
             }
             Item::End(_) => {
-                self.take_blanks(piece(line, place, line.len()))?;
+                self.take_blanks(between(line, place, line.len()))?;
                 Ok(Reading::Done)
             }
             Item::Unmatched(_) => Err(LineFault::UnmatchedQuotes),
         }
     }
-}
-
-/// The cut of a line of ASCII, or the fault that stands first in it.
-pub fn cut_line(alloc: Global, line: &[u8]) -> Result<Cut, LineFault>
-    requires { IsText line.now }
-    ensures { IsCut result (cut_of line.now) }
-{
-    if has_mark(line) {
-        cut_items(alloc, line)
-    } else {
-        Ok(cut_plain(alloc, line)?)
-    }
-}
-
-// The cut of a line without quotes and signs, as nearly all are: what stands behind the command is
-// taken as it is.
-#[tactic(auto, using(crate::proofs::PlainLemmas::plain_cut))]
-fn cut_plain(alloc: Global, line: &[u8]) -> Result<Cut, NoMemory>
-    requires ascii { IsText line.now }
-    requires plain { list_any is_mark line.now ≡ false }
-    ensures { IfOk result (λ read. cut_of line.now ≡ Ok read) }
-{
-    let item = next_item(line, 0);
-    match item {
-        Item::Word { to, .. } => Cut::of_command(alloc, line, &item, to),
-        Item::Equal(at) => Cut::of_command(alloc, line, &item, at + 1),
-        _ => Ok(Cut::of_nothing(alloc)),
-    }
-}
-
-// The cut of a line, item by item.
-fn cut_items(alloc: Global, line: &[u8]) -> Result<Cut, LineFault>
-    requires { IsText line.now }
-    ensures { IsCut result (cut_of line.now) }
-{
-    let mut read = Cut::of_nothing(alloc);
-    let mut place = 0;
-    for step in 0..line.len() + 1 {
-        match read.take_next(alloc, line, place)? {
-            Reading::Onward(to) => place = to,
-            Reading::Done => return Ok(read),
-        }
-    }
-    Ok(read)
-}
-
-/// The bytes of a line from one place up to another; none where the places are the other way round.
-pub fn piece(line: &[u8], from: usize, to: usize) -> &[u8]
-    requires { IsText line.now }
-    ensures value { result.now ≡ bytes_between line.now from to }
-    ensures ascii { IsText result.now }
-{
-    let to = to.min(line.len());
-    if from >= to { &[] } else { &line[from..to] }
-}
-
-// A quote or the sign of a redirection stands in a line.
-fn has_mark(line: &[u8]) -> bool
-    ensures { result ≡ list_any is_mark line.now }
-{
-    line.iter().any(is_mark)
-}
-
-// A quote, or a byte of the sign of a redirection.
-fn is_mark(byte: &u8) -> bool
-    ensures { result ≡ is_mark byte.now }
-{
-    matches!(*byte, b'"' | b'<' | b'>')
 }

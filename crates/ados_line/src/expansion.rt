@@ -17,14 +17,15 @@ use crate::values::put_values;
 use ados_text::{LINE_BYTES, NoMemory, Text};
 use std::alloc::Global;
 
-/// What a raw line comes to where aliases, variables and back-ticks stand. It has at most 512 bytes; its comment is
-/// dropped; the alias that its first word names is put in, once; then the variables that it names are put in. What came
-/// out has at most 512 bytes too. At its first pair of back-ticks, inside quotes too, it is a tick, and otherwise it is cut.
+/// What a raw line that may hold aliases, variables and back-ticks is read as. It has at most 512 bytes; its comment is
+/// dropped; the alias that its first word names is expanded, once; then the variables that it names are expanded. The
+/// resulting text has at most 512 bytes too. If it has a pair of back-ticks, even inside quotes, the line is a `Tick` at
+/// the first pair, and otherwise it is cut.
 ///
-/// Quotes are judged before values are put in, and no value is read again: what came out is the segments of the line,
-/// in order, each a character of it or the value of one variable. Inside quotes of that text a star before a back-tick
-/// goes, and the back-tick stands for itself. `LineTooLong` comes first, then `UnmatchedQuotes` for a single back-tick;
-/// the other faults are those of the cut, in what came out, the first one in it.
+/// Quotes are read before values are inserted, and no value is expanded again: the text is the segments of the line, in
+/// order, each a character of the line or the value of one variable. Inside quotes of the text a star before a back-tick
+/// is removed, and the back-tick stands for itself. `LineTooLong` comes first, then `UnmatchedQuotes` for a single
+/// back-tick; the other faults are those of the cut: the first one in the text.
 #[tactic(auto, unfolding(crate::specs::Expansion::expanded_in))]
 pub fn expand(scope: &Scope, raw: &Text) -> Result<Expanded, LineFault>
     ensures value { Gives result (expanded_in scope.now.aliases.now (variables_in scope.now) raw.now) }
@@ -43,11 +44,12 @@ pub fn expand(scope: &Scope, raw: &Text) -> Result<Expanded, LineFault>
     }
 }
 
-/// What a line comes to where its tick has ended: what the tick wrote stands in place of the pair, without one newline at
-/// its end, with a blank for each other newline and `?` for each byte past ASCII. The next pair is looked for behind it.
+/// What a line is read as after its command substitution has ended: the command's output replaces the pair of
+/// back-ticks, without one newline at its end, with a blank for each other newline and `?` for each byte past ASCII. The
+/// next pair is looked for after it.
 ///
-/// What stands up to the end of the output is not read for back-ticks again; quotes are judged in the whole text, so that
-/// a star at the end of the output goes with the byte behind it. `LineTooLong` for more than 512 bytes of the whole text
+/// The text up to the end of the output is not read for back-ticks again; quotes are read in the whole text, so that a
+/// star at the end of the output escapes the byte after it. `LineTooLong` for more than 512 bytes of the whole text
 /// comes before `UnmatchedQuotes` for a single back-tick; the other faults are those of the cut.
 #[tactic(auto, unfolding(crate::specs::Expansion::resumed_of))]
 pub fn resume(
@@ -63,7 +65,7 @@ pub fn resume(
     put_and_go_on(alloc, before, without_newline(output), after)
 }
 
-// A line with its variables, read. Nearly all lines have none, and are read where they lie.
+// Expands the variables of a line and reads it. Nearly all lines have none, and are read in place.
 #[tactic(auto, using(crate::proofs::UnmarkedLemmas::plain_values))]
 fn put_and_read(scope: &Scope, line: &[u8]) -> Result<Expanded, LineFault>
     requires { IsText line.now }
@@ -79,7 +81,7 @@ fn put_and_read(scope: &Scope, line: &[u8]) -> Result<Expanded, LineFault>
     }
 }
 
-// A text of which so many bytes are kept. Nearly all have no back-tick, and are cut where they lie.
+// Reads a text whose first `size` bytes are kept. Nearly all texts have no back-tick, and are cut in place.
 #[inline(always)]
 #[tactic(auto, using(crate::proofs::UnmarkedLemmas::plain_ticks))]
 fn read_text(alloc: Global, text: &[u8], size: usize) -> Result<Expanded, LineFault>
@@ -93,7 +95,7 @@ fn read_text(alloc: Global, text: &[u8], size: usize) -> Result<Expanded, LineFa
     }
 }
 
-// A text with a back-tick: a tick, or its cut where each one has a star before it.
+// Reads a text with a back-tick: it is a tick, or it is cut if each back-tick has a star before it.
 #[inline(never)]
 fn part_and_cut(alloc: Global, text: &[u8], size: usize) -> Result<Expanded, LineFault>
     requires { IsText text.now }
@@ -105,7 +107,8 @@ fn part_and_cut(alloc: Global, text: &[u8], size: usize) -> Result<Expanded, Lin
     }
 }
 
-// A line with the output of its tick in place, where that has no newline at its end; read behind the output.
+// Reads a line with the output of its command substitution in place, if that has no newline at its end; reading starts
+// after the output.
 fn put_and_go_on(
     alloc: Global,
     before: &Text,
@@ -135,7 +138,7 @@ fn without_newline(bytes: &[u8]) -> &[u8]
     }
 }
 
-// Adds bytes, with blanks for newlines.
+// Appends bytes, with blanks for newlines.
 fn push_spaced(text: &mut Text, bytes: &[u8]) -> Result<(), NoMemory>
     ensures { OnOk result (text.new ≡ text.old ++ map spaced bytes.now) }
 {

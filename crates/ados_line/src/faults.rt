@@ -14,7 +14,7 @@ pub enum LineFault {
     /// A second input or a second output.
     #[error("too many arguments")]
     TooManyArguments,
-    /// A quote that none closes.
+    /// A quote that is not closed.
     #[error("unmatched quotes")]
     UnmatchedQuotes,
     /// More than 512 bytes.
@@ -23,13 +23,13 @@ pub enum LineFault {
     /// `<>`, an input and an output in one.
     #[error("not implemented")]
     NotImplemented,
-    /// There was no memory for what the line says.
+    /// An allocation failed.
     #[error("no free store")]
     NoMemory,
 }
 
 impl LineFault {
-    /// The number by which the fault is answered.
+    /// The AmigaDOS error number (Result2) of the fault.
     pub fn result2(self) -> Result2
         ensures { result ≡ result2_of self }
     {

@@ -16,8 +16,8 @@ use crate::scopes::Scope;
 use crate::spelling::push_spelled;
 use ados_text::{Name, NoMemory, Text};
 
-/// A raw line refers to a variable that is none of the shell's own, so that it is looked for among the global ones. Of a
-/// line without a `$`, in a shell without aliases, no more is looked at.
+/// Whether a raw line refers to a variable that is not one of the shell's own, so that it is looked for among the global
+/// ones. For a line without a `$`, in a shell without aliases, nothing else is looked at.
 #[tactic(auto, unfolding(crate::specs::Globals::asks_global), using(crate::proofs::GlobalLemmas::plain_line))]
 pub fn asks_global(scope: &Scope, raw: &Text) -> Result<bool, NoMemory>
     ensures { IfOk result (λ asks. asks ≡ asks_global scope.now.aliases.now (shown scope.now.locals.now scope.now.code scope.now.result2) raw.now) }
@@ -33,7 +33,7 @@ pub fn asks_global(scope: &Scope, raw: &Text) -> Result<bool, NoMemory>
     }
 }
 
-// The same of a line in which its alias was put.
+// The same for a line whose alias has been expanded.
 fn asks_in(scope: &Scope, line: &[u8]) -> Result<bool, NoMemory>
     requires { IsText line.now }
     ensures { IfOk result (λ asks. asks ≡ asks_beyond (shown scope.now.locals.now scope.now.code scope.now.result2) (letters_of line.now)) }
@@ -41,7 +41,7 @@ fn asks_in(scope: &Scope, line: &[u8]) -> Result<bool, NoMemory>
     asks_among(scope, &read_letters(scope.alloc, line)?)
 }
 
-// Some of the characters begin such a reference.
+// Whether one of the characters begins such a reference.
 fn asks_among(scope: &Scope, letters: &[Letter]) -> Result<bool, NoMemory>
     ensures { IfOk result (λ asks. asks ≡ asks_beyond (shown scope.now.locals.now scope.now.code scope.now.result2) letters.now) }
 {
@@ -53,7 +53,7 @@ fn asks_among(scope: &Scope, letters: &[Letter]) -> Result<bool, NoMemory>
     Ok(false)
 }
 
-// The reference whose `$` stands before these characters names no variable of the shell's own.
+// Whether the reference whose `$` is before these characters names a variable that is not the shell's own.
 fn is_beyond(scope: &Scope, rest: &[Letter]) -> Result<bool, NoMemory>
     ensures { IfOk result (λ beyond. beyond ≡ is_beyond (shown scope.now.locals.now scope.now.code scope.now.result2) rest.now (reference rest.now)) }
 {

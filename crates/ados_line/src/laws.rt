@@ -5,8 +5,8 @@ ghost use Rattle.ados_line.specs.declared.faults.LineFault.{LineFault};
 ghost use Rattle.ados_line.specs.Cut.{cut_of};
 ghost use Rattle.ados_line.specs.FirstFault.{IsFirstFault};
 
-/// A line that is not cut has its fault at the first place at which one stands: up to there it is pieces that have none, and
-/// at that place stands a second input or output, one without a name, `<>`, or a quote that is not closed, in this order.
+/// A line that is not cut has its fault at the first place that has one: up to there it is pieces without faults, and at
+/// that place there is a second input or output, one without a name, `<>`, or a quote that is not closed, in this order.
 pub fn first_fault_of_a_cut()
     ensures { (line : Text) (fault : LineFault) → cut_of line ≡ Err fault → IsFirstFault line fault }
 {}

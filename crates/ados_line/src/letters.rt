@@ -5,22 +5,21 @@ ghost use Rattle.ados_items.specs.Items.{item_at};
 ghost use Rattle.ados_line.specs.declared.letters.Letter.{Letter};
 ghost use Rattle.ados_line.specs.Letters.{singly, paired, letters_behind, letters_of, behind, written};
 
-use crate::cuts::piece;
-use ados_items::{Item, next_item};
+use ados_items::{Item, between, next_item};
 use ados_text::NoMemory;
 use std::alloc::Global;
 
-/// A character of a line, as quotes have it read.
+/// A character of a line, as it is read inside or outside quotes.
 #[derive(Clone, Copy, PartialEq, Eq)]
 pub enum Letter {
     /// This byte.
     Plain(u8),
-    /// Inside quotes, a star and this byte behind it.
+    /// Inside quotes, a star and this byte after it.
     Starred(u8),
 }
 
-/// The characters of a line: inside quotes a star and the byte after it are one, anything else is a byte on its own. Written
-/// one after another, they are the line.
+/// The characters of a line: inside quotes a star and the byte after it are one, anything else is a byte on its own.
+/// Written one after another, they are the line.
 pub fn read_letters(alloc: Global, line: &[u8]) -> Result<Vec<Letter>, NoMemory>
     requires { IsText line.now }
     ensures letters { IfOk result (λ letters. letters.items ≡ letters_of line.now) }
@@ -37,7 +36,7 @@ pub fn read_letters(alloc: Global, line: &[u8]) -> Result<Vec<Letter>, NoMemory>
     Ok(letters)
 }
 
-// Adds the characters from a place up to behind the item there; gives that place, if anything may stand there.
+// Appends the characters from a place up to the end of the item there; gives that end, if anything may follow it.
 fn push_item(
     letters: &mut Vec<Letter>,
     line: &[u8],
@@ -49,32 +48,32 @@ fn push_item(
 {
     match next_item(line, place) {
         Item::Word { to, .. } => {
-            push_singly(letters, piece(line, place, to))?;
+            push_singly(letters, between(line, place, to))?;
             Ok(Some(to))
         }
         Item::Quoted { from, to } => {
-            push_singly(letters, piece(line, place, from))?;
-            push_paired(letters, piece(line, from, to))?;
-            push_singly(letters, piece(line, to, to + 1))?;
+            push_singly(letters, between(line, place, from))?;
+            push_paired(letters, between(line, from, to))?;
+            push_singly(letters, between(line, to, to + 1))?;
             Ok(Some(to + 1))
         }
         Item::Equal(at) => {
-            push_singly(letters, piece(line, place, at + 1))?;
+            push_singly(letters, between(line, place, at + 1))?;
             Ok(Some(at + 1))
         }
         Item::End(_) => {
-            push_singly(letters, piece(line, place, line.len()))?;
+            push_singly(letters, between(line, place, line.len()))?;
             Ok(None)
         }
         Item::Unmatched(from) => {
-            push_singly(letters, piece(line, place, from))?;
-            push_paired(letters, piece(line, from, line.len()))?;
+            push_singly(letters, between(line, place, from))?;
+            push_paired(letters, between(line, from, line.len()))?;
             Ok(None)
         }
     }
 }
 
-// Adds bytes outside quotes.
+// Appends bytes outside quotes.
 fn push_singly(letters: &mut Vec<Letter>, bytes: &[u8]) -> Result<(), NoMemory>
     ensures { OnOk result (letters.new.items ≡ letters.old.items ++ singly bytes.now) }
 {
@@ -84,7 +83,7 @@ fn push_singly(letters: &mut Vec<Letter>, bytes: &[u8]) -> Result<(), NoMemory>
     Ok(())
 }
 
-// Adds bytes inside quotes.
+// Appends bytes inside quotes.
 fn push_paired(letters: &mut Vec<Letter>, bytes: &[u8]) -> Result<(), NoMemory>
     ensures { OnOk result (letters.new.items ≡ letters.old.items ++ paired false bytes.now) }
 {

@@ -1,6 +1,7 @@
 #![tactic(auto)]
-//! What a raw line asks for: its comment is dropped, its alias, its variables and the output of what stands in back-ticks
-//! are put in, and what is left is cut into the command, its arguments and the redirections of its input and its output.
+//! What a raw line asks for: its comment is dropped, its alias, its variables and its command substitutions (the text
+//! between back-ticks) are expanded, and the result is cut into the command, its arguments and the redirections of its
+//! input and its output.
 
 mod aliases;
 mod comments;
@@ -10,6 +11,7 @@ mod faults;
 mod globals;
 mod laws;
 mod letters;
+mod line_cuts;
 mod lines;
 mod references;
 mod scopes;

@@ -4,28 +4,29 @@ ghost use Rattle.ados_line.specs.Answers.{Gives};
 ghost use Rattle.ados_line.specs.Cut.{cut_of, expanded_by};
 ghost use Rattle.ados_line.specs.Pieces.{IsOfPieces};
 
-use crate::cuts::{Cut, cut_line};
+use crate::cuts::Cut;
 use crate::faults::LineFault;
+use crate::line_cuts::cut_line;
 use ados_text::{NoMemory, Text};
 use std::alloc::Global;
 
-/// Where a command's output goes in place of the console.
+/// Where a command's output goes instead of the console.
 #[derive(Clone, Drop)]
 pub struct Redirection {
-    /// The name of a file: its quotes are gone, and its star escapes are read.
+    /// The name of a file, without its quotes, and with its star escapes read.
     pub name: Text,
-    /// `>>`: the file is kept, and the output goes behind what it holds.
+    /// `>>`: the file is kept, and the output is appended to it.
     pub append: bool,
 }
 
-/// A line, cut.
+/// A line that was cut into its parts.
 #[derive(Clone, Drop)]
 pub struct Line {
     /// The first item's text.
     pub command: Text,
-    /// The text behind the command, without the redirections.
+    /// The text after the command, without the redirections.
     pub args: Text,
-    /// The name of the file that the input comes from: its quotes are gone, and its star escapes are read.
+    /// The name of the file that the input comes from, without its quotes, and with its star escapes read.
     pub input: Option<Text>,
     /// Where the output goes.
     pub output: Option<Redirection>,
@@ -49,38 +50,39 @@ impl Line {
     }
 }
 
-/// A line at its first pair of back-ticks: the command between them is to be run first, and its output stands in their
-/// place.
+/// A line at its first command substitution: the command between the two back-ticks is to be run first, and its output
+/// replaces them and the command.
 #[derive(Drop)]
 pub struct Tick {
-    /// What stands before the first back-tick.
+    /// The text before the first back-tick.
     pub before: Text,
     /// The text between the two, which is run as a raw line.
     pub command: Text,
-    /// What stands behind the second, as it is.
+    /// The text after the second, unchanged.
     pub after: Text,
 }
 
-/// What a raw line came to.
+/// What a raw line was read as.
 #[derive(Drop)]
 pub enum Expanded {
-    /// A blank line or a comment: it asks for nothing.
+    /// A blank line or a comment: there is nothing to do.
     Nothing,
     /// A line that was cut.
     Ready(Line),
-    /// A line with a pair of back-ticks.
+    /// A line with a pair of back-ticks, which is a command substitution.
     Tick(Tick),
 }
 
-/// What a line without comment, alias, variables and back-ticks comes to: the cut of it. It is `Nothing` for a line of
-/// blanks, and never a tick.
+/// What a line without comment, alias, variables and back-ticks is read as: its command, arguments and redirections. It
+/// is `Nothing` for a line of blanks, and never a `Tick`.
 ///
-/// Of the faults the one that stands first in the line is told. At one place a second input or output comes before a
-/// missing name, and that before an open quote; `<>` counts as neither and is not implemented. The line is its pieces,
-/// in order: the items that are kept, of which none begins with the sign of a redirection, the blanks between them, and
-/// the redirections, each a sign with the item behind it, whose text is the name. The first item that is kept is the
-/// command, and what is kept behind it the arguments, as it stands. Behind the command Run only the redirections that
-/// stand directly there are read: the rest of the line is one piece, the arguments, and no fault of it is told.
+/// If a line has several faults, the first one in it is reported. At one place a second input or output comes before a
+/// missing name, and that before an open quote; `<>` is neither an input nor an output, and is not implemented. The line
+/// is its pieces, in order: the items that are kept, none of which begins with the sign of a redirection, the blanks
+/// between them, and the redirections, each of which is a sign with the item after it, whose text is the name. The first
+/// item that is kept is the command, and what is kept after it is the arguments, unchanged. After the command Run only
+/// the redirections that directly follow it are read: the rest of the line is one piece, the arguments, and no fault in
+/// it is reported.
 pub fn cut(alloc: Global, line: &Text) -> Result<Expanded, LineFault>
     ensures value { Gives result (expanded_by (cut_of line.now)) }
     ensures pieces { IfOk result (IsOfPieces line.now) }

@@ -4,18 +4,18 @@ ghost use Rattle.ados_line.specs.Values.{is_name_byte, is_of_name, is_plain, is_
 
 use crate::letters::Letter;
 
-/// A reference to a variable, in the characters behind its `$`.
+/// A reference to a variable, in the characters after its `$`.
 #[derive(Clone, Copy, PartialEq, Eq)]
 pub struct Reference {
     /// Where its name begins.
     pub from: usize,
     /// Where its name ends.
     pub to: usize,
-    /// Where it ends itself.
+    /// Where the reference ends.
     pub end: usize,
 }
 
-/// The reference whose `$` stands before these characters: `name`, as long as it goes, or `{name}`.
+/// The reference whose `$` is before these characters: `name`, as long as it goes, or `{name}`.
 pub fn find_reference(rest: &[Letter]) -> Option<Reference>
     ensures value { result ≡ reference rest.now }
     ensures within { IfSome result (λ r. (r.from ≤ r.to) × (r.to ≤ r.end) × (r.end ≤ length rest.now)) }
@@ -45,7 +45,7 @@ pub fn find_reference(rest: &[Letter]) -> Option<Reference>
     }
 }
 
-/// The character is this byte, on its own.
+/// Whether the character is this byte, without a star before it.
 pub fn is_plain(letter: Letter, byte: u8) -> bool
     ensures { result ≡ is_plain byte letter }
 {
@@ -55,7 +55,7 @@ pub fn is_plain(letter: Letter, byte: u8) -> bool
     }
 }
 
-// This byte stands on its own at a place.
+// Whether this byte is at a place, without a star before it.
 fn is_at(rest: &[Letter], place: usize, byte: u8) -> bool
     ensures value { result ≡ is_this byte (slice_get rest.now place) }
     ensures within { IsTrue result → place < length rest.now }
@@ -66,7 +66,7 @@ fn is_at(rest: &[Letter], place: usize, byte: u8) -> bool
     }
 }
 
-// How many characters of a name a row begins with.
+// How many characters of a name the characters begin with.
 fn name_len(rest: &[Letter]) -> usize
     ensures value { result ≡ prefix_len is_of_name rest.now }
     ensures within { result ≤ length rest.now }

@@ -7,18 +7,18 @@ use ados_text::{Code, Name, NoMemory, Result2, Text};
 use ados_vars::{Aliases, Locals, global};
 use std::alloc::Global;
 
-/// Where the words of a line have their meanings.
+/// What gives the words of a line their meanings.
 #[derive(Clone, Copy)]
 pub struct Scope<'a> {
-    /// Where what comes out is kept.
+    /// The allocator for the texts that are made.
     pub alloc: Global,
     /// The shell's aliases.
     pub aliases: &'a Aliases,
     /// The shell's own variables.
     pub locals: &'a Locals,
-    /// The code that its last command answered, which RC shows.
+    /// The return code of its last command, which RC shows.
     pub code: Code,
-    /// The Result2 that its last command answered, which Result2 shows.
+    /// The Result2 of its last command, which Result2 shows.
     pub result2: Result2,
     /// The assigns, by which global variables are found.
     pub assigns: &'a Assigns,

@@ -6,9 +6,9 @@ ghost use Rattle.ados_line.specs.Signs.{begins, is_both, sign_at, width_of};
 pub enum Sign {
     /// `<`: a file is read.
     Input,
-    /// `>`: a file is made or emptied.
+    /// `>`: a file is created or truncated.
     Output,
-    /// `>>`: a file is made or kept.
+    /// `>>`: a file is created or appended to.
     Append,
 }
 
@@ -25,7 +25,7 @@ impl Sign {
     }
 }
 
-/// The sign at a place of a line, where a word begins there with one.
+/// The sign at a place of a line, if a word begins there with one.
 pub fn sign_at(line: &[u8], place: usize) -> Option<Sign>
     requires { place ≤ length line.now }
     ensures { result ≡ sign_at line.now place }
@@ -43,7 +43,7 @@ pub fn sign_at(line: &[u8], place: usize) -> Option<Sign>
     }
 }
 
-/// `<>` at a place of a line, where a word begins there: it is neither an input nor an output.
+/// Whether `<>` is at a place of a line where a word begins: it is neither an input nor an output.
 pub fn is_both(line: &[u8], place: usize) -> bool
     requires { place ≤ length line.now }
     ensures { result ≡ is_both line.now place }
@@ -51,7 +51,7 @@ pub fn is_both(line: &[u8], place: usize) -> bool
     begins(line, b'<', place) && byte_at(line, place + 1) == b'>'
 }
 
-// The byte at a place is this one, at the start of a word: a byte behind `=` goes on with a word.
+// Whether the byte at a place is this one, at the start of a word: a byte after `=` continues a word.
 fn begins(line: &[u8], byte: u8, place: usize) -> bool
     ensures { result ≡ begins line.now byte place }
 {

@@ -6,7 +6,7 @@ ghost use Rattle.ados_line.specs.Letters.{spelled, bared};
 use crate::letters::Letter;
 use ados_text::{NoMemory, Text};
 
-/// Adds characters as they are written.
+/// Appends characters as they are written.
 pub fn push_spelled(text: &mut Text, letters: &[Letter]) -> Result<(), NoMemory>
     ensures { OnOk result (text.new ≡ text.old ++ flat_map spelled letters.now) }
 {
@@ -22,7 +22,7 @@ pub fn push_spelled(text: &mut Text, letters: &[Letter]) -> Result<(), NoMemory>
     Ok(())
 }
 
-/// Adds characters without the stars before a mark.
+/// Appends characters without the stars before a mark.
 pub fn push_bared(text: &mut Text, letters: &[Letter], mark: u8) -> Result<(), NoMemory>
     ensures { OnOk result (text.new ≡ text.old ++ flat_map (bared mark) letters.now) }
 {
@@ -32,7 +32,7 @@ pub fn push_bared(text: &mut Text, letters: &[Letter], mark: u8) -> Result<(), N
     Ok(())
 }
 
-/// Adds one character, without the star before a mark.
+/// Appends one character, without the star before a mark.
 pub fn push_one(text: &mut Text, letter: Letter, mark: u8) -> Result<(), NoMemory>
     ensures { OnOk result (text.new ≡ text.old ++ bared mark letter) }
 {

@@ -17,13 +17,14 @@ use std::alloc::Global;
 pub enum Parted {
     /// It has none: the line without the stars before back-ticks.
     Whole(Text),
-    /// What stands in front of the pair, between its two and behind it.
+    /// The text before the pair, between the two and after it.
     Ticked(Tick),
 }
 
-/// A line parted at its first pair of back-ticks behind so many bytes, which stay as they are.
+/// Splits a line at the first pair of back-ticks after its first `size` bytes, which stay as they are.
 ///
-/// Inside quotes a star before a back-tick goes, and the back-tick stands for itself. `UnmatchedQuotes` for a single one.
+/// Inside quotes a star before a back-tick is removed, and the back-tick stands for itself. Gives `UnmatchedQuotes` for
+/// a single back-tick.
 pub fn part_behind(alloc: Global, line: &[u8], size: usize) -> Result<Parted, LineFault>
     requires { IsText line.now }
     ensures { Gives result (parted_behind size line.now) }
@@ -35,7 +36,7 @@ pub fn part_behind(alloc: Global, line: &[u8], size: usize) -> Result<Parted, Li
     part(alloc, kept, &letters[count..])
 }
 
-// The characters parted at their first two back-ticks, behind a text that is kept as it is.
+// Splits the characters at their first two back-ticks, after a text that is kept as it is.
 fn part(alloc: Global, kept: Text, letters: &[Letter]) -> Result<Parted, LineFault>
     ensures { Gives result (parted kept letters.now) }
 {
@@ -60,7 +61,7 @@ fn part(alloc: Global, kept: Text, letters: &[Letter]) -> Result<Parted, LineFau
     }))
 }
 
-// The place of the first back-tick on its own.
+// The place of the first back-tick without a star before it.
 fn tick(letters: &[Letter]) -> Option<usize>
     ensures place { result ≡ position is_tick letters.now }
     ensures within { IfSome result (λ place. place < length letters.now) }
@@ -68,7 +69,7 @@ fn tick(letters: &[Letter]) -> Option<usize>
     letters.iter().position(|letter| is_plain(*letter, b'`'))
 }
 
-// How many characters end within so many bytes.
+// How many characters end within `size` bytes.
 fn count_within(letters: &[Letter], size: usize) -> usize
     ensures value { result ≡ within_bytes size letters.now }
     ensures within { result ≤ length letters.now }

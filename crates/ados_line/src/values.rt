@@ -9,7 +9,7 @@ use crate::scopes::Scope;
 use crate::spelling::{push_one, push_spelled};
 use ados_text::{LINE_BYTES, NoMemory, Text};
 
-/// What the characters stand for, with the values of their variables.
+/// The text that the characters stand for, with the values of their variables.
 pub fn put_values(scope: &Scope, letters: &[Letter]) -> Result<Text, LineFault>
     ensures { Gives result (limited (values (variables_in scope.now) 0 letters.now)) }
 {
@@ -28,7 +28,7 @@ pub fn put_values(scope: &Scope, letters: &[Letter]) -> Result<Text, LineFault>
     Ok(text)
 }
 
-// Adds the text of the segment that begins with a character; gives how many of the rest belong to it.
+// Appends the text of the segment that begins with a character; gives how many of the characters after it belong to it.
 fn push_segment(
     scope: &Scope,
     letter: Letter,

@@ -1,4 +1,4 @@
--- A turn asks a launcher for a start alone, and hands its course on.
+-- A turn asks a launcher only for a start, and passes its course on.
 use Rattle.std.proofs.Common.{◌≡◌, ℕ, ◌-◌, List, [], ◌∷◌, Bool, true, false, Option, Some, None, refl, inl, inr, slice_get, ◌&&◌, if◌then◌else◌}
 use Rattle.std.proofs.lemmas.Bool.{cases_Bool}
 use Rattle.ados_line.specs.declared.lines.Expanded.TheVariants.{Ready}

@@ -50,7 +50,7 @@ led-defers files m (Defer text) place h = (refl, led-directory files (by_path (r
     of (Err fault) q = absurd cc
     of (Ok there) q = cc
 
--- names that the order does not tell apart are one
+-- names that the order does not distinguish are equal
 same-name : (a b : Text) → eq_by_cmp name_cmp a b ≡ true → a ≡ b
 same-name a b h = name_cmp_exact a b (equal (name_cmp a b) h)
   where
@@ -141,7 +141,7 @@ each-at used files m (a ∷ rest) name =
       ]
     ]
 
--- what all share behind an event
+-- what all share after an event
 bound-only : (used : List Text) (shared : SharedState) → BindsOnly used (bound_in used shared).files shared.assigns (bound_in used shared).assigns
 bound-only [] shared = λ name. inl refl
 bound-only (device ∷ used) shared = λ name. each-at (device ∷ used) shared.files shared.assigns (map.values shared.assigns) name

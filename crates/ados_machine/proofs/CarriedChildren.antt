@@ -26,13 +26,13 @@ use Rattle.ados_machine.proofs.AskedTurns.{HandsIn}
 pub same_some : {x y : Request} → Some x ≡ Some y → x ≡ y
 same_some e = cc
 
--- where nothing is waited for there is none
+-- if nothing is waited for there is none
 pub idle-asked : (now : Phase) → IsIdle now → child_during now ≡ Closed
 idle-asked phase.Ready idle = refl
 idle-asked (phase.GoingOn parted) idle = refl
 idle-asked (phase.Waiting wait) idle = absurd idle
 
--- nor behind a turn, which asks a launcher for a start alone
+-- nor after a turn, which asks a launcher only for a start
 pub handed-asked : (from course : Course) (now : Phase) → HandsIn from course now → child_during now ≡ Closed
 handed-asked from course phase.Ready hands = refl
 handed-asked from course (phase.GoingOn parted) hands = refl

@@ -1,4 +1,4 @@
--- The last codes of each shell are those that its trace tells.
+-- The last codes of each shell are those that its trace says.
 use Rattle.std.proofs.Common.{◌≡◌, ◌≢◌, ◌∙◌, sym, ℕ, zero, suc, ◌-◌, ◌<◌, List, [], ◌∷◌, ◌++◌, Bool, Option, Some, None, Result, Ok, Err, length, slice_get, refl, ap, append-nil, arith, inl, inr}
 use Rattle.std.specs.Prelude.{unwrap_or}
 use Rattle.std.specs.List.{slice_set}
@@ -34,7 +34,7 @@ use Rattle.ados_machine.proofs.Shells.{broken_maybe, broken_for, found-broken, f
 use Rattle.ados_machine.proofs.Moves.{placed-at, begun-silent}
 use Rattle.ados_machine.proofs.StepCases.{of-step}
 
--- where a trace leads to a standing it leads to that one's codes
+-- if a trace leads to a standing it leads to that one's codes
 follows-codes : (limit : Code) (codes : Codes) (stack : List Entry) (log : List Item) (stands : Standing) →
     Follows limit codes stack log (Some stands) → stands.codes ≡ codes_behind codes log
 follows-codes limit codes stack [] stands h = ap (λ s. s.codes) h
@@ -110,7 +110,7 @@ abbrev LeadsCodes : WorldState → Response → Type 0
 LeadsCodes w (Refused why) = Unit {0}
 LeadsCodes w (Accepted world given items) = (j : ℕ) → codes_at world j ≡ codes_behind (codes_at w j) (own j items)
 
--- the codes of a shell behind its turn, where it runs on and where it has ended
+-- the codes of a shell after its turn, if it runs on and if it has ended
 own-codes : (w : WorldState) (k : ℕ) (shell : ShellState) (t : Turned) → HasAllCodes w → shell_at w k ≡ Some shell → Goes shell.parts shell.frames t →
     shell_codes (left k (moved_in w t) t) (stays_at (ended_with (is_done k t.frames) k t.course.parts.codes w.ended) k) ≡ codes_behind (codes_at w k) t.log
 own-codes w k shell t all is goes =

@@ -1,4 +1,4 @@
--- The events of a shell that runs alone come to what its lines mean: those of the newest frame, and then those of the frames
+-- The events of a shell that runs alone do what its lines mean: those of the newest frame, and then those of the frames
 -- below it.
 use Rattle.std.proofs.Common.{◌≡◌, ◌∙◌, ap, nat_lt, ℕ, ◌<◌, zero, suc, List, [], ◌∷◌, Bool, true, false, ◌||◌, ◌&&◌, nat_le, Option, Some, None, length, refl, arith, inl, inr, get_or, if◌then◌else◌}
 use Rattle.std.proofs.lemmas.Bool.{and_parts, cases_Bool}
@@ -29,7 +29,7 @@ use Rattle.ados_machine.specs.Whole.{recorded, report_of, report_broken, with_re
 use Rattle.ados_machine.proofs.Alone.{Go, line_event, start_in, turn_event, Lone, go_by, does, deed_event, exec}
 use Rattle.ados_machine.proofs.DirectStates.{ended, breaking, AgreesBy, at_of, AgreesAt, here-is, weaker, lines-over, there}
 
--- the newest frame goes on, or ends where no line is left
+-- the newest frame continues, or ends if no line is left
 passed-agrees : (k gas : ℕ) → AgreesAt k gas →
     (n : ℕ) (answers : List Reply) (common : Common) (frame : FrameState) (frames : List FrameState) → n < gas →
     AgreesBy n (go_by k (exec k n answers) common (passed (frame ∷ frames) common.said))
@@ -76,7 +76,7 @@ finished-agrees : (k gas : ℕ) → AgreesAt k gas →
 finished-agrees k gas ih n answers common frame frames word answer quits lt =
     answer-agrees k gas ih n answers (record common { said = faulted word answer.result2 common.said }) frame frames word answer quits lt
 
--- it goes on at another line
+-- it continues at another line
 jumped-agrees : (k gas : ℕ) → AgreesAt k gas →
     (n : ℕ) (answers : List Reply) (common : Common) (frame : FrameState) (frames : List FrameState)
     (word : Text) (answer : Codes) (line : ℕ) → n < gas →
@@ -86,7 +86,7 @@ jumped-agrees : (k gas : ℕ) → AgreesAt k gas →
 jumped-agrees k gas ih n answers common frame frames word answer line lt =
     finished-agrees k gas ih n answers common (jumped line frame) frames word answer false lt
 
--- the shell's events, where `exec` is another
+-- the shell's events, if `exec` is another
 abbrev exec_of : ℕ → ℕ → List Reply → Go
 exec_of k n answers = exec k n answers
 
@@ -105,7 +105,7 @@ turn-agrees k n answers common frame frames work meaning h =
       | inr e ↦ rw e h
     ]
 
--- behind a script that ended at a break
+-- after a script that ended at a break
 break-agrees : (k gas : ℕ) → AgreesAt k gas → (m n : ℕ) (answers : List Reply) (common : Common) (frame : FrameState) (frames : List FrameState)
     (name word : Text) (limit : Code) → n < gas → scripts_in (frame ∷ frames) ≡ m →
     AgreesBy n (go_by k (exec k n answers) common (after_break m (Script name word) limit (broken_off (frame ∷ frames) common.said) (frame ∷ frames) common.said))
@@ -116,7 +116,7 @@ break-agrees k gas ih zero n answers common frame frames name word limit lt e =
     answer-agrees k gas ih n answers limited frame frames word broken_codes false lt
 break-agrees k gas ih (suc m) n answers common frame frames name word limit lt e = (omega arith, (m, e), refl)
 
--- behind a script
+-- after a script
 call-agrees : (k gas : ℕ) → AgreesAt k gas → (n : ℕ) (exec : Lone) (meaning : Whole) (frame : FrameState) (frames : List FrameState)
     (name word : Text) (commands : List Text) (limit : Code) (output : Option Target) → n < gas →
     AgreesBy n exec meaning (ended k (began (Script name word) commands limit output) (frame ∷ frames)) (breaking k (began (Script name word) commands limit output) (frame ∷ frames)) (scripts_in (began (Script name word) commands limit output ∷ frame ∷ frames)) →
@@ -136,7 +136,7 @@ after-some : (n m : ℕ) (kind : Kind) (limit : Code) (further : Settled) (frame
     after_break n kind limit further frames said ≡ further
 after-some n m kind limit further frames said e = rw e refl
 
--- behind a tick the line goes on that waits for it
+-- after a command substitution the line that waits for it continues
 tick-agrees : (k gas : ℕ) → AgreesAt k gas → (n : ℕ) (exec : Lone) (meaning : Whole) (frame : FrameState) (frames : List FrameState)
     (before after : Text) (commands : List Text) (limit : Code) → n < gas →
     AgreesBy n exec meaning (ended k (began (Tick before after) commands limit None) (frame ∷ frames)) (breaking k (began (Tick before after) commands limit None) (frame ∷ frames)) (scripts_in (began (Tick before after) commands limit None ∷ frame ∷ frames)) →
@@ -159,7 +159,7 @@ abbrev WaitsAgree : ℕ → ℕ → List Reply → FrameState → List FrameStat
 WaitsAgree k n answers frame frames further = (common : Common) (wait : Wait) →
     AgreesBy n (exec k n answers (frame ∷ frames) (Waiting wait) common) (further common wait) (ended k frame frames) (breaking k frame frames) (scripts_in (frame ∷ frames))
 
--- what any deed comes to
+-- what any deed does
 deed-agrees : (k gas : ℕ) → AgreesAt k gas →
     (n : ℕ) (answers : List Reply) (common : Common) (frame : FrameState) (frames : List FrameState)
     (further : Common → Wait → Whole) (deed : Deed) → n < gas → WaitsAgree k n answers frame frames further →
@@ -189,7 +189,7 @@ deed-agrees k gas ih n answers common frame frames further (Ticks before command
     (frame ∷ frames) None lt refl)
 deed-agrees k gas ih n answers common frame frames further (Waits wait course) lt waits = waits common wait
 
--- an event that comes to a deed
+-- an event that results in a deed
 event-agrees : (k gas : ℕ) → AgreesAt k gas →
     (n : ℕ) (answers : List Reply) (common : Common) (frame : FrameState) (frames : List FrameState)
     (further : Common → Wait → Whole) (deed : Deed) → n < gas → WaitsAgree k n answers frame frames further →
@@ -201,7 +201,7 @@ event-agrees k gas ih n answers common frame frames further deed lt waits =
     weaker n (suc n) _ (behind_deed further (lines k gas) n answers behind (at_of k frame frames) deed) (ended k frame frames) (breaking k frame frames) (scripts_in (frame ∷ frames))
     (omega arith) (deed-agrees k gas ih n answers behind frame frames further deed lt waits)
 
--- an event that comes to the deed of a line
+-- an event that results in the deed of a line
 work-agrees : (k gas : ℕ) → AgreesAt k gas →
     (n : ℕ) (answers : List Reply) (common : Common) (frame : FrameState) (frames : List FrameState)
     (further : Common → Wait → Whole) (work : Here → Deed) → n < gas → WaitsAgree k n answers frame frames further →
@@ -212,7 +212,7 @@ work-agrees k gas ih n answers common frame frames further work lt waits =
     rw (here-is k frame frames)
     (event-agrees k gas ih n answers common frame frames further (work (here_at (at_of k frame frames))) lt waits)
 
--- what an answer comes to
+-- what an answer does
 reply-agrees : (k gas : ℕ) → AgreesAt k gas →
     (n : ℕ) (answers : List Reply) (common : Common) (frame : FrameState) (frames : List FrameState)
     (further : Common → Wait → Whole) (deed : Option Deed) → n < gas → WaitsAgree k n answers frame frames further →
@@ -251,7 +251,7 @@ waits-agree k gas ih (suc n) (reply ∷ answers) frame frames lt common (ForPiec
 waits-agree k gas ih (suc n) (reply ∷ answers) frame frames lt common (ForEnd child) =
     reply-agrees k gas ih n answers common frame frames _ _ (omega arith) (waits-agree k gas ih n answers frame frames (omega arith))
 
--- by the bound: the next line, or the one that goes on
+-- by the bound: the next line, or the one that continues
 pub agrees : (k gas : ℕ) → AgreesAt k gas
 agrees k zero n answers common frame frames parted lt next = absurd (omega arith)
 agrees k (suc gas) zero answers common frame frames (Some parted) lt next = refl

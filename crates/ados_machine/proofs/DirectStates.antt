@@ -1,4 +1,4 @@
--- The two ways to a shell that runs alone: its stack of frames, and the place in the direct meaning.
+-- Two descriptions of a shell that runs alone: its stack of frames, and the place in the direct meaning.
 use Rattle.std.proofs.Common.{◌≡◌, ℕ, ◌<◌, ◌≤◌, zero, suc, List, [], ◌∷◌, true, false, nat_le, Option, Some, None, length, refl, arith, get_or, if◌then◌else◌}
 use Rattle.std.specs.List.{slice_get}
 use Rattle.std.proofs.lemmas.Bool.{leb-false, leb-true}
@@ -33,7 +33,7 @@ abbrev pub IsRunning : List Reply → Lone → Type 0
 IsRunning answers (Going answers' frames phase common) = answers' ≡ answers
 IsRunning answers _ = ⊥
 
--- there is one at least
+-- there is at least one
 abbrev pub IsSome : ℕ → Type 0
 IsSome n = (m : ℕ) × (n ≡ suc m)
 
@@ -41,14 +41,14 @@ IsSome n = (m : ℕ) × (n ≡ suc m)
 abbrev pub breaking : ℕ → FrameState → List FrameState → Next
 breaking k frame frames n answers last common = go_by k (exec k n answers) common (broken_off (record frame { last = last } ∷ frames) common.said)
 
--- a shell does what lines mean, in or below which so many scripts run, and then the one or, at a break, the other
+-- a shell does what lines mean, in or below which this many scripts run, and then the one or, at a break, the other
 abbrev pub AgreesBy : ℕ → Lone → Whole → Next → Next → ℕ → Type 0
 AgreesBy n exec (Done left answers last common) next breaks scripts = (left ≤ n) × (exec ≡ next left answers last common)
 AgreesBy n exec (Broken left answers last common) next breaks scripts = (left ≤ n) × IsSome scripts × (exec ≡ breaks left answers last common)
 AgreesBy n exec (Late answers) next breaks scripts = IsRunning answers exec
 AgreesBy n exec Short next breaks scripts = exec ≡ Unfed
 
--- where the lines of the newest frame stand
+-- where the lines of the newest frame are
 abbrev pub at_of : ℕ → FrameState → List FrameState → At
 at_of k frame frames = record {
   shell = k;
@@ -96,7 +96,7 @@ weaker m n x Short next breaks scripts le h = h
 weaker m n x (Done left answers last common) next breaks scripts le h = (omega (arith, h.0), h.1)
 weaker m n x (Broken left answers last common) next breaks scripts le h = (omega (arith, h.0), h.1, h.2)
 
--- no line left costs nothing
+-- if no line is left that costs nothing
 pub lines-over : (k gas n : ℕ) (answers : List Reply) (common : Common) (at : At) → n < gas → nat_le (length at.lines) at.position ≡ true →
     lines k gas n answers common at None ≡ Done n answers at.last common
 lines-over k zero n answers common at lt e = absurd (omega arith)

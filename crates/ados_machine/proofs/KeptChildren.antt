@@ -1,4 +1,4 @@
--- Events that are no answers of a launcher leave each child as it is.
+-- Events that are not answers of a launcher leave each child as it is.
 use Rattle.std.proofs.Common.{◌≡◌, ◌∙◌, sym, ℕ, List, false, Option, Some, None, refl, ap, inl, inr}
 use Rattle.std.proofs.lemmas.Bool.{cases_eq}
 use Rattle.ados_machine.specs.Breaks.{breaks_by}

@@ -1,4 +1,4 @@
--- A world keeps the last codes of every number, and an event changes those alone whose shells it changes.
+-- A world keeps the last codes of every number, and an event changes only those of shells that it changes.
 use Rattle.std.proofs.Common.{◌≡◌, ◌∙◌, sym, ℕ, zero, suc, ◌-◌, List, [], ◌∷◌, Bool, Option, Some, None, Result, Ok, Err, length, map, refl, ap, arith, inl, inr}
 use Rattle.std.specs.List.{slice_set}
 use Rattle.std.proofs.lemmas.Bool.{cases_Bool}

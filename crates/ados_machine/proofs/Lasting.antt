@@ -32,12 +32,12 @@ use Rattle.ados_machine.proofs.Rests.{IsIdle, passed-rests, finished-rests, call
 use Rattle.ados_machine.proofs.Shells.{shells_behind, broken_maybe, broken_for, found-broken, found, IsFree, free-number, carried-free, carried_found, found-carried, found-set_same, found-set_other, found-left, runs_pos}
 use Rattle.ados_machine.proofs.StepCases.{of-step}
 
--- where a deed waits on, the same is seen above these frames
+-- if a deed waits on, the same is seen above these frames
 abbrev pub SeenBehind : {X : Type 0} → (List FrameState → Phase → X) → List FrameState → X → Option Deed → Type 0
 SeenBehind look frames value (Some (Waits wait course)) = look frames (phase.Waiting wait) ≡ value
 SeenBehind look frames value deed = Unit {0}
 
--- what is seen of a shell by its frames and its phase, and nothing where there is none; while its phase holds that, it
+-- what is seen of a shell by its frames and its phase, and nothing if there is none; while its phase holds that, it
 -- waits for a launcher, whose answers keep it
 pub record Watch (X : Type 0) : Type 0 where
   pub nothing : X
@@ -116,7 +116,7 @@ others-seen s shells k shell moved t is j differ held =
     ∙ begun-seen s carried t.course.begun number j free (ap (is_held s) there ∙ carried-held s moved (found shells j) ∙ held)
     ∙ (ap (seen_by s) there ∙ carried-seen s moved (found shells j)))
 
--- an accepted event keeps what is seen of each shell that is held before it and behind it
+-- an accepted event keeps what is seen of each shell that is held before it and after it
 abbrev pub Keeps : {X : Type 0} → Watch X → WorldState → Response → Type 0
 Keeps s w (Refused why) = Unit {0}
 Keeps s w (Accepted world out items) =

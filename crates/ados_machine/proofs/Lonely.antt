@@ -1,4 +1,4 @@
--- The world's events of a shell that runs alone are the shell's own over what its lines hand through.
+-- The world's events of a shell that runs alone are the shell's own over what its lines pass on.
 use Rattle.std.proofs.Common.{◌≡◌, ◌∙◌, ap, ℕ, ◌≤◌, zero, suc, ◌-◌, List, [], ◌∷◌, true, false, ◌==◌, ◌&&◌, inl, inr, Option, Some, None, refl, arith, option_map}
 use Rattle.std.specs.List.{slice_get}
 use Rattle.std.proofs.lemmas.Bool.{cases_Bool, ne_eqb}
@@ -40,7 +40,7 @@ pub record Stands (k : ℕ) (common : Common) : Type 0 where
   pub shell : ShellState
   pub is : found common.shells k ≡ Some shell
 
--- the world in which it stands, or has ended
+-- the world in which it runs, or has ended
 abbrev pub world_of : ℕ → WorldState → List FrameState → Phase → Common → WorldState
 world_of k w [] phase common = world_behind k w common
 world_of k w (frame ∷ frames) phase common = standing k w (frame ∷ frames) phase common
@@ -73,7 +73,7 @@ starts-in : (k : ℕ) (w : WorldState) (frames : List FrameState) (phase : Phase
 starts-in k w frames phase common =
     rw (map-set (option_map seen_of) common.shells (k - 1) (Some (shell_of frames phase common))) refl
 
--- where a shell stands it stands behind an event
+-- if a shell runs it still runs after an event
 carried-stands : (k : ℕ) (moved : Option Renamed) (begun : Option Begun) (breaking : Option Breaking) (shells : List (Option ShellState))
     (shell : ShellState) → found shells k ≡ Some shell →
     found (broken_by breaking (with_begun begun (free_number shells) (carried_shells moved shells))) k
@@ -97,13 +97,13 @@ stands-again k common course said log stands =
     let behind = stands-behind k common course stands in
     record { above = behind.above; shell = behind.shell; is = behind.is }
 
--- the shell behind an event
+-- the shell after an event
 left-same : (moved : Option Renamed) (shell : ShellState) →
     carried_by moved shell ≡ record shell { parts = carried_parts moved shell.parts }
 left-same None shell = refl
 left-same (Some renamed) shell = refl
 
--- the world behind an event
+-- the world after an event
 abbrev pub took_world : WorldState → ℕ → Course → Settled → WorldState
 took_world w k course settled = (let t = by_rule course settled in record {
   shells = shells_behind w.shells k (moved_in w t) t;
@@ -113,7 +113,7 @@ took_world w k course settled = (let t = by_rule course settled in record {
   shared = shared_behind t.course;
 })
 
--- what is handed through behind an event
+-- what is passed on after an event
 abbrev pub common_by : ℕ → Common → Course → Said → List Item → Common
 common_by k common course said log =
     record (absorbed common course) {
@@ -144,11 +144,11 @@ world-same k w old phase common course (frame ∷ frames) next said log stands =
           (Some (record now { parts = carried_parts moved said.parts })) stands.is),
     ) refl
 
--- how the world goes on
+-- how the world continues
 abbrev pub Goes : Type 0
 Goes = WorldState → Bytes → Exec
 
--- an event after which the code rule makes this of what was handed on
+-- an event after which the code rule makes this of what was passed on
 took-rules : (k : ℕ) (w : WorldState) (go : Goes) (on : Go) (old : List FrameState) (phase : Phase) (common : Common) (course : Course)
     (rule : Said → Settled) → Stands k common →
     ((bytes : Bytes) (moved : Option Renamed) (said : Said) → rule (front bytes moved said) ≡ fronted bytes moved (rule said)) →
@@ -166,7 +166,7 @@ took-rules k w go on old phase common course rule stands fronts same =
     (same settled.frames settled.phase (common_by k common course settled.said settled.log)
     (stands-again k common course (front common.said.printed moved settled.said) settled.log stands))
 
--- an event that comes to a deed
+-- an event that results in a deed
 took-does : (k : ℕ) (w : WorldState) (go : Goes) (on : Go) (old : List FrameState) (phase : Phase) (common : Common) (deed : Deed)
     (frames : List FrameState) → Stands k common →
     ((frames : List FrameState) (phase : Phase) (common : Common) → Stands k common →
@@ -202,7 +202,7 @@ answer-is k w frames phase common reply stands =
       starts-in k w frames phase common,
     ) refl
 
--- the world goes on as the shell does
+-- the world continues as the shell does
 abbrev pub Same : ℕ → WorldState → Goes → Go → Type 0
 Same k w go on = (frames : List FrameState) (phase : Phase) (common : Common) → Stands k common →
     go (world_of k w frames phase common) common.said.printed ≡ lift k w (on frames phase common)

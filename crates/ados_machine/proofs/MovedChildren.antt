@@ -39,12 +39,12 @@ use Rattle.ados_machine.proofs.Shells.{found-left}
 use Rattle.ados_machine.proofs.Rests.{Rests, passed-rests, finished-rests, called-rests, ticked-rests}
 use Rattle.ados_machine.proofs.CarriedChildren.{same_some, idle-asked, carried_by-child, others-pending, others-child, left-child}
 
--- the child of a shell behind a deed
+-- the child of a shell after a deed
 abbrev child_behind : Deed → ChildState
 child_behind (Waits wait course) = child_while wait
 child_behind deed = Closed
 
--- what an answer comes to: it is taken exactly where it is of the kind that was asked for, and its deed moves the child
+-- what an answer does: it is taken exactly if it is of the kind that was asked for, and its deed moves the child
 abbrev MovesBy : Bool → Option Request → Reply → Option Deed → Type 0
 MovesBy marked None answer deed = deed ≡ None
 MovesBy marked (Some request) answer None = fits request answer ≡ false
@@ -107,7 +107,7 @@ phase-moves n sink course phase.Ready answer = refl
 phase-moves n sink course (phase.GoingOn parted) answer = refl
 phase-moves n sink course (phase.Waiting wait) answer = wait-moves n sink course wait answer
 
--- a deed leaves its shell with the child behind it; a shell that waits runs on
+-- a deed leaves its shell with the child after it; a shell that waits runs on
 waits-child : (k : ℕ) (moved : Option Renamed) (wait : Wait) (course : Course) (frames : List FrameState) → is_done k frames ≡ false →
     child_by (left k moved (settle (Waits wait course) frames)) ≡ child_while wait
 waits-child k moved wait course frames runs =
@@ -130,13 +130,13 @@ settled-child k moved (Ticks before command after course) frames runs =
     rests-child k moved course _ (ticked-rests before command after frames (said_of course))
 settled-child k moved (Waits wait course) frames runs = waits-child k moved wait course frames runs
 
--- what an accepted answer moves, where a background shell that is there runs a frame
+-- what an accepted answer moves, if each background shell that is there runs a frame
 pub record Moved (k : ℕ) (request : Request) (answer : Reply) (w world : WorldState) : Type 0 where
   own : (k ≢ 1 → RunsFrame (shell_at w k)) → child_in world k ≡ behind_answer (is_marked w k) request answer
   others : (j : ℕ) → j ≢ k → pending_of world j ≡ pending_of w j
   children : (j : ℕ) → j ≢ k → child_in world j ≡ child_in w j
 
--- what an answer comes to in the world, by what was asked for
+-- what an answer does in the world, by what was asked for
 abbrev pub Responds : WorldState → ℕ → Reply → Option Request → Response → Type 0
 Responds w k answer o (Refused why) = (request : Request) → o ≡ Some request → fits request answer ≡ false
 Responds w k answer None (Accepted world out items) = ⊥
@@ -174,7 +174,7 @@ shell-responds w k answer (Some shell) is =
     deed-responds w k shell answer (request_of shell.parts.number shell.phase) (answered_in (sink_in shell.frames) (start w shell) shell.phase answer) is
     (phase-moves shell.parts.number (sink_in shell.frames) (start w shell) shell.phase answer)
 
--- where no shell is left there is none at any number
+-- if no shell is left there is none at any number
 none-left : (shells : List (Option ShellState)) (i : ℕ) → list_any is_some shells ≡ false → flatten (slice_get shells i) ≡ None
 none-left [] zero e = refl
 none-left [] (suc i) e = refl

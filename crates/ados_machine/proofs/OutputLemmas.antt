@@ -140,7 +140,7 @@ outputs-stay w event world out items is k before behind =
     outputs-same (shell_at world k)
     ∙ (keeps k (sym (runs-same (shell_at w k)) ∙ before) (sym (runs-same (shell_at world k)) ∙ behind) ∙ sym (outputs-same (shell_at w k)))
 
--- a shell whose program runs behind an answer is seen to hold these
+-- a shell whose program runs after an answer is seen to hold these
 abbrev HoldsBehind : ℕ → List Place → Response → Type 0
 HoldsBehind k outputs (Refused why) = Unit {0}
 HoldsBehind k outputs (Accepted world out items) = runs_program world k ≡ true → outputs_held world k ≡ outputs

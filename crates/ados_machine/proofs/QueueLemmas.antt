@@ -28,7 +28,7 @@ use Rattle.ados_machine.specs.Laws.{is_breakable}
 use Rattle.ados_machine.specs.Given.{lines_taken, lines_typed, typed_in, taken_in, TypedLinesAreTakenInOrder}
 use Rattle.ados_machine.proofs.StepCases.{of-step}
 
--- a turn takes the first line that waits, where its shell takes of its input, and leaves these
+-- a turn takes the first line that waits, if its shell takes a line of its input, and leaves these
 abbrev Takes_of : Bool → List (List ℕ) → Turning → Type 0
 Takes_of wants queue (Refuses why) = Unit {0}
 Takes_of wants queue Ends = queue ≡ (if wants then take 1 queue else []) ++ queue
@@ -154,5 +154,3 @@ lines-in-order w (event ∷ events) (Ok out ∷ outs) last run =
     ∙ (append_assoc (lines_taken w event) mid.queue typed
     ∙ (ap (λ lines. lines_taken w event ++ lines) (lines-in-order mid events outs last run.1)
     ∙ sym (append_assoc (lines_taken w event) taken last.queue))))
-
--- 4. Further lines wait.

@@ -52,7 +52,7 @@ pub own-ended_with : (j : ℕ) (xs ys : List Codes) (done : Bool) (codes : Codes
 own-ended_with j xs ys true codes pos alike = own-ended j xs ys codes pos alike
 own-ended_with j xs ys false codes pos alike = alike
 
--- nothing has moved where the shared parts are the same
+-- nothing has moved if the shared parts are the same
 there-or-not : {X : Type 0} (o : Option X) → (is_some o && is_none o) ≡ false
 there-or-not None = refl
 there-or-not (Some x) = refl
@@ -68,7 +68,7 @@ running-found : (xs ys : List (Option ShellState)) (k : ℕ) → map is_some xs 
 running-found xs ys zero e = refl
 running-found xs ys (suc i) e = running-at xs ys i e
 
--- no shell begins where the same numbers run behind it
+-- no shell begins if the same numbers run after it
 never-begins : (xs : List (Option ShellState)) (begun : Begun) (n j : ℕ) (shell : ShellState) (now : Option ShellState) → IsFree xs (Some n) →
     found xs j ≡ Some shell → map is_some (slice_set (with_begun (Some begun) (Some n) xs) (j - 1) now) ≡ map is_some xs → ⊥
 never-begins xs begun n j shell now free is same =

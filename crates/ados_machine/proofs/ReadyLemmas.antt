@@ -84,5 +84,3 @@ ready-turned w k =
       | inl e ↦ rw e (sym (ap (can_turn (input_of w k)) (over-none w k e)))
       | inr e ↦ rw e (shell-accepts w k (shell_at w k))
     ]
-
--- 3. The queue.

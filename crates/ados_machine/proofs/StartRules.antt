@@ -1,4 +1,4 @@
--- What a failed start does to the frames: the answer is finished, and the shell goes on or ends.
+-- What a failed start does to the frames: the answer is finished, and the shell continues or ends.
 use Rattle.std.proofs.Common.{◌≡◌, ℕ, ◌-◌, List, [], ◌∷◌, Bool, true, false, Option, Some, None, refl, inl, inr, ◌||◌, ◌&&◌}
 use Rattle.std.proofs.lemmas.Bool.{cases_Bool}
 use Rattle.ados_text.specs.declared.codes.Result2.{Result2}
@@ -33,7 +33,7 @@ pub record Rules (flagged : Bool) (frames : List FrameState) (said : Said) (sett
   pub parts : KeepsSettings said.parts settled.said.parts
   pub answered : HasAnswered frames said.kept (settled_shell flagged settled)
 
--- what it changes behind the end of a frame
+-- what it changes after the end of a frame
 record EndRules (flagged : Bool) (kind : Kind) (frames : List FrameState) (said : Said) (settled : Settled) : Type 0 where
   parts : KeepsSettings said.parts settled.said.parts
   behind_end : IsBehindEnd kind (HasAnswered frames said.kept (settled_shell flagged settled)) frames said.kept (settled_shell flagged settled)
@@ -66,7 +66,7 @@ finish-rules flagged word answer quits (frame ∷ frames) said =
       | inr e ↦ rw e (record { parts = refl; answered = inl (entry_of (frame ∷ frames) answer said.parts.limit, (refl, refl, refl)) })
     ]
 
--- behind a failure an event hands on what it began with, the codes aside
+-- after a failure an event passes on what it began with, except for the codes
 pub record Keeps (frames : List FrameState) (course : Course) (t : Turned) : Type 0 where
   pub shared : shared_behind t.course ≡ shared_behind course
   pub renamed : t.course.renamed ≡ course.renamed

@@ -1,4 +1,4 @@
--- The cases of a step, told once: what holds of each refusal, and of what each kind of event gives, holds of every step.
+-- The cases of a step, in one place: what holds of each refusal, and of what each kind of event gives, holds of every step.
 use Rattle.std.specs.Prelude.{◌≡◌, ℕ, List, [], ◌∷◌, ◌++◌, Bool, true, false, Option, Some, None, length, nat_le, nat_lt, if◌then◌else◌}
 use Rattle.std.proofs.Common.{refl}
 use Rattle.ados_line.specs.Cut.{line_limit}

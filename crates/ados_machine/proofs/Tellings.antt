@@ -60,11 +60,11 @@ told_by (Rested left answers common) = Some common.reports
 told_by (Going answers frames phase common) = Some common.reports
 told_by Unfed = None
 
--- how the world goes on
+-- how the world continues
 abbrev Goes : Type 0
 Goes = WorldState → List EndReport → Option (List EndReport)
 
--- an event after which the code rule makes this of what was handed on
+-- an event after which the code rule makes this of what was passed on
 took-rules : (k : ℕ) (w : WorldState) (go : Goes) (on : Go) (old : List FrameState) (phase : Phase) (common : Common) (course : Course)
     (rule : Said → Settled) → Stands k common →
     ((bytes : Bytes) (moved : Option Renamed) (said : Said) → rule (front bytes moved said) ≡ fronted bytes moved (rule said)) →
@@ -83,7 +83,7 @@ took-rules k w go on old phase common course rule stands fronts same =
     (same settled.frames settled.phase (common_by k common course settled.said settled.log)
     (stands-again k common course (front common.said.printed moved settled.said) settled.log stands))
 
--- an event that comes to a deed
+-- an event that results in a deed
 took-does : (k : ℕ) (w : WorldState) (go : Goes) (on : Go) (old : List FrameState) (phase : Phase) (common : Common) (deed : Deed)
     (frames : List FrameState) → Stands k common →
     ((frames : List FrameState) (phase : Phase) (common : Common) → Stands k common →
@@ -93,7 +93,7 @@ took-does k w go on old phase common deed frames stands same =
     took-rules k w go on old phase common (course_of deed) (ruled deed frames) stands
     (λ bytes moved said. ruled-front bytes moved deed frames said) same
 
--- the world goes on as the shell does
+-- the world continues as the shell does
 abbrev pub Same : ℕ → WorldState → Goes → Go → Type 0
 Same k w go on = (frames : List FrameState) (phase : Phase) (common : Common) → Stands k common →
     go (world_of k w frames phase common) common.reports ≡ told_by (on frames phase common)

@@ -1,4 +1,4 @@
--- Two worlds that differ in one shell alone, which looks the same, answer the events of the other shells alike.
+-- Two worlds that differ only in one shell, which looks the same, answer the events of the other shells alike.
 use Rattle.std.proofs.Common.{◌≡◌, ◌≢◌, ◌∙◌, sym, ℕ, zero, suc, ◌-◌, List, [], ◌∷◌, ◌++◌, Bool, true, false, Option, Some, None, Result, Ok, Err, length, refl, ap, arith, inl, inr, not, is_some}
 use Rattle.std.specs.Prelude.{nat_le, nat_lt}
 use Rattle.std.specs.List.{list_any}
@@ -31,7 +31,7 @@ use Rattle.ados_machine.proofs.Alike.{alike-broken, Alike, alike-get, alike-set,
 abbrev pub Any : {X : Type 0} → X → X → Type 0
 Any x y = Unit {0}
 
--- two worlds that differ in one shell alone, which looks the same
+-- two worlds that differ only in one shell, which looks the same
 pub record Twins (j : ℕ) (a b : WorldState) : Type 0 where
   pub shared : b.shared ≡ a.shared
   pub shells : Alike LooksLike j 1 a.shells b.shells
@@ -140,7 +140,7 @@ answered-both j a b k reply (Some shell) twins ne =
     rw (twins-input j a b twins k ne, twins-start j a b twins shell)
     (applied-both j a b k shell.parts.codes (answering (input_of a k) shell.frames (start a shell) shell.phase reply) twins ne)
 
--- typed lines are another shell's where j is not 1
+-- typed lines are another shell's if j is not 1
 typed-both : (j : ℕ) (a b : WorldState) (line : List ℕ) → Twins j a b → 1 ≢ j → Both j (typed a line) (typed b line)
 typed-both j a b line twins ne =
     let one : j ≢ 1 = λ e. ne (sym e) in
@@ -203,7 +203,7 @@ step-both j a b event twins ne =
       | inr e ↦ rw e (happened-both j a b event twins ne)
     ])
 
--- want of memory stands for the same acceptances in both
+-- `NoMemory` replaces the same acceptances in both
 may-want-both : (j : ℕ) (event : Event) (a b : WorldState) (items : List (ℕ × Item)) → Twins j a b → shell_of event ≢ j →
     MayWantMemory event a items → MayWantMemory event b items
 may-want-both j (Typed line) a b items twins ne h = tt

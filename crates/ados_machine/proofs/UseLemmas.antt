@@ -51,7 +51,7 @@ idle-asks phase.Ready idle = refl
 idle-asks (phase.GoingOn parted) idle = refl
 idle-asks (phase.Waiting wait) idle = absurd idle
 
--- an answer: where its deed waits on, it waits with the same entry
+-- an answer: if its deed waits on, it waits with the same entry
 next-entry : (child : Child) → entry_while (next_wait child) ≡ child.entry
 next-entry child =
     elim (cases_Bool child.marked) [
@@ -148,7 +148,7 @@ entries-stay w event world out items is k before behind =
     entry-same (shell_at world k)
     ∙ (keeps k (sym (asks-same (shell_at w k)) ∙ before) (sym (asks-same (shell_at world k)) ∙ behind) ∙ sym (entry-same (shell_at w k)))
 
--- where nothing is asked for
+-- if nothing is asked for
 phase-idle : (n : ℕ) (now : Phase) → request_of n now ≡ None → entry_in now ≡ None
 phase-idle n phase.Ready idle = refl
 phase-idle n (phase.GoingOn parted) idle = refl

@@ -1,4 +1,4 @@
--- Binding: what the end of an event makes of assigns.
+-- Binding: what the end of an event does to assigns.
 use Rattle.std.specs.Prelude.{◌≡◌, ◌⊎◌, ℕ, List, [], ◌∷◌, Option, Some, option_map, true}
 use Rattle.std.specs.List.{Contains}
 use Rattle.std.specs.FinMap as map
@@ -26,12 +26,12 @@ pub record IsBound (used : List Text) (files : Files) (before : List Assign) (na
   pub stands_for : option_map (λ a. a.binding) now ≡ Some (Dirs (place ∷ []))
   pub directory : is_some_directory (map.get files (key_of place)) ≡ true
 
--- each assign is as it was, but for Defers among these devices, which are bound to directories that are there
+-- each assign is as it was, except for Defers among these devices, which are bound to directories that are there
 abbrev pub BindsOnly : List Text → Files → AssignMap → AssignMap → Type 0
 BindsOnly used files before after = (name : Text) → (map.get after name ≡ map.get before name) ⊎ IsBound used files (map.values before) name (map.get after name)
 
--- an event of a shell changes no assign beyond what its commands did, but that it binds Defers that it used, to directories
--- that stand behind it
+-- an event of a shell changes no assign beyond what its commands did, except that it binds Defers that it used, to directories
+-- that are there after it
 abbrev pub EventsBindOnlyWhatTheyUsed : Type 0
 EventsBindOnlyWhatTheyUsed =
     (w world : WorldState) (k : ℕ) (queue : List Text) (turned : Turned) (out : Out) (items : List (ℕ × Item)) →

@@ -35,9 +35,9 @@ use Rattle.ados_machine.specs.Settled.{Said, faulted, told, with_limit, newest_k
 use Rattle.ados_machine.specs.World.{WorldState, seen_in}
 use Rattle.ados_machine.specs.Step.{behind_event}
 
--- what lines hand through: the shells (at the shell's own number it is only looked at that there is one), what all share, what
--- the shell itself has: its parts, what its ticks put out, and what is printed; its scripts that ended, the newest first; and
--- whether it is flagged
+-- what lines pass on: the shells (at the shell's own number it only matters that there is one), what all share, what the shell
+-- itself has: its parts, what its command substitutions put out, and what is printed; its scripts that ended, the newest first;
+-- and whether it is flagged
 pub record Common : Type 0 where
   pub shells : List (Option ShellState)
   pub shared : SharedState
@@ -45,9 +45,9 @@ pub record Common : Type 0 where
   pub reports : List EndReport
   pub flagged : Bool
 
--- where lines stand. What their caller hands to them: where output goes, whether they are a script's, how many scripts run at or
+-- where lines are. What their caller passes to them: where output goes, whether they are a script's, how many scripts run at or
 -- below them, their depth, the lines, the files kept open by them and their callers, and the shell's name in Status. And how far
--- they came: the place of the next line, the line at which the last command began, and the record of the last that answered
+-- they got: the place of the next line, the line at which the last command began, and the record of the last that answered
 pub record At : Type 0 where
   pub shell : ℕ
   pub sink : Sink
@@ -61,25 +61,25 @@ pub record At : Type 0 where
   pub line : ℕ
   pub last : Option Record
 
--- what lines mean: they come to their end, with so many events and these answers left, with what their last command answered,
--- and hand this on; or they end at a break, which ends the lines that called them too, up to the outermost script's; or an event
--- more is due; or an answer is missing
+-- what lines mean: they come to their end, with n events and these answers left, with what their last command answered,
+-- and pass this on; or they end at a break, which ends the lines that called them too, up to the outermost script's; or one
+-- more event is needed; or an answer is missing
 pub data Whole : Type 0 where
   Done : (left : ℕ) (answers : List Reply) (last : Option Record) (common : Common) → Whole
   Broken : (left : ℕ) (answers : List Reply) (last : Option Record) (common : Common) → Whole
   Late : (answers : List Reply) → Whole
   Short : Whole
 
--- it is told by the events left, the answers, what is handed through, where the lines stand, and a line that goes on behind
--- its tick
+-- it depends on the events left, the answers, what is passed on, where the lines are, and a line that continues after its
+-- command substitution
 abbrev pub Meaning : Type 0
 Meaning = ℕ → List Reply → Common → At → Option Parted → Whole
 
--- no lines may stand deeper
+-- no lines may be deeper
 abbrev pub is_deepest : At → Bool
 is_deepest at = nat_le frame_limit at.depth
 
--- what a line knows of where it stands
+-- what a line knows of where it is
 abbrev pub script_line_at : At → Option ScriptLine
 script_line_at at = if at.in_script then Some (record { lines = at.lines; line = at.line }) else None
 
@@ -128,7 +128,7 @@ start_at k at wait common = record {
   flagged = common.flagged;
 }
 
--- a current directory goes along with what was moved, if anything was
+-- a current directory moves with what was moved, if anything was
 abbrev pub carried_in : Option Renamed → Place → Place
 carried_in None directory = directory
 carried_in (Some moved) directory = carried moved.from moved.to directory
@@ -136,7 +136,7 @@ carried_in (Some moved) directory = carried moved.from moved.to directory
 abbrev pub carried_parts : Option Renamed → Parts → Parts
 carried_parts moved parts = record parts { directory = carried_in moved parts.directory }
 
--- an event ends, and what was printed joins what was before
+-- an event ends, and what was printed is appended to what was printed before
 abbrev pub absorbed : Common → Course → Common
 absorbed common course =
     (let behind = behind_event common.shared common.shells course in
@@ -148,26 +148,26 @@ absorbed common course =
       flagged = course.flagged;
     })
 
--- a command answered: the shell has its codes, and that it failed is printed where its code reaches the limit
+-- a command answered: the shell has its codes, and if its code reaches the limit it is printed that it failed
 abbrev pub says : Text → Codes → Common → Common
 says word answer common = record common { said = told word answer common.said }
 
--- its record: the line at which it began, its codes, and the limit that stood
+-- its record: the line at which it began, its codes, and the limit in force
 abbrev pub recorded : At → Codes → Common → Record
 recorded at answer common = record { line = at.line; codes = answer; limit = common.said.parts.limit }
 
--- a command of these lines answered: a script ends here at its limit, or where it quits; other lines go on
+-- a command of these lines answered: a script ends here at its limit, or if it quits; other lines continue
 abbrev pub after_answer : Meaning → ℕ → List Reply → Common → At → Text → Codes → Bool → Whole
 after_answer go n answers common at word answer quits =
     if at.in_script && (quits || is_reached common.said.parts.limit answer.code) then Done n answers (Some (recorded at answer common)) (says word answer common)
     else go n answers (says word answer common) (record at { last = Some (recorded at answer common) }) None
 
--- the same where the command did its work itself: the text of its fault is printed first, which that of a script was already
+-- the same if the command did its work itself: the text of its fault is printed first, which that of a script was already
 abbrev pub answered_at : Meaning → ℕ → List Reply → Common → At → Text → Codes → Bool → Whole
 answered_at go n answers common at word answer quits =
     after_answer go n answers (record common { said = faulted word answer.result2 common.said }) at word answer quits
 
--- where a script's lines begin, and a tick's
+-- where a script's lines begin, and those of a command substitution
 abbrev pub script_at : At → Option Target → Called → At
 script_at at output called = record {
   shell = at.shell;
@@ -219,14 +219,14 @@ report_broken k name last = record {
 abbrev pub with_report : EndReport → Common → Common
 with_report report common = record common { reports = report ∷ common.reports }
 
--- behind a script that ended at a break, where so many scripts run at or below these lines: behind the outermost one the command
--- that called it answers with 10 and 304, and else these lines end too, at the same break
+-- after a script that ended at a break, with this many scripts at or below these lines: after the outermost one the command
+-- that called it answers with 10 and 304, and otherwise these lines end too, at the same break
 abbrev pub after_broken : Meaning → ℕ → List Reply → Common → At → Code → Text → ℕ → Whole
 after_broken go n answers common at limit word zero =
     after_answer go n answers (record common { said = with_limit (limit_for at.scripts limit) common.said }) at word broken_codes false
 after_broken go n answers common at limit word (suc scripts) = Broken n answers at.last common
 
--- behind a script: it is reported, the limit of its beginning comes back, and it is 10 where no script is left; what it came to is
+-- after a script: it is reported, the limit of its beginning is restored, or 10 if no script is left; its last codes are
 -- the answer of the command that called it
 abbrev pub after_call : Meaning → At → Code → Text → Text → Whole → Whole
 after_call go at limit name word (Done n answers last common) =
@@ -237,7 +237,7 @@ after_call go at limit name word (Broken n answers last common) =
 after_call go at limit name word (Late answers) = Late answers
 after_call go at limit name word Short = Short
 
--- a tick begins to keep what is put out, and gives it to the line that goes on behind it
+-- a command substitution begins to keep what is put out, and gives it to the line that continues after it
 abbrev pub ticking : Common → Common
 ticking common = record common { said = with_tick common.said }
 
@@ -251,7 +251,7 @@ after_tick go at before after (Broken n answers last common) = Broken n answers 
 after_tick go at before after (Late answers) = Late answers
 after_tick go at before after Short = Short
 
--- what a deed means behind its event; `further` is what it means to wait
+-- what a deed means after its event; `further` is what it means to wait
 abbrev pub behind_deed : (Common → Wait → Whole) → Meaning → ℕ → List Reply → Common → At → Deed → Whole
 behind_deed further go n answers common at (Passes course) = go n answers common at None
 behind_deed further go n answers common at (Answers word answer quits course) = answered_at go n answers common at word answer quits
@@ -268,12 +268,12 @@ behind_deed further go n answers common at (Waits wait course) = further common 
 abbrev pub deed_of : (Common → Wait → Whole) → Meaning → ℕ → List Reply → Common → At → Deed → Whole
 deed_of further go n answers common at deed = behind_deed further go n answers (absorbed common (course_of deed)) at deed
 
--- an answer of another kind is as good as none
+-- an answer of another kind is treated as missing
 abbrev pub reply_of : (Deed → Whole) → Option Deed → Whole
 reply_of meaning None = Short
 reply_of meaning (Some deed) = meaning deed
 
--- a turn takes the flag away
+-- a turn clears the flag
 abbrev pub flagless : Common → Common
 flagless common = record common { flagged = false }
 
@@ -284,11 +284,11 @@ breaks_at common at = common.flagged && nat_lt 0 at.scripts
 abbrev pub broken_in : Common → Common
 broken_in common = record common { said = record common.said { printed = common.said.printed ++ break_text }; flagged = false }
 
--- a turn does this, but where it finds the flag in a script
+-- a turn does this, unless it finds the flag in a script
 abbrev pub turn_at : ℕ → List Reply → Common → At → (Common → Whole) → Whole
 turn_at n answers common at work = if breaks_at common at then Broken n answers at.last (broken_in common) else work (flagless common)
 
--- what it means to wait, one event each: a prompt takes the end of input (and so would a Run that asks for further lines, as none
+-- what it means to wait, one event each: a prompt takes the end of input (and so would a Run that asks for more lines, as none
 -- does in lines); of a program the next answer is taken
 abbrev pub waits : ℕ → Meaning → At → ℕ → List Reply → Common → Wait → Whole
 waits k go at zero answers common wait = Late answers
@@ -307,7 +307,7 @@ waits k go at (suc n) (reply ∷ answers) common wait =
 abbrev pub moved_on : At → At
 moved_on at = record at { position = at.position + 1; line = at.position + 1 }
 
--- the next line, or the one that goes on behind its tick, takes an event; no line left costs nothing
+-- the next line, or the one that continues after its command substitution, takes an event; if no line is left that costs nothing
 abbrev pub next_of : ℕ → Meaning → ℕ → List Reply → Common → At → Option Parted → Option Text → Whole
 next_of k go n answers common at None None = Done n answers at.last common
 next_of k go zero answers common at parted line = Late answers
@@ -319,7 +319,7 @@ next_of k go (suc n) answers common at None (Some line) =
     (λ now. deed_of (waits k go (moved_on at) n answers) go n answers now (moved_on at)
     (line_deed line (here_at (moved_on at)) (start_at k at None now)))
 
--- what lines mean in the shell of a number, by a bound on how deep the calls go, which the events left never pass
+-- what lines mean in the shell of a number, by a bound on how deep the calls go, which the events left never exceed
 abbrev pub lines : ℕ → ℕ → Meaning
 lines k zero n answers common at parted = Late answers
 lines k (suc gas) n answers common at parted = next_of k (lines k gas) n answers common at parted (slice_get at.lines at.position)
@@ -340,7 +340,7 @@ at_bottom k commands = record {
   last = None;
 }
 
--- a fresh shell of a number, with these lines: it begins in the root, and nothing but its own variables is set there
+-- a fresh shell of a number, with these lines: it begins in the root, and nothing except its own variables is set there
 abbrev pub opened_shell : ℕ → List Text → ShellState
 opened_shell k commands =
     begun_shell k (record { directory = []; settings = first_settings k; commands = commands; output = None })
@@ -349,7 +349,7 @@ opened_shell k commands =
 abbrev pub opened : WorldState → ℕ → List Text → WorldState
 opened w k commands = record w { shells = slice_set w.shells (k - 1) (Some (opened_shell k commands)) }
 
--- what its lines have at hand as they begin
+-- what its lines are passed as they begin
 abbrev pub first_common : WorldState → ℕ → List Text → Common
 first_common w k commands = record {
   shells = (opened w k commands).shells;
@@ -359,6 +359,6 @@ first_common w k commands = record {
   flagged = false;
 }
 
--- the direct meaning of lines in a shell that is opened in a world and runs alone, with so many events and these answers
+-- the direct meaning of lines in a shell that is opened in a world and runs alone, with n events and these answers
 abbrev pub whole : ℕ → ℕ → WorldState → List Text → List Reply → Whole
 whole n k w commands answers = lines k (suc n) n answers (first_common w k commands) (at_bottom k commands) None

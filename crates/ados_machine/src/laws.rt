@@ -34,10 +34,10 @@ ghost use Rattle.ados_machine.specs.World.{fresh_world};
 ghost use Rattle.ados_resident.specs.declared.hosts.HostEntry.{HostEntry};
 ghost use Rattle.std.specs.Prelude.{List};
 
-/// In every run of a world that is sane (no script runs on behind a failure), as a fresh one is and events keep it: in
+/// In every run of a world that is sane (no script runs on after a failure), as a fresh one is and events keep it: in
 /// every shell each script ends early exactly at its first command whose code reaches the limit after it, and reports
 /// the line and the code of its last command; the command that called it answers with that one's codes, at the limit
-/// that the end brings back.
+/// that the end restores.
 pub fn scripts_end_where_the_rule_says()
     ensures { ScriptsEndWhereTheRuleSays }
 {}
@@ -55,9 +55,9 @@ pub fn each_end_is_reported_once()
     ensures { ReportsAreTheEnds }
 {}
 
-/// In every run of a world that is sane, the frames of each shell go through its trace: a script begins at the limit that
-/// stands; it ends once, by the name under which it began, and only where it is the newest that is there. What stands
-/// after the trace is the shell's own limit, and its codes are those of its last command.
+/// In every run of a world that is sane, the frames of each shell go through its trace: a script begins at the limit in
+/// force; it ends once, by the name under which it began, and only if it is the newest that is there. The limit in force
+/// after the trace is the shell's own, and its codes are those of its last command.
 pub fn each_frame_ends_once()
     ensures { EachFrameEndsOnce }
 {}
@@ -70,9 +70,9 @@ pub fn breaks_end_scripts()
 {}
 
 /// An answer that a program of the host could not be started changes the codes of the shell that asked, and what these
-/// change: its limit, its phase, the last record of its newest frame, and which of its frames go on. What all shells
+/// change: its limit, its phase, the last record of its newest frame, and which of its frames continue. What all shells
 /// share, the other shells and their codes, and the input stay, and the use of its resident entry is given back. In a
-/// run where that answer is the next event accepted after the turn that asked, nothing is left of the attempt: what
+/// run in which that answer is the next event accepted after the turn that asked, nothing is left of the attempt: what
 /// all shells share, the other shells and each use count are as before that turn, and so are the shell's number,
 /// directory and settings.
 pub fn failed_starts_change_the_codes()
@@ -88,9 +88,9 @@ pub fn quiet_shells_are_invisible()
     ensures { QuietShellsAreInvisible }
 {}
 
-/// How far the program is that a shell started, its child, goes by what launchers answer. In a fresh world no shell has a
-/// child, and an accepted event that is no answer of a launcher keeps each child as far as it was. An answer is accepted
-/// exactly where it is of the kind that its shell asked for; from a world that is sane it moves that shell's child as
+/// The state of the program that a shell started, its child, follows from what launchers answer. In a fresh world no shell has
+/// a child, and an accepted event that is not an answer of a launcher keeps each child as it was. An answer is accepted
+/// exactly if it is of the kind that its shell asked for; from a world that is sane it moves that shell's child as
 /// what was asked for says, and keeps what the other shells ask for. In such a world what a shell asks for names it by
 /// its number.
 pub fn children_go_by_their_answers()
@@ -104,9 +104,9 @@ pub fn children_go_by_their_answers()
 {}
 
 /// A shell that is opened at the lowest free number, and then alone is given turns and answers, does what its lines mean
-/// by a direct recursion that knows neither frames nor phases: it ends where the meaning does, with the same world, bytes
-/// and codes, and the same events and answers left; it runs on after the last event where the meaning wants one more;
-/// and an answer is missing, or of another kind than asked for, where the meaning says so. To run alone is a run of
+/// by a direct recursion that knows neither frames nor phases: it ends if the meaning does, with the same world, bytes
+/// and codes, and the same events and answers left; it runs on after the last event if the meaning needs one more;
+/// and an answer is missing, or of another kind than asked for, if the meaning says so. To run alone is a run of
 /// accepted events of that shell, which takes the answers in their order.
 pub fn alone_means_the_direct_meaning()
     ensures meaning { AloneMeansWhole }
@@ -114,19 +114,19 @@ pub fn alone_means_the_direct_meaning()
 {}
 
 /// The end of an event binds only assigns of Defer that the event used, and each only to a directory that is there after the
-/// event. Else it changes no assign beyond what its commands did.
+/// event. Otherwise it changes no assign beyond what its commands did.
 pub fn events_bind_only_what_they_used()
     ensures { EventsBindOnlyWhatTheyUsed }
 {}
 
-/// What an accepted event gives is the request that is pending after it of the shell to which it happened; a typed line and
-/// the end of input give none. A turn is accepted exactly where its shell is ready.
+/// What an accepted event gives is the request that is pending after it of the shell to which it happened; a typed line, the
+/// end of input and a break give none. A turn is accepted exactly if its shell is ready.
 pub fn events_give_what_is_pending()
     ensures pending { EventsGiveWhatIsPending }
     ensures ready { ReadyShellsAreTurned }
 {}
 
-/// The last codes of each number after a run, also of a shell that has ended, are those of its last command in the trace, and
+/// The last codes of each number after a run, even of a shell that has ended, are those of its last command in the trace, and
 /// 0 and 0 after the beginning of a new shell there. A fresh world has last codes for each number, and each event keeps that.
 pub fn last_codes_stay()
     ensures fresh { FreshWorldsHaveAllCodes }
@@ -135,13 +135,13 @@ pub fn last_codes_stay()
 {}
 
 /// From the event that asks for a program's start to the one after which nothing is asked for any more, each event keeps
-/// the resident entry in use from which the program runs; and where nothing is asked for no entry is in use.
+/// the resident entry in use from which the program runs; and if nothing is asked for no entry is in use.
 pub fn entries_stay_in_use()
     ensures lasts { EntriesStayInUse }
     ensures idle { IdleShellsUseNoEntry }
 {}
 
-/// What a program's command opened stays open until the answer that ends the program, also after a fault of its output: the
+/// What a program's command opened stays open until the answer that ends the program, even after a fault of its output: the
 /// outputs that its shell holds, which are those of its frames and that one, stay the same from the answer that the program has
 /// started, event by event.
 pub fn outputs_stay_open()
@@ -165,7 +165,7 @@ pub fn reports_tell_last_records()
 {}
 
 /// The reports of a shell that is opened and runs alone are those of the direct meaning of its lines, which keeps for each
-/// script the line at which its last command began, that one's codes and the limit that stood.
+/// script the line at which its last command began, that one's codes and the limit in force.
 pub fn alone_tells_reports()
     ensures { AloneTellsReports }
 {}

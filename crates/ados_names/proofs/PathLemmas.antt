@@ -15,7 +15,7 @@ use Rattle.ados_names.specs.declared.steps.Step.{Step}
 use Rattle.ados_names.specs.declared.steps.Step.TheVariants.{Up, Name}
 use Rattle.ados_names.proofs.PieceLemmas.{no_colon, name-parts, steps-written, written-le}
 
--- no name holds a colon, and so no text of steps does
+-- no name contains a colon, and so no text of steps does
 other_byte : (byte : ℕ) → is_name_byte byte ≡ true → no_colon byte ≡ true
 other_byte byte h = grind (arith, nat_tests)
 
@@ -69,7 +69,7 @@ colon_position device text h =
     (let l = length-append device (58 ∷ text) in grind (arith, nat_tests)) in
     ap (λ b. cond b (Some (position_or_len is_colon (device ++ 58 ∷ text))) None) within ∙ ap Some at
 
--- the parts of a text that is written from parts
+-- the parts of a text that was written from parts
 pub parts-text : (device : Option (List ℕ)) (steps : List Step) → is_device device ≡ true → list_all is_step steps ≡ true
     → parts_of (device_text device ++ written steps) ≡ record { device = device; steps = steps }
 parts-text None steps d h =
@@ -104,7 +104,7 @@ parts-le text (Some place) h =
     let rest = drop (place + 1) text in
     omega (arith, h, written-le rest, length-drop (place + 1) text, length-take-le place text (omega arith), length-append (take place text) (58 ∷ []), length-append (take place text ++ 58 ∷ []) (written (steps_of (slice_split is_slash rest))))
 
--- a step more at the end: each step before it has a slash behind it
+-- one more step at the end: each step before it is followed by a slash
 longer_steps : (steps : List Step) (name : List ℕ) → length (written (steps ++ Name name ∷ [])) ≡ pieces_len steps + length name
 longer_steps [] name = omega (arith, length-append name [])
 longer_steps (Up ∷ rest) name = omega (arith, longer_steps rest name)

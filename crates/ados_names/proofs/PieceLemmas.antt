@@ -1,4 +1,4 @@
--- Texts cut at their slashes, the steps of their pieces, and the texts of steps.
+-- Texts split at their slashes, the steps of their pieces, and the texts of steps.
 use Rattle.std.proofs.Common.{◌≡◌, ◌≤◌, ◌<◌, ℕ, ◌+◌, ◌-◌, Bool, true, false, cond, not, ◌&&◌, List, [], ◌∷◌, ◌++◌, Some, None, length, take, drop, refl, sym, ap, ◌∙◌, arith, append-nil, append_assoc, length-append, length-drop, nat_lt, nat_le}
 use Rattle.std.specs.List.{All, list_all, position, position_or_len, slice_split, onto_first, join_with_byte}
 use Rattle.std.proofs.lemmas.Bool.{and_parts}
@@ -11,7 +11,7 @@ use Rattle.ados_names.specs.Path.{is_piece, is_step, step_of, last_steps_of, ste
 use Rattle.ados_names.specs.declared.steps.Step.{Step}
 use Rattle.ados_names.specs.declared.steps.Step.TheVariants.{Up, Name}
 
--- steps may stand in a path exactly where their pieces may
+-- steps may be in a path exactly if their pieces may
 pub steps-pieces : (pieces : List (List ℕ)) → list_all is_step (steps_of pieces) ≡ list_all is_piece pieces
 steps-pieces [] = refl
 steps-pieces ([] ∷ []) = refl
@@ -23,7 +23,7 @@ not_last : (piece : List ℕ) (pieces : List (List ℕ)) → 0 < length pieces �
 not_last piece [] h = absurd (omega arith)
 not_last piece (next ∷ more) h = refl
 
--- a piece with a slash behind it is not the last
+-- a piece followed by a slash is not the last
 steps-behind : (piece text : List ℕ) → steps_of (piece ∷ slice_split is_slash text) ≡ step_of piece ∷ steps_of (slice_split is_slash text)
 steps-behind piece text = not_last piece (slice_split is_slash text) (omega (arith, length-slice_split is_slash text))
 
@@ -60,7 +60,7 @@ pub last_steps-some : (text : List ℕ) → 0 < length text → last_steps_of te
 last_steps-some [] h = absurd (omega arith)
 last_steps-some (c ∷ cs) h = refl
 
--- what stands in no name
+-- what no name contains
 no_slash : (byte : ℕ) → is_name_byte byte ≡ true → is_slash byte ≡ false
 no_slash byte h = grind (arith, nat_tests)
 
@@ -118,15 +118,15 @@ joined-le ((c ∷ cs) ∷ next ∷ more) =
     let rest = steps_of (next ∷ more) in
     omega (arith, joined-le (next ∷ more), behind_name-le rest (written rest), length-append (c ∷ cs) (behind_name rest (written rest)), length-append (c ∷ cs) (47 ∷ join_with_byte 47 (next ∷ more)))
 
--- the steps of a text are written out no longer than it was
+-- the steps of a text are written out in no more bytes than it has
 pub written-le : (text : List ℕ) → length (written (steps_of (slice_split is_slash text))) ≤ length text
 written-le text = omega (arith, joined-le (slice_split is_slash text), ap length (join_with_byte-slice_split 47 text))
 
--- what a slice from a place on holds
+-- the elements of a slice from a place on
 pub left : (from : ℕ) (text : List ℕ) → take (length text - from) (drop from text) ≡ drop from text
 left from text = let enough : length (drop from text) ≤ length text - from = omega (arith, length-drop from text) in take_all (length text - from) (drop from text) enough
 
--- one piece further on in a text
+-- one more piece of a text
 pub step-more : (whole items after : List Step) (text : List ℕ) (from place : ℕ) (step : Step)
     → whole ≡ items ++ steps_of (slice_split is_slash (drop from text)) → position is_slash (take (length text - from) (drop from text)) ≡ Some place
     → step ≡ step_of (take (from + place - from) (drop from text)) → after ≡ items ++ step ∷ []

@@ -2,11 +2,11 @@
 use Rattle.std.specs.Prelude.{ℕ, List, Bool, not, ◌&&◌, ◌==◌, nat_le, nat_lt, length}
 use Rattle.std.specs.List.{list_all}
 
--- a colon, behind which a path's steps begin
+-- a colon, after which a path's steps begin
 abbrev pub is_colon : ℕ → Bool
 is_colon byte = byte == 58
 
--- a slash, at which steps are parted
+-- a slash, which separates steps
 abbrev pub is_slash : ℕ → Bool
 is_slash byte = byte == 47
 

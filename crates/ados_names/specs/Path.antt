@@ -14,7 +14,7 @@ pub record PathParts : Type 0 where
   pub device : Option (List ℕ)
   pub steps : List Step
 
--- how many bytes a path's text may have
+-- the most bytes that a path's text may have
 abbrev pub path_limit : ℕ
 path_limit = 255
 
@@ -23,7 +23,7 @@ abbrev pub step_of : List ℕ → Step
 step_of [] = Up
 step_of (c ∷ cs) = Name (c ∷ cs)
 
--- the steps of the last piece: an empty one is nothing
+-- the steps of the last piece: an empty one is ignored
 abbrev pub last_steps_of : List ℕ → List Step
 last_steps_of [] = []
 last_steps_of (c ∷ cs) = Name (c ∷ cs) ∷ []
@@ -34,7 +34,7 @@ steps_of [] = []
 steps_of (last ∷ []) = last_steps_of last
 steps_of (piece ∷ next ∷ more) = step_of piece ∷ steps_of (next ∷ more)
 
--- the parts of a text, by the place of its first colon: what stands behind it is cut at each slash
+-- the parts of a text, by the place of its first colon: what follows it is split at each slash
 abbrev pub parts_by : List ℕ → Option ℕ → PathParts
 parts_by text None = record { device = None; steps = steps_of (slice_split is_slash text) }
 parts_by text (Some colon) = record { device = Some (take colon text); steps = steps_of (slice_split is_slash (drop (colon + 1) text)) }
@@ -47,7 +47,7 @@ abbrev pub is_piece : List ℕ → Bool
 is_piece [] = true
 is_piece (c ∷ cs) = is_name (c ∷ cs)
 
--- and so is a device text, where there is one
+-- and so is a device text, if there is one
 abbrev pub is_device : Option (List ℕ) → Bool
 is_device None = true
 is_device (Some device) = is_piece device
@@ -64,7 +64,7 @@ are_parts path = is_device path.device && list_all is_step path.steps
 abbrev pub path_of : List ℕ → Result PathParts Result2
 path_of text = if nat_le (length text) path_limit && are_parts (parts_of text) then Ok (parts_of text) else Err INVALID_NAME
 
--- steps written out: a slash stands for each step up, and behind each name that is not the last step
+-- steps written out: a slash stands for each step up, and follows each name that is not the last step
 abbrev pub behind_name : List Step → List ℕ → List ℕ
 behind_name [] text = text
 behind_name (step ∷ more) text = 47 ∷ text
@@ -82,26 +82,26 @@ device_text (Some device) = device ++ 58 ∷ []
 abbrev pub text_of : PathParts → List ℕ
 text_of path = device_text path.device ++ written path.steps
 
--- what holds of each path: its device and its names are such, and its text is not too long
+-- what holds of each path: its device and its names are valid, and its text is not too long
 pub record IsPath (path : PathParts) : Type 0 where
   pub parts : IsTrue (are_parts path)
   pub fits : length (text_of path) ≤ path_limit
 
--- the path with one step more, into a name; 210 for a text that is none, and where the path gets too long
+-- the path with one more step, into a name; 210 for a text that is not a name, and if the path gets too long
 abbrev pub longer : PathParts → List ℕ → PathParts
 longer path name = record path { steps = path.steps ++ Name name ∷ [] }
 
 abbrev pub joined : PathParts → List ℕ → Result PathParts Result2
 joined path name = if is_name name && nat_le (length (text_of (longer path name))) path_limit then Ok (longer path name) else Err INVALID_NAME
 
--- what a call gives, by a definition that knows no want of memory: that path, or its fault. Memory is wanted only
--- where there is a path
+-- what a call returns, by a definition in which allocations never fail: that path, or its fault. A call runs out of
+-- memory only if there is a path
 abbrev pub Gives : Result PathParts NameFault → Result PathParts Result2 → Type 0
 Gives (Ok path) given = given ≡ Ok path
 Gives (Err Invalid) given = given ≡ Err INVALID_NAME
 Gives (Err NoMemory) given = IsOk given
 
--- the place in a path's text at which its last piece begins: behind the last colon or slash
+-- the place in a path's text at which its last piece begins: after the last colon or slash
 abbrev pub is_piece_byte : ℕ → Bool
 is_piece_byte byte = not (is_colon byte || is_slash byte)
 

@@ -7,10 +7,10 @@ use thiserror::Error;
 /// Why a text gives no path.
 #[derive(Clone, Copy, Debug, PartialEq, Eq, Error)]
 pub enum NameFault {
-    /// It is no path, or a piece of it is no name: fault 210.
+    /// It is not a path, or a piece of it is not a name: fault 210.
     #[error("invalid name")]
     Invalid,
-    /// No memory for the path.
+    /// Out of memory for the path.
     #[error("no free store")]
     NoMemory,
 }

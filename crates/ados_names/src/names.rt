@@ -4,10 +4,10 @@ ghost use Rattle.ados_names.specs.Names.{is_name, is_name_byte};
 
 use ados_text::Text;
 
-// How many bytes a name may have.
+// The most bytes that a name may have.
 const NAME_LIMIT: usize = 30;
 
-/// The text is a name: 1 to 30 printable bytes, none a colon or a slash.
+/// The text is a name: 1 to 30 printable bytes, none of them a colon or a slash.
 pub fn is_name(text: &Text) -> bool
     ensures { result ≡ is_name text.now }
 {

@@ -13,7 +13,7 @@ use smallvec::SmallVec;
 use std::alloc::Global;
 use std::marker::Model;
 
-// How many bytes the text of a path may have.
+// The most bytes that the text of a path may have.
 const PATH_LIMIT: usize = 255;
 
 /// A path: a device text, if one is named, and steps. Each path can be written as a text of at most 255 bytes.
@@ -34,12 +34,12 @@ impl Model for Path {
 }
 
 impl Path {
-    /// The path that a text names. Before the first colon stands a device; what is behind is cut at each slash into
-    /// pieces. An empty piece that is not the last goes up one directory, an empty last piece is nothing, and each
+    /// The path that a text names. What is before the first colon names a device; what follows is split at each slash into
+    /// pieces. An empty piece that is not the last goes up one directory, an empty last piece is ignored, and each
     /// other piece is the name of a step.
     ///
-    /// `Invalid` for a text of more than 255 bytes, and where a device text that is not empty, or a piece, is no name;
-    /// `NoMemory` only where there is a path.
+    /// `Invalid` for a text of more than 255 bytes, and if a device text that is not empty, or a piece, is not a name;
+    /// `NoMemory` only if there is a path.
     pub fn parse(alloc: Global, text: &Text) -> Result<Path, NameFault>
         ensures { Gives result (path_of text.now) }
     {
@@ -49,10 +49,10 @@ impl Path {
         Ok(read(alloc, text)?)
     }
 
-    /// The path with one step more, into a name.
+    /// The path with one more step, into a name.
     ///
-    /// `Invalid` where the text is no name, and where the path's text would have more than 255 bytes; `NoMemory` only
-    /// where there is a path.
+    /// `Invalid` if the text is not a name, or the path's text would have more than 255 bytes; `NoMemory` only
+    /// if there is a path.
     pub fn join(&self, name: &Text) -> Result<Path, NameFault>
         ensures { Gives result (joined self.now name.now) }
     {
@@ -62,7 +62,7 @@ impl Path {
         Ok(self.longer(name)?)
     }
 
-    /// The text before the first colon; `None` where the path has no colon.
+    /// The text before the first colon; `None` if the path has no colon.
     pub fn device(&self) -> Option<&Text>
         ensures { option_copied result ≡ self.now.device }
     {
@@ -92,7 +92,7 @@ impl Path {
 }
 
 impl Path {
-    // How many bytes the text of the path has with one name more.
+    // How many bytes the text of the path has with one more name.
     fn joined_len(&self, name: &Text) -> usize
         requires { is_name name.now ≡ true }
         ensures { result ≡ length (text_of (longer self.now name.now)) }
@@ -100,7 +100,7 @@ impl Path {
         device_len(&self.device) + pieces_len(&self.steps) + name.as_bytes().len()
     }
 
-    // The path with one name more.
+    // The path with one more name.
     fn longer(&self, name: &Text) -> Result<Path, NoMemory>
         requires name { is_name name.now ≡ true }
         requires fits { length (text_of (longer self.now name.now)) ≤ path_limit }
@@ -143,7 +143,7 @@ fn read(alloc: Global, text: &Text) -> Result<Path, NoMemory>
     }
 }
 
-// How many bytes a device text has with its colon.
+// How many bytes a device text has, its colon included.
 fn device_len(device: &Option<Text>) -> usize
     requires { length (device_text device.now) ≤ path_limit }
     ensures { result ≡ length (device_text device.now) }
@@ -154,7 +154,7 @@ fn device_len(device: &Option<Text>) -> usize
     }
 }
 
-// How many bytes steps have where each is followed by a slash.
+// How many bytes steps have if each is followed by a slash.
 fn pieces_len(steps: &[Step]) -> usize
     requires { pieces_len steps.now ≤ path_limit + 1 }
     ensures { result ≡ pieces_len steps.now }

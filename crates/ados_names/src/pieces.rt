@@ -71,7 +71,7 @@ pub fn steps(alloc: Global, text: &Text, start: usize) -> Result<SmallVec<Step, 
     Ok(steps)
 }
 
-// The byte parts no pieces.
+// The byte does not separate pieces.
 fn is_piece_byte(byte: u8) -> bool
     ensures { result ≡ is_piece_byte byte }
 {
@@ -89,9 +89,9 @@ fn last_len(text: &[u8]) -> usize
         .count()
 }
 
-/// The place in a path's text at which its last piece begins: behind the last colon or slash, or at the text's
-/// beginning. What stands before it names a path where the whole text does; before the last piece of `a:b:c`, which
-/// names none, stands `a:b:`, which names none either.
+/// The place in a path's text at which its last piece begins: after the last colon or slash, or at the text's
+/// beginning. The text before it names a path if the whole text does; before the last piece of `a:b:c`, which
+/// names none, is `a:b:`, which names none either.
 pub fn last_piece(text: &Text) -> usize
     ensures place { result ≡ last_piece_of text.now }
     ensures within { result ≤ length text.now }

@@ -18,7 +18,7 @@ pub data Tells : List Token → List (ℕ × ℕ) → Type 0 where
   silent : (ts : List Token) (ms : List (ℕ × ℕ)) → Tells ts ms → Tells (Silent ∷ ts) ms
   member : (ts : List Token) (low high : ℕ) (ms : List (ℕ × ℕ)) → Tells ts ms → Tells (Member low high ∷ ts) ((low, high) ∷ ms)
 
--- so many tokens of members, and the end of their class
+-- `count` tokens of members, and the end of their class
 pub record Told (tokens : List Token) (ms : List (ℕ × ℕ)) (rest : List Token) (count : ℕ) : Type 0 where
   pub front : List Token
   pub tells : Tells front ms
@@ -52,7 +52,7 @@ told-member ts ms rest n low high t = record { front = Member low high ∷ t.fro
 pub told-as : (ts us : List Token) (ms : List (ℕ × ℕ)) (rest : List Token) (m n : ℕ) → us ≡ ts → n ≡ m → Told ts ms rest m → Told us ms rest n
 told-as ts us ms rest m n e k t = record { front = t.front; tells = t.tells; counted = t.counted ∙ sym k; joined = e ∙ t.joined }
 
--- a character of a class, by whether a range begins behind it
+-- a character of a class, by whether a range begins after it
 pub plain-tokens : (c : ℕ) (rest : List ℕ) (b : Bool) → (c ≡ quote → ⊥) → (c ≡ close_class → ⊥) → begins_range rest ≡ b → tokens_from Class (c ∷ rest) ≡ (if b then Silent else Member c c) ∷ tokens_from (if b then Low c else Class) rest
 plain-tokens c rest b q k e = rw (is-not c 93 k, is-not c 39 q, e) refl
 
@@ -94,7 +94,7 @@ members-told (range s u t low high ms o p are) rest =
     (length-append s (dash ∷ (u ++ t)) ∙ omega (arith, length-append u t))
     (range-told o p (t ++ close_class ∷ rest) ms (tokens_from Plain rest) (length t) (members-told are rest))
 
--- whether members, with or without one before, are no row or go downwards
+-- whether members, with one before them or not, are none at all or have a descending range
 abbrev pub is_bad_row : Bool → List (ℕ × ℕ) → Bool
 is_bad_row has [] = not has
 is_bad_row has (m ∷ ms) = if nat_lt m.1 m.0 then true else is_bad_row true ms
@@ -124,7 +124,7 @@ built-told no_more rest = refl
 built-told (silent ts ms t) rest = built-told t rest
 built-told (member ts low high ms t) rest = ap (on_row (with_member low high)) (built-told t rest) ∙ ap (λ f. (f, None) ∷ built_of rest) (with-one low high ms)
 
--- a front of the text is members, and the class's end stands behind it
+-- a prefix of the text is members, and the class's end follows it
 pub record IsCut (text : List ℕ) : Type 0 where
   pub front : List ℕ
   pub ms : List (ℕ × ℕ)
@@ -171,7 +171,7 @@ members-front none b = b
 members-front (alone s t c ms o free are) b = one-front o t b
 members-front (range s u t low high ms o p are) b = one-front o (dash ∷ (u ++ t)) b
 
--- a `-` in front of members stands alone, or before a character
+-- a `-` that begins members is followed by nothing, or by a character other than `]`
 pub dash-front : {s : List ℕ} {c : ℕ} → IsOne s c → (t : List ℕ) (h : ℕ) (r : List ℕ) → (Begins close_class t → ⊥) → s ++ t ≡ dash ∷ h ∷ r → h ≡ close_class → ⊥
 dash-front (plain c q k) t h r b e f = let e2 : t ≡ h ∷ r = cc in let g : Begins close_class (h ∷ r) = f in b (subst (Begins close_class) (sym e2) g)
 dash-front (quoted c) t h r b e f = let e2 : quote ≡ dash = cc in absurd (omega (arith, e2))
@@ -220,7 +220,7 @@ cut-range {s = s} {u = u} {low = low} {high = high} o p rest cut = elim cut [
   | inr k ↦ inr (open-low o (dash ∷ (u ++ rest)) (dash-begins p rest) (open-silent _ (open-high p low rest k)))
 ]
 
--- where the texts behind are cut, the text is, by the character in front
+-- if the texts after its first character are split, so is the text
 pub cut-by : {s : List ℕ} {c : ℕ} → IsOne s c → (rest : List ℕ) → Cuts rest → ((u r : List ℕ) → rest ≡ dash ∷ (u ++ r) → 0 < length u → Cuts r) → Cuts (s ++ rest)
 cut-by {s = s} {c = c} o rest cut cuts = go (begins_range rest) refl
   where
@@ -254,7 +254,7 @@ class-step n c text l again = go (c == 93) refl (c == 39) refl
     go false e true f = quote_in text refl (eq-is c 39 f)
     go false e false f = cut-behind (plain c (eq-not c 39 f) (eq-not c 93 e)) n text l again
 
--- a text in a class is cut where the class ends, or no class ends in it
+-- a text in a class is split where the class ends, or no class ends in it
 pub class-cut : (n : ℕ) (text : List ℕ) → length text ≤ n → Cuts text
 class-cut n [] l = inr open-none
 class-cut zero (c ∷ text) l = absurd (omega (arith, l))

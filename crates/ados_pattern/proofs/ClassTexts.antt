@@ -12,7 +12,7 @@ use Rattle.ados_pattern.specs.Signs.{close_class, tilde}
 use Rattle.ados_pattern.proofs.ClassReads.{Cuts, IsOpen, bad-told, built-told, class-cut, closes-told, eq-not, fault-told, if-false, is-not, is_bad_row, members-told}
 use Rattle.ados_pattern.proofs.RuleLemmas.{eq-is}
 
--- behind `[`, where no `~` stands there, and behind `~` all is read alike
+-- after `[` without a `~`, and after `[~`, all is read alike
 pub begun-class : (text : List ℕ) → (Begins tilde text → ⊥) → tokens_from Begun text ≡ tokens_from Class text
 begun-class [] b = refl
 begun-class (c ∷ text) b = rw (is-not c 126 b) refl
@@ -69,7 +69,7 @@ pub good-row : (t : List ℕ) (ms : List (ℕ × ℕ)) → AreMembers t ms → i
 good-row t [] are e = absurd cc
 good-row t (m ∷ ms) are e = record { members = are; some = omega arith; upward = good-upward (m ∷ ms) e }
 
--- a class's text stands in front, and a class unless it is bad
+-- a prefix of the text is a class's text, and a class unless it is bad
 pub record IsWhole (text : List ℕ) : Type 0 where
   pub front : List ℕ
   pub behind : List ℕ
@@ -110,7 +110,7 @@ whole-outside text cut = elim cut [
       })
 ]
 
--- behind `[` a class's text stands, or no class ends
+-- after `[` comes a class's text, or no class ends
 pub whole-cut : (text : List ℕ) → IsWhole text ⊎ IsOpen (tokens_from Begun text)
 whole-cut [] = whole-within [] (λ b. b) (class-cut 0 [] (omega arith))
 whole-cut (c ∷ text) = go (c == 126) refl

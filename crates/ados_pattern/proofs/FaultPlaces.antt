@@ -1,4 +1,4 @@
--- The first fault that the tokens show is the least place at which a fault stands.
+-- The first fault that the tokens show is at the least place of a fault.
 use Rattle.std.proofs.Common.{◌≡◌, ℕ, zero, suc, ◌+◌, ◌-◌, ◌<◌, ◌≤◌, List, [], ◌∷◌, ◌++◌, length, Bool, true, false, ◌==◌, if◌then◌else◌, Option, Some, refl, sym, ◌∙◌, ap, subst, arith, ◌⊎◌, inl, inr, append_assoc, length-append}
 use Rattle.ados_pattern.specs.declared.tokens.Token.{Token}
 use Rattle.ados_pattern.specs.declared.tokens.Token.TheVariants.{Any, Bar, Char, ClassOpen, Close, Many, Nothing, Open, Other, Silent}
@@ -67,7 +67,7 @@ quiet-depth (quiet_char c) depth = refl
 pub close-not-first : (depth : ℕ) → (depth + 1 == 0) ≡ false
 close-not-first depth = grind arith
 
--- what closes groups passes over texts by their groups
+-- whether a group is closed after a text that changes the number of open groups
 pub leads-closes : {d e : ℕ} {front : List ℕ} → Leads d front e → (rest : List ℕ) → closes d (tokens_from Plain (front ++ rest)) ≡ closes e (tokens_from Plain rest)
 leads-closes (here d) rest = refl
 leads-closes (opened d e t l) rest = leads-closes l rest

@@ -1,4 +1,4 @@
--- The first fault that the tokens show is the least place at which a fault stands.
+-- The first fault that the tokens show is at the least place of a fault.
 use Rattle.std.proofs.Common.{◌≡◌, ℕ, zero, suc, ◌+◌, ◌-◌, ◌≤◌, List, [], ◌∷◌, ◌++◌, length, Bool, true, false, ◌==◌, if◌then◌else◌, Option, Some, refl, sym, ◌∙◌, ap, subst, arith, ◌⊎◌, inl, inr, append_assoc, length-append}
 use Rattle.std.proofs.Math.Bool.{not}
 use Rattle.std.proofs.lemmas.Bool.{not-true}
@@ -53,7 +53,7 @@ not-class text none = go (is_bad_class false (tokens_from Begun text)) refl
 pub class-not : (text : List ℕ) → is_bad_class false (tokens_from Begun text) ≡ true → (inner behind : List ℕ) (f : Form) → text ≡ inner ++ close_class ∷ behind → IsClass inner f → ⊥
 class-not text e inner behind f j c = let g : false ≡ true = sym (ap (λ x. is_bad_class false (tokens_from Begun x)) j ∙ class-good c behind) ∙ e in absurd cc
 
--- a fault in front is found there
+-- a fault at the beginning is found there
 pub fault-here : {d : ℕ} {text : List ℕ} → IsFault d text → (place : ℕ) → fault_from d place (tokens_from Plain text) ≡ Some place
 fault-here (hanging_quote d) place = refl
 fault-here (bare d c text k e) place = elim k [
@@ -64,7 +64,7 @@ fault-here (open_too_few text) place = refl
 fault-here (open_for_ever d text none) place = ap (λ b. if not b then Some place else fault_from (d + 1) (place + 1) (tokens_from Plain text)) (not-closed text none)
 fault-here (no_class d text none) place = ap (λ b. if b then Some place else fault_from d (place + 1) (tokens_from Begun text)) (not-class text none)
 
--- the fault that is found stands in the text
+-- the fault that is found is in the text
 pub record Found (d place : ℕ) (text : List ℕ) (p : ℕ) : Type 0 where
   pub front : List ℕ
   pub rest : List ℕ
@@ -161,7 +161,7 @@ found-at text p e =
     let w = find-fault (length text) text (omega arith) 0 0 p e in
     record { front = w.front; rest = w.rest; depth = w.depth; joined = w.joined; placed = omega (arith, w.placed); led = w.led; fault = w.fault }
 
--- where a fault stands, one is found there or before
+-- if there is a fault at a place, one is found there or before
 pub fault-found : (text : List ℕ) (p : ℕ) → FaultAt text p → (q : ℕ) × (q ≤ p) × (fault_from 0 0 (tokens_of text) ≡ Some q)
 fault-found text p w = elim (leads-fault w.led 0 w.rest) [
   | inl e ↦ (length w.front, omega (arith, w.placed), ap (λ x. fault_from 0 0 (tokens_of x)) w.joined ∙ e ∙ fault-here w.fault (0 + length w.front) ∙ (let f : 0 + length w.front ≡ length w.front = omega arith in ap Some f))
@@ -171,7 +171,7 @@ fault-found text p w = elim (leads-fault w.led 0 w.rest) [
 pub same-place : (p q : ℕ) (f : Option ℕ) → f ≡ Some p → f ≡ Some q → p ≡ q
 same-place p q f e g = cc
 
--- what is found is the least place of a fault, and that is found
+-- what is found is the least place of a fault, and that place is found
 pub first-found : (text : List ℕ) (p : ℕ) → fault_from 0 0 (tokens_of text) ≡ Some p → IsFirstFault text p
 first-found text p e = record {
   here = found-at text p e;

@@ -16,7 +16,7 @@ use Rattle.ados_pattern.proofs.FirstFaults.{ends-nothing}
 use Rattle.ados_pattern.proofs.GrammarReads.{pattern-level}
 use Rattle.ados_pattern.proofs.Views.{View, view, at_end, at_hanging, at_quoted, at_open_class, at_class, at_any, at_nothing, at_many, at_other, at_bar, at_open, at_close, at_char, char-tokens}
 
--- a row, and alternatives behind it
+-- a row, and alternatives after it
 pub record Parted (text : List ℕ) (row rest : Form) : Type 0 where
   pub front : List ℕ
   pub behind : List ℕ
@@ -28,7 +28,7 @@ abbrev pub IsReady : List ℕ → Level → Type 0
 IsReady text (row, None) = Says Row text row
 IsReady text (row, Some rest) = Parted text row rest
 
--- the levels of a text inside so many groups
+-- the levels of a text inside `d` groups
 pub data Levels : ℕ → List ℕ → List Level → Type 0 where
   last : (d : ℕ) (text : List ℕ) (l : Level) → IsReady text l → Levels d text (l ∷ [])
   above : (d : ℕ) (text front behind : List ℕ) (l : Level) (ls : List Level) → text ≡ front ++ close_group ∷ behind → IsReady front l → Levels d behind ls → Levels (suc d) text (l ∷ ls)
@@ -37,7 +37,7 @@ pub ready-says : (text : List ℕ) (row : Form) (rest : Option Form) → IsReady
 ready-says text row None r = one text row r
 ready-says text row (Some rest) r = let P : List ℕ → Type 0 = λ t. Says Alternatives t (Either row rest) in subst P (sym r.joined) (either r.front r.behind row rest r.first r.second)
 
--- what is put in front of a row, where the text behind it ends it
+-- what may be put before a row with which a text begins, if what follows ends the row
 abbrev pub Fronts : List ℕ → List ℕ → (Form → Form) → Type 0
 Fronts pre text change = (s behind : List ℕ) (f : Form) → text ≡ s ++ behind → EndsRow behind → Says Row s f → Says Row (pre ++ s) (change f)
 
@@ -60,7 +60,7 @@ levels-front pre change (above d text front behind l ls e r below) put =
 pub levels-item : {d : ℕ} {text : List ℕ} {ls : List Level} (pre : List ℕ) (f : Form) → Says Item pre f → Levels d text ls → Levels d (pre ++ text) (with_item f ls)
 levels-item pre f i w = levels-front pre (Then f) w (λ s behind g e ends r. item pre s f g i r)
 
--- `#` and `~` in front of a row that is not empty
+-- `#` and `~` before a row that is not empty
 abbrev pub OnFirst : ℕ → (Form → Form) → Kind → List ℕ → Form → Type 0
 OnFirst sign change Row text f = 0 < length text → Says Row (sign ∷ text) (change f)
 OnFirst sign change kind text f = Unit {0}
@@ -97,7 +97,7 @@ pub some-front : (text s behind : List ℕ) → has_nothing (tokens_from Plain t
 some-front text [] behind e j ends = let f : true ≡ false = sym (ap (λ x. has_nothing (tokens_from Plain x)) j ∙ ends-nothing behind ends) ∙ e in absurd cc
 some-front text (c ∷ s) behind e j ends = omega arith
 
--- a group in front
+-- a group at the beginning
 pub levels-group : {d : ℕ} {text : List ℕ} {ls : List Level} → Levels d text ls → (e : ℕ) → d ≡ e + 1 → closes 0 (tokens_from Plain text) ≡ true → Levels e (open_group ∷ text) (closed_at ls)
 levels-group (last d text l r) e k c = let f : false ≡ true = sym (pattern-level text (whole_row l.0 l.1) (ready-says text l.0 l.1 r)) ∙ c in absurd cc
 levels-group (above d text front behind l ls j r below) e k c =
@@ -106,14 +106,14 @@ levels-group (above d text front behind l ls j r below) e k c =
     subst P (ap (λ x. open_group ∷ x) (append_assoc front (close_group ∷ []) behind ∙ sym j))
     (levels-item (open_group ∷ front ++ close_group ∷ []) (whole_row l.0 l.1) (group front (whole_row l.0 l.1) (ready-says front l.0 l.1 r)) (subst (λ n. Levels n behind ls) same below))
 
--- a `|` in front
+-- a `|` at the beginning
 pub levels-bar : {d : ℕ} {text : List ℕ} {ls : List Level} → Levels d text ls → Levels d (bar ∷ text) (parted_at ls)
 levels-bar (last d text l r) = last d (bar ∷ text) (Empty, Some (whole_row l.0 l.1)) (record { front = []; behind = text; joined = refl; first = end; second = ready-says text l.0 l.1 r })
 levels-bar (above d text front behind l ls j r below) =
     above d (bar ∷ text) (bar ∷ front) behind (Empty, Some (whole_row l.0 l.1)) ls (ap (λ x. bar ∷ x) j)
     (record { front = []; behind = front; joined = refl; first = end; second = ready-says front l.0 l.1 r }) below
 
--- what is left where a test found no fault
+-- what is left if a test found no fault
 pub by-none : (b : Bool) (place : ℕ) (x : Option ℕ) → (if b then Some place else x) ≡ None → (b ≡ false) × (x ≡ None)
 by-none true place x e = absurd cc
 by-none false place x e = (refl, e)

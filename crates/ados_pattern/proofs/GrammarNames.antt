@@ -16,7 +16,7 @@ abbrev pub char_in : Form → Option ℕ
 char_in (Char c) = Some c
 char_in form = None
 
--- the name behind an item, and behind a row
+-- the name after an item, and after a row
 abbrev pub name_after : List ℕ → Option (List ℕ) → List Token → Option (List ℕ)
 name_after name None ts = None
 name_after name (Some front) ts = chars_after (name ++ front) ts
@@ -47,7 +47,7 @@ name-more name (Some c) (Some front) ts us h = h (name ++ c ∷ []) ∙ ap (λ n
 abbrev pub ReadsName : List ℕ → Option (List ℕ) → Type 0
 ReadsName text front = (name rest : List ℕ) → chars_after name (tokens_from Plain (text ++ rest)) ≡ name_after name front (tokens_from Plain rest)
 
--- an item says its character, if it is one; a row its name; alternatives say no character, and end
+-- an item gives its character as the name, if it is one, and a row its name; alternatives do so only as the whole text
 abbrev pub Names : Kind → List ℕ → Form → Type 0
 Names Item text form = ReadsName text (as_name (char_in form))
 Names Row text form = (char_in form ≡ None) × ReadsName text (name_in form)

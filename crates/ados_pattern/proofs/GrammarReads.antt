@@ -15,7 +15,7 @@ use Rattle.ados_pattern.proofs.ClassTexts.{class-built, class-good, class-text, 
 use Rattle.ados_pattern.proofs.FaultPlaces.{close-not-first}
 use Rattle.ados_pattern.proofs.Views.{char-tokens}
 
--- tokens of the text add so to the levels, show no fault and close no group
+-- the tokens of the text change the levels in this way, show no fault and close no group
 pub record Passes (text : List ℕ) (change : List Level → List Level) : Type 0 where
   pub built : (rest : List ℕ) → built_of (tokens_from Plain (text ++ rest)) ≡ change (built_of (tokens_from Plain rest))
   pub kept : (d place : ℕ) (rest : List ℕ) → fault_from d place (tokens_from Plain (text ++ rest)) ≡ fault_from d (place + length text) (tokens_from Plain rest)
@@ -25,7 +25,7 @@ pub record ReadsItem (text : List ℕ) (form : Form) : Type 0 where
   pub passes : Passes text (with_item form)
   pub begins : (rest : List ℕ) → has_nothing (tokens_from Plain (text ++ rest)) ≡ false
 
--- a row in front of a row
+-- a row before a row
 abbrev pub row_before : Form → Form → Form
 row_before (Then i row) behind = Then i (row_before row behind)
 row_before form behind = behind
@@ -34,7 +34,7 @@ pub record ReadsRow (text : List ℕ) (form : Form) : Type 0 where
   pub passes : Passes text (on_row (row_before form))
   pub ends : row_before form Empty ≡ form
 
--- alternatives in front of the end of a group, or of the text
+-- alternatives before the end of a group, or of the text
 pub record IsLevel (text rest : List ℕ) (form : Form) (below : List Level) : Type 0 where
   pub level : Level
   pub built : built_of (tokens_from Plain (text ++ rest)) ≡ level ∷ below
@@ -114,7 +114,7 @@ reads-other t f i = record {
   begins = λ rest. refl;
 }
 
--- a closing bracket behind a text
+-- a closing bracket after a text
 pub close-level : (d : ℕ) (rest : List ℕ) → closes (d + 1) (tokens_from Plain (close_group ∷ rest)) ≡ closes d (tokens_from Plain rest)
 close-level d rest = if-false (d + 1 == 0) true (closes (d + 1 - 1) (tokens_from Plain rest)) (close-not-first d) ∙ (let f : d + 1 - 1 ≡ d = omega arith in ap (λ k. closes k (tokens_from Plain rest)) f)
 

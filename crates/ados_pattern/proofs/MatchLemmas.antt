@@ -1,4 +1,4 @@
--- The test of a text is true just where the text is what the pattern says.
+-- The test of a text is true exactly if the text is what the pattern says.
 use Rattle.std.proofs.Common.{◌≡◌, ℕ, zero, suc, ◌<◌, ◌≤◌, List, [], ◌∷◌, ◌++◌, length, length-append, Bool, true, false, ◌&&◌, ◌==◌, refl, sym, ap, arith, inl, inr, subst, IsTrue}
 use Rattle.std.specs.Prelude.{◌↔◌}
 use Rattle.std.proofs.Math.Bool.{not}
@@ -33,7 +33,7 @@ repeats-sound p (suc count) (c ∷ cs) h =
     let cut : HasCut (Holds (λ front. p (c ∷ front))) (Holds (repeats p count)) cs = cut-sound (λ front. p (c ∷ front)) (repeats p count) cs h in
     more (c ∷ cs) (c ∷ cut.front) cut.rest (ap (λ t. c ∷ t) cut.joined) (omega arith) cut.first (repeats-sound p count cut.rest cut.second)
 
--- a piece that is not empty, and what behind it repeats
+-- a piece that is not empty, followed by a text that repeats
 repeats-more : (p : List ℕ → Bool) (count : ℕ) (front rest : List ℕ) → 0 < length front → p front ≡ true → repeats p count rest ≡ true → repeats p (suc count) (front ++ rest) ≡ true
 repeats-more p count [] rest l h k = absurd (omega (arith, l))
 repeats-more p count (c ∷ front) rest l h k = cut-complete (λ t. p (c ∷ t)) (repeats p count) front rest h k
@@ -52,7 +52,7 @@ repeats-as P Q f (more text front rest joined long p r) = more text front rest j
 cut-as : (P P' Q Q' : List ℕ → Type 0) → ((t : List ℕ) → P t → P' t) → ((t : List ℕ) → Q t → Q' t) → (text : List ℕ) → HasCut P Q text → HasCut P' Q' text
 cut-as P P' Q Q' f g text cut = record { front = cut.front; rest = cut.rest; joined = cut.joined; first = f cut.front cut.first; second = g cut.rest cut.second }
 
--- what a cut with both has is one that is tested
+-- a split that exists is found by the test
 cut-tested : (p q : List ℕ → Bool) (text : List ℕ) → HasCut (Holds p) (Holds q) text → has_cut p q text ≡ true
 cut-tested p q text cut = subst (λ t. has_cut p q t ≡ true) (sym cut.joined) (cut-complete p q cut.front cut.rest cut.first cut.second)
 
@@ -71,7 +71,7 @@ is-no-match : (b : Bool) (P : Type 0) → (b ≡ true → P) → (P → ⊥) →
 is-no-match true P f n = absurd (n (f refl))
 is-no-match false P f n = refl
 
--- both ways at once: a part that is not to match asks for the other way of its part
+-- both directions at once: a negated part needs the other direction for its part
 pub is-match : (f : Form) (text : List ℕ) → (is_match f text ≡ true → Matches f text) × (Matches f text → is_match f text ≡ true)
 is-match Empty text = (empty-sound text, empty-complete text)
 is-match (Char c) text = (λ h. h, λ h. h)
@@ -98,12 +98,12 @@ is-match (Either a b) text = (
   λ h. elim h [ inl e ↦ or-left (is_match a text) (is_match b text) ((is-match a text).1 e) | inr e ↦ or-right (is_match a text) (is_match b text) ((is-match b text).1 e) ],
 )
 
--- two tests that are true alike are the same
+-- two tests that are true in the same cases are the same
 alike : (a b : Bool) → (a ≡ true → b ≡ true) → (b ≡ true → a ≡ true) → a ≡ b
 alike true b f g = sym (f refl)
 alike false true f g = g refl
 alike false false f g = refl
 
--- what is true just where the pattern says the text is the test
+-- what is true exactly if the pattern says the text is the test
 pub is-tested : (f : Form) (text : List ℕ) (b : Bool) → IsTrue b ↔ Matches f text → b ≡ is_match f text
 is-tested f text b h = alike b (is_match f text) (λ e. (is-match f text).1 (h.0 e)) (λ e. h.1 ((is-match f text).0 e))

@@ -56,14 +56,14 @@ pub or-order : (a r x : Bool) → ((a || r) || x) ≡ (a || (r || x))
 or-order true r x = refl
 or-order false r x = refl
 
--- one more middle is worked
+-- one more middle is added
 pub leads-more : (done more left less bit group : ℕ) (rest : List ℕ) (b : ℕ) → bit < 64 → is_set left bit ≡ true → LacksBit less left bit → more ≡ word_of rest (group * 64 + bit) → (is_set (bit_or done more) b || leads less group rest b) ≡ (is_set done b || leads left group rest b)
 leads-more done more left less bit group rest b l s lacks e =
     ap (λ x. x || leads less group rest b) (set-or done more b ∙ ap (λ (n : ℕ). is_set done b || is_set n b) e)
     ∙ or-order (is_set done b) (is_set (word_of rest (group * 64 + bit)) b) (leads less group rest b)
     ∙ ap (λ x. is_set done b || x) (leads-split left less bit group rest b l s lacks)
 
--- places one behind the other
+-- places one after the other
 pub any-shift : (q : ℕ → Bool) (a c n : ℕ) → list_any (λ k. q (a + k)) (range_with_len c n) ≡ list_any q (range_with_len (a + c) n)
 any-shift q a c zero = refl
 any-shift q a c (suc n) = ap (λ x. q (a + c) || x) (any-shift q a (c + 1) n ∙ (let e : a + (c + 1) ≡ a + c + 1 = omega arith in ap (λ k. list_any q (range_with_len k n)) e))

@@ -10,7 +10,7 @@ use Rattle.ados_pattern.specs.Tokens.{begins_range, class_token, next_mode, plai
 use Rattle.ados_pattern.specs.Literal.{chars_after, literal_name}
 use Rattle.ados_pattern.proofs.Bits.{lt-true}
 
--- a token adds nothing, its own byte, or ends all
+-- a token adds nothing or its own byte to the name, or the text is not literal
 abbrev pub Kind : Token → ℕ → Type 0
 Kind t c = (t ≡ Silent) ⊎ ((t ≡ Char c) ⊎ ((name : List ℕ) (ts : List Token) → chars_after name (t ∷ ts) ≡ None))
 

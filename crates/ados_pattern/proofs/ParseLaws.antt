@@ -1,4 +1,4 @@
--- What the answer of a parse says of the text, by the grammar.
+-- What the result of a parse says of the text, by the grammar.
 use Rattle.std.proofs.Common.{◌≡◌, ◌⊎◌, inl, inr, ℕ, ◌<◌, ◌≤◌, List, length, Bool, true, false, ◌↔◌, if◌then◌else◌, nat_lt, Option, Some, None, Result, Ok, Err, refl, sym, ◌∙◌, ap, subst, arith}
 use Rattle.std.specs.Option.{MatchOption, option_map}
 use Rattle.std.specs.Result.{IfOk, IsOkUnless}
@@ -20,12 +20,12 @@ use Rattle.ados_pattern.proofs.GrammarBuilds.{kept-pattern}
 use Rattle.ados_pattern.proofs.GrammarNames.{pattern-name}
 use Rattle.ados_pattern.proofs.GrammarReads.{pattern-form, pattern-kept}
 
--- an answer that says the fault, or the meaning
+-- a result that gives the fault, or the meaning
 pub record IsAnswer (text : List ℕ) (answer : Result Meaning PatternFault) : Type 0 where
   pub fault : MatchOption (fault_of text) (IsOkUnless answer NoMemory) (λ fault. answer ≡ Err fault)
   pub meaning : IfOk answer (λ pattern. pattern ≡ meaning_of text)
 
--- how the fault of a text comes about
+-- the cases of a text's fault
 pub data FaultCase (text : List ℕ) : Type 0 where
   is_long : 255 < length text → fault_of text ≡ Some TooLong → FaultCase text
   is_bad : (place : ℕ) → length text ≤ 255 → fault_from 0 0 (tokens_of text) ≡ Some place → fault_of text ≡ Some (BadPattern place) → FaultCase text

@@ -121,7 +121,7 @@ or-none false = refl
 pub apart : (start b : ℕ) → start ≤ b + 1 → (start ≡ b + 1 → ⊥) → start + 1 ≤ b + 1
 apart start b high e = elim (below-or-not start (b + 1)) [ inl l ↦ omega (arith, l) | inr l ↦ absurd (e (omega (arith, l, high))) ]
 
--- one start more was looked at
+-- one more start was looked at
 pub step-more : (test : ℕ → Bool) (text : List ℕ) (starts ends more start b : ℕ) (holds : Bool) → 1 ≤ start → is_set ends b ≡ (nat_lt (b + 1) start && steps test text starts (b + 1)) → is_set more b ≡ ((start == 0 * 64 + b + 1) && holds) → holds ≡ steps test text starts start → is_set (bit_or ends more) b ≡ (nat_lt (b + 1) (start + 1) && steps test text starts (b + 1))
 step-more test text starts ends more start b holds l h m s =
     set-or ends more b
@@ -146,7 +146,7 @@ step-more test text starts ends more start b holds l h m s =
           ]
     ]
 
--- the whole text is matched where the end is reached from its beginning
+-- the whole text is matched if its end is reached from its beginning
 pub reach-whole : (P : List ℕ → Type 0) (text : List ℕ) (ends : ℕ) → length text < 64 → Reaches P text (1 * 2 ^ length text % 2 ^ 64) ends → (found : Bool) → found ≡ is_set ends 0 → (found ≡ true → P text) × (P text → found ≡ true)
 reach-whole P text ends short r found e = (
   λ h.

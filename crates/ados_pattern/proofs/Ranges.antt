@@ -1,4 +1,4 @@
--- A range has a member that folds as a byte does where it has the byte in lower or in upper case.
+-- A range has a member that folds as a byte does exactly if it has the byte in lower or in upper case.
 use Rattle.std.proofs.Common.{◌≡◌, ℕ, ◌+◌, ◌-◌, ◌<◌, ◌≤◌, Bool, true, false, ◌||◌, refl, sym, ◌∙◌, ap, arith, ◌⊎◌, inl, inr, nat_le}
 use Rattle.std.proofs.lemmas.Grind.{common_steps}
 use Rattle.ados_text.specs.Text.{fold_of}

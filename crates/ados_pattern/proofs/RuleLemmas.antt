@@ -111,7 +111,7 @@ table-then P Q a b text cells ta tb f = table-from (Then a b) (HasCut P Q) text 
       (tb.complete (j + length p.rest) j w.above (omega (arith, w.below, m)) (subst Q (sym w.rest_is) p.second)));
 })
 
--- by a number of turns above the start
+-- by induction on a number above the start
 pub many-sound : (P : List ℕ → Type 0) (a : Table) (text : List ℕ) (cells : Cells) → IsTable P text (cells_of a) → IsFilled (Many a) text cells → (turns i j : ℕ) → i < turns → i ≤ length text → j ≤ i → cells i j ≡ true → Repeats P (piece text i j)
 many-sound P a text cells ta f zero i j t m l h = absurd (omega (arith, t))
 many-sound P a text cells ta f (suc turns) i j t m l h =

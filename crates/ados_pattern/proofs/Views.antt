@@ -1,4 +1,4 @@
--- What stands in front of a text, outside of a class.
+-- What a text begins with, outside of a class.
 use Rattle.std.proofs.Common.{◌≡◌, ℕ, List, [], ◌∷◌, ◌++◌, Bool, true, false, ◌==◌, ◌||◌, refl, sym, ◌∙◌, ap, subst, ◌⊎◌, inl, inr}
 use Rattle.ados_pattern.specs.declared.tokens.Token.TheVariants.{Char}
 use Rattle.ados_pattern.specs.declared.tokens.Mode.TheVariants.{Plain, Begun}
@@ -59,7 +59,7 @@ char-tokens c rest e = let w = none-of c e in rw (w.no_quote, w.no_class, w.no_a
 pub char-frame : (c : ℕ) → is_sign c ≡ false → is_frame c ≡ false
 char-frame c e = let w = none-of c e in rw (w.no_quote, w.no_class, w.no_open, w.no_close) refl
 
--- a text by what stands in front
+-- a text by what it begins with
 pub data View : List ℕ → Type 0 where
   at_end : View []
   at_hanging : View (quote ∷ [])
@@ -85,7 +85,7 @@ pub quote-view : (rest : List ℕ) → View (quote ∷ rest)
 quote-view [] = at_hanging
 quote-view (c ∷ rest) = at_quoted c rest
 
--- the view of a byte that is the sign, else by the further signs
+-- the view of a byte that is the sign, otherwise by the other signs
 pub sign-view : (c k : ℕ) (rest : List ℕ) → View (k ∷ rest) → ((c == k) ≡ false → View (c ∷ rest)) → View (c ∷ rest)
 sign-view c k rest v others = go (c == k) refl
   where

@@ -1,4 +1,4 @@
--- What the tokens of a pattern's text say, from the right to the left.
+-- What the tokens of a pattern's text say, from right to left.
 use Rattle.std.specs.Prelude.{ℕ, List, [], ◌∷◌, Option, Some, None, option_map}
 use Rattle.ados_pattern.specs.declared.tokens.Token.{Token}
 use Rattle.ados_pattern.specs.declared.tokens.Token.TheVariants.{Silent, Char as CharMark, Any as AnyMark, Nothing, Many as ManyMark, Other as OtherMark, Bar, Open, Close, ClassOpen, Negated, Member, ClassClose, Hanging}
@@ -6,7 +6,7 @@ use Rattle.ados_pattern.specs.declared.builds.Stack.{Stack}
 use Rattle.ados_pattern.specs.declared.builds.Stack.TheVariants.{Bottom, Level'}
 use Rattle.ados_pattern.specs.Form.{Form, form_of, Empty, Char, Any, Range, Outside, Many, Other, Then, Either}
 
--- a row, and the alternatives behind it
+-- a row, and the alternatives after it
 abbrev pub Level : Type 0
 Level = Form × Option Form
 
@@ -41,12 +41,12 @@ abbrev pub closed_at : List Level → List Level
 closed_at [] = []
 closed_at (l ∷ ls) = with_item (whole_row l.0 l.1) ls
 
--- a member of a class, and the members behind it
+-- a member of a class, and the members after it
 abbrev pub with_member : ℕ → ℕ → Form → Form
 with_member low high Empty = Range low high
 with_member low high row = Either (Range low high) row
 
--- the levels with one more token in front
+-- the levels with one more token before them
 abbrev pub added_to : Token → List Level → List Level
 added_to Silent ls = ls
 added_to (CharMark c) ls = with_item (Char c) ls

@@ -10,14 +10,14 @@ test_of (Is c) = is_same c
 test_of AnyByte = is_any
 test_of (Within low high) = in_range low high
 
--- the test of a form that matches one character and names no other form
+-- the test of a form that matches one character and contains no other form
 abbrev pub test_in : Form → Option CharTest
 test_in (Char c) = Some (Is c)
 test_in Any = Some AnyByte
 test_in (Range low high) = Some (Within low high)
 test_in _ = None
 
--- there is a byte, and it has the test
+-- there is a byte, and it passes the test
 abbrev pub has_test : (ℕ → Bool) → Option ℕ → Bool
 has_test test None = false
 has_test test (Some c) = test c

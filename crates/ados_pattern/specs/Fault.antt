@@ -1,4 +1,4 @@
--- Which texts are no patterns, and the least place at which a fault stands.
+-- Which texts are not patterns, and the least place at which there is a fault.
 use Rattle.std.specs.Prelude.{ℕ, ◌+◌, ◌-◌, List, [], ◌∷◌, length, Option, Some, None, option_map, Bool, true, false, not, ◌==◌, nat_lt, if◌then◌else◌}
 use Rattle.ados_text.specs.Text.{Text}
 use Rattle.ados_pattern.specs.declared.tokens.Token.{Token}
@@ -12,7 +12,7 @@ ends_row Bar = true
 ends_row Close = true
 ends_row _ = false
 
--- no item stands behind a `#` or `~`
+-- no item follows a `#` or `~`
 abbrev pub has_nothing : List Token → Bool
 has_nothing [] = true
 has_nothing (t ∷ ts) = ends_row t
@@ -22,23 +22,23 @@ closes_by depth Open deeper higher same = deeper
 closes_by depth Close deeper higher same = if depth == 0 then true else higher
 closes_by depth _ deeper higher same = same
 
--- whether, inside so many groups, the tokens close the group around them
+-- whether the tokens, which begin inside `depth` inner groups, close the group around those
 abbrev pub closes : ℕ → List Token → Bool
 closes depth [] = false
 closes depth (t ∷ ts) = closes_by depth t (closes (depth + 1) ts) (closes (depth - 1) ts) (closes depth ts)
 
--- what a token of a class says of it, where the rest says so much with and without a member before
+-- whether a class is bad, by a token of it, given whether the rest is bad with and without a member before
 abbrev pub bad_by : Bool → Token → Bool → Bool → Bool
 bad_by has ClassClose with_one same = not has
 bad_by has (Member low high) with_one same = if nat_lt high low then true else with_one
 bad_by has _ with_one same = same
 
--- the class is open, empty or has a range downwards
+-- the class is open, empty or has a descending range
 abbrev pub is_bad_class : Bool → List Token → Bool
 is_bad_class has [] = true
 is_bad_class has (t ∷ ts) = bad_by has t (is_bad_class true ts) (is_bad_class has ts)
 
--- whether a token is a fault, inside so many groups, by what stands behind it
+-- whether a token is a fault, inside `depth` groups, by what follows it
 abbrev pub is_fault : ℕ → Token → List Token → Bool
 is_fault depth Open ts = not (closes 0 ts)
 is_fault depth Close ts = depth == 0
@@ -58,6 +58,6 @@ abbrev pub fault_from : ℕ → ℕ → List Token → Option ℕ
 fault_from depth place [] = None
 fault_from depth place (t ∷ ts) = if is_fault depth t ts then Some place else fault_from (depth_after depth t) (place + 1) ts
 
--- why a text is no pattern
+-- why a text is not a pattern
 abbrev pub fault_of : Text → Option PatternFault
 fault_of text = if nat_lt 255 (length text) then Some TooLong else option_map BadPattern (fault_from 0 0 (tokens_of text))

@@ -1,4 +1,4 @@
--- Where faults stand in a text that is no pattern.
+-- Where faults are in a text that is not a pattern.
 use Rattle.std.specs.Prelude.{◌≡◌, ℕ, ◌+◌, ◌<◌, List, [], ◌∷◌, ◌++◌, length, ◌⊎◌, false}
 use Rattle.ados_text.specs.Text.{Text}
 use Rattle.ados_pattern.specs.Form.{Form}
@@ -10,7 +10,7 @@ pub data IsClassText : Text → Type 0 where
   within : (t : Text) (ms : List (ℕ × ℕ)) → (Begins tilde t → ⊥) → AreMembers t ms → IsClassText t
   outside : (t : Text) (ms : List (ℕ × ℕ)) → AreMembers t ms → IsClassText (tilde ∷ t)
 
--- whole characters, signs and classes, which lead from so many open groups to so many
+-- whole characters, signs and classes, which lead from one number of open groups to another
 pub data Leads : ℕ → Text → ℕ → Type 0 where
   here : (depth : ℕ) → Leads depth [] depth
   opened : (depth end : ℕ) (t : Text) → Leads (depth + 1) t end → Leads depth (open_group ∷ t) end
@@ -19,12 +19,12 @@ pub data Leads : ℕ → Text → ℕ → Type 0 where
   class : (depth end : ℕ) (s t : Text) → IsClassText s → Leads depth t end → Leads depth (open_class ∷ s ++ close_class ∷ t) end
   other : (depth end c : ℕ) (t : Text) → is_frame c ≡ false → Leads depth t end → Leads depth (c ∷ t) end
 
--- the row ends in front of the text
+-- the row ends right before the text
 abbrev pub EndsRow : Text → Type 0
 EndsRow [] = Unit {0}
 EndsRow (c ∷ text) = (c ≡ bar) ⊎ (c ≡ close_group)
 
--- a fault in front of the text, inside so many groups
+-- a fault at the beginning of the text, inside `depth` groups
 pub data IsFault : ℕ → Text → Type 0 where
   hanging_quote : (depth : ℕ) → IsFault depth (quote ∷ [])
   bare : (depth c : ℕ) (text : Text) → (c ≡ hash) ⊎ (c ≡ tilde) → EndsRow text → IsFault depth (c ∷ text)
@@ -32,7 +32,7 @@ pub data IsFault : ℕ → Text → Type 0 where
   open_for_ever : (depth : ℕ) (text : Text) → ((inner behind : Text) → text ≡ inner ++ close_group ∷ behind → Leads 0 inner 0 → ⊥) → IsFault depth (open_group ∷ text)
   no_class : (depth : ℕ) (text : Text) → ((inner behind : Text) (f : Form) → text ≡ inner ++ close_class ∷ behind → IsClass inner f → ⊥) → IsFault depth (open_class ∷ text)
 
--- a fault stands at the place
+-- there is a fault at the place
 pub record FaultAt (text : Text) (place : ℕ) : Type 0 where
   pub front : Text
   pub rest : Text
@@ -42,7 +42,7 @@ pub record FaultAt (text : Text) (place : ℕ) : Type 0 where
   pub led : Leads 0 front depth
   pub fault : IsFault depth rest
 
--- the place is the least at which a fault stands
+-- the place is the least at which there is a fault
 pub record IsFirstFault (text : Text) (place : ℕ) : Type 0 where
   pub here : FaultAt text place
   pub none_before : (earlier : ℕ) → earlier < place → FaultAt text earlier → ⊥

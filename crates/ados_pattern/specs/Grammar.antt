@@ -8,23 +8,23 @@ abbrev pub Begins : ℕ → Text → Type 0
 Begins c [] = ⊥
 Begins c (d ∷ text) = d ≡ c
 
--- a character of a class: itself, or any behind a quote
+-- a character of a class: itself, or any after a quote
 pub data IsOne : Text → ℕ → Type 0 where
   plain : (c : ℕ) → (c ≡ quote → ⊥) → (c ≡ close_class → ⊥) → IsOne (c ∷ []) c
   quoted : (c : ℕ) → IsOne (quote ∷ c ∷ []) c
 
--- no `-` in front with a character behind it
+-- the text does not begin with a `-` and a character after it
 abbrev pub IsNoRange : Text → Type 0
 IsNoRange (c ∷ high ∷ text) = c ≡ dash → ⊥
 IsNoRange text = Unit {0}
 
--- characters and ranges, each as its two ends; where a range can be read, it is
+-- characters and ranges, each as its two ends; a range is read wherever one can be
 pub data AreMembers : Text → List (ℕ × ℕ) → Type 0 where
   none : AreMembers [] []
   alone : (s t : Text) (c : ℕ) (ms : List (ℕ × ℕ)) → IsOne s c → IsNoRange t → AreMembers t ms → AreMembers (s ++ t) ((c, c) ∷ ms)
   range : (s u t : Text) (low high : ℕ) (ms : List (ℕ × ℕ)) → IsOne s low → IsOne u high → AreMembers t ms → AreMembers (s ++ dash ∷ (u ++ t)) ((low, high) ∷ ms)
 
--- no range is downwards
+-- no range is descending
 abbrev pub AreUpward : List (ℕ × ℕ) → Type 0
 AreUpward [] = Unit {0}
 AreUpward (m ∷ ms) = (m.0 ≤ m.1) × AreUpward ms
@@ -35,13 +35,13 @@ any_of [] = Empty
 any_of (m ∷ []) = Range m.0 m.1
 any_of (m ∷ n ∷ ms) = Either (Range m.0 m.1) (any_of (n ∷ ms))
 
--- members of a class: at least one, and no range downwards
+-- members of a class: at least one, and no descending range
 pub record IsClassRow (text : Text) (ms : List (ℕ × ℕ)) : Type 0 where
   pub members : AreMembers text ms
   pub some : 0 < length ms
   pub upward : AreUpward ms
 
--- what stands between `[` and `]`
+-- what is between `[` and `]`
 pub data IsClass : Text → Form → Type 0 where
   within : (t : Text) (ms : List (ℕ × ℕ)) → (Begins tilde t → ⊥) → IsClassRow t ms → IsClass t (any_of ms)
   outside : (t : Text) (ms : List (ℕ × ℕ)) → IsClassRow t ms → IsClass (tilde ∷ t) (Outside (any_of ms))

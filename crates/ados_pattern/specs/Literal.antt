@@ -12,7 +12,7 @@ name_in Empty = Some []
 name_in (Then (CharForm c) row) = option_map (λ name. c ∷ name) (name_in row)
 name_in form = None
 
--- a name and the characters behind it, where each token is a character or its quote
+-- a name and the characters after it, if each token is a character or its quote
 abbrev pub chars_after : Text → List Token → Option Text
 chars_after name [] = Some name
 chars_after name (Silent ∷ ts) = chars_after name ts

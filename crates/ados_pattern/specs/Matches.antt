@@ -4,7 +4,7 @@ use Rattle.std.specs.List.{range_with_len, list_any}
 use Rattle.ados_text.specs.Text.{Text, fold_of}
 use Rattle.ados_pattern.specs.Form.{Form, Empty, Char, Any, Range, Outside, Many, Other, Then, Either}
 
--- some cut of the text has a front with P and a rest with Q
+-- some split of the text has a prefix with P and a rest with Q
 pub record HasCut (P Q : Text → Type 0) (text : Text) : Type 0 where
   pub front : Text
   pub rest : Text
@@ -17,7 +17,7 @@ pub data Repeats (P : Text → Type 0) : Text → Type 0 where
   none : Repeats P []
   more : (text front rest : Text) → text ≡ front ++ rest → 0 < length front → P front → Repeats P rest → Repeats P text
 
--- one character with the test
+-- one character that passes the test
 abbrev pub is_one : (ℕ → Bool) → Text → Bool
 is_one test [] = false
 is_one test (c ∷ []) = test c
@@ -29,7 +29,7 @@ is_same c d = fold_of c == fold_of d
 abbrev pub is_any : ℕ → Bool
 is_any c = true
 
--- some character of the range is the same, where case is ignored
+-- some character of the range is the same; case is ignored
 abbrev pub in_range : ℕ → ℕ → ℕ → Bool
 in_range low high c = list_any (λ m. is_same m c) (range_with_len low (high + 1 - low))
 

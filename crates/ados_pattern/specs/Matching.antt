@@ -8,12 +8,12 @@ abbrev pub is_empty : Text → Bool
 is_empty [] = true
 is_empty (c ∷ cs) = false
 
--- some cut of the text has a front with one test and a rest with the other
+-- some split of the text has a prefix that passes one test and a rest that passes the other
 abbrev pub has_cut : (Text → Bool) → (Text → Bool) → Text → Bool
 has_cut first second [] = first [] && second []
 has_cut first second (c ∷ cs) = first [] && second (c ∷ cs) || has_cut (λ front. first (c ∷ front)) second cs
 
--- the text is zero or more pieces with the test, at most so many of them, each not empty
+-- the text is zero or more pieces that pass the test, at most `count`, each not empty
 abbrev pub repeats : (Text → Bool) → ℕ → Text → Bool
 repeats test count [] = true
 repeats test zero (c ∷ cs) = false

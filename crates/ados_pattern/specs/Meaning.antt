@@ -8,7 +8,7 @@ use Rattle.ados_pattern.specs.Build.{whole_of}
 use Rattle.ados_pattern.specs.Literal.{literal_name}
 use Rattle.ados_pattern.specs.Tokens.{tokens_of}
 
--- what a pattern says, and its name where it is literal
+-- what a pattern says, and its name if it is literal
 pub record Meaning : Type 0 where
   pub form : Form
   pub name : Option Text
@@ -17,6 +17,6 @@ abbrev pub meaning_code : Coded Meaning
 meaning_code =
     code_by (Form × Option Text) (coded× form_code (coded_option (coded_list coded_ℕ))) (λ m. (m.form, m.name)) (λ p. record { form = p.0; name = p.1 }) (λ _. refl)
 
--- what a text says, where it is a pattern
+-- what a text says, if it is a pattern
 abbrev pub meaning_of : Text → Meaning
 meaning_of text = record { form = whole_of (tokens_of text); name = literal_name text }

@@ -1,7 +1,7 @@
 -- The two members of a range that fold as a byte does.
 use Rattle.std.specs.Prelude.{ℕ, ◌-◌, Bool, nat_lt, nat_le, ◌&&◌, if◌then◌else◌}
 
--- the byte with a to z on A to Z
+-- the byte in upper case: a to z become A to Z
 abbrev pub raised_of : ℕ → ℕ
 raised_of b = if nat_lt b 97 then b else (if nat_lt b 123 then b - 32 else b)
 

@@ -1,4 +1,4 @@
--- Where texts lead from a set of places, each told by the bytes left.
+-- Where texts lead from a set of places, each given as the number of bytes after it.
 use Rattle.std.specs.Prelude.{◌≡◌, ℕ, ◌<◌, ◌≤◌, length, true}
 use Rattle.ados_text.specs.Text.{Text}
 use Rattle.ados_pattern.specs.Table.{is_set, piece}

@@ -34,7 +34,7 @@ bar = 124
 abbrev pub tilde : ℕ
 tilde = 126
 
--- the byte is no character outside of a class but behind a quote
+-- the byte is not a character outside of a class, except after a quote
 abbrev pub is_sign : ℕ → Bool
 is_sign c = (c == quote) || ((c == open_class) || ((c == question) || ((c == percent) || ((c == hash) || ((c == tilde) || ((c == bar) || ((c == open_group) || (c == close_group))))))))
 

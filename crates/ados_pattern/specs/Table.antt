@@ -10,14 +10,14 @@ use Rattle.ados_pattern.specs.declared.tables.Rule.{Rule}
 use Rattle.ados_pattern.specs.declared.tables.Rule.TheVariants.{Empty, One, Next, Outside, Many, Other, Then, Either}
 use Rattle.ados_pattern.specs.CharTest.{has_test, test_of}
 
--- for a start with so many bytes left and an end with so many bytes left
+-- for a start and an end, each given as the number of bytes after it
 abbrev pub Cells : Type 0
 Cells = ℕ → ℕ → Bool
 
 unfoldable pub is_set : ℕ → ℕ → Bool
 is_set word b = bit_at word b == 1
 
--- the byte behind a start
+-- the byte after a start
 abbrev pub byte_at : Text → ℕ → Option ℕ
 byte_at text i = slice_get text (length text - i)
 
@@ -56,7 +56,7 @@ cells_at columns i j = is_set (word_of (column_at columns (j / 64)) i) (j % 64)
 abbrev pub cells_of : Table → Cells
 cells_of t i j = cells_at (columns_of t) i j
 
--- what a rule says of a cell, where the cells of shorter starts are known
+-- what a rule says of a cell, if the cells of shorter starts are known
 abbrev pub cell_of : Rule → Text → Cells → Cells
 cell_of Empty text known i j = i == j
 cell_of (One test) text known i j = (i == j + 1) && has_test (test_of test) (byte_at text i)
@@ -67,11 +67,11 @@ cell_of (Other a) text known i j = not (cells_of a i j)
 cell_of (Then a b) text known i j = list_any (λ k. cells_of a i k && cells_of b k j) (range_with_len 0 (i + 1))
 cell_of (Either a b) text known i j = cells_of a i j || cells_of b i j
 
--- the same, for the ends that do not come before the start alone
+-- the same, only for the ends that do not come before the start
 abbrev pub row_cell : Rule → Text → Cells → Cells
 row_cell rule text known i j = cell_of rule text known i j && nat_le j i
 
--- the words of the starts with less than so many bytes left, in one column of the table of a rule
+-- the words of the starts with less than `count` bytes left, in one column of the table of a rule
 pub record IsBuilt (rule : Rule) (text : Text) (group : ℕ) (words : List ℕ) (count : ℕ) : Type 0 where
   pub counted : length words ≡ count
   pub inside : (i j : ℕ) → i < count → j ≤ i → j / 64 ≡ group → cells_in words group i j ≡ cell_of rule text (cells_in words group) i j

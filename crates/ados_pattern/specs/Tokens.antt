@@ -7,7 +7,7 @@ use Rattle.ados_pattern.specs.declared.tokens.Mode.{Mode}
 use Rattle.ados_pattern.specs.declared.tokens.Mode.TheVariants.{Plain, Quoted, Begun, Class, ClassQuoted, Low, Ranged, RangedQuoted}
 use Rattle.ados_pattern.specs.Signs.{hash, percent, quote, open_group, close_group, dash, question, open_class, close_class, bar, tilde}
 
--- a quote hangs where nothing stands behind it
+-- a quote hangs if nothing follows it
 abbrev pub quote_token : Text → Token
 quote_token [] = Hanging
 quote_token (c ∷ rest) = Silent
@@ -56,7 +56,7 @@ token_of (Low low) c rest = Silent
 token_of (Ranged low) c rest = if c == quote then Silent else Member low c
 token_of (RangedQuoted low) c rest = Member low c
 
--- what stands in front of the rest
+-- what comes before the rest
 abbrev pub next_mode : Mode → ℕ → Text → Mode
 next_mode Plain c rest = if c == quote then Quoted else (if c == open_class then Begun else Plain)
 next_mode Quoted c rest = Plain

@@ -1,4 +1,4 @@
-//! The parts of a pattern from its text, from the right to the left.
+//! The parts of a pattern from its text, from right to left.
 
 ghost use Rattle.std.specs.Prelude.{◌≡◌, IfOk, option_map};
 ghost use Rattle.ados_pattern.specs.Form.{Outside, form_of};
@@ -10,8 +10,8 @@ use crate::tokens::{Mode, Token};
 use ados_text::NoMemory;
 use std::alloc::Global;
 
-/// The groups that are open to the right, the innermost first: of each the row so far, and the
-/// alternatives behind it.
+/// The groups that are open at a place, read from the right, the innermost first: of each the row so far, and the
+/// alternatives after it.
 #[derive(Drop)]
 pub enum Stack {
     Bottom,

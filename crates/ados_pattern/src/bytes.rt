@@ -1,4 +1,4 @@
-//! Which single bytes a part of a pattern matches, where case is ignored.
+//! Which single bytes a part of a pattern matches; case is ignored.
 
 ghost use Rattle.std.specs.Prelude.{◌≡◌};
 ghost use Rattle.ados_pattern.specs.Form.{form_of};
@@ -16,12 +16,12 @@ pub enum CharTest {
     Is(u8),
     /// Any character.
     Any,
-    /// The characters of a range, both ends with it.
+    /// The characters of a range, both ends included.
     Within(u8, u8),
 }
 
 impl CharTest {
-    /// The test of a part that matches one character and names no other part.
+    /// The test of a part that matches one character and contains no other part.
     pub fn of(part: &Part) -> Option<CharTest>
         ensures { result ≡ test_in (form_of part.now) }
     {
@@ -33,7 +33,7 @@ impl CharTest {
         }
     }
 
-    /// Whether there is a byte and it has the test.
+    /// Whether there is a byte and it passes the test.
     pub fn holds(self, byte: Option<u8>) -> bool
         ensures { result ≡ has_test (test_of self) byte }
     {
@@ -54,7 +54,7 @@ impl CharTest {
     }
 }
 
-// A character folds as the byte does where it is the byte in lower or in upper case.
+// A character folds as the byte does if it is the byte in lower or in upper case.
 #[tactic(auto, using(crate::proofs::Ranges::two_members))]
 fn is_in_range(low: u8, high: u8, byte: u8) -> bool
     ensures { result ≡ in_range low high byte }

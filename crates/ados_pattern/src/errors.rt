@@ -4,16 +4,16 @@ ghost use Rattle.ados_pattern.specs.declared.errors.PatternFault.TheVariants.{No
 use ados_text::NoMemory;
 use thiserror::Error;
 
-/// Why a text is no pattern.
+/// Why a text is not a pattern.
 #[derive(Clone, Copy, Debug, PartialEq, Eq, Error)]
 pub enum PatternFault {
-    /// A fault, with the least place, from 0, at which one stands.
+    /// A fault, with the least place, from 0, at which there is one.
     #[error("bad pattern at {0}")]
     BadPattern(usize),
     /// More than 255 bytes.
     #[error("pattern too long")]
     TooLong,
-    /// No memory for the pattern.
+    /// Out of memory for the pattern.
     #[error("no free store")]
     NoMemory,
 }

@@ -6,7 +6,7 @@ ghost use Rattle.ados_pattern.specs.Tokens.{tokens_from};
 
 use crate::tokens::{Mode, Token};
 
-/// The place of the first fault of bytes from a place on, inside so many groups.
+/// The place of the first fault of bytes from a place on, inside `depth` groups.
 pub fn first_fault(depth: usize, place: usize, mode: Mode, bytes: &[u8]) -> Option<usize>
     requires depth { depth + length bytes.now < 2 ^ 63 }
     requires place { place + length bytes.now < 2 ^ 63 }
@@ -38,7 +38,7 @@ fn after(depth: usize, token: Token) -> usize
     }
 }
 
-// Whether a token is a fault, by what stands behind it.
+// Whether a token is a fault, by what follows it.
 fn is_bad(depth: usize, token: Token, mode: Mode, rest: &[u8]) -> bool
     requires { length rest.now < 2 ^ 63 }
     ensures { result ≡ is_fault depth token (tokens_from mode rest.now) }

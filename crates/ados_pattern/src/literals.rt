@@ -8,7 +8,7 @@ use crate::tokens::{Mode, Token};
 use ados_text::{NoMemory, Text};
 use std::alloc::Global;
 
-/// The name of a literal pattern's text: its characters without their quotes. `None` where the
+/// The name of a literal pattern's text: its characters without their quotes. `None` if the
 /// text is not literal.
 #[tactic(auto, using(crate::proofs::Names::name_read))]
 pub fn name_of(alloc: Global, text: &Text) -> Result<Option<Text>, NoMemory>
@@ -22,7 +22,7 @@ pub fn name_of(alloc: Global, text: &Text) -> Result<Option<Text>, NoMemory>
     Ok(Some(name))
 }
 
-// Puts the characters of the bytes at the end of the name. False where the text is not literal.
+// Adds the characters of the bytes at the end of the name. False if the text is not literal.
 fn reads(name: &mut Vec<u8>, mode: Mode, bytes: &[u8]) -> Result<bool, NoMemory>
     ensures { IfOk result (λ literal. chars_after name.old.items (tokens_from mode bytes.now) ≡ (if literal then Some name.new.items else None)) }
 {

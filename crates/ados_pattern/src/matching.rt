@@ -19,9 +19,9 @@ impl Pattern {
     ghost use Rattle.ados_pattern.specs.Matches.{Matches};
     ghost use Rattle.ados_pattern.specs.Matching.{is_match};
 
-    /// Whether the text is what the pattern says, where case is ignored.
+    /// Whether the text is what the pattern says; case is ignored.
     ///
-    /// `NoMemory` where a growth was refused. The work is bounded: for each byte of the pattern's
+    /// `NoMemory` if an allocation fails. The work is bounded: for each byte of the pattern's
     /// text, by the square of the name's length, and by a 64th of its cube from 64 bytes on.
     pub fn matches(&self, text: &Text) -> Result<bool, NoMemory>
         ensures said { IfOk result (λ b. IsTrue b ↔ Matches self.now.form text.now) }

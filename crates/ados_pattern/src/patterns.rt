@@ -10,7 +10,7 @@ use ados_text::{NoMemory, Text};
 use std::alloc::Global;
 use std::marker::Model;
 
-/// How many bytes the text of a pattern may have.
+/// The most bytes that the text of a pattern may have.
 const TEXT_LIMIT: usize = 255;
 
 /// A pattern of names.
@@ -43,8 +43,8 @@ impl Pattern {
 
     /// The pattern that a text is.
     ///
-    /// `TooLong` where it has more than 255 bytes; then `BadPattern` with the least place, from 0,
-    /// at which a fault stands. `NoMemory` stands only where nothing else is refused.
+    /// `TooLong` if it has more than 255 bytes; otherwise `BadPattern` with the least place, from 0,
+    /// at which there is a fault. `NoMemory` only if nothing else is refused.
     pub fn parse(alloc: Global, text: &Text) -> Result<Pattern, PatternFault>
         ensures long { (result ≡ Err PatternFault.TooLong) ↔ (255 < length text.now) }
         ensures bad { (place : ℕ) → (result ≡ Err (PatternFault.BadPattern place)) ↔ (length text.now ≤ 255) × IsFirstFault text.now place }

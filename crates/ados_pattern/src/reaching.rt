@@ -1,7 +1,7 @@
 //! Where a part of a pattern leads from a set of places, in a text of less than 64 bytes.
 //!
-//! A place is told by the bytes left, and a set of places is one word. Rows and alternatives are
-//! walked with no table; `#`, `~` and `[~ ..]` ask for the table of their part.
+//! A place is given as the number of bytes after it, and a set of places is one word. Rows and alternatives are
+//! walked without a table; `#`, `~` and `[~ ..]` need the table of their part.
 
 ghost use Rattle.std.specs.Prelude.{◌≡◌, ◌&&◌, ◌+◌, ◌<◌, ◌≤◌, ℕ, length, nat_lt, IfOk};
 ghost use Rattle.ados_pattern.specs.CharTest.{has_test, test_of};
@@ -45,7 +45,7 @@ pub fn reached(alloc: Global, part: &Part, text: &[u8], starts: u64) -> Result<u
     }
 }
 
-// The places behind one character that has the test.
+// The places after one character that passes the test.
 fn stepped(test: CharTest, text: &[u8], starts: u64) -> u64
     requires { length text.now < 64 }
     ensures { (b : ℕ) → b < 64 → is_set result b ≡ (nat_lt (b + 1) (length text.now + 1) && (is_set starts (b + 1) && has_test (test_of test) (byte_at text.now (b + 1)))) }
@@ -57,7 +57,7 @@ fn stepped(test: CharTest, text: &[u8], starts: u64) -> u64
     ends
 }
 
-// Whether a start is one of the starts, and the byte behind it has the test.
+// Whether a start is one of the starts, and the byte after it passes the test.
 fn steps_from(test: CharTest, text: &[u8], starts: u64, start: usize) -> bool
     requires short { length text.now < 64 }
     requires within { start ≤ length text.now }

@@ -10,30 +10,30 @@ use crate::words::{before, below, has_bit, led_to, single, up_to, word_at};
 use ados_text::NoMemory;
 use std::alloc::Global;
 
-/// For each start and end, both told by the bytes left, whether the piece matches. A column holds
-/// 64 ends, each a bit of the word of its start; a name has no more than the first.
+/// For each start and end, both given as the number of bytes after them, whether the piece matches. A column holds
+/// 64 ends, each a bit of the word of its start; for a name there is only the first column.
 #[derive(Drop)]
 pub struct Table {
     first: Vec<u64>,
     more: Vec<Vec<u64>>,
 }
 
-/// How a table comes from the tables of the parts.
+/// How a table results from the tables of the parts.
 #[derive(Drop)]
 pub enum Rule {
     /// The empty piece.
     Empty,
     /// One character.
     One(CharTest),
-    /// One character, and a piece of the table behind it.
+    /// One character, followed by a piece of the table.
     Next(CharTest, Table),
-    /// One character that is no piece of the table.
+    /// One character that is not a piece of the table.
     Outside(Table),
-    /// Pieces of the table, one behind the other; or the empty piece.
+    /// Pieces of the table, one after the other; or the empty piece.
     Many(Table),
-    /// What is no piece of the table.
+    /// What is not a piece of the table.
     Other(Table),
-    /// A piece of the first, and behind it one of the second.
+    /// A piece of the first, followed by one of the second.
     Then(Table, Table),
     /// A piece of the one or of the other.
     Either(Table, Table),
@@ -96,7 +96,7 @@ fn column_for(alloc: Global, rule: &Rule, text: &[u8], group: usize) -> Result<V
     Ok(column)
 }
 
-// The ends of one start, where the words of the starts before it are known.
+// The ends of one start, given the words of the starts before it.
 fn word_for(rule: &Rule, text: &[u8], known: &[u64], group: usize, start: usize) -> u64
     requires short { length text.now < 2 ^ 63 }
     requires within { start ≤ length text.now }
@@ -106,7 +106,7 @@ fn word_for(rule: &Rule, text: &[u8], known: &[u64], group: usize, start: usize)
     ends(rule, text, known, group, start) & up_to(group, start)
 }
 
-// What the rule says of the ends of one start, also of those that come before it.
+// What the rule says of the ends of one start, including those that come before it.
 fn ends(rule: &Rule, text: &[u8], known: &[u64], group: usize, start: usize) -> u64
     requires short { length text.now < 2 ^ 63 }
     requires within { start ≤ length text.now }
@@ -127,7 +127,7 @@ fn ends(rule: &Rule, text: &[u8], known: &[u64], group: usize, start: usize) -> 
     }
 }
 
-// The ends behind one character.
+// The ends after one character.
 fn next_ends(test: CharTest, rest: &Table, text: &[u8], group: usize, start: usize) -> u64
     requires { start ≤ length text.now }
     ensures { (b : ℕ) → b < 64 → is_set result b ≡ (has_test (test_of test) (byte_at text.now start) && cells_of rest.now (start - 1) (group * 64 + b)) }
@@ -139,7 +139,7 @@ fn next_ends(test: CharTest, rest: &Table, text: &[u8], group: usize, start: usi
     }
 }
 
-/// The byte behind a start.
+/// The byte after a start.
 pub fn next_byte(text: &[u8], start: usize) -> Option<u8>
     requires { start ≤ length text.now }
     ensures { result ≡ byte_at text.now start }
@@ -147,7 +147,7 @@ pub fn next_byte(text: &[u8], start: usize) -> Option<u8>
     text.get(text.len() - start).copied()
 }
 
-// The ends in the words of the rest to which the middles of the first table lead, those below a
+// The ends, in the words of the rest, to which the middles of the first table lead that are below a
 // limit.
 fn through(first: &Table, start: usize, rest: &[u64], limit: usize) -> u64
     requires { limit < 2 ^ 63 + 1 }

@@ -1,4 +1,4 @@
-//! What each byte of a pattern's text is, from the left to the right.
+//! What each byte of a pattern's text is, from left to right.
 
 ghost use Rattle.std.specs.Prelude.{◌≡◌};
 ghost use Rattle.ados_pattern.specs.Tokens.{begins_range, class_mode, class_token, member_mode, member_token, next_mode, plain_token, token_of};
@@ -6,7 +6,7 @@ ghost use Rattle.ados_pattern.specs.Tokens.{begins_range, class_mode, class_toke
 /// What one byte of a pattern's text is.
 #[derive(Clone, Copy)]
 pub enum Token {
-    /// A part of the token behind it: a quote, or the beginning of a range.
+    /// A part of the token after it: a quote, or the beginning of a range.
     Silent,
     /// A character.
     Char(u8),
@@ -26,17 +26,17 @@ pub enum Token {
     Close,
     /// `[`
     ClassOpen,
-    /// The `~` behind `[`.
+    /// The `~` after `[`.
     Negated,
-    /// The end of a range of a class, or of a character alone.
+    /// The last byte of a range of a class, or of a single character.
     Member(u8, u8),
     /// The `]` of a class.
     ClassClose,
-    /// A quote with nothing behind it.
+    /// A quote with nothing after it.
     Hanging,
 }
 
-/// What stands in front of a byte.
+/// What comes before a byte.
 #[derive(Clone, Copy)]
 pub enum Mode {
     /// No class and no quote.
@@ -58,7 +58,7 @@ pub enum Mode {
 }
 
 impl Mode {
-    /// What the byte is, where the rest stands behind it.
+    /// What the byte is, if the rest follows it.
     pub fn token(self, byte: u8, rest: &[u8]) -> Token
         ensures { result ≡ token_of self byte rest.now }
     {
@@ -80,7 +80,7 @@ impl Mode {
         }
     }
 
-    /// What stands in front of the rest, behind the byte.
+    /// What comes before the rest, given the byte before it.
     pub fn next(self, byte: u8, rest: &[u8]) -> Mode
         ensures { result ≡ next_mode self byte rest.now }
     {
@@ -171,7 +171,7 @@ fn mode_of_member(byte: u8, rest: &[u8]) -> Mode
     }
 }
 
-// A `-` and the high end of a range, where `]` is none but by a quote.
+// A `-` and the high end of a range, which a `]` can only be after a quote.
 fn starts_range(rest: &[u8]) -> bool
     ensures { result ≡ begins_range rest.now }
 {

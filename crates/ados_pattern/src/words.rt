@@ -36,7 +36,7 @@ pub fn has_bit(word: u64, bit: usize) -> bool
     (word >> bit) & 1 == 1
 }
 
-/// The word of a column with the bit of one end.
+/// The word of a column with only the bit of one end.
 pub fn single(group: usize, end: usize) -> u64
     ensures { (b : ℕ) → b < 64 → is_set result b ≡ (end == group * 64 + b) }
 {
@@ -47,7 +47,7 @@ pub fn single(group: usize, end: usize) -> u64
     }
 }
 
-/// The word with the bit of the end right behind a start, where that holds.
+/// The word with the bit of the end right after a start, if `holds`.
 pub fn before(group: usize, start: usize, holds: bool) -> u64
     ensures { (b : ℕ) → b < 64 → is_set result b ≡ (start == group * 64 + b + 1) && holds }
 {

@@ -1,4 +1,5 @@
--- Where the children of all numbers are as far as the world has them, the world and the list agree: no shell has another number.
+-- If the children of all numbers are in the states that the world has for them, the world and the list agree: no shell has
+-- another number.
 use Rattle.std.proofs.Common.{◌≡◌, ◌≢◌, ◌≤◌, ◌+◌, ℕ, zero, suc, List, Bool, None, refl, sym, ap, subst, ◌∙◌, length, nat_lt, arith, inl, inr}
 use Rattle.std.specs.Prelude.{if◌then◌else◌}
 use Rattle.std.proofs.lemmas.Bool.{cases_Bool, cases_eq}
@@ -30,7 +31,7 @@ last-row n life = grind (arith, common_steps)
 other-row : (n k : ℕ) (life : Life) → k ≢ n → (if nat_lt k n then life else Between) ≡ (if nat_lt k (n + 1) then life else Between)
 other-row n k life apart = grind (arith, common_steps)
 
--- one number more
+-- one more number
 pub one-more : (w : WorldState) (before after : List Call) (n : ℕ) →
     ((k : ℕ) → life_of k before ≡ (if nat_lt k n then life_in (child_in w k) else Between)) →
     life_of n after ≡ life_in (child_in w n) → ((k : ℕ) → k ≢ n → life_of k after ≡ life_of k before) →

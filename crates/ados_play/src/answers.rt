@@ -54,7 +54,7 @@ pub fn push_new_fault(text: &mut Vec<u8>, fault: NewFault) -> Result<(), NoMemor
     }
 }
 
-// Adds the fault of the host of a number.
+// Adds the fault of the host with this number.
 fn push_host_fault(text: &mut Vec<u8>, fault: &[u8], host: usize) -> Result<(), NoMemory> {
     push_all(text, &[b"refused: ", fault])?;
     push_count(text, host)?;
@@ -73,7 +73,7 @@ fn push_out(text: &mut Vec<u8>, out: &Out) -> Result<(), NoMemory> {
     Ok(())
 }
 
-/// Adds a line of what a launcher is asked for, behind a word.
+/// Adds a line of what a launcher is asked for, after a word.
 pub fn push_request(text: &mut Vec<u8>, word: &[u8], request: &Request) -> Result<(), NoMemory> {
     text.extend_from_slice(word)?;
     match request {
@@ -94,7 +94,7 @@ fn push_job(text: &mut Vec<u8>, job: &Job) -> Result<(), NoMemory> {
     Ok(())
 }
 
-/// Adds a small number behind a word.
+/// Adds a small number after a word.
 pub fn push_numbered(text: &mut Vec<u8>, word: &[u8], number: u8) -> Result<(), NoMemory> {
     text.extend_from_slice(word)?;
     push_number(text, i32::from(number))

@@ -11,7 +11,7 @@ use std::alloc::Global;
 
 /// A launcher that has its answers from these texts, and whose open children are those that the world reads or waits for.
 ///
-/// Each such child has a start in the list of calls, and the end of its reads where the world waits for it, unless a break
+/// Each such child has a start in the list of calls, and the end of its reads if the world waits for it, unless a break
 /// came before that end.
 pub fn launcher_of(alloc: Global, world: &World, texts: &[&str]) -> Result<Listed, NoMemory>
     ensures { IfOk result (λ launcher. Agrees world.now launcher.calls) }
@@ -20,12 +20,12 @@ pub fn launcher_of(alloc: Global, world: &World, texts: &[&str]) -> Result<Liste
     for number in 0..21u8 {
         reopen(alloc, &mut launcher, world.child(number), number)?;
     }
-    // By this it is known that no shell has a number past 20.
+    // This shows that no shell has a number above 20.
     let _running = world.shells();
     Ok(launcher)
 }
 
-// The answers by which the children are opened, and behind them those of the texts.
+// The answers by which the children are opened, and after them those of the texts.
 fn answers(alloc: Global, world: &World, texts: &[&str]) -> Result<Vec<Answer>, NoMemory> {
     let mut answers = Vec::new(alloc);
     for number in 0..21u8 {
@@ -46,7 +46,7 @@ fn answers(alloc: Global, world: &World, texts: &[&str]) -> Result<Vec<Answer>, 
     Ok(answers)
 }
 
-// Opens the child of a number, as far as it is.
+// Opens the child with this number, and brings it into its state.
 fn reopen(
     alloc: Global,
     launcher: &mut Listed,
@@ -68,7 +68,7 @@ fn reopen(
     }
 }
 
-// Starts the child of a number.
+// Starts the child with this number.
 fn start(alloc: Global, launcher: &mut Listed, number: u8) -> Result<(), NoMemory>
     requires number { number < 21 }
     requires none { life_of number launcher.old.calls ≡ Between }
@@ -86,7 +86,7 @@ fn start(alloc: Global, launcher: &mut Listed, number: u8) -> Result<(), NoMemor
     }
 }
 
-// Ends the reads of the child of a number.
+// Ends the reads of the child with this number.
 fn end_reads(launcher: &mut Listed, number: u8) -> Result<(), NoMemory>
     requires number { number < 21 }
     requires reading { life_of number launcher.old.calls ≡ InReads }

@@ -21,7 +21,7 @@ pub enum Line {
     System,
     /// What the world shows.
     Show(View),
-    /// An event, where it is well formed.
+    /// An event, if it is well formed.
     Event,
 }
 
@@ -73,7 +73,7 @@ pub fn line_of(text: &str) -> Line {
     }
 }
 
-/// The command of the host that a line names, and its program, which is all that stands behind the name.
+/// The command of the host that a line names, and its program, which is all that follows the name.
 pub fn host_of(alloc: Global, text: &str) -> Result<HostEntry, NoMemory> {
     let (_, rest) = parted(text);
     let (name, program) = parted(rest);
@@ -83,19 +83,19 @@ pub fn host_of(alloc: Global, text: &str) -> Result<HostEntry, NoMemory> {
     })
 }
 
-/// The line for which a line opens a shell: all that stands behind the blank.
+/// The line for which a line opens a shell: all that follows the blank.
 pub fn opened_line_of(alloc: Global, text: &str) -> Result<Text, NoMemory> {
     let (_, line) = parted(text);
     Text::from_bytes(alloc, line.as_bytes())
 }
 
-/// The text of an answer that is listed: all that stands behind the blank.
+/// The text of an answer that is listed: all that follows the blank.
 pub fn listed_text_of(text: &str) -> &str {
     let (_, answer) = parted(text);
     answer
 }
 
-/// The line that is to be run, which is all that stands behind the number of events and the blank; `None` where there is
+/// The line that is to be run, which is all that follows the number of events and the blank; `None` if there is
 /// no such number.
 pub fn order_of(alloc: Global, text: &str) -> Result<Option<Order>, NoMemory> {
     let (_, rest) = parted(text);
@@ -124,7 +124,7 @@ fn view_of(text: &str) -> Option<View> {
     }
 }
 
-/// The event that a line writes; `None` where it writes none.
+/// The event that a line gives; `None` if it gives none.
 pub fn event_of(alloc: Global, text: &str) -> Result<Option<Event>, NoMemory> {
     let (word, rest) = parted(text);
     match word {
@@ -153,7 +153,7 @@ fn kind_of(text: &str) -> Option<Kind> {
     }
 }
 
-// The event of an answer: the number of a shell, and what it is answered.
+// The event of an answer: the number of a shell, and the answer.
 fn answer_event_of(alloc: Global, text: &str) -> Result<Option<Event>, NoMemory> {
     let (shell, answer) = parted(text);
     let answer = answer_of(alloc, answer)?;
@@ -164,7 +164,7 @@ fn answer_event_of(alloc: Global, text: &str) -> Result<Option<Event>, NoMemory>
     )
 }
 
-/// The answer that a text writes; `None` where it writes none.
+/// The answer that a text gives; `None` if it gives none.
 pub fn answer_of(alloc: Global, text: &str) -> Result<Option<Answer>, NoMemory> {
     let (kind, rest) = parted(text);
     if kind == "bytes" {
@@ -182,7 +182,7 @@ fn bytes_of(alloc: Global, digits: &str) -> Result<Option<Answer>, NoMemory> {
     }
 }
 
-// The answer of a kind, which has a status where it is `exit`.
+// The answer of a kind, which has a status if it is `exit`.
 fn plain_answer_of(kind: &str, status: &str) -> Option<Answer> {
     match kind {
         "started" => Some(Answer::Started),
@@ -199,7 +199,7 @@ fn plain_answer_of(kind: &str, status: &str) -> Option<Answer> {
     }
 }
 
-// The first word of a text, and what is behind the blank behind it.
+// The first word of a text, and what follows the blank after it.
 fn parted(text: &str) -> (&str, &str) {
     text.split_once(' ').unwrap_or((text, ""))
 }

@@ -4,7 +4,7 @@
 //!     ados_play [step|run|each] <LIST
 //!
 //! The lines of a list, and what they print, are described in `tests/events/README.md`. `step`, or no word,
-//! plays the events one by one; `run` plays as one run all those between two lines of the other kinds, and `each`
+//! plays the events one by one; `run` plays as one run all the events between two lines of other kinds, and `each`
 //! plays each event as a run of its own. What is printed is the same.
 
 mod answers;

@@ -27,7 +27,7 @@ pub enum Way {
 /// Why a list is not played.
 #[derive(Clone, Copy, Debug, Error)]
 pub enum Fault {
-    /// This line, from 1, is none of a list.
+    /// This line, counted from 1, is not a line of a list.
     #[error("line {0} is none of a list of events")]
     BadLine(usize),
     /// There was no memory.
@@ -56,7 +56,7 @@ struct Player<'a> {
 
 /// What a list prints.
 ///
-/// `BadLine` for the first line that is none of a list.
+/// `BadLine` for the first line that is not a line of a list.
 pub fn played(alloc: Global, way: Way, list: &str) -> Result<Vec<u8>, Fault> {
     let mut player = Player {
         alloc,
@@ -84,7 +84,7 @@ impl<'a> Player<'a> {
         Ok(())
     }
 
-    // Takes the next line; `false` where it is none of a list.
+    // Takes the next line; `false` if it is not a line of a list.
     fn take(&mut self, line: &'a str, text: &mut Vec<u8>) -> Result<bool, NoMemory> {
         match line_of(line) {
             Line::Nothing => {}
@@ -124,7 +124,7 @@ impl<'a> Player<'a> {
         Ok(true)
     }
 
-    // Goes on with a fresh world that has the hosts named for it; where it is refused, with the world so far.
+    // Goes on with a fresh world that has the hosts named for it; if it is refused, with the world so far.
     fn begin(&mut self, text: &mut Vec<u8>) -> Result<(), NoMemory> {
         match World::new(self.alloc, &self.hosts) {
             Ok(world) => self.world = world,
@@ -217,7 +217,7 @@ fn stepped(
     Ok(answers)
 }
 
-// What the world answers to an event; one for which memory was wanting is given once more.
+// What the world answers to an event; one for which an allocation failed is given once more.
 fn step(world: &mut World, event: &Event) -> Result<Out, Refusal> {
     match world.step(event) {
         Err(Refusal::NoMemory) => world.step(event),
@@ -225,7 +225,7 @@ fn step(world: &mut World, event: &Event) -> Result<Out, Refusal> {
     }
 }
 
-// The number of the shell that the world opens for a line; where memory was wanting it is asked once more.
+// The number of the shell that the world opens for a line; if an allocation failed it is asked once more.
 fn opened(world: &mut World, line: &Text) -> Result<Option<u8>, Refusal> {
     match world.open_shell(line) {
         Err(Refusal::NoMemory) => world.open_shell(line),
@@ -267,7 +267,7 @@ fn ran_each(
     Ok(answers)
 }
 
-// The run of these events; where there was no memory for its list, or for an event, it is tried once more.
+// The run of these events; if there was no memory for its list, or for an event, it is tried once more.
 fn ran_again(world: World, events: &[Event]) -> Result<Run, World> {
     match world.run(events) {
         Err(world) => world.run(events),
@@ -276,7 +276,7 @@ fn ran_again(world: World, events: &[Event]) -> Result<Run, World> {
     }
 }
 
-// An event was refused for want of memory.
+// An event was refused because an allocation failed.
 fn wanted_memory(run: &Run) -> bool {
     run.outs
         .as_slice()

@@ -9,7 +9,7 @@ use ados_text::{NoMemory, push_number};
 use ados_world::{Answer, Event, Out, Refusal, Request, World};
 use std::alloc::Global;
 
-/// The texts of a launcher's answers, of which so many were taken.
+/// The texts of a launcher's answers, and how many of them were taken.
 #[derive(Drop)]
 struct Left<'a> {
     texts: &'a [&'a str],
@@ -17,7 +17,7 @@ struct Left<'a> {
 }
 
 impl<'a> Left<'a> {
-    // The answer of the next text; `None` where none is left.
+    // The answer of the next text; `None` if none is left.
     fn next(&mut self, alloc: Global) -> Result<Option<Answer>, NoMemory> {
         match self.texts.get(self.taken) {
             None => Ok(None),
@@ -29,9 +29,9 @@ impl<'a> Left<'a> {
     }
 }
 
-/// Runs a line by `system`, with a launcher that has its answers from these texts, and adds what that gave.
+/// Runs a line by `system`, with a launcher that takes its answers from these texts, and adds what that gave.
 ///
-/// At a fault its fields are added, and where memory was wanting the shell goes on by them.
+/// At a fault its fields are added, and if an allocation failed the shell goes on from them.
 pub fn push_system(
     text: &mut Vec<u8>,
     alloc: Global,
@@ -104,7 +104,7 @@ fn push_fault(text: &mut Vec<u8>, fault: &SystemFault) -> Result<(), NoMemory> {
     push_all(text, &[b"\n"])
 }
 
-// Adds how many of the listed answers were not taken, where any were listed.
+// Adds how many of the listed answers were not taken, if any were listed.
 fn push_left(text: &mut Vec<u8>, left: &Left) -> Result<(), NoMemory> {
     if left.texts.is_empty() {
         return Ok(());
@@ -114,8 +114,8 @@ fn push_left(text: &mut Vec<u8>, left: &Left) -> Result<(), NoMemory> {
     push_all(text, &[b"\n"])
 }
 
-// How a line ends that was stopped by a fault: where memory was wanting its shell goes on by steps, from where the fault
-// says, with the answers of the texts that are left.
+// How a line ends that was stopped by a fault: if an allocation failed its shell goes on by steps, from what the fault
+// gives, with the answers of the texts that are left.
 fn end_behind(
     alloc: Global,
     world: &mut World,
@@ -152,7 +152,7 @@ fn end_behind(
     Ok(Some(end_of(world, number)))
 }
 
-// The shell of a line: the one that was opened for it, or else one that is opened now.
+// The shell of a line: the one that was opened for it, otherwise one that is opened now.
 fn shell_of(world: &mut World, order: &Order, shell: Option<u8>) -> Result<Option<u8>, NoMemory> {
     if shell.is_some() {
         return Ok(shell);
@@ -163,7 +163,7 @@ fn shell_of(world: &mut World, order: &Order, shell: Option<u8>) -> Result<Optio
     }
 }
 
-// How the shell of a number stands behind its last event.
+// The state of the shell with this number after its last event.
 fn end_of(world: &World, number: u8) -> SystemEnd {
     match world.shell(number) {
         None => SystemEnd::Ended(world.codes(number)),
@@ -200,7 +200,7 @@ fn answer_without(request: &Request) -> Answer {
     }
 }
 
-// What an event gave that can be refused for want of memory alone.
+// What an event gave that can be refused only if an allocation fails.
 fn accepted(out: Result<Out, Refusal>) -> Result<Out, NoMemory> {
     match out {
         Ok(out) => Ok(out),

@@ -4,7 +4,7 @@ use ados_text::{NoMemory, push_number};
 use ados_world::Codes;
 use itoa::{Buffer, Integer};
 
-/// Adds parts, one behind the other.
+/// Adds several parts in order.
 pub fn push_all(text: &mut Vec<u8>, parts: &[&[u8]]) -> Result<(), NoMemory> {
     for part in parts {
         text.extend_from_slice(part)?;
@@ -28,13 +28,13 @@ pub fn push_codes(text: &mut Vec<u8>, codes: Codes) -> Result<(), NoMemory> {
     Ok(())
 }
 
-/// Adds bytes in hexadecimal digits behind a word.
+/// Adds bytes in hexadecimal digits after a word.
 pub fn push_hex(text: &mut Vec<u8>, word: &[u8], bytes: &[u8]) -> Result<(), NoMemory> {
     let digits = hex::encode(*text.allocator(), bytes)?;
     push_all(text, &[word, digits.as_bytes()])
 }
 
-/// Adds bytes line by line, each behind a word, and marks one that has no end.
+/// Adds bytes line by line, each after a word, and marks one that has no end.
 pub fn push_lines(text: &mut Vec<u8>, word: &[u8], bytes: &[u8]) -> Result<(), NoMemory> {
     for line in bytes.split_inclusive(|byte| *byte == b'\n') {
         match line.strip_suffix(b"\n") {

@@ -60,7 +60,7 @@ fn push_shell(text: &mut Vec<u8>, world: &World, number: u8) -> Result<(), NoMem
     push_path(text, settings.path.entries())
 }
 
-// Adds a line of each name with its value, behind these words.
+// Adds a line for each name with its value, after these words.
 fn push_pairs(text: &mut Vec<u8>, words: &[u8], pairs: &Vars) -> Result<(), NoMemory> {
     for (name, value) in pairs.list() {
         let name = name.text().as_bytes();
@@ -103,7 +103,7 @@ fn push_files(text: &mut Vec<u8>, files: &Ram) -> Result<(), NoMemory> {
     Ok(())
 }
 
-// Adds a line of an object, its comment and its bytes.
+// Adds a line for an object, its comment and its bytes.
 fn push_entry(text: &mut Vec<u8>, entry: &Entry, path: &[u8]) -> Result<(), NoMemory> {
     let kind: &[u8] = if entry.is_directory() {
         b" dir "
@@ -148,7 +148,7 @@ fn push_assigns(text: &mut Vec<u8>, files: &Ram, assigns: &[Assign]) -> Result<(
     Ok(())
 }
 
-// Adds a line of each directory of an assign; its name stands on that of the first.
+// Adds a line for each directory of an assign; the name is on the line of the first.
 fn push_places(
     text: &mut Vec<u8>,
     files: &Ram,
@@ -168,7 +168,7 @@ fn push_places(
     Ok(())
 }
 
-// Adds a line of each internal command that is disabled, and of each entry.
+// Adds a line for each internal command that is disabled, and for each entry.
 fn push_residents(text: &mut Vec<u8>, world: &World) -> Result<(), NoMemory> {
     let residents = world.residents();
     for internal in residents.internals() {
@@ -183,7 +183,7 @@ fn push_residents(text: &mut Vec<u8>, world: &World) -> Result<(), NoMemory> {
     Ok(())
 }
 
-// Adds a line of an entry: its program, and how many shells run from it, unless it is one of the system.
+// Adds a line for an entry: its program, and how many shells run from it, unless it is one of the system.
 fn push_resident(text: &mut Vec<u8>, world: &World, entry: &Resident) -> Result<(), NoMemory> {
     push_all(text, &[b"= entry ", entry.name.as_bytes()])?;
     match &entry.program {

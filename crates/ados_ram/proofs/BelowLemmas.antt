@@ -1,4 +1,4 @@
--- What is below a directory: for each object in it what is below that, and then the object.
+-- The contents of a directory: for each object in it what is below that, and then the object.
 use Rattle.std.proofs.Common.{◌≡◌, ℕ, ◌<◌, ◌+◌, true, false, T, cond, List, [], ◌∷◌, ◌++◌, Option, Some, None, IsSome, zero, suc, refl, sym, ap, ◌∙◌, subst, append_assoc, length, slice_index_or, drop, drop-cons, add-one}
 use Rattle.std.specs.declared.cmp.Ordering.{Ordering}
 use Rattle.std.specs.declared.cmp.Ordering.TheVariants.{Less, Equal, Greater}
@@ -22,7 +22,7 @@ less Less p = refl
 less Equal p = absurd p
 less Greater p = absurd p
 
--- two ways from one place
+-- two paths from one place
 behind-same : (key w q : Key) → behind (key ++ w) (key ++ q) ≡ behind w q
 behind-same [] w q = refl
 behind-same (n ∷ ns) w q = ap (λ o. cond (is_eq o) (behind (ns ++ w) (ns ++ q)) None) (tied_itself name_cmp_total n) ∙ behind-same ns w q
@@ -43,7 +43,7 @@ append-nil : (ps : List Key) → ps ++ [] ≡ ps
 append-nil [] = refl
 append-nil (p ∷ ps) = ap (λ (t : List Key). p ∷ t) (append-nil ps)
 
--- what is below a directory is what is below it by the rows from there
+-- the contents of a directory are its contents by the rows from there
 pub contents-from : (key : Key) (es : Rows) → contents key es ≡ ways_to key (contents [] (rows_from key es))
 contents-from key [] = refl
 contents-from key (e ∷ es) =
@@ -59,7 +59,7 @@ contents-from key (e ∷ es) =
           ]
     ] refl
 
--- the rows of one object, after those of which none is below what is in it
+-- the rows of one object, followed by rows none of which is below an object in it
 inner : (n : List ℕ) (es rest : Rows) → T (below_all place_cmp [] es) → ((p : Key) → put_behind (n ∷ p) (contents [] rest) ≡ (n ∷ p) ∷ contents [] rest)
     → contents [] (under n es ++ rest) ≡ ways_to (n ∷ []) (contents [] es) ++ contents [] rest
 inner n [] rest low h = refl
@@ -93,7 +93,7 @@ put-last n ((m ∷ ms) ∷ qs) rest h t =
     ap (λ b. cond b ((n ∷ m ∷ ms) ∷ put_behind (n ∷ []) (ways_to (n ∷ []) qs ++ rest)) ((n ∷ []) ∷ (n ∷ m ∷ ms) ∷ (ways_to (n ∷ []) qs ++ rest))) (below-same (n ∷ []) [] (m ∷ ms))
     ∙ ap (λ (ps : List Key). (n ∷ m ∷ ms) ∷ ps) (put-last n qs rest h.1 t)
 
--- what is in an object of another name is not below one
+-- what is in an object of another name is not below this one
 apart : (n m : List ℕ) (p q : Key) → name_cmp n m ≡ Less → is_below (n ∷ p) (m ∷ q) ≡ false
 apart n m p q h = ap (λ o. has_names (cond (is_eq o) (behind p q) None)) h
 
@@ -149,7 +149,7 @@ all-drop ks zero a = a
 all-drop [] (suc i) a = tt
 all-drop (k ∷ ks) (suc i) a = all-drop ks i a.1
 
--- one object further in a directory
+-- one more object of a directory
 pub gone_through : (key at : Key) (ks : Kids) (i : ℕ) (k : Kid) (before deep after : List Key) → i < length ks → k ≡ slice_index_or ks i k → AreKids ks
     → at ≡ key ++ k.0 ∷ [] → deep ≡ before ++ ways_to at (contents [] k.1) → after ≡ deep ++ at ∷ []
     → after ++ ways_to key (contents [] (flatten (drop (i + 1) ks))) ≡ before ++ ways_to key (contents [] (flatten (drop i ks)))
@@ -168,6 +168,6 @@ gone_through key at ks i k before deep after h is are place below last =
     ap (λ (ps : List Key). ps ++ rest) (last ∙ ap (λ (ps : List Key). ps ++ at ∷ []) below)
     ∙ append_assoc (before ++ inside) (at ∷ []) rest ∙ append_assoc before inside (at ∷ rest) ∙ ap (λ (ps : List Key). before ++ ps) (sym whole)
 
--- the own row of a directory is not in it
+-- a directory's own row is not in its contents
 pub contents-in : (entry : Entry) (ks : Kids) → contents [] (rows_of entry ks) ≡ contents [] (flatten ks)
 contents-in entry ks = refl

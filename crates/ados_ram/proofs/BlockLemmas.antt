@@ -1,4 +1,4 @@
--- A name is looked up, put and taken out in one block of a directory.
+-- A name is looked up, put and removed in one block of a directory.
 use Rattle.std.proofs.Common.{◌≡◌, ℕ, zero, suc, ◌+◌, ◌-◌, ◌<◌, ◌≤◌, Bool, true, false, T, cond, ◌&&◌, ◌==◌, List, [], ◌∷◌, ◌++◌, length, take, drop, Option, Some, None, Bor, IsTrue, slice_index_or, slice_get, refl, sym, ap, ◌∙◌, subst, append_assoc, length-append, arith}
 use Rattle.std.proofs.lemmas.List.{append-nil, take-append-drop}
 use Rattle.std.proofs.lemmas.Bool.Decides.{nat_tests}
@@ -35,7 +35,7 @@ both false b p q = p
 turned : (a b : Name) (r : Ordering) → name_cmp a b ≡ r → name_cmp b a ≡ ordering_reverse r
 turned a b r p = name_cmp_total.antisymm b a ∙ ap ordering_reverse p
 
--- lists that follow each other
+-- consecutive lists
 pub all-append : (a b : List Kids) → all_kids (a ++ b) ≡ all_kids a ++ all_kids b
 all-append [] b = refl
 all-append (x ∷ a) b = ap (λ (ks : Kids). x ++ ks) (all-append a b) ∙ sym (append_assoc x (all_kids a) (all_kids b))
@@ -68,7 +68,7 @@ sorted-back : (a b : Kids) → T (is_sorted name_cmp (a ++ b)) → T (is_sorted 
 sorted-back [] b h = h
 sorted-back (k ∷ a) b h = sorted-back a b (second _ _ h)
 
--- a block that stands between others
+-- a block between others
 pub middle-sorted : (a m c all : Kids) → all ≡ a ++ (m ++ c) → IsTrue (is_sorted name_cmp all) → IsTrue (is_sorted name_cmp m)
 middle-sorted a m c all e s = is_true _ (sorted-front m c (sorted-back a (m ++ c) (subst (λ (ks : Kids). T (is_sorted name_cmp ks)) e (holds _ s))))
 
@@ -76,7 +76,7 @@ below-through : (x n : Name) (ks : Kids) → name_cmp x n ≡ Less → T (below_
 below-through x n [] p h = tt
 below-through x n (k ∷ ks) p h = both _ _ (subst (λ o. T (is_lt o)) (sym (name_cmp_total.trans x n k.0 p (less _ (first _ _ h)))) tt) (below-through x n ks p (second _ _ h))
 
--- a name before one that is at most another is before that
+-- a name before one that is at most another is before the other
 upto : (n k x : Name) → name_cmp n k ≡ Less → is_le (name_cmp k x) ≡ true → name_cmp n x ≡ Less
 upto n k x p h =
     elim (name_cmp k x) as (λ o. name_cmp k x ≡ o → is_le o ≡ true → name_cmp n x ≡ Less) [
@@ -85,7 +85,7 @@ upto n k x p h =
       | Greater ↦ λ q t. absurd (subst T (sym t) tt)
     ] refl h
 
--- a name before all of some blocks is before what one of them begins by
+-- a name before all of some blocks is before a name that is at least the first name of one of them
 before-begin : (n x : Name) (bs : List Kids) (j : ℕ) (d : Kids) → T (below_all name_cmp n (all_kids bs)) → AllFull bs → j < length bs → begins_by x (slice_index_or bs j d) ≡ true → name_cmp n x ≡ Less
 before-begin n x [] j d h f l t = absurd (omega arith)
 before-begin n x ([] ∷ bs) zero d h f l t = absurd (omega (arith, f.0))
@@ -95,7 +95,7 @@ before-begin n x (b ∷ bs) (suc j) d h f l t = before-begin n x bs j d (below-b
 le_less : (o : Ordering) → o ≡ Less → is_le o ≡ true
 le_less o p = ap is_le p
 
--- the blocks that begin by a name come first
+-- the blocks that begin with the name, or one before it, come first
 pub parts : (x : Name) (bs : List Kids) → T (is_sorted name_cmp (all_kids bs)) → AllFull bs → IsPartitionedBy (begins_by x) bs
 parts x [] s f i j d p q t = absurd (omega arith)
 parts x (b ∷ bs) s f zero zero d p q t = t
@@ -112,7 +112,7 @@ before-append : (x : Name) (a b : Kids) → AllBefore x a → AllBefore x b → 
 before-append x [] b h g = g
 before-append x (k ∷ a) b h g = (h.0, before-append x a b h.1 g)
 
--- what is in the blocks before one that begins by a name
+-- the names in the blocks before one that begins with the name or one before it
 before_at : (x : Name) (bs : List Kids) (j : ℕ) (d : Kids) → T (is_sorted name_cmp (all_kids bs)) → AllFull bs → j < length bs → begins_by x (slice_index_or bs j d) ≡ true → AllBefore x (all_kids (take j bs))
 before_at x [] j d s f l t = absurd (omega arith)
 before_at x (b ∷ bs) zero d s f l t = tt
@@ -121,7 +121,7 @@ before_at x (b ∷ bs) (suc j) d s f l t =
     (front-before x b (all_kids bs) s (λ n h. before-begin n x bs j d h f.1 (omega arith) t))
     (before_at x bs j d (sorted-back b (all_kids bs) s) f.1 (omega arith) t)
 
--- what is in the blocks from the first that begins after a name
+-- the names in the blocks from the first on that begins after the name
 after_at : (x : Name) (bs : List Kids) (i : ℕ) → T (is_sorted name_cmp (all_kids bs)) → AllFull bs → AllWithin (λ b. begins_by x b ≡ false) bs i (length bs) → T (below_all name_cmp x (all_kids (drop i bs)))
 after_at x [] zero s f h = tt
 after_at x [] (suc i) s f h = tt
@@ -140,7 +140,7 @@ drop-behind : (x : Name) (bs : List Kids) → T (below_all name_cmp x (all_kids 
 drop-behind x [] h = tt
 drop-behind x (b ∷ bs) h = below-back x b (all_kids bs) h
 
--- the block before the first that begins after a name
+-- the block before the first that begins after the name
 pub parted : (x : Name) (bs : List Kids) (i : ℕ) → AreBlocks bs → i ≤ length bs → IsPartitionPoint (λ b. begins_by x b ≡ true) (λ b. begins_by x b ≡ false) bs i → IsBlockOf x bs (i - 1)
 parted x bs zero are l p =
     let e : 0 ≡ zero - 1 = omega arith in
@@ -153,7 +153,7 @@ parted x bs (suc i) are l p =
       after = is_true _ (subst (λ (j : ℕ). T (below_all name_cmp x (all_kids (drop j bs)))) n (after_at x bs (suc i) (holds _ are.sorted) are.full p.1));
     })
 
--- names before and after a name change nothing for it
+-- objects with names before and after a name change nothing for it
 find-before : (x : Name) (a rest : Kids) → AllBefore x a → find name_cmp x (a ++ rest) ≡ find name_cmp x rest
 find-before x [] rest h = refl
 find-before x (k ∷ a) rest h = ap (λ o. cond (is_eq o) (Some k.1) (find name_cmp x (a ++ rest))) h.0 ∙ find-before x a rest h.1
@@ -198,7 +198,7 @@ with-middle : (x : Name) (new : Option Kid) (a m c : Kids) → AllBefore x a →
 with-middle x None a m c h g = without-before x a (m ++ c) h ∙ ap (λ (ks : Kids). a ++ ks) (without-after x m c g)
 with-middle x (Some k) a m c h g = put-before x k.1 a (m ++ c) h ∙ ap (λ (ks : Kids). a ++ ks) (put-after x k.1 m c g)
 
--- the blocks before one, itself, and those after it
+-- the blocks before one, the block itself, and those after it
 pub around : (bs : List Kids) (i : ℕ) (b : Kids) → slice_get bs i ≡ Some b → all_kids bs ≡ all_kids (take i bs) ++ (b ++ all_kids (drop (i + 1) bs))
 around [] i b e = cc
 around (c ∷ bs) zero b e = ap (λ (ks : Kids). ks ++ all_kids bs) (of_some c b e)
@@ -224,7 +224,7 @@ found_none x bs i at e =
     let h : AllBefore x (all_kids bs) = subst (λ (t : List Kids). AllBefore x (all_kids t)) (all-before bs i e) at.before in
     sym (ap (find name_cmp x) (append-nil (all_kids bs))) ∙ find-before x (all_kids bs) [] h
 
--- the blocks with another one in the place of one
+-- the blocks with another one in place of one of them
 drop-next : (bs rest : List Kids) (i : ℕ) (b : Kids) → drop i bs ≡ b ∷ rest → drop (i + 1) bs ≡ rest
 drop-next [] rest zero b e = cc
 drop-next [] rest (suc i) b e = cc
@@ -260,7 +260,7 @@ none-in (b ∷ bs) f =
     let some = f.0 in
     grind (arith, nat_tests)
 
--- one object of a list lent at a place
+-- one object of a list borrowed at an index
 pub lent : {X : Type 0} (xs : List X) (i : ℕ) (r : Option (Bor X)) → IsItemAt xs i r → option_copied r ≡ slice_get xs i
 lent xs i None h = let test = h.0 in sym (slice_get_past xs i (grind (arith, nat_tests)))
 lent xs i (Some x) h = let test = h.0 in ap Some h.1 ∙ sym (slice_get-get_or xs i x.now (grind (arith, nat_tests)))

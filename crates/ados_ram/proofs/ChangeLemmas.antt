@@ -184,7 +184,7 @@ replaced entry x xs key sub rows new ks out b view a h e is below made =
           ∙ ap (λ (r : Rows). replaced_at (behind key q) sub (find place_cmp q r)) view;
     }
 
--- the last name of a way: nothing else is to be told
+-- the last name of a path: nothing is left to look up
 pub leaf : (new : Option Kid) (ys : Key) (old : Option Entry) → find place_cmp ys (rows_found (rows_in new)) ≡ replaced_at (behind [] ys) (rows_at new) old
 leaf None ys old = refl
 leaf (Some k) ys old = refl

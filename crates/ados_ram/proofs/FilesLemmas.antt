@@ -1,4 +1,4 @@
--- What is put where the way is clear leaves files: a tree of directories within the limits.
+-- Files with an entry put where the directories above exist are files again: a tree of directories within the limits.
 use Rattle.std.proofs.Common.{◌≡◌, ℕ, Bool, true, false, cond, not, T, List, [], ◌∷◌, ◌++◌, Option, Some, None, IsSome, IsTrue, refl, sym, ap, ◌∙◌, subst, append_assoc, ◌+◌, ◌≤◌, ◌&&◌, ◌||◌, nat_le, length, arith}
 use Rattle.std.proofs.lemmas.Bool.{leb-true}
 use Rattle.std.proofs.lemmas.List.{append-nil}
@@ -47,7 +47,7 @@ clear_rest : (o : Option Entry) (rest : Option Result2) → on_the_way o rest �
 clear_rest None rest h = cc
 clear_rest (Some e) rest h = dir_rest (is_directory e) rest h
 
--- no fault on the way: a directory stands at each place above
+-- without a fault of the directories above a place there is a directory at each of them
 pub way_clear : (m : Files) (above rest : List (List ℕ)) (n : List ℕ) (more : List (List ℕ)) → way_fault m above (rest ++ n ∷ more) ≡ None → IsTrue (is_some_directory (map.get m (above ++ rest)))
 way_clear m above [] n more e = subst (λ (k : List (List ℕ)). IsTrue (is_some_directory (map.get m k))) (sym (append-nil above)) (clear_step (map.get m above) _ e)
 way_clear m above (x ∷ rest) n more e =
@@ -61,7 +61,7 @@ pub or_second : (a b : Option Result2) → option_or a b ≡ None → b ≡ None
 or_second None b h = h
 or_second (Some x) b h = cc
 
--- a directory stays one, where what is put in its place is one
+-- a directory stays one, if what is put in its place is one
 kept : (m : Files) (key : List (List ℕ)) (new : Entry) (k : List (List ℕ)) → (IsTrue (is_some_directory (map.get m key)) → IsTrue (is_directory new)) → IsTrue (is_some_directory (map.get m k)) → IsTrue (is_some_directory (map.get (map.insert m key new) k))
 kept m key new k keeps d =
     subst (λ (o : Option Entry). IsTrue (is_some_directory o)) (sym (get-insert place_cmp_total m key new k))
@@ -70,7 +70,7 @@ kept m key new k keeps d =
       | false ↦ λ t. d
     ] refl)
 
--- an entry put where each place above is a directory, in place of nothing or of one of its kind, within the limits
+-- an entry put at a place with a directory at each place above, in place of nothing or of one of its kind, within the limits
 pub put_files : {m : Files} (key : List (List ℕ)) (new : Entry) → AreFiles m
     → ((place : List (List ℕ)) (name : List ℕ) (rest : List (List ℕ)) → place ++ name ∷ rest ≡ key → IsTrue (is_some_directory (map.get m place)))
     → (IsTrue (is_some_directory (map.get m key)) → IsTrue (is_directory new))
@@ -127,13 +127,13 @@ clash e = absurd (subst T (sym e) tt)
 abbrev pub nothing : Option Entry
 nothing = None
 
--- what stands behind a place in that place and more
+-- the path from a place to that place followed by more
 pub behind-append : (place way : List (List ℕ)) → behind place (place ++ way) ≡ Some way
 behind-append [] way = refl
 behind-append (n ∷ ns) way =
     ap (λ b. cond b (behind ns (ns ++ way)) None) ((eq_by_cmp_equiv name_cmp_total).refl n) ∙ behind-append ns way
 
--- which bits a new file takes has no part in the sizes
+-- the bits of a new file do not affect the sizes
 same_total : (m : Files) (key : List (List ℕ)) (name bytes : List ℕ) (bits : Bits) → total_of (map.entries (write_of m key name bytes)) ≡ total_of (map.entries (write_as_of m key name bytes bits))
 same_total m key name bytes bits =
     total-insert m key _
@@ -170,7 +170,7 @@ there : (o : Option Entry) (more : Bool) → (is_some_file o && more) ≡ true �
 there None more h = clash h
 there (Some e) more h = refl
 
--- after bytes were put to an open output, where that is not refused
+-- after bytes were appended to an open output, if that is not refused
 pub put_open_files : {m : Files} (key : List (List ℕ)) (name bytes : List ℕ) → AreFiles m → put_open_fault m key name bytes ≡ None → AreFiles (put_open_of m key name bytes)
 put_open_files {m} key name bytes files e =
     elim (is_put (map.get m key) bytes) as (λ b. is_put (map.get m key) bytes ≡ b → cond b (full_fault (length (bytes_at (map.get m key) ++ bytes)) (append_of m key name bytes)) None ≡ None → AreFiles (cond b (append_of m key name bytes) m)) [
@@ -184,7 +184,7 @@ put_open_files {m} key name bytes files e =
       | false ↦ λ t g. files
     ] refl e
 
--- after a directory was made that is not refused
+-- after a directory was created, if that is not refused
 pub made_files : {m : Files} (key : List (List ℕ)) (name : List ℕ) → AreFiles m → make_dir_fault m key name ≡ None → AreFiles (make_dir_of m key name)
 made_files {m} key name files e =
     let way = or_first (way_fault m [] key) _ e in
@@ -194,7 +194,7 @@ made_files {m} key name files e =
     (λ place n more t. way_clear m [] place n more (subst (λ (q : List (List ℕ)). way_fault m [] q ≡ None) (sym t) way))
     (λ d. refl) (omega arith) within.total within.count
 
--- after an entry was changed, but not what it holds
+-- after an entry was changed, but not its bytes
 pub changed_files : {m : Files} (key : List (List ℕ)) (change : Entry → Entry) (e : Entry) → AreFiles m → map.get m key ≡ Some e → (change e).body ≡ e.body → AreFiles (map.insert m key (change e))
 changed_files {m} key change e files found body =
     let r = own_rows m in
@@ -212,7 +212,7 @@ changed_files {m} key change e files found body =
     (omega (arith, total-found key e (map.entries m) there))
     (omega (arith, length-found key e (map.entries m) there, len-entries m))
 
--- what is there is below a place where one of the rows is
+-- if none of the rows is below a place, nothing is found below it
 any_below-there : (key q : List (List ℕ)) (es : Rows) → any_below key es ≡ false → is_below key q ≡ true → find place_cmp q es ≡ None
 any_below-there key q [] h b = refl
 any_below-there key q (e ∷ es) h b =
@@ -249,7 +249,7 @@ above_left {m} key place name rest files empty =
       ] refl
     ]
 
--- after an object with nothing below it was taken out
+-- after an object with nothing below it was removed
 pub removed_files : {m : Files} (key : List (List ℕ)) → AreFiles m → is_root key ≡ false → any_below key (map.entries m) ≡ false → AreFiles (map.remove m key)
 removed_files {m} key files not_root empty =
     let r : AreRowsOf (rows_without key (map.entries m)) (map.remove m key) = deleted_rows key (own_rows m) refl in

@@ -1,4 +1,4 @@
--- The first rows are those of the first files.
+-- The initial rows are those of the initial files.
 use Rattle.std.proofs.Common.{◌≡◌, ℕ, ◌≤◌, Bool, true, false, cond, List, [], ◌∷◌, ◌++◌, Option, Some, IsSome, IsTrue, refl, sym, ap, ◌∙◌, subst, codes, length, length-append, arith}
 use Rattle.std.specs.FinMap as map
 use Rattle.std.specs.FinMap.{get-insert, get-from_entries, len-entries}
@@ -48,7 +48,7 @@ top_clear m files k (x ∷ xs) name rest e =
     let one : length (x ∷ (xs ++ name ∷ rest)) ≡ 1 = ap length e in
     absurd (omega (arith, one, length-append xs (name ∷ rest)))
 
--- a directory more in the root
+-- one more directory in the root
 with_directory : (es : Rows) (name : List ℕ) → AreFiles (map.from_entries es) → total_of (sorted_of (directory_row name ∷ es)) ≤ bytes_limit → length (sorted_of (directory_row name ∷ es)) ≤ objects_limit → AreFiles (map.from_entries (directory_row name ∷ es))
 with_directory es name files total count =
     put_files (key_of (name ∷ [])) (new_directory name) files (top_clear _ files _) (λ d. refl) (omega arith)

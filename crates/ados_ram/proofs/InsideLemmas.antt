@@ -1,4 +1,4 @@
--- What a change that is not refused tells: the place is not the root, and the directory above it is there.
+-- What follows if a change is not refused: the place is not the root, and the directory above it exists.
 use Rattle.std.proofs.Common.{◌≡◌, ℕ, Bool, true, false, cond, List, [], ◌∷◌, ◌++◌, Option, Some, None, is_some, IsSome, IsTrue, refl, sym, ap, ◌∙◌, subst, append_assoc, length, length-append, arith}
 use Rattle.std.specs.Cmp.{eq_by_cmp_equiv}
 use Rattle.std.specs.FinMap as map
@@ -10,14 +10,15 @@ use Rattle.ados_ram.specs.Files.{Files, AreFiles, is_some_directory}
 use Rattle.ados_ram.specs.FileOperations.{way_fault, write_target_fault, write_fault, free_fault, make_dir_fault, any_below, delete_target_fault, delete_fault, rename_target_fault, rename_fault}
 use Rattle.ados_ram.specs.Tree.{above, MayMove}
 use Rattle.ados_ram.proofs.FilesLemmas.{same, clash, or_first, or_second, way_clear, behind-append, no_directory, CanDelete, can_delete}
-use Rattle.ados_ram.proofs.RenameLemmas.{IsAbove, CanMove, can_move, within_from, some_of, false_of, behind-exact, no_root_behind}
+use Rattle.ados_ram.proofs.RenameLemmas.{CanMove, false_of, behind-exact}
+use Rattle.ados_ram.proofs.RenamedFiles.{IsAbove, can_move, within_from, some_of, no_root_behind}
 
 above_of : (key : Key) → is_root key ≡ false → IsAbove (above key) key
 above_of [] h = clash (sym h)
 above_of (x ∷ []) h = record { name = x; rest = []; is = refl }
 above_of (x ∷ y ∷ ys) h = let a = above_of (y ∷ ys) refl in record { name = a.name; rest = a.rest; is = ap (λ (k : Key). x ∷ k) a.is }
 
--- an object is in a directory that is there
+-- an object is in a directory that exists
 pub above_there : (m : Files) (key : Key) → AreFiles m → is_root key ≡ false → IsSome (map.get m key) → IsSome (map.get m (above key))
 above_there m key files root there =
     let a = above_of key root in
@@ -28,7 +29,7 @@ longer place n rest e =
     let lengths : length place ≡ length (place ++ n ∷ rest) = ap (λ (k : Key). length k) e in
     omega (arith, lengths, length-append place (n ∷ rest))
 
--- where an object may be put, the directory above is there
+-- if an object may be put at a place, the directory above exists
 pub inside : (m : Files) (key : Key) (new : Entry) → is_root key ≡ false → AreFiles (map.insert m key new) → IsSome (map.get m (above key))
 inside m key new root files =
     let a = above_of key root in

@@ -1,4 +1,4 @@
--- Where a search among the objects of a directory finds a name.
+-- The index at which a search among the objects of a directory finds a name.
 use Rattle.std.proofs.Common.{◌≡◌, ℕ, zero, suc, ◌<◌, ◌≤◌, Bool, T, cond, List, [], ◌∷◌, length, Some, None, Result, Ok, Err, IsTrue, slice_index_or, refl, sym, ap, ◌∙◌, subst, arith}
 use Rattle.std.specs.declared.cmp.Ordering.{Ordering}
 use Rattle.std.specs.declared.cmp.Ordering.TheVariants.{Less, Equal, Greater}
@@ -20,7 +20,7 @@ less Greater p = absurd p
 turned : (a b : List ℕ) (r : Ordering) → name_cmp a b ≡ r → name_cmp b a ≡ ordering_reverse r
 turned a b r p = name_cmp_total.antisymm b a ∙ ap ordering_reverse p
 
--- a place below all rows is none of theirs
+-- a name before all objects is the name of none
 pub above_all : (k q : List ℕ) (es : Kids) → name_cmp k q ≡ Less → T (below_all name_cmp q es) → kids_without k es ≡ es
 above_all k q [] p h = refl
 above_all k q (e ∷ es) p h =
@@ -36,7 +36,7 @@ tied_all k q [] p h = refl
 tied_all k q (e ∷ es) p h =
     ap (λ r. cond (is_eq r) (kids_without k es) (e ∷ kids_without k es)) (name_cmp_total.congr k q e.0 p ∙ less _ (first _ _ h)) ∙ ap (λ (r : Kids). e ∷ r) (tied_all k q es p (second _ _ h))
 
--- a place below all rows is below each
+-- a name before all objects is before each
 below_at : (q : List ℕ) (es : Kids) (i : ℕ) (d : List ℕ × Rows) → T (below_all name_cmp q es) → i < length es → name_cmp q (slice_index_or es i d).0 ≡ Less
 below_at q [] i d h p = absurd (omega arith)
 below_at q (e ∷ es) zero d h p = less _ (first _ _ h)
@@ -62,7 +62,7 @@ all_rise key (e ∷ es) h zero (suc j) d p q = rises e.0 _ key (below_at e.0 es 
 all_rise key (e ∷ es) h (suc i) zero d p q = absurd (omega arith)
 all_rise key (e ∷ es) h (suc i) (suc j) d p q = all_rise key es (second _ _ h) i j d (omega arith) (omega arith)
 
--- a row before the place changes nothing
+-- an object before the index changes nothing
 past_there : (key : List ℕ) (e : List ℕ × Rows) (es : Kids) (i : ℕ) → name_cmp key e.0 ≡ Greater → IsKid key es i → IsKid key (e ∷ es) (suc i)
 past_there key e es i g t =
     let within = t.within in
@@ -117,7 +117,7 @@ gap key (e ∷ es) (suc i) h p low high =
 holds : (b : Bool) → IsTrue b → T b
 holds b h = subst T (sym h) tt
 
--- what a binary search among rows in order finds
+-- what a binary search among objects in order finds
 pub searched : (key : List ℕ) (es : Kids) (at : Result ℕ ℕ) → IsTrue (is_sorted name_cmp es) → IsSearchInRange at (length es) → IsBinarySearchResult (λ e. name_cmp e.0 key) es at → IsKidPosition key es at
 searched key es (Ok i) h within found = there key es i (holds _ h) within found
 searched key es (Err i) h within parted =

@@ -3,7 +3,9 @@ pub mod RowsLemmas
 pub mod FilesLemmas
 pub mod FirstLemmas
 pub mod RenameLemmas
+pub mod RenamedFiles
 pub mod ContentsLemmas
+pub mod ContentsLaws
 pub mod StayLemmas
 pub mod MoveLemmas
 pub mod KidLemmas

@@ -11,7 +11,8 @@ use Rattle.ados_ram.specs.Files.{Files}
 use Rattle.ados_ram.specs.FileOperations.{way_fault, rename_of}
 use Rattle.ados_ram.specs.Renames.{named, RenamesMove}
 use Rattle.ados_ram.proofs.FilesLemmas.{nothing, or_second}
-use Rattle.ados_ram.proofs.RenameLemmas.{CanMove, Within, can_move, get-moved_in, get-moved_out, none_of, within_from}
+use Rattle.ados_ram.proofs.RenameLemmas.{CanMove, Within, get-moved_in, get-moved_out}
+use Rattle.ados_ram.proofs.RenamedFiles.{can_move, none_of, within_from}
 use Rattle.ados_ram.proofs.StayLemmas.{rename-stays}
 
 itself : (name : Name) (there : Option Entry) → option_map (renamed name []) there ≡ option_map (named name) there

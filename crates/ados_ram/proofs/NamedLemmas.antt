@@ -18,7 +18,7 @@ use Rattle.ados_ram.specs.InUse.{InUse}
 use Rattle.ados_ram.specs.Named.{AreNamed, IsNamedBy}
 use Rattle.ados_ram.specs.Renames.{HasMoved, named}
 use Rattle.ados_ram.proofs.ChangeLemmas.{last-deeper}
-use Rattle.ados_ram.proofs.ContentsLemmas.{key-twice}
+use Rattle.ados_ram.proofs.ContentsLaws.{key-twice}
 use Rattle.ados_ram.proofs.FilesLemmas.{behind-append, nothing, same}
 use Rattle.ados_ram.proofs.MoveLemmas.{renames-move}
 use Rattle.ados_ram.proofs.RenameLemmas.{behind-exact}
@@ -101,7 +101,7 @@ moved-itself files to e (Some found) h =
     let it : named (last_name to) found ≡ e = cc in
     subst (λ x. IsNamedBy (key_of to) x) it (by-place to (named (last_name to) found) refl)
 
--- the names of a way down from one place to another that are folded are so behind each folded place
+-- the names of a path from one place down to another that are in lower case are so after each such place
 moved-below : (from to : Place) (first : Name) (way : Key) (e : Entry) → IsNamedBy (key_of from ++ first ∷ way) e → IsNamedBy (key_of to ++ first ∷ way) e
 moved-below from to first way e it =
     let deep = first ∷ way in
@@ -140,7 +140,7 @@ rename-named busy files from to tree clear are key e h =
       | None ↦ λ p. moved-out files from to new are moves key e (is_at_or_below (key_of from) key) refl (ap is_some p) h
     ] refl
 
--- the files at first
+-- the initial files
 abbrev AreNamedRows : Rows → Type 0
 AreNamedRows [] = Unit {0}
 AreNamedRows (row ∷ rows) = IsNamedBy row.0 row.1 × AreNamedRows rows

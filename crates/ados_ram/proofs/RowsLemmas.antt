@@ -28,7 +28,7 @@ tied Less p = refl
 tied Equal p = absurd p
 tied Greater p = absurd p
 
--- a place below all rows is none of theirs
+-- a place before all rows is the place of none
 pub above_all : (k q : List (List ℕ)) (es : Rows) → place_cmp k q ≡ Less → T (below_all place_cmp q es) → rows_without k es ≡ es
 above_all k q [] p h = refl
 above_all k q (e ∷ es) p h =
@@ -56,7 +56,7 @@ pub record AreRowsOf (es : Rows) (m : Files) : Type 0 where
 pub get_rows : {m : Files} (es : Rows) (q : List (List ℕ)) → map.from_sorted es ≡ m → IsTrue (is_sorted place_cmp es) → map.get m q ≡ find place_cmp q es
 get_rows es q e sorted = ap (λ m. map.get m q) (sym e) ∙ get-from_sorted place_cmp es q (holds _ sorted)
 
--- the rows with one put in its place are the map with one inserted
+-- the rows with one put at its place are the map with one inserted
 pub put_rows : {m : Files} (es : Rows) (k : List (List ℕ)) (v : _) → map.from_sorted es ≡ m → IsTrue (is_sorted place_cmp es) → map.from_sorted (put place_cmp k v es) ≡ map.insert m k v
 put_rows es k v e sorted = same_entries_map _ _
     (entries-from_sorted place_cmp _ (is_sorted-put place_cmp place_cmp_total k v es (holds _ sorted))
@@ -66,7 +66,7 @@ put_rows es k v e sorted = same_entries_map _ _
 past : (a b n m : ℕ) → n ≡ b + m → a + n ≡ b + (a + m)
 past a b n m e = omega arith
 
--- a row put in its place adds its size to that of the others
+-- a row put at its place adds its size to that of the others
 pub total-put : (k : List (List ℕ)) (v : Entry) (es : Rows) → T (is_sorted place_cmp es) → total_of (put place_cmp k v es) ≡ size_of v + total_of (rows_without k es)
 total-put k v [] h = refl
 total-put k v (e ∷ es) h =
@@ -92,7 +92,7 @@ is_true false h = absurd h
 pub sorted_put : (k : List (List ℕ)) (v : Entry) (es : Rows) → IsTrue (is_sorted place_cmp es) → IsTrue (is_sorted place_cmp (put place_cmp k v es))
 sorted_put k v es h = is_true _ (is_sorted-put place_cmp place_cmp_total k v es (holds _ h))
 
--- a file that is written has the size of what is written
+-- a file that is written has the size of the written bytes
 pub size-written : (bits : Bits) (o : Option Entry) (name bytes : List ℕ) → size_of (written_as bits o name bytes) ≡ length bytes
 size-written bits None name bytes = refl
 size-written bits (Some e) name bytes = refl
@@ -128,7 +128,7 @@ sorted_of_rows (e ∷ es) =
       sorted = sorted_put e.0 e.1 (sorted_of es) r.sorted;
     }
 
--- what stands at a place and the others are all there is
+-- the entry at a place and the others are all entries
 pub total-rest : (k : List (List ℕ)) (es : Rows) → T (is_sorted place_cmp es) → length (bytes_at (find place_cmp k es)) + total_of (rows_without k es) ≡ total_of es
 total-rest k [] h = refl
 total-rest k (e ∷ es) h =
@@ -180,14 +180,14 @@ deleted_rows {m} {es} {new} key r e = record {
   sorted = rw e (sorted_without key es r.sorted);
 }
 
--- the size and number of the rows of a map with an entry put in
+-- the size and number of the rows of a map with an entry inserted
 pub total-insert : (m : Files) (key : List (List ℕ)) (new : Entry) → total_of (map.entries (map.insert m key new)) ≡ size_of new + total_of (rows_without key (map.entries m))
 total-insert m key new = ap total_of (entries-insert place_cmp_total m key new) ∙ total-put key new (map.entries m) (entries_sorted m)
 
 pub len-insert : (m : Files) (key : List (List ℕ)) (new : Entry) → map.len (map.insert m key new) ≡ 1 + length (rows_without key (map.entries m))
 len-insert m key new = len-entries _ ∙ ap length (entries-insert place_cmp_total m key new) ∙ length-put_without key new (map.entries m) (entries_sorted m)
 
--- the same, by what was there
+-- the same, by the old entry
 pub total-beside : {m : Files} (es : Rows) (key : List (List ℕ)) (new : Entry) → AreRowsOf es m → total_of (map.entries (map.insert m key new)) ≡ size_of new + (total_of es - length (bytes_at (map.get m key)))
 total-beside {m} es key new r =
     let all = entries_rows es r in
@@ -221,7 +221,7 @@ renamed_rows {m} {es} {new} from to name r e =
 some_same : (a b : Entry) → Some a ≡ Some b → a ≡ b
 some_same a b e = ap (λ (o : Option Entry). unwrap_or o a) e
 
--- what is taken out takes its size with it
+-- what is removed takes its size with it
 pub total-without : (k : List (List ℕ)) (es : Rows) → total_of (rows_without k es) ≤ total_of es
 total-without k [] = omega arith
 total-without k (e ∷ es) =

@@ -1,4 +1,4 @@
--- What an operation leaves alone.
+-- What an operation leaves unchanged.
 use Rattle.std.proofs.Common.{◌≡◌, ℕ, Bool, true, false, cond, ◌||◌, List, ◌++◌, Option, Some, None, is_some, refl, sym, ap, ◌∙◌, append_assoc}
 use Rattle.std.proofs.lemmas.List.{map-append}
 use Rattle.std.specs.declared.cmp.Ordering.{Ordering}
@@ -14,8 +14,9 @@ use Rattle.ados_ram.specs.Files.{Files, OthersStay}
 use Rattle.ados_ram.specs.FileOperations.{append_of, is_put, put_open_of, rename_of, changed, protect_of, comment_of}
 use Rattle.ados_ram.specs.Entry.{with_bits, with_comment}
 use Rattle.ados_ram.proofs.FilesLemmas.{clash, nothing, same}
-use Rattle.ados_ram.proofs.RenameLemmas.{at_or_below, behind-exact, false_of, get-moved_out, none_of}
-use Rattle.ados_ram.proofs.ContentsLemmas.{key-twice}
+use Rattle.ados_ram.proofs.RenameLemmas.{at_or_below, behind-exact, false_of, get-moved_out}
+use Rattle.ados_ram.proofs.RenamedFiles.{none_of}
+use Rattle.ados_ram.proofs.ContentsLaws.{key-twice}
 
 turned : (a b : Key) → is_same_key a b ≡ false → is_same_key b a ≡ false
 turned a b h = ap is_eq (place_cmp_total.antisymm b a) ∙ still (place_cmp a b) ∙ h
@@ -65,7 +66,7 @@ none-below to names key out = false_of _ (λ h.
 pub place-outside : (to names : Place) (key : Key) → is_at_or_below (key_of to) key ≡ false → is_same_key (key_of (to ++ names)) key ≡ false
 place-outside to names key out = false_of _ (λ h. clash (sym out ∙ at_or_below (key_of to) (key_of names) key (sym (same (key_of (to ++ names)) key h) ∙ map-append folded to names)))
 
--- nor is it one that is listed below it
+-- nor is it one that is listed below the place
 pub contents-outside : (place q : Place) (key : Key) → is_below (key_of place) q ≡ true → is_at_or_below (key_of place) key ≡ false → is_same_key (key_of q) key ≡ false
 contents-outside place q key below out = false_of _ (λ h.
     elim (behind (key_of place) q) as (λ o. behind (key_of place) q ≡ o → ⊥) [

@@ -11,7 +11,8 @@ use Rattle.ados_ram.specs.Files.{Files, Rows}
 use Rattle.ados_ram.specs.FileOperations.{any_below, rename_of, on_the_way, way_fault}
 use Rattle.ados_ram.specs.Tree.{rows_from, rows_way, replaced_at, IsReplaced, IsEntryAt, IsRenamed}
 use Rattle.ados_ram.proofs.FilesLemmas.{same, clash, nothing}
-use Rattle.ados_ram.proofs.RenameLemmas.{none_of, behind-exact, same_behind, at_or_below, false_of, Within, get-moved_in, get-moved_out}
+use Rattle.ados_ram.proofs.RenameLemmas.{behind-exact, same_behind, at_or_below, false_of, Within, get-moved_in, get-moved_out}
+use Rattle.ados_ram.proofs.RenamedFiles.{none_of}
 use Rattle.ados_ram.proofs.RowsLemmas.{get_rows}
 use Rattle.ados_ram.proofs.TreeLemmas.{holds, find-from, find-here}
 
@@ -21,7 +22,7 @@ at_itself key w = ap (is_same_key (key ++ w)) (sym (append-nil key)) ∙ same_be
 elsewhere : (key q : Key) → behind key q ≡ None → is_same_key q key ≡ false
 elsewhere key q p = false_of _ (λ h. clash (sym (ap is_some p) ∙ at_or_below key [] q (same q key h ∙ sym (append-nil key))))
 
--- an entry put in
+-- an entry inserted
 pub inserted : {m : Files} (key : Key) (entry : Entry) (sub old new : Rows) → map.from_sorted old ≡ m → IsTrue (is_sorted place_cmp old) → IsReplaced key sub old new
     → ((w : Key) → find place_cmp w sub ≡ cond (is_same_key w []) (Some entry) (find place_cmp (key ++ w) old)) → map.from_sorted new ≡ map.insert m key entry
 inserted {m} key entry sub old new is sorted r there = same_map place_cmp_total place_cmp_exact _ _ (λ q.
@@ -49,7 +50,7 @@ none_below key q (e ∷ es) h b =
     rest true c h = clash (sym h)
     rest false c h = h
 
--- what stands at a place taken out, with nothing below it
+-- the object at a place removed, with nothing below it
 pub removed : {m : Files} (key : Key) (old new : Rows) → map.from_sorted old ≡ m → IsTrue (is_sorted place_cmp old) → any_below key old ≡ false → IsReplaced key [] old new → map.from_sorted new ≡ map.remove m key
 removed {m} key old new is sorted empty r = same_map place_cmp_total place_cmp_exact _ _ (λ q.
     get-from_sorted place_cmp new q (holds _ r.whole.sorted) ∙ r.found q
@@ -98,15 +99,15 @@ renamed_rows name e old new is r = record { whole = r.whole; found = λ w. r.fou
     each [] = ap (option_map (renamed name [])) (sym is)
     each (n ∷ ns) = kept n ns (find place_cmp (n ∷ ns) old)
 
--- what is not at a place or below it stays where that is taken out
+-- what is not at a place or below it stays when that is removed
 pub stays : (from q : Key) (old mid : Rows) → IsReplaced from [] old mid → is_at_or_below from q ≡ false → IsSome (find place_cmp q old) → IsSome (find place_cmp q mid)
 stays from q old mid r out h = subst (λ (o : Option Entry). IsSome o) (sym (r.found q ∙ ap (λ o. replaced_at o [] (find place_cmp q old)) (none_of (behind from q) out))) h
 
--- what is found at a place is found among the rows from there
+-- an object at a place is among the rows from there
 pub absent : {m : Files} {A : Type 0} (key : Key) (es : Rows) → map.from_sorted es ≡ m → IsTrue (is_sorted place_cmp es) → [] ≡ rows_from key es → IsSome (map.get m key) → A
 absent key es is sorted e h = clash (subst (λ (o : Option Entry). IsSome o) (get_rows es key is sorted ∙ sym (find-here key es [] e)) h)
 
--- the way down, in the map and in the rows
+-- the faults of the directories above, in the map and in the rows
 pub way-rows : {m : Files} (es : Rows) (place rest : Key) → map.from_sorted es ≡ m → IsTrue (is_sorted place_cmp es) → rows_way es place rest ≡ way_fault m place rest
 way-rows es place [] is sorted = refl
 way-rows {m} es place (n ∷ rest) is sorted =

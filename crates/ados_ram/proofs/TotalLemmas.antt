@@ -1,4 +1,4 @@
--- A rename moves rows: their number and what their files hold stay.
+-- A rename moves rows: their number and the bytes of their files stay the same.
 use Rattle.std.proofs.Common.{◌≡◌, ◌+◌, ℕ, true, false, T, cond, List, [], ◌∷◌, Some, None, is_some, refl, sym, ap, ◌∙◌, length, arith}
 use Rattle.std.specs.Ordering.{is_eq}
 use Rattle.std.specs.Option.{option_map}
@@ -12,9 +12,10 @@ use Rattle.ados_ram.specs.FileOperations.{moved_row, moved_rows, rename_of}
 use Rattle.ados_ram.specs.Rows.{rows_without}
 use Rattle.ados_ram.proofs.RowsLemmas.{holds, first, second, tied, sorted_of, sorted_of_rows, get_rows, entries_rows, total-put, length-put_without}
 use Rattle.ados_ram.proofs.FilesLemmas.{clash, nothing}
-use Rattle.ados_ram.proofs.RenameLemmas.{Within, later, here, behind-exact, false_of, find-moved_in, find-moved_out, none_of, total-moved_rows, length-moved_rows}
+use Rattle.ados_ram.proofs.RenameLemmas.{Within, later, here, behind-exact, false_of, find-moved_in, find-moved_out, total-moved_rows, length-moved_rows}
+use Rattle.ados_ram.proofs.RenamedFiles.{none_of}
 
--- no place comes twice
+-- no place occurs twice
 abbrev Distinct : Rows → Type 0
 Distinct [] = Unit {0}
 Distinct (e ∷ es) = (find place_cmp e.0 es ≡ nothing) × Distinct es

@@ -25,7 +25,7 @@ tied Less p = absurd (subst T (sym p) tt)
 tied Equal p = refl
 tied Greater p = absurd (subst T (sym p) tt)
 
--- rows that begin with a name that is not asked for
+-- rows that begin with a name other than the one looked up
 with_append : (o : Option Key) (e : Entry) (a b : Rows) → with_way o e a ++ b ≡ with_way o e (a ++ b)
 with_append None e a b = refl
 with_append (Some w) e a b = refl
@@ -44,7 +44,7 @@ append-nil : (r : Rows) → r ++ [] ≡ r
 append-nil [] = refl
 append-nil (e ∷ r) = ap (λ (t : Rows). e ∷ t) (append-nil r)
 
--- the rows from a place go on in the object of the first name
+-- the rows from a place are found in the object of the first name
 none_from : (x n : List ℕ) (xs : Key) (ks : Kids) → name_cmp x n ≡ Less → T (below_all name_cmp n ks) → rows_from (x ∷ xs) (flatten ks) ≡ []
 none_from x n xs [] p h = refl
 none_from x n xs (k ∷ ks) p h =
@@ -70,7 +70,7 @@ from-flatten x xs (k ∷ ks) h =
       | Greater ↦ λ p. rest
     ] refl
 
--- a look-up of what is at the place itself
+-- a look-up of the place itself
 pub find-from : (key q : Key) (es : Rows) → find place_cmp q (rows_from key es) ≡ find place_cmp (key ++ q) es
 find-from key q [] = refl
 find-from key q (e ∷ es) =
@@ -100,7 +100,7 @@ pub from_none : (names : Key) (rows : Rows) → length names ≡ 0 → rows ≡ 
 from_none [] rows e = sym (from-root rows)
 from_none (n ∷ ns) rows e = absurd (omega arith)
 
--- what stands at a place is at the way of no names from there
+-- the entry at a place is at the empty path from there
 pub find-here : (key : Key) (es r : Rows) → r ≡ rows_from key es → find place_cmp [] r ≡ find place_cmp key es
 find-here key es r e = ap (find place_cmp []) e ∙ find-from key [] es ∙ ap (λ (k : Key). find place_cmp k es) (keys-nil key)
   where
@@ -108,7 +108,7 @@ find-here key es r e = ap (find place_cmp []) e ∙ find-from key [] es ∙ ap (
     keys-nil [] = refl
     keys-nil (n ∷ ns) = ap (λ (t : Key). n ∷ t) (keys-nil ns)
 
--- further down from a place
+-- deeper from a place
 further : (key more p : Key) (e : Entry) (rows : Rows) → rows_from more (with_way (behind key p) e rows) ≡ with_way (behind (key ++ more) p) e (rows_from more rows)
 further [] more p e rows = refl
 further (n ∷ ns) more [] e rows = refl

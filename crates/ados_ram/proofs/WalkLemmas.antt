@@ -1,4 +1,4 @@
--- A walk down the tree gathers the rows below a place.
+-- A walk down the tree collects the rows below a place.
 use Rattle.std.proofs.Common.{◌≡◌, ℕ, ◌<◌, ◌≤◌, ◌==◌, suc, zero, Bool, true, false, T, cond, not, ◌&&◌, ◌||◌, ◌+◌, List, [], ◌∷◌, ◌++◌, Option, Some, None, IsSome, refl, sym, ap, ◌∙◌, subst, append_assoc, length, length-append, arith, slice_index_or, drop, drop-cons, add-one, nat_eq}
 use Rattle.std.proofs.lemmas.Bool.Decides.{nat_tests}
 use Rattle.std.specs.FinMap.{is_sorted, find}
@@ -15,7 +15,7 @@ use Rattle.ados_ram.proofs.RowsLemmas.{first, none_above}
 use Rattle.ados_ram.proofs.RenameLemmas.{behind-exact}
 use Rattle.ados_ram.proofs.TreeLemmas.{holds}
 
--- what is within a directory, by the way from there
+-- what is within a directory, by the path from there
 abbrev way_within : Bool → Option Key → Bool
 way_within true way = has_names way
 way_within false way = is_one_name way
@@ -28,7 +28,7 @@ none-within : (all : Bool) → way_within all None ≡ false
 none-within true = refl
 none-within false = refl
 
--- what is within a directory is what is within the rows from there
+-- the rows within a directory are those within the rows from there
 pub rows-below : (all : Bool) (key : Key) (es : Rows) → rows_within all key es ≡ rows_to key (rows_within all [] (rows_from key es))
 rows-below all key [] = refl
 rows-below all key (e ∷ es) =
@@ -53,7 +53,7 @@ any-below key (e ∷ es) =
       | Some w ↦ ap (λ b. has_names (Some w) || b) next
     ]
 
--- the own row of an object comes first
+-- an object's own row comes first
 pub record IsTop (e : Entry) (rows : Rows) : Type 0 where
   pub rest : Rows
   pub is : rows ≡ ([], e) ∷ rest
@@ -86,12 +86,12 @@ to-under : (p : Key) (n : List ℕ) (es : Rows) → rows_to p (under n es) ≡ r
 to-under p n [] = refl
 to-under p n (e ∷ es) = ap (λ (k : Key). (k, e.1) ∷ rows_to p (under n es)) (sym (append_assoc p (n ∷ []) e.0)) ∙ ap (λ (r : Rows). ((p ++ n ∷ []) ++ e.0, e.1) ∷ r) (to-under p n es)
 
--- the rows below an object that are asked for
+-- all rows below an object, or none
 abbrev pub rows_in : Bool → Key → Rows → Rows
 rows_in true place rows = rows_to place (rows_within true [] rows)
 rows_in false place rows = []
 
--- what is within a directory: each object in it, and what is below that
+-- the rows within a directory: each object in it, and what is below that
 pub kid-within : (all : Bool) (p : Key) (k : Kid) (e : Entry) (ks : Kids) → find place_cmp [] k.1 ≡ Some e → IsSubtree k.1
     → rows_to p (rows_within all [] (flatten (k ∷ ks))) ≡ (p ++ k.0 ∷ [], e) ∷ (rows_in all (p ++ k.0 ∷ []) k.1 ++ rows_to p (rows_within all [] (flatten ks)))
 kid-within true p k e ks f s =
@@ -106,7 +106,7 @@ kid-within false p k e ks f s =
     ap (λ (r : Rows). rows_to p (rows_within false [] (under k.0 r ++ flatten ks))) t.is
     ∙ ap (λ (r : Rows). (p ++ k.0 ∷ [], e) ∷ rows_to p r) (shallow k.0 t.rest (flatten ks) t.low)
 
--- something is in a directory that has objects
+-- there is something in a directory that has objects
 pub any-in : (entry : Entry) (ks : Kids) → AllSubtrees ks → any_below [] (rows_of entry ks) ≡ not (length ks == 0)
 any-in entry [] a = refl
 any-in entry (k ∷ ks) a =
@@ -132,7 +132,7 @@ subtree-at [] i d a h = absurd (omega arith)
 subtree-at (k ∷ ks) zero d a h = a.0
 subtree-at (k ∷ ks) (suc i) d a h = subtree-at ks i d a.1 (omega arith)
 
--- what is listed of a directory is listed of the rows within it
+-- a directory's list is the same by the rows within it
 pub names-within : (key : Key) (es : Rows) → names_in key (rows_within false key es) ≡ names_in key es
 names-within key [] = refl
 names-within key (e ∷ es) =
@@ -158,7 +158,7 @@ files-within all key (e ∷ es) =
       | false ↦ λ t. files-within all key es
     ] refl
 
--- one object further in a directory
+-- one more object of a directory
 pub gathered : (all : Bool) (key at : Key) (ks : Kids) (i : ℕ) (k : Kid) (e : Entry) (before pushed after : Rows) → i < length ks → k ≡ slice_index_or ks i k → AllSubtrees ks → find place_cmp [] k.1 ≡ Some e
     → at ≡ key ++ k.0 ∷ [] → pushed ≡ before ++ (at, e) ∷ [] → after ≡ pushed ++ rows_in all at k.1
     → after ++ rows_to key (rows_within all [] (flatten (drop (i + 1) ks))) ≡ before ++ rows_to key (rows_within all [] (flatten (drop i ks)))

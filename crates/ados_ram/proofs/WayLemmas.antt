@@ -1,4 +1,4 @@
--- The way down to a place goes on in the object of the first name.
+-- The directories above a place are looked up in the object of the first name.
 use Rattle.std.proofs.Common.{◌≡◌, ℕ, ◌==◌, Bool, true, false, cond, T, IsTrue, List, [], ◌∷◌, ◌++◌, length, Option, Some, refl, sym, ap, ◌∙◌, arith}
 use Rattle.std.proofs.lemmas.Bool.Decides.{nat_tests}
 use Rattle.std.specs.FinMap.{is_sorted, find}
@@ -19,7 +19,7 @@ way_in entry x ks place (n ∷ rest) s =
     ap (λ (o : Option Entry). on_the_way o (rows_way (rows_of entry ks) (x ∷ (place ++ n ∷ [])) rest)) (find-flatten x place ks s)
     ∙ ap (on_the_way (find place_cmp place (rows_found (find name_cmp x ks)))) (way_in entry x ks (place ++ n ∷ []) rest s)
 
--- the way from an object: it is a directory, and the rest goes on below it
+-- the path from an object: the object is a directory, and the rest of the path is looked up below it
 pub way_here : (entry : Entry) (x : List ℕ) (ks : Kids) (rows r : Rows) (key rest : Key) → rows_of entry ks ≡ rows → IsTrue (is_sorted name_cmp ks) → key ≡ x ∷ rest → r ≡ rows_found (find name_cmp x ks)
     → rows_way rows [] key ≡ on_the_way (Some entry) (rows_way r [] rest)
 way_here entry x ks rows r key rest view s is e =
@@ -29,7 +29,7 @@ way_here entry x ks rows r key rest view s is e =
 turn : (r d : Bool) → r ≡ d → r ≡ true → d ≡ true
 turn r d e h = sym e ∙ h
 
--- the same, behind a directory
+-- the same, after a directory
 pub way_on : (entry : Entry) (x : List ℕ) (ks : Kids) (rows r : Rows) (key rest : Key) → rows_of entry ks ≡ rows → IsTrue (is_sorted name_cmp ks) → key ≡ x ∷ rest → r ≡ rows_found (find name_cmp x ks) → is_directory entry ≡ true
     → rows_way rows [] key ≡ rows_way r [] rest
 way_on entry x ks rows r key rest view s is e dir =

@@ -1,4 +1,4 @@
--- Names as they are written: those further down are looked up in the object of the first name.
+-- Names as they are written: the names after the first are looked up in the object of the first name.
 use Rattle.std.proofs.Common.{◌≡◌, ℕ, T, IsTrue, List, [], ◌∷◌, ◌++◌, Option, Some, refl, sym, ap, ◌∙◌}
 use Rattle.std.proofs.lemmas.List.{map-append}
 use Rattle.std.specs.FinMap as map
@@ -28,7 +28,7 @@ written_here entry n ks rows r rest names view s is e =
     ∙ ap (λ (t : Place). spelled (find place_cmp [] (rows_found (find name_cmp (folded n) ks))) n ∷ t) (written_in entry (folded n) ks [] rest (holds _ s))
     ∙ ap (λ (t : Rows). spelled (find place_cmp [] t) n ∷ rows_written t [] rest) (sym e)
 
--- an object that is there is written as its entry says
+-- an object that exists is written as its entry says
 pub written_on : (entry : Entry) (n : List ℕ) (ks : Kids) (rows r : Rows) (rest names : Place) (there : Entry) → rows_of entry ks ≡ rows → IsTrue (is_sorted name_cmp ks) → names ≡ n ∷ rest → r ≡ rows_found (find name_cmp (folded n) ks)
     → find place_cmp [] r ≡ Some there → rows_written rows [] names ≡ there.name ∷ rows_written r [] rest
 written_on entry n ks rows r rest names there view s is e f =
@@ -38,7 +38,7 @@ nothing_written : (place : Key) (rest : Place) → rows_written [] place rest �
 nothing_written place [] = refl
 nothing_written place (n ∷ rest) = ap (λ (r : Place). n ∷ r) (nothing_written (place ++ folded n ∷ []) rest)
 
--- what is not there stays as it is
+-- names that are not there stay as they are
 pub written_as_asked : (entry : Entry) (n : List ℕ) (ks : Kids) (rows : Rows) (rest names : Place) → rows_of entry ks ≡ rows → IsTrue (is_sorted name_cmp ks) → names ≡ n ∷ rest → [] ≡ rows_found (find name_cmp (folded n) ks)
     → rows_written rows [] names ≡ names
 written_as_asked entry n ks rows rest names view s is e =

@@ -16,12 +16,12 @@ abbrev pub children : Key → Rows → List Key
 children directory [] = []
 children directory (e ∷ es) = cond (is_child directory e.0) (e.0 ∷ children directory es) (children directory es)
 
--- a place behind those below it with which a list begins
+-- a place inserted after those below it that a list begins with
 abbrev pub put_behind : Key → List Key → List Key
 put_behind place [] = place ∷ []
 put_behind place (q ∷ qs) = cond (is_below place q) (q ∷ put_behind place qs) (place ∷ q ∷ qs)
 
--- the places below a directory, in order, but each directory behind what is in it
+-- the places below a directory, in order, except that each directory comes after what is in it
 abbrev pub contents : Key → Rows → List Key
 contents directory [] = []
 contents directory (e ∷ es) = cond (is_below directory e.0) (put_behind e.0 (contents directory es)) (contents directory es)
@@ -37,14 +37,14 @@ files_below all directory [] = []
 files_below all directory (e ∷ es) =
     cond (is_within all directory e.0 && not (is_directory e.1)) (e.0 ∷ files_below all directory es) (files_below all directory es)
 
--- the order of contents: as that of places, but a directory comes behind what is in it
+-- the order of contents: like that of places, but a directory comes after what is in it
 abbrev pub contents_cmp : Key → Key → Ordering
 contents_cmp [] [] = Equal
 contents_cmp [] (y ∷ ys) = Greater
 contents_cmp (x ∷ xs) [] = Less
 contents_cmp (x ∷ xs) (y ∷ ys) = ordering_then (name_cmp x y) (contents_cmp xs ys)
 
--- just the places of the files that have a test, each once, in an order
+-- just the places of the objects that pass a test, each once, in an order
 pub record ListsJust (files : Files) (test : Key → Bool) (order : Key → Key → Ordering) (places : List Key) : Type 0 where
   pub just : (place : Key) → Contains places place ↔ (IsSome (map.get files place) × IsTrue (test place))
   pub in_order : IsStrictlySortedBy order places

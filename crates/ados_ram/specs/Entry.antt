@@ -1,4 +1,4 @@
--- Entries: what stands at a place.
+-- Entries: the object at a place.
 use Rattle.std.specs.Prelude.{◌≡◌, ℕ, List, [], ◌∷◌, Bool, true, false, Option, Some, None, length, refl}
 use Rattle.std.specs.Coded.{Coded, code_by, coded×, coded_ℕ, coded_bool, coded_list, coded_option}
 use Rattle.ados_text.specs.Text.{Text, Bytes}
@@ -17,7 +17,7 @@ is_directory_body (File bytes) = false
 abbrev pub is_directory : Entry → Bool
 is_directory e = is_directory_body e.body
 
--- what a file holds; a directory holds no bytes
+-- the bytes of a file; a directory holds none
 abbrev pub bytes_of_body : Body → Bytes
 bytes_of_body Directory = []
 bytes_of_body (File bytes) = bytes
@@ -32,7 +32,7 @@ size_of e = length (bytes_of e)
 abbrev pub fresh_bits : Bits
 fresh_bits = record { hold = false; script = false; pure = false; archive = false; read = true; write = true; execute = true; delete = true }
 
--- the same bits without a
+-- the same bits without bit a
 abbrev pub unarchived : Bits → Bits
 unarchived b = record b { archive = false }
 
@@ -40,23 +40,24 @@ unarchived b = record b { archive = false }
 abbrev pub new_directory : Name → Entry
 new_directory name = record { name = name; body = Directory; bits = fresh_bits; comment = [] }
 
--- a file that holds the bytes: a new one of the name and the bits, or the old one, which keeps its name, comment and bits but for a
+-- a file that holds the bytes: a new one with the name and the bits, or the old one, which keeps its name, comment and
+-- bits except bit a
 abbrev pub written_as : Bits → Option Entry → Name → Bytes → Entry
 written_as bits None name bytes = record { name = name; body = File bytes; bits = bits; comment = [] }
 written_as bits (Some e) name bytes = record e { body = File bytes; bits = unarchived e.bits }
 
--- the same, where a new one has the bits of a new object
+-- the same, if a new one has the bits of a new object
 abbrev pub written : Option Entry → Name → Bytes → Entry
 written o name bytes = written_as fresh_bits o name bytes
 
--- an entry with other bits, another comment
+-- an entry with other bits, or another comment
 abbrev pub with_bits : Bits → Entry → Entry
 with_bits bits e = record e { bits = bits }
 
 abbrev pub with_comment : Text → Entry → Entry
 with_comment comment e = record e { comment = comment }
 
--- an entry that moved, by the way down to it from the object that was renamed: that one itself takes the new name
+-- an entry that moved, by its path from the object that was renamed: that object itself takes the new name
 abbrev pub renamed : Name → Key → Entry → Entry
 renamed name [] e = record e { name = name }
 renamed name (n ∷ ns) e = e

@@ -1,5 +1,5 @@
--- File operations: for each the fault, which is the first of its row that holds, and what it gives.
--- `is_open` says that a place is an open output; `name` is the name that a new object takes.
+-- File operations: for each the fault, which is the first of its faults that applies, and what it gives. `is_open` says
+-- that a place is an open output; `name` is the name that a new object takes.
 use Rattle.std.specs.Prelude.{◌≡◌, ℕ, Bool, false, cond, not, ◌&&◌, ◌||◌, nat_le, nat_lt, List, [], ◌∷◌, ◌++◌, length, Option, Some, None, is_some, Result, Ok, Err}
 use Rattle.std.specs.Option.{option_or}
 use Rattle.std.specs.FinMap as map
@@ -16,13 +16,14 @@ use Rattle.ados_ram.specs.declared.entries.Entry.{Entry}
 use Rattle.ados_ram.specs.declared.faults.FsFault.{FsFault}
 use Rattle.ados_ram.specs.declared.faults.FsFault.TheVariants.{Refused, NoMemory}
 
--- a call goes through where there is no fault, and else its refusal is the fault. Want of memory comes only where there is none
+-- a call succeeds if there is no fault, and otherwise it is refused with the fault. Without a fault an allocation can
+-- still fail
 abbrev pub Answers : {X : Type 0} → Result X FsFault → Option Result2 → Type 0
 Answers (Ok x) fault = fault ≡ None
 Answers (Err NoMemory) fault = fault ≡ None
 Answers (Err (Refused number)) fault = fault ≡ Some number
 
--- what a call gives, by a definition that knows no want of memory: the same value, or the same fault
+-- what a call gives, by a definition in which no allocation fails: the same value, or the same fault
 abbrev pub Gives : {X : Type 0} → Result X FsFault → Result X Result2 → Type 0
 Gives (Ok x) (Ok y) = x ≡ y
 Gives (Ok x) (Err fault) = ⊥
@@ -30,12 +31,12 @@ Gives (Err (Refused fault)) (Err other) = fault ≡ other
 Gives (Err (Refused fault)) (Ok y) = ⊥
 Gives (Err NoMemory) given = Unit {0}
 
--- the fault of a place above: it is not there, or is a file; else what follows
+-- the fault of a directory above: it does not exist, or is a file; otherwise what follows
 abbrev pub on_the_way : Option Entry → Option Result2 → Option Result2
 on_the_way None further = Some DIRECTORY_NOT_FOUND
 on_the_way (Some e) further = cond (is_directory e) further (Some WRONG_TYPE)
 
--- the fault of the places above one, from the root on
+-- the fault of the directories above a place, from the root down
 abbrev pub way_fault : Files → Key → Key → Option Result2
 way_fault m above [] = None
 way_fault m above (name ∷ rest) = on_the_way (map.get m above) (way_fault m (above ++ name ∷ []) rest)
@@ -68,7 +69,7 @@ abbrev pub list_fault : Option Entry → Option Result2
 list_fault None = Some OBJECT_NOT_FOUND
 list_fault (Some e) = cond (is_directory e) None (Some WRONG_TYPE)
 
--- the names, as they are written, of what is directly in a directory, in the order of its places
+-- the names, as they are written, of the objects directly in a directory, in the order of their places
 abbrev pub names_in : Key → Rows → List Name
 names_in directory [] = []
 names_in directory (e ∷ es) = cond (is_child directory e.0) (e.1.name ∷ names_in directory es) (names_in directory es)
@@ -87,19 +88,19 @@ write_fault is_open m key name bytes =
     option_or (way_fault m [] key)
     (option_or (write_target_fault is_open (map.get m key)) (full_fault (length bytes) (write_of m key name bytes)))
 
--- Write, where a new file takes other bits; the faults are those of writing
+-- Write, with other bits for a new file; the faults are those of writing
 abbrev pub write_as_of : Files → Key → Name → Bytes → Bits → Files
 write_as_of m key name bytes bits = map.insert m key (written_as bits (map.get m key) name bytes)
 
--- Append: to write what stands there with the bytes behind it
+-- Append: write the old bytes followed by the new ones
 abbrev pub append_of : Files → Key → Name → Bytes → Files
 append_of m key name bytes = write_of m key name (bytes_at (map.get m key) ++ bytes)
 
 abbrev pub append_fault : Bool → Files → Key → Name → Bytes → Option Result2
 append_fault is_open m key name bytes = write_fault is_open m key name (bytes_at (map.get m key) ++ bytes)
 
--- Put bytes to an open output: append them, whatever its bits say, where there is one byte or more and a file stands
--- there. The limits alone refuse it
+-- Append to an open output, whatever its bits say, if there is one byte or more and there is a file. Only the limits
+-- refuse it
 abbrev pub is_put : Option Entry → Bytes → Bool
 is_put there bytes = is_some_file there && nat_lt 0 (length bytes)
 
@@ -110,7 +111,7 @@ abbrev pub put_open_fault : Files → Key → Name → Bytes → Option Result2
 put_open_fault m key name bytes =
     cond (is_put (map.get m key) bytes) (full_fault (length (bytes_at (map.get m key) ++ bytes)) (append_of m key name bytes)) None
 
--- Make a directory: of the limits only the number of objects can be passed
+-- Make a directory: the only limit that it can exceed is the number of objects
 abbrev pub make_dir_of : Files → Key → Name → Files
 make_dir_of m key name = map.insert m key (new_directory name)
 
@@ -136,8 +137,8 @@ delete_target_fault busy es key (Some e) =
 abbrev pub delete_fault : InUse → Files → Key → Option Result2
 delete_fault busy m key = delete_target_fault busy (map.entries m) key (map.get m key)
 
--- Rename: the files in which what is at a place or below it is at another or below that, and the object itself has the
--- last name of the new place
+-- Rename: the files in which each object at a place or below it is at another or below that, and the object itself has
+-- the last name of the new place
 abbrev pub moved_row : Key → Name → Key → Entry → Option Key → Key × Entry
 moved_row to name key e None = (key, e)
 moved_row to name key e (Some way) = (to ++ way, renamed name way e)

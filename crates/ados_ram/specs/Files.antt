@@ -1,5 +1,5 @@
--- Files: a finite map from places to entries. The root is there and is a directory, each place above one that is there
--- is a directory, and the limits hold.
+-- Files: a finite map from places to entries. The root exists and is a directory, each place above an existing one is a
+-- directory, and the limits hold.
 use Rattle.std.specs.Prelude.{◌≡◌, ◌+◌, ◌≤◌, ℕ, Bool, false, not, List, [], ◌∷◌, ◌++◌, Option, Some, None, IsSome, IsTrue, codes, length}
 use Rattle.std.specs.Coded.{Coded, coded_list, coded_ℕ}
 use Rattle.std.specs.FinMap as map
@@ -9,7 +9,7 @@ use Rattle.ados_ram.specs.Place.{Key, key_of, place_cmp}
 use Rattle.ados_ram.specs.Entry.{is_directory, bytes_of, size_of, new_directory, coded_entry}
 use Rattle.ados_ram.specs.declared.entries.Entry.{Entry}
 
--- the files: what stands at each place
+-- the files: the entry at each place
 abbrev pub Files : Type 0
 Files = map.FinMap place_cmp Entry
 
@@ -20,17 +20,17 @@ coded_files = map.code (coded_list (coded_list coded_ℕ)) coded_entry
 abbrev pub Rows : Type 0
 Rows = List (Key × Entry)
 
--- a directory stands there
+-- there is a directory
 abbrev pub is_some_directory : Option Entry → Bool
 is_some_directory None = false
 is_some_directory (Some e) = is_directory e
 
--- a file stands there
+-- there is a file
 abbrev pub is_some_file : Option Entry → Bool
 is_some_file None = false
 is_some_file (Some e) = not (is_directory e)
 
--- the bytes that stand there; none where there is no file
+-- the bytes of the file; none if there is no file
 abbrev pub bytes_at : Option Entry → Bytes
 bytes_at None = []
 bytes_at (Some e) = bytes_of e
@@ -40,7 +40,7 @@ abbrev pub total_of : Rows → ℕ
 total_of [] = 0
 total_of (e ∷ es) = size_of e.1 + total_of es
 
--- each place that may not change has the entry that it had
+-- each place that may not change keeps its entry
 abbrev pub OthersStay : (Key → Bool) → Files → Files → Type 0
 OthersStay may_change old new = (place : Key) → may_change place ≡ false → map.get new place ≡ map.get old place
 
@@ -66,6 +66,6 @@ pub record AreFiles (m : Files) : Type 0 where
 abbrev pub directory_row : Name → Key × Entry
 directory_row name = (key_of (name ∷ []), new_directory name)
 
--- the files at first: the root with C, Env, S and T in it, and nothing in these
+-- the initial files: the root with C, Env, S and T in it, and nothing in these
 abbrev pub first_files : Files
 first_files = map.from_entries (directory_row (codes "C") ∷ directory_row (codes "S") ∷ directory_row (codes "T") ∷ directory_row (codes "Env") ∷ ([], new_directory []) ∷ [])

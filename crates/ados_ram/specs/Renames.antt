@@ -1,4 +1,4 @@
--- Renames: what one that is not refused makes of the files.
+-- Renames: what a rename that is not refused makes of the files.
 use Rattle.std.specs.Prelude.{◌≡◌, ◌||◌, true, false, ◌∷◌, ◌++◌, None}
 use Rattle.std.specs.Option.{option_map}
 use Rattle.std.specs.FinMap as map
@@ -13,15 +13,16 @@ use Rattle.ados_ram.specs.InUse.{InUse}
 abbrev pub named : Name → Entry → Entry
 named name e = record e { name = name }
 
--- What was at a place is at another, under its new name, and what was below the one is below the other, as it was and by the
--- same way down. Nothing is left at the old place or below it but what is now there, and each other place is as it was.
+-- What was at a place is at another, under its new name, and what was below the one is below the other, as it was and by
+-- the same relative path. Nothing is left at the old place or below it, except for what is now there, and each other
+-- place is as it was.
 pub record HasMoved (from to : Key) (name : Name) (old new : Files) : Type 0 where
   pub itself : map.get new to ≡ option_map (named name) (map.get old from)
   pub below : (first : Name) (way : Key) → map.get new (to ++ first ∷ way) ≡ map.get old (from ++ first ∷ way)
   pub gone : (place : Key) → is_at_or_below from place ≡ true → is_at_or_below to place ≡ false → map.get new place ≡ None
   pub others : OthersStay (λ place. is_at_or_below from place || is_at_or_below to place) old new
 
--- so it is of each rename that is not refused
+-- each rename that is not refused does so
 abbrev pub RenamesMove : Type 0
 RenamesMove = (busy : InUse) (files : Files) (from to : Key) (name : Name) →
     AreFiles files → rename_fault busy files from to ≡ None → HasMoved from to name files (rename_of files from to name)

@@ -1,4 +1,4 @@
--- A branch of the tree: the name of an object in lower case, and the rows at it and below it, each with the way down to it.
+-- A branch of the tree: the name of an object in lower case, and the rows at it and below it, each with the path from it.
 use Rattle.std.specs.Prelude.{false, true, ◌≡◌, ◌<◌, ◌≤◌, ℕ, cond, List, [], ◌∷◌, ◌++◌, length, Option, Some, None, IsSome, Result, MatchResult, IsTrue, slice_index_or, slice_set, codes}
 use Rattle.std.specs.List.{insert, remove}
 use Rattle.std.specs.Coded.{Coded, coded×, coded_list, coded_ℕ}
@@ -38,22 +38,22 @@ flatten (k ∷ ks) = under k.0 k.1 ++ flatten ks
 abbrev pub rows_of : Entry → Kids → Rows
 rows_of entry kids = ([], entry) ∷ flatten kids
 
--- a row, if it is at a place or below it, by the way from there
+-- a row, if it is at a place or below it, by the path from there
 abbrev pub with_way : Option Key → Entry → Rows → Rows
 with_way None e rows = rows
 with_way (Some way) e rows = (way, e) ∷ rows
 
--- the rows at a place and below it, by the ways from there
+-- the rows at a place and below it, by their paths from there
 abbrev pub rows_from : Key → Rows → Rows
 rows_from key [] = []
 rows_from key (e ∷ es) = with_way (behind key e.0) e.1 (rows_from key es)
 
--- the rows of a branch, if it is there
+-- the rows of a branch, if there is one
 abbrev pub rows_at : Option Kid → Rows
 rows_at None = []
 rows_at (Some k) = k.1
 
--- what stands somewhere once other rows stand at a place and below it
+-- the entry at a path if other rows are at a place and below it
 abbrev pub replaced_at : Option Key → Rows → Option Entry → Option Entry
 replaced_at None sub old = old
 replaced_at (Some way) sub old = map.find place_cmp way sub
@@ -84,7 +84,7 @@ above [] = []
 above (x ∷ []) = []
 above (x ∷ y ∷ ys) = x ∷ above (y ∷ ys)
 
--- a branch may stand at a place: the directory above it is there, and the branch has the last name
+-- a branch may be put at a place: the directory above it exists, and the branch has the last name
 abbrev pub IsNamed : Key → Option Kid → Type 0
 IsNamed key None = Unit {0}
 IsNamed key (Some k) = (k.0 ≡ last_name key) × IsSubtree k.1
@@ -103,7 +103,7 @@ abbrev pub kids_with : Name → Option Kid → Kids → Kids
 kids_with x None ks = kids_without x ks
 kids_with x (Some k) ks = map.put name_cmp x k.1 ks
 
--- the object of a name is the one at `i`
+-- the object of this name is the one at `i`
 pub record IsKid (x : Name) (ks : Kids) (i : ℕ) : Type 0 where
   pub within : i < length ks
   pub name : (d : Kid) → (slice_index_or ks i d).0 ≡ x
@@ -111,7 +111,7 @@ pub record IsKid (x : Name) (ks : Kids) (i : ℕ) : Type 0 where
   pub put : (r : Rows) → map.put name_cmp x r ks ≡ slice_set ks i (x, r)
   pub without : kids_without x ks ≡ remove ks i
 
--- no object has the name, and one would stand at `i`
+-- no object has the name, and one would be at `i`
 pub record IsKidGap (x : Name) (ks : Kids) (i : ℕ) : Type 0 where
   pub within : i ≤ length ks
   pub absent : map.find name_cmp x ks ≡ None
@@ -131,19 +131,19 @@ abbrev pub with_flat : Rows → Kids → Rows
 with_flat [] kids = flatten kids
 with_flat (e ∷ es) kids = e ∷ flatten kids
 
--- the objects at first
+-- the initial objects
 abbrev pub first_kid : Name → Kid
 first_kid name = (folded name, rows_of (new_directory name) [])
 
 abbrev pub first_kids : Kids
 first_kids = first_kid (codes "C") ∷ first_kid (codes "Env") ∷ first_kid (codes "S") ∷ first_kid (codes "T") ∷ []
 
--- rows by the ways from a place, as rows from the root
+-- rows by the paths from a place, as rows from the root
 abbrev pub rows_to : Key → Rows → Rows
 rows_to place [] = []
 rows_to place (e ∷ es) = (place ++ e.0, e.1) ∷ rows_to place es
 
--- ways from a place, as places
+-- paths from a place, as places
 abbrev pub ways_to : Key → List Key → List Key
 ways_to place [] = []
 ways_to place (w ∷ ws) = (place ++ w) ∷ ways_to place ws
@@ -158,8 +158,8 @@ pub record IsRenamed (name : Name) (old new : Rows) : Type 0 where
   pub whole : IsSubtree new
   pub found : (w : Key) → map.find place_cmp w new ≡ option_map (renamed name w) (map.find place_cmp w old)
 
--- an object may move: it is there, and so is the directory above the new place, which does not move along; nothing is at
--- the new place or below it but what moves itself
+-- an object may move: it exists, and so does the directory above the new place, which does not move along; nothing is at
+-- the new place or below it except what moves itself
 pub record MayMove (from to : Key) (m : Files) : Type 0 where
   pub from_named : is_root from ≡ false
   pub to_named : is_root to ≡ false
@@ -174,7 +174,7 @@ abbrev pub rows_written : Rows → Key → Place → Place
 rows_written es above [] = []
 rows_written es above (name ∷ rest) = spelled (map.find place_cmp (above ++ folded name ∷ []) es) name ∷ rows_written es (above ++ folded name ∷ []) rest
 
--- the fault of the places above a place, by the rows
+-- the fault of the directories above a place, by the rows
 abbrev pub rows_way : Rows → Key → Key → Option Result2
 rows_way es place [] = None
 rows_way es place (n ∷ rest) = on_the_way (map.find place_cmp place es) (rows_way es (place ++ n ∷ []) rest)

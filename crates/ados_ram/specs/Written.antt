@@ -7,7 +7,7 @@ use Rattle.ados_ram.specs.Place.{Place, key_of}
 use Rattle.ados_ram.specs.Files.{Files}
 use Rattle.ados_ram.specs.declared.entries.Entry.{Entry}
 
--- the name of what stands at a place, as it is written there; else as it is asked for
+-- the name of the object at a place, as it is written there; otherwise as it is given
 abbrev pub spelled : Option Entry → Name → Name
 spelled None name = name
 spelled (Some e) name = e.name

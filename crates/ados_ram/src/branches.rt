@@ -32,7 +32,7 @@ pub struct Node {
     kids: Children,
 }
 
-/// An object alone.
+/// The name and the entry of an object.
 #[derive(Drop)]
 pub struct Head {
     name: Name,
@@ -61,7 +61,7 @@ impl Model for Branch {
 }
 
 impl Branch {
-    /// An object with these in it.
+    /// An object with these objects in it.
     pub fn new(name: Name, entry: Entry, kids: Children) -> Result<Branch, NoMemory>
         requires { AreKids kids }
         ensures { IfOk result (λ b. b ≡ (folded name, rows_of entry kids)) }
@@ -96,14 +96,14 @@ impl Branch {
         &self.node.head.name
     }
 
-    /// What stands here.
+    /// The entry of the object itself.
     pub fn entry(&self) -> &Entry
         ensures { map.find place_cmp [] self.now.1 ≡ Some result.now }
     {
         &self.node.head.entry
     }
 
-    /// The branch at a place.
+    /// The branch at a place below this one.
     pub fn at(&self, names: &[Name]) -> Option<&Branch>
         ensures { rows_at (option_copied result) ≡ rows_from (key_of names.now) self.now.1 }
     {
@@ -116,7 +116,8 @@ impl Branch {
         }
     }
 
-    /// A place with names behind it that lead down from here, as they are written; what is not there stays as it is.
+    /// A place followed by names that lead down from here, as they are written in the files; names that are not there
+    /// stay as they are.
     pub fn written(&self, written: Place, names: &[Name]) -> Result<Place, NoMemory>
         ensures { IfOk result (λ place. place ≡ written ++ rows_written self.now.1 [] names.now) }
     {
@@ -129,7 +130,7 @@ impl Branch {
         }
     }
 
-    /// The fault of the places above a place, each tested as it is passed.
+    /// The fault of the directories above a place, each tested from here down.
     pub fn way(&self, names: &[Name]) -> Option<Result2>
         ensures { result ≡ rows_way self.now.1 [] (key_of names.now) }
     {
@@ -146,7 +147,7 @@ impl Branch {
         }
     }
 
-    /// What stands at a place.
+    /// The entry at a place.
     pub fn find(&self, names: &[Name]) -> Option<&Entry>
         ensures { option_copied result ≡ map.find place_cmp (key_of names.now) self.now.1 }
     {
@@ -156,14 +157,15 @@ impl Branch {
         }
     }
 
-    /// Something is in it.
+    /// Whether something is in it.
     pub fn is_parent(&self) -> bool
         ensures { result ≡ any_below [] self.now.1 }
     {
         !self.node.kids.is_empty()
     }
 
-    /// Adds the rows of what is directly in this directory, or of all that is below it; the directory is at the place.
+    /// Appends the rows of the objects directly in this directory, or of all that are below it; the directory is at the
+    /// place.
     pub fn add_rows(&self, place: &Place, all: bool, rows: &mut Vec<Row>) -> Result<(), NoMemory>
         ensures { OnOk result (rows.new.items ≡ rows.old.items ++ rows_to (key_of place.now) (rows_within all [] self.now.1)) }
     {
@@ -177,7 +179,7 @@ impl Branch {
         Ok(())
     }
 
-    /// Adds the places of all that is below this directory, which is at the place, each directory behind what is in it.
+    /// Appends the places of all that is below this directory, which is at the place, each directory after what is in it.
     pub fn add_contents(&self, place: &Place, places: &mut Vec<Place>) -> Result<(), NoMemory>
         ensures { OnOk result (places.new.items ≡ places.old.items ++ ways_to place.now (contents [] self.now.1)) }
     {
@@ -190,7 +192,7 @@ impl Branch {
         Ok(())
     }
 
-    /// The tree with another branch, or none, at a place and below it. Nodes beside the way there are shared.
+    /// The tree with another branch, or none, at a place and below it. Nodes off the path to it are shared.
     pub fn with(&self, names: &[Name], new: Option<Branch>) -> Result<Branch, NoMemory>
         requires place { is_root (key_of names.now) ≡ false }
         requires stands { MayStand (key_of names.now) new self.now.1 }
@@ -221,7 +223,7 @@ impl Branch {
         })
     }
 
-    /// The same object under other data, with the same in it.
+    /// The object with another name and entry, and the same objects in it.
     pub fn with_entry(&self, name: Name, entry: Entry) -> Result<Branch, NoMemory>
         ensures name { IfOk result (λ b. b.0 ≡ folded name) }
         ensures rows { IfOk result (λ b. IsEntryAt entry self.now.1 b.1) }

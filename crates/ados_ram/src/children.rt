@@ -1,4 +1,4 @@
-// The objects of a directory, in the order of their names. They lie in blocks, which versions share.
+// The objects of a directory, in the order of their names. They are kept in blocks, which versions share.
 ghost use Rattle.std.specs.Prelude.{◌≡◌, ◌+◌, ◌≤◌, ◌++◌, ◌==◌, [], take, drop, length, IfOk, IfSome, OnOk, IsTrue};
 ghost use Rattle.std.specs.Option.{option_copied};
 ghost use Rattle.std.specs.FinMap as map;
@@ -14,17 +14,17 @@ use std::alloc::Global;
 use std::marker::Model;
 use std::rc::Rc;
 
-// A block of more objects is parted.
+// A block of more objects than this is split.
 const BLOCK_LIMIT: usize = 32;
 
-/// The objects of a directory. A change makes one block anew; the others are shared.
+/// The objects of a directory. A change replaces one block; the others are shared.
 #[cycle(tree)]
 #[derive(Drop)]
 pub struct Children {
     blocks: Vec<Block>,
 }
 
-/// Some objects of a directory that follow each other.
+/// Some consecutive objects of a directory.
 #[cycle(tree)]
 #[derive(Drop)]
 pub struct Block {
@@ -123,19 +123,19 @@ impl Children {
         Ok(Children { blocks })
     }
 
-    /// The memory that they take.
+    /// The allocator.
     pub fn allocator(&self) -> Global {
         *self.blocks.allocator()
     }
 
-    /// There are none.
+    /// Whether there are none.
     pub fn is_empty(&self) -> bool
         ensures { result ≡ (length self.now == 0) }
     {
         self.blocks.is_empty()
     }
 
-    /// The object of a name.
+    /// The object of this name.
     pub fn find(&self, name: &Name) -> Option<&Branch>
         ensures name { IfSome result (λ kid. kid.now.0 ≡ folded name.now) }
         ensures rows { rows_at (option_copied result) ≡ rows_found (map.find name_cmp (folded name.now) self.now) }
@@ -157,7 +157,7 @@ impl Children {
         Ok(kids)
     }
 
-    /// The objects with another one of a name, or none.
+    /// The objects with another one of this name, or none.
     pub fn with(&self, name: &Name, new: Option<Branch>) -> Result<Children, NoMemory>
         requires { IfSome new (λ kid. kid.0 ≡ folded name.now) }
         ensures { IfOk result (λ children. children ≡ kids_with (folded name.now) new self.now) }
@@ -190,7 +190,7 @@ fn block_of(blocks: &[Block], name: &Name) -> usize
         .saturating_sub(1)
 }
 
-// Adds blocks, shared.
+// Appends blocks, shared.
 fn share_blocks(out: &mut Vec<Block>, blocks: &[Block]) -> Result<(), NoMemory>
     ensures { OnOk result (out.new.items ≡ out.old.items ++ blocks.now) }
 {
@@ -200,7 +200,7 @@ fn share_blocks(out: &mut Vec<Block>, blocks: &[Block]) -> Result<(), NoMemory>
     Ok(())
 }
 
-// Adds objects as a block, or as two where they are too many for one; none add no block.
+// Appends objects as a block, or as two if they are too many for one; no objects add no block.
 fn push_block(out: &mut Vec<Block>, kids: Vec<Branch>) -> Result<(), NoMemory>
     requires { AllFull out.old.items }
     ensures kids { OnOk result (all_kids out.new.items ≡ all_kids out.old.items ++ kids.items) }

@@ -1,4 +1,4 @@
-// What is listed of a directory, by the rows.
+// What a directory's list holds, by the rows.
 ghost use Rattle.std.specs.Prelude.{◌≡◌, IfOk};
 ghost use Rattle.ados_ram.specs.Place.{key_of};
 ghost use Rattle.ados_ram.specs.FileOperations.{names_in};
@@ -53,7 +53,7 @@ pub fn files_below(
     Ok(places)
 }
 
-// A row stands below a directory, or directly in it.
+// Whether a row is below a directory, or directly in it.
 fn is_within(row: &Row, directory: &[Name], all: bool) -> bool
     ensures { result ≡ is_within all (key_of directory.now) row.now.0 }
 {

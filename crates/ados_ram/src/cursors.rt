@@ -1,4 +1,4 @@
-// Cursors: places in the files from which one goes on.
+// Cursors: places in the files from which a look-up can continue.
 ghost use Rattle.std.specs.Prelude.{◌≡◌, ◌∷◌, []};
 ghost use Rattle.std.specs.Option.{option_copied};
 ghost use Rattle.std.specs.FinMap as map;
@@ -12,8 +12,8 @@ use ados_text::Name;
 use std::marker::Model;
 use std::slice;
 
-/// A place in one version of the files, seen as what stands at it and below it, by the ways from there. There may be
-/// nothing.
+/// A place in one version of the files, seen as the entry at it and those below it, by their paths from there. There may
+/// be none.
 #[derive(Drop)]
 pub struct Cursor<'a> {
     branch: Option<&'a Branch>,
@@ -30,14 +30,14 @@ impl<'a> Model for Cursor<'a> {
 }
 
 impl<'a> Cursor<'a> {
-    /// The place of a branch, or one at which nothing stands.
+    /// The place of a branch, or a place with nothing at it.
     pub fn new(branch: Option<&'a Branch>) -> Cursor<'a>
         ensures { result ≡ rows_at (option_copied branch.entry) }
     {
         Cursor { branch }
     }
 
-    /// What stands at the place. Takes no memory.
+    /// The entry at the place. Nothing is allocated.
     pub fn entry(&self) -> Option<&'a Entry>
         ensures { option_copied result ≡ map.find place_cmp [] self.now }
     {
@@ -47,7 +47,7 @@ impl<'a> Cursor<'a> {
         }
     }
 
-    /// The place of a name in this one. Takes no memory.
+    /// The place of a name in this one. Nothing is allocated.
     pub fn child(&self, name: &Name) -> Cursor<'a>
         ensures { result ≡ rows_from (folded name.now ∷ []) self.now }
     {

@@ -5,7 +5,10 @@ use crate::file_bytes::FileBytes;
 use ados_text::{Name, NoMemory, Text};
 use std::alloc::Global;
 
-/// What stands at a place: a directory, or a file with its bytes.
+/// The greatest number of bytes of a comment.
+pub const COMMENT_LIMIT: usize = 79;
+
+/// What an object is: a directory, or a file with its bytes.
 #[derive(Clone, Drop)]
 pub enum Body {
     Directory,
@@ -15,7 +18,7 @@ pub enum Body {
 /// The protection bits, in their order: h s p a r w e d.
 #[derive(Clone, Copy, PartialEq, Eq)]
 pub struct Bits {
-    /// h: kept resident.
+    /// h: kept resident (hold).
     pub hold: bool,
     /// s: a script.
     pub script: bool,
@@ -71,7 +74,7 @@ pub struct Entry {
 impl Entry {
     ghost use Rattle.ados_ram.specs.Entry.{is_directory, bytes_of, new_directory, written_as, with_bits, with_comment, renamed};
 
-    /// It is a directory.
+    /// Whether it is a directory.
     pub fn is_directory(&self) -> bool
         ensures { result ≡ is_directory self.now }
     {
@@ -91,7 +94,7 @@ impl Entry {
         }
     }
 
-    /// A new directory of a name.
+    /// A new directory of this name.
     pub(crate) fn directory(alloc: Global, name: Name) -> Result<Entry, NoMemory>
         ensures { IfOk result (λ entry. entry ≡ new_directory name) }
     {
@@ -103,8 +106,8 @@ impl Entry {
         })
     }
 
-    /// A new file of a name with these bits, or an old one after it was written: of it name, comment and bits stay,
-    /// but for bit a.
+    /// A new file with this name and these bits, or an old one after it was written: an old one keeps its name, comment
+    /// and bits, except for bit a.
     pub(crate) fn written(
         alloc: Global,
         old: Option<&Entry>,

@@ -1,8 +1,8 @@
-ghost use Rattle.std.specs.Prelude.{◌≡◌, ◌++◌, false, IfOk};
+ghost use Rattle.std.specs.Prelude.{◌≡◌, false, IfOk};
 ghost use Rattle.std.specs.Option.{option_copied};
 ghost use Rattle.std.specs.Result.{result_err};
 ghost use Rattle.std.specs.FinMap as map;
-ghost use Rattle.ados_ram.specs.Place.{key_of, is_root, last_name};
+ghost use Rattle.ados_ram.specs.Place.{key_of, last_name};
 ghost use Rattle.ados_ram.specs.Files.{AreFiles, bytes_at, first_files};
 ghost use Rattle.ados_ram.specs.InUse.{is_output};
 ghost use Rattle.ados_ram.specs.FileOperations.{Answers, read_fault, list_fault, names_in, write_of, write_fault, write_as_of, append_of, append_fault, put_open_of, put_open_fault};
@@ -13,29 +13,25 @@ ghost use Rattle.ados_ram.specs.Written.{written_place, full_path};
 
 use crate::contents::{children, files_below, names_in};
 use crate::cursors::Cursor;
-use crate::entries::{Bits, Entry};
+use crate::entries::{Bits, COMMENT_LIMIT, Entry};
 use crate::faults::FsFault;
-use crate::file_bytes::FileBytes;
 use crate::in_use::Busy;
 use crate::places::Place;
 use crate::refusals::{
-    changeable, delete_refusal, is_put, list_refusal, make_dir_refusal, put_refusal, read_refusal,
-    rename_refusal, write_refusal,
+    changeable, delete_refusal, list_refusal, make_dir_refusal, put_refusal, read_refusal,
+    rename_refusal,
 };
 use crate::table::{Table, bytes_at};
 use ados_text::{Name, NoMemory, Result2, Text};
 use std::alloc::Global;
 use std::marker::Model;
 
-// How many bytes a comment may have.
-const COMMENT_LIMIT: usize = 79;
-
-/// One version of the files of the RAM disk. A change gives a new version, and the old one stands; what a change
-/// leaves alone is shared by both.
+/// One version of the files of the RAM disk. A change gives a new version and leaves the old one as it is; both share
+/// what is unchanged.
 #[derive(Drop)]
 pub struct Ram {
-    table: Table,
-    alloc: Global,
+    pub(crate) table: Table,
+    pub(crate) alloc: Global,
 }
 
 impl Model for Ram {
@@ -51,7 +47,7 @@ impl Model for Ram {
 }
 
 impl Ram {
-    /// The files at first: the directories C, S, T and Env, with nothing in them.
+    /// The initial files: the directories C, S, T and Env, with nothing in them.
     pub fn new(alloc: Global) -> Result<Ram, NoMemory>
         ensures { IfOk result (λ files. files ≡ first_files) }
     {
@@ -61,7 +57,7 @@ impl Ram {
         })
     }
 
-    /// What stands at a place. Takes no memory. Whatever is there is in a directory, and the limits hold.
+    /// The entry at a place. Nothing is allocated. Whatever has an entry is in a directory, and the limits hold.
     pub fn look(&self, place: &Place) -> Option<&Entry>
         ensures entry { option_copied result ≡ map.get self.now (key_of place.now) }
         ensures files { AreFiles self.now }
@@ -69,16 +65,16 @@ impl Ram {
         self.table.find(place.names())
     }
 
-    /// What stands at a place and below it, to go on from there without a walk from the root. Takes no memory.
+    /// The entries at a place and below it, for look-ups from there without a walk from the root. Nothing is allocated.
     pub fn below(&self, place: &Place) -> Cursor<'_>
         ensures { result ≡ rows_from (key_of place.now) (map.entries self.now) }
     {
         self.table.below(place.names())
     }
 
-    /// The bytes of a file. Takes no memory.
+    /// The bytes of a file. Nothing is allocated.
     ///
-    /// 205 (object not found) where nothing is there, 212 (wrong type of object) for a directory, 202 (object in use)
+    /// 205 (object not found) if there is nothing, 212 (wrong type of object) for a directory, 202 (object in use)
     /// for an open output, 224 (read protected) without bit r.
     pub fn read(&self, busy: &Busy, place: &Place) -> Result<&[u8], Result2>
         ensures ok { IfOk result (λ bytes. bytes.now ≡ bytes_at (map.get self.now (key_of place.now))) }
@@ -91,9 +87,9 @@ impl Ram {
         }
     }
 
-    /// The names directly in a directory, as they are written, in the order of the folded names.
+    /// The names directly in a directory, as they are written, in the order of the names in lower case.
     ///
-    /// 205 (object not found) where nothing is there, 212 (wrong type of object) for a file.
+    /// 205 (object not found) if there is nothing, 212 (wrong type of object) for a file.
     pub fn list(&self, place: &Place) -> Result<Vec<Name>, FsFault>
         ensures ok { IfOk result (λ names. names.items ≡ names_in (key_of place.now) (map.entries self.now)) }
         ensures fault { Answers result (list_fault (map.get self.now (key_of place.now))) }
@@ -107,13 +103,13 @@ impl Ram {
         }
     }
 
-    /// The files with bytes as a file. One that is there keeps its name, its comment and its bits, but for bit a;
-    /// a new one takes the name as it is written here and the bits `----rwed`.
+    /// Writes a file: the files in which it holds these bytes. An existing one keeps its name, its comment and its bits,
+    /// except for bit a; a new one takes the name as it is written here and the bits `----rwed`.
     ///
-    /// 204 (directory not found) where a directory above is not there, 212 (wrong type of object) where a file is in
-    /// its place; 212 (wrong type of object) for a directory, 202 (object in use) for an open output, 223 (write
-    /// protected) without bit w; 221 (disk full) for a file of more than 65,536 bytes, for more than 1,048,576 bytes in
-    /// all, or for more than 1,024 objects.
+    /// 204 (directory not found) if a directory above does not exist, 212 (wrong type of object) if a file is in its
+    /// place; 212 (wrong type of object) for a directory, 202 (object in use) for an open output, 223 (write protected)
+    /// without bit w; 221 (disk full) for a file of more than 65,536 bytes, for more than 1,048,576 bytes in all, or for
+    /// more than 1,024 objects.
     pub fn write(&self, busy: &Busy, place: &Place, bytes: &[u8]) -> Result<Ram, FsFault>
         ensures ok { IfOk result (λ new. new ≡ write_of self.now (key_of place.now) (last_name place.now) bytes.now) }
         ensures fault { Answers result (write_fault (is_output busy.now (key_of place.now)) self.now (key_of place.now) (last_name place.now) bytes.now) }
@@ -121,10 +117,10 @@ impl Ram {
         self.put(busy, place, &[], bytes, Bits::FRESH)
     }
 
-    /// The files with bytes as a file, as by `write`, but a new one takes these bits.
+    /// Writes a file as `write` does, but a new one takes these bits.
     ///
     /// 204 (directory not found), 212 (wrong type of object), 202 (object in use), 223 (write protected) and 221 (disk
-    /// full), each where `write` gives it.
+    /// full), each when `write` gives it.
     pub fn write_as(
         &self,
         busy: &Busy,
@@ -138,10 +134,10 @@ impl Ram {
         self.put(busy, place, &[], bytes, bits)
     }
 
-    /// The files with bytes behind those of a file; a file that is not there is made.
+    /// Appends bytes to a file; a file that does not exist is created.
     ///
-    /// 204 (directory not found), 212 (wrong type of object), 202 (object in use) and 223 (write protected), each where
-    /// `write` gives it; 221 (disk full) where `write` gives it for the bytes that the file would then hold.
+    /// 204 (directory not found), 212 (wrong type of object), 202 (object in use) and 223 (write protected), each when
+    /// `write` gives it; 221 (disk full) when `write` gives it for the bytes that the file would then hold.
     pub fn append(&self, busy: &Busy, place: &Place, bytes: &[u8]) -> Result<Ram, FsFault>
         ensures ok { IfOk result (λ new. new ≡ append_of self.now (key_of place.now) (last_name place.now) bytes.now) }
         ensures fault { Answers result (append_fault (is_output busy.now (key_of place.now)) self.now (key_of place.now) (last_name place.now) bytes.now) }
@@ -155,11 +151,11 @@ impl Ram {
         )
     }
 
-    /// The files with bytes behind those of an output that is open, whatever its bits have become. Its bit a is
-    /// cleared by one byte or more; no bytes change nothing, and where no file stands they go nowhere.
+    /// Appends bytes to an output that is open, whatever its bits have become. Its bit a is cleared by one byte or more;
+    /// no bytes change nothing, and if there is no file the bytes are discarded.
     ///
-    /// 221 (disk full) where `write` gives it for the bytes that the file would then hold, and only where a file stands
-    /// and there is a byte to put.
+    /// 221 (disk full) when `write` gives it for the bytes that the file would then hold, and only if there is a file
+    /// and a byte to append.
     pub fn put_open(&self, place: &Place, bytes: &[u8]) -> Result<Ram, FsFault>
         ensures ok { IfOk result (λ new. new ≡ put_open_of self.now (key_of place.now) (last_name place.now) bytes.now) }
         ensures fault { Answers result (put_open_fault self.now (key_of place.now) (last_name place.now) bytes.now) }
@@ -170,10 +166,10 @@ impl Ram {
         }
     }
 
-    /// The files with a new directory, which takes the name as it is written here and the bits `----rwed`.
+    /// Creates a directory, which takes the name as it is written here and the bits `----rwed`.
     ///
-    /// 204 (directory not found) where a directory above is not there, 212 (wrong type of object) where a file is in
-    /// its place; 203 (object exists) where the place is taken; 221 (disk full) for more than 1,024 objects.
+    /// 204 (directory not found) if a directory above does not exist, 212 (wrong type of object) if a file is in its
+    /// place; 203 (object exists) if there is an object already; 221 (disk full) for more than 1,024 objects.
     pub fn make_dir(&self, place: &Place) -> Result<Ram, FsFault>
         ensures ok { IfOk result (λ new. new ≡ make_dir_of self.now (key_of place.now) (last_name place.now)) }
         ensures fault { Answers result (make_dir_fault self.now (key_of place.now) (last_name place.now)) }
@@ -187,10 +183,10 @@ impl Ram {
         }
     }
 
-    /// The files without an object.
+    /// Deletes an object.
     ///
-    /// 205 (object not found) where nothing is there, 202 (object in use) for what is in use and for the root, 222
-    /// (delete protected) without bit d, 216 (directory not empty) for a directory with something in it.
+    /// 205 (object not found) if there is nothing, 202 (object in use) for what is in use and for the root, 222 (delete
+    /// protected) without bit d, 216 (directory not empty) for a directory with something in it.
     pub fn delete(&self, busy: &Busy, place: &Place) -> Result<Ram, FsFault>
         ensures ok { IfOk result (λ new. new ≡ map.remove self.now (key_of place.now)) }
         ensures fault { Answers result (delete_fault busy.now self.now (key_of place.now)) }
@@ -204,13 +200,13 @@ impl Ram {
         }
     }
 
-    /// The files with an object moved, and with it all that is below it. The object takes the last name of the new
-    /// place; bits, comments and bytes stay. Another spelling of the same place is a rename too.
+    /// Moves an object, with all that is below it. The object takes the last name of the new place; bits, comments and
+    /// bytes stay. Another spelling of the same place is a rename too.
     ///
-    /// 204 (directory not found) where a directory above the new place is not there, 212 (wrong type of object) where a
-    /// file is in its place; 205 (object not found) where nothing is there to be moved; 202 (object in use) for an open
-    /// output, a directory above one, the root, and a new place below the old one; 203 (object exists) where the new
-    /// place is taken by another object.
+    /// 204 (directory not found) if a directory above the new place does not exist, 212 (wrong type of object) if a file
+    /// is in its place; 205 (object not found) if there is nothing to be moved; 202 (object in use) for an open output,
+    /// a directory above one, the root, and a new place below the old one; 203 (object exists) if another object is at
+    /// the new place.
     pub fn rename(&self, busy: &Busy, from: &Place, to: &Place) -> Result<Ram, FsFault>
         ensures ok { IfOk result (λ new. new ≡ rename_of self.now (key_of from.now) (key_of to.now) (last_name to.now)) }
         ensures fault { Answers result (rename_fault busy.now self.now (key_of from.now) (key_of to.now)) }
@@ -224,9 +220,9 @@ impl Ram {
         }
     }
 
-    /// The files with other bits for an object.
+    /// Gives an object other bits.
     ///
-    /// 205 (object not found) where nothing is there, 212 (wrong type of object) for the root.
+    /// 205 (object not found) if there is nothing, 212 (wrong type of object) for the root.
     pub fn protect(&self, place: &Place, bits: Bits) -> Result<Ram, FsFault>
         ensures ok { IfOk result (λ new. new ≡ protect_of self.now (key_of place.now) bits) }
         ensures fault { Answers result (protect_fault self.now (key_of place.now)) }
@@ -237,10 +233,10 @@ impl Ram {
         }
     }
 
-    /// The files with another comment for an object.
+    /// Gives an object another comment.
     ///
-    /// 205 (object not found) where nothing is there, 212 (wrong type of object) for the root, 220 (comment too long)
-    /// for a comment of more than 79 bytes.
+    /// 205 (object not found) if there is nothing, 212 (wrong type of object) for the root, 220 (comment too long) for a
+    /// comment of more than 79 bytes.
     pub fn comment(&self, place: &Place, comment: &Text) -> Result<Ram, FsFault>
         ensures ok { IfOk result (λ new. new ≡ comment_of self.now (key_of place.now) comment.now) }
         ensures fault { Answers result (comment_fault self.now (key_of place.now) comment.now) }
@@ -254,7 +250,7 @@ impl Ram {
         }
     }
 
-    /// The places directly in a directory, in lower case and in order. Where no directory is there are none.
+    /// The places directly in a directory, in lower case and in order; none if there is no directory.
     pub fn children(&self, place: &Place) -> Result<Vec<Place>, NoMemory>
         ensures { IfOk result (λ places. places.items ≡ children (key_of place.now) (map.entries self.now)) }
     {
@@ -262,7 +258,7 @@ impl Ram {
         children(self.alloc, &rows, place.names())
     }
 
-    /// The places below a directory, in lower case and in order, but each directory behind what is in it.
+    /// The places below a directory, in lower case and in order, except that each directory comes after what is in it.
     pub fn contents(&self, place: &Place) -> Result<Vec<Place>, NoMemory>
         ensures { IfOk result (λ places. places.items ≡ contents (key_of place.now) (map.entries self.now)) }
     {
@@ -277,7 +273,7 @@ impl Ram {
         files_below(self.alloc, &rows, place.names(), all)
     }
 
-    /// A place with its names as they are written in the files; what is not there stays as it is asked for.
+    /// A place with its names as they are written in the files; names that are not there stay as they are given.
     pub fn written(&self, place: &Place) -> Result<Place, NoMemory>
         ensures { IfOk result (λ written. written ≡ written_place self.now place.now) }
     {
@@ -291,77 +287,12 @@ impl Ram {
         self.written(place)?.path(self.alloc)
     }
 
-    /// The same version once more; all of it is shared.
+    /// Another handle of the same version; all of it is shared.
     pub fn copy(&self) -> Result<Ram, NoMemory>
         ensures { IfOk result (λ new. new ≡ self.now) }
     {
         Ok(Ram {
             table: self.table.copy()?,
-            alloc: self.alloc,
-        })
-    }
-
-    // The files with a file of the bytes that are kept and more; a new one takes the bits.
-    fn put(
-        &self,
-        busy: &Busy,
-        place: &Place,
-        kept: &[u8],
-        more: &[u8],
-        bits: Bits,
-    ) -> Result<Ram, FsFault>
-        ensures ok { IfOk result (λ new. new ≡ write_as_of self.now (key_of place.now) (last_name place.now) (kept.now ++ more.now) bits) }
-        ensures fault { Answers result (write_fault (is_output busy.now (key_of place.now)) self.now (key_of place.now) (last_name place.now) (kept.now ++ more.now)) }
-    {
-        let old = self.table.find(place.names());
-        let open = busy.is_output(place.names());
-        match write_refusal(open, &self.table, place.names(), kept.len(), more.len()) {
-            Some(fault) => Err(FsFault::Refused(fault)),
-            None => Ok(self.with_bytes(place, old, kept, more, bits)?),
-        }
-    }
-
-    // The files with bytes put to an open output.
-    fn with_put(&self, place: &Place, bytes: &[u8]) -> Result<Ram, NoMemory>
-        requires { AreFiles (put_open_of self.now (key_of place.now) (last_name place.now) bytes.now) }
-        ensures { IfOk result (λ new. new ≡ put_open_of self.now (key_of place.now) (last_name place.now) bytes.now) }
-    {
-        let old = self.table.find(place.names());
-        if is_put(old, bytes) {
-            self.with_bytes(place, old, bytes_at(old), bytes, Bits::FRESH)
-        } else {
-            self.copy()
-        }
-    }
-
-    // The files with a file written, which holds the bytes that are kept and more; a new one takes the bits. The old
-    // entry is that at the place.
-    fn with_bytes(
-        &self,
-        place: &Place,
-        old: Option<&Entry>,
-        kept: &[u8],
-        more: &[u8],
-        bits: Bits,
-    ) -> Result<Ram, NoMemory>
-        requires root { is_root (key_of place.now) ≡ false }
-        requires old { option_copied old ≡ map.get self.now (key_of place.now) }
-        requires files { AreFiles (write_as_of self.now (key_of place.now) (last_name place.now) (kept.now ++ more.now) bits) }
-        ensures { IfOk result (λ new. new ≡ write_as_of self.now (key_of place.now) (last_name place.now) (kept.now ++ more.now) bits) }
-    {
-        let bytes = FileBytes::joined(self.alloc, kept, more)?;
-        let entry = Entry::written(self.alloc, old, place.last_name()?, bytes, bits)?;
-        self.with(place, entry)
-    }
-
-    // The files with an entry at a place.
-    fn with(&self, place: &Place, entry: Entry) -> Result<Ram, NoMemory>
-        requires root { is_root (key_of place.now) ≡ false }
-        requires files { AreFiles (map.insert self.now (key_of place.now) entry) }
-        ensures { IfOk result (λ new. new ≡ map.insert self.now (key_of place.now) entry) }
-    {
-        Ok(Ram {
-            table: self.table.with(place, entry)?,
             alloc: self.alloc,
         })
     }

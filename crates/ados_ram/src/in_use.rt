@@ -6,8 +6,8 @@ use ados_text::Name;
 use std::alloc::Global;
 use std::marker::Model;
 
-/// What is in use while a call is made. A place is in use where it is one of these directories or outputs, and where
-/// an open output is below it.
+/// What is in use while a call is made. A place is in use if it is one of these directories or outputs, or if an open
+/// output is below it.
 #[derive(Drop)]
 pub struct Busy {
     /// The current directories of shells and the directories of assigns.
@@ -37,21 +37,21 @@ impl Busy {
         }
     }
 
-    /// A place is an open output.
+    /// Whether a place is an open output.
     pub fn is_output(&self, names: &[Name]) -> bool
         ensures { result ≡ is_output self.now (key_of names.now) }
     {
         any_same(&self.outputs, names)
     }
 
-    /// A place is an open output, or a directory above one.
+    /// Whether a place is an open output, or a directory above one.
     pub fn holds_output(&self, names: &[Name]) -> bool
         ensures { result ≡ holds_output self.now (key_of names.now) }
     {
         any_at_or_below(&self.outputs, names)
     }
 
-    /// A place is in use.
+    /// Whether a place is in use.
     pub fn holds(&self, names: &[Name]) -> bool
         ensures { result ≡ is_in_use self.now (key_of names.now) }
     {

@@ -12,14 +12,14 @@ use ados_text::{Name, NoMemory};
 use std::alloc::Global;
 use std::cmp::Ordering;
 
-// How the name of a branch stands to another.
+// How the name of a branch compares to another.
 fn order(kid: &Branch, name: &Name) -> Ordering
     ensures { result ≡ name_cmp kid.now.0 (folded name.now) }
 {
     kid.name().cmp(name)
 }
 
-/// The first object has the name, or one before it.
+/// Whether the first object has the name, or one before it.
 pub fn begins_by(kids: &[Branch], name: &Name) -> bool
     ensures { result ≡ begins_by (folded name.now) kids.now }
 {
@@ -29,7 +29,7 @@ pub fn begins_by(kids: &[Branch], name: &Name) -> bool
     }
 }
 
-/// Where the object of a name is; else where it would be.
+/// The index of the object of a name, or the index at which it would be.
 pub fn position(kids: &[Branch], name: &Name) -> Result<usize, usize>
     requires { IsTrue (map.is_sorted name_cmp kids.now) }
     ensures { IsKidPosition (folded name.now) kids.now result }
@@ -49,7 +49,7 @@ pub fn kid_at<'a>(kids: &'a [Branch], name: &Name) -> Option<&'a Branch>
     }
 }
 
-/// Adds objects, shared.
+/// Appends objects, shared.
 pub fn share_kids(out: &mut Vec<Branch>, kids: &[Branch]) -> Result<(), NoMemory>
     ensures { OnOk result (out.new.items ≡ out.old.items ++ kids.now) }
 {
@@ -59,7 +59,7 @@ pub fn share_kids(out: &mut Vec<Branch>, kids: &[Branch]) -> Result<(), NoMemory
     Ok(())
 }
 
-/// The objects with another one of a name, or none.
+/// The objects with another one of this name, or none.
 pub fn changed(
     alloc: Global,
     kids: &[Branch],

@@ -13,9 +13,9 @@ ghost use Rattle.ados_ram.specs.FileOperations.{write_of, write_as_of, append_of
 ghost use Rattle.ados_ram.specs.Renames.{RenamesMove};
 ghost use Rattle.ados_ram.specs.Contents.{children, contents, is_within, files_below, contents_cmp, ListsJust};
 
-/// What is listed of a directory is just what it is to be, each once: its contents are the places below it, each
-/// directory behind all that is in it, and where names differ in their order; its children the places directly in it, and
-/// its files the places of files, both in the order of places.
+/// The lists of a directory hold just what they are to hold, each once: its contents are the places below it, each
+/// directory after all that is in it, and otherwise in the order of names; its children are the places directly in it,
+/// and its files the places of files, both in the order of places.
 pub fn contents_in_order()
     ensures contents { (files : Files) (directory : Key) → ListsJust files (is_below directory) contents_cmp (contents directory (map.entries files)) }
     ensures children { (files : Files) (directory : Key) → ListsJust files (is_child directory) place_cmp (children directory (map.entries files)) }
@@ -24,8 +24,8 @@ pub fn contents_in_order()
     ensures beside { (place : Key) (one other : Name) (way rest : Key) → name_cmp one other ≡ Less → contents_cmp (place ++ one ∷ way) (place ++ other ∷ rest) ≡ Less }
 {}
 
-/// An operation changes the object that it is for, and nothing else: each other place has the entry that it had. A
-/// rename changes what is at the old place or the new one, or below one of these.
+/// An operation changes the object that it is for, and nothing else: each other place keeps its entry. A rename changes
+/// what is at the old place or the new one, or below one of these.
 pub fn others_stay()
     ensures write { (files : Files) (key : Key) (name : Name) (bytes : Bytes) → OthersStay (is_same_key key) files (write_of files key name bytes) }
     ensures write_as { (files : Files) (key : Key) (name : Name) (bytes : Bytes) (bits : Bits) → OthersStay (is_same_key key) files (write_as_of files key name bytes bits) }
@@ -38,15 +38,15 @@ pub fn others_stay()
     ensures comment { (files : Files) (key : Key) (comment : Text) → OthersStay (is_same_key key) files (comment_of files key comment) }
 {}
 
-/// A rename that is not refused moves the object and all that is below it, by the same way down, and nothing else: the
-/// object has its new name, what is below it is as it was, nothing is left where it was, and each other place has the
-/// entry that it had.
+/// A rename that is not refused moves the object and all that is below it, by the same relative paths, and nothing else:
+/// the object has its new name, what is below it is as it was, nothing is left at the old place, and each other place
+/// keeps its entry.
 pub fn renames_move()
     ensures { RenamesMove }
 {}
 
-/// Each object stands at the key of its names: these are folded there, and the last of them is the object's own name. It is
-/// so at first, and each operation at a place keeps it.
+/// Each object is at the key of its names: these are in lower case there, and the last of them is the object's own name.
+/// It is so in the initial files, and each operation at a place keeps it.
 pub fn objects_keep_their_names()
     ensures first { AreNamed first_files }
     ensures write { (files : Files) (place : Place) (bytes : Bytes) → AreNamed files → AreNamed (write_of files (key_of place) (last_name place) bytes) }

@@ -13,6 +13,7 @@ mod in_use;
 mod kids;
 mod laws;
 mod places;
+mod puts;
 mod refusals;
 mod rows;
 mod table;

@@ -9,8 +9,7 @@ use ados_text::{Name, NoMemory, Text, fold};
 use std::alloc::Global;
 use std::marker::Model;
 
-/// A full path: the names from the root down, as they are written. Two places are equal where they are alike with
-/// case ignored.
+/// A full path: the names from the root down, as they are written. Two places are equal if they are alike with case ignored.
 #[derive(Clone, Drop)]
 pub struct Place {
     names: Vec<Name>,
@@ -50,7 +49,7 @@ impl Place {
         Ok(Place { names })
     }
 
-    /// The directory in which this is; the root is in none.
+    /// The directory in which this is; `None` for the root.
     pub fn parent(self) -> Option<Place>
         ensures { result ≡ parent_of self }
     {
@@ -61,7 +60,7 @@ impl Place {
         }
     }
 
-    /// The last name, as it is written; the root's is empty.
+    /// The last name, as it is written; that of the root is empty.
     pub fn last_name(&self) -> Result<Name, NoMemory>
         ensures { IfOk result (λ name. name ≡ last_name self.now) }
     {
@@ -72,7 +71,7 @@ impl Place {
         self.names[self.names.len() - 1].copy()
     }
 
-    /// The place that names lead down to from this one.
+    /// This place followed by names that lead down from it.
     pub fn joined(&self, names: &[Name]) -> Result<Place, NoMemory>
         ensures { IfOk result (λ place. place ≡ self.now ++ names.now) }
     {
@@ -82,7 +81,7 @@ impl Place {
         Ok(Place { names: joined })
     }
 
-    /// The names behind those that another place has; none where this one has no more.
+    /// The names after those that another place has; none if this one has no more.
     pub fn names_behind(&self, directory: &Place) -> &[Name]
         ensures { result.now ≡ drop (length directory.now) self.now }
     {
@@ -90,7 +89,7 @@ impl Place {
         &self.names[count..]
     }
 
-    /// Where this place is after a rename: what is at the old place or below it moves along.
+    /// Where this place is after a rename: a place at the old one or below it moves along.
     pub fn carried(&self, from: &Place, to: &Place) -> Result<Place, NoMemory>
         ensures { IfOk result (λ place. place ≡ carried from.now to.now self.now) }
     {
@@ -113,7 +112,7 @@ impl Place {
         Ok(Place { names })
     }
 
-    /// An equal place, spelled alike.
+    /// An equal place with the same spelling.
     pub fn copy(&self) -> Result<Place, NoMemory>
         ensures { IfOk result (λ place. place ≡ self.now) }
     {
@@ -135,7 +134,7 @@ impl Eq for Place {
     ghost laws = { on_equiv key_of (eq_by_cmp_equiv place_cmp_total) };
 }
 
-/// The two places are one.
+/// Whether the two places are the same.
 #[tactic(auto, using(crate::proofs::PlaceLemmas::same_by_key))]
 pub fn is_same(a: &[Name], b: &[Name]) -> bool
     ensures { result ≡ is_same_key (key_of a.now) (key_of b.now) }
@@ -143,7 +142,7 @@ pub fn is_same(a: &[Name], b: &[Name]) -> bool
     a == b
 }
 
-/// The names that lead from a directory down to a place, where the place is at it or below it.
+/// The names that lead from a directory down to a place, if the place is at it or below it.
 #[tactic(auto, using(ados_text::proofs::NameLemmas::alike))]
 pub fn behind<'a>(directory: &[Name], place: &'a [Name]) -> Option<&'a [Name]>
     ensures { option_map key_of (option_copied result) ≡ behind (key_of directory.now) (key_of place.now) }
@@ -157,7 +156,7 @@ pub fn behind<'a>(directory: &[Name], place: &'a [Name]) -> Option<&'a [Name]>
     if x == y { behind(xs, ys) } else { None }
 }
 
-/// The second place is below the first.
+/// Whether the second place is below the first.
 pub fn is_below(directory: &[Name], place: &[Name]) -> bool
     ensures { result ≡ is_below (key_of directory.now) (key_of place.now) }
 {
@@ -167,7 +166,7 @@ pub fn is_below(directory: &[Name], place: &[Name]) -> bool
     }
 }
 
-/// One of the places is that of the names.
+/// Whether one of the places is that of the names.
 pub fn any_same(places: &[Place], names: &[Name]) -> bool
     ensures { result ≡ any_same places.now (key_of names.now) }
 {
@@ -179,7 +178,7 @@ pub fn any_same(places: &[Place], names: &[Name]) -> bool
     false
 }
 
-/// One of the places is that of the names or below it.
+/// Whether one of the places is that of the names or below it.
 pub fn any_at_or_below(places: &[Place], names: &[Name]) -> bool
     ensures { result ≡ any_at_or_below places.now (key_of names.now) }
 {
@@ -203,7 +202,7 @@ pub fn folded(alloc: Global, name: &Name) -> Result<Name, NoMemory>
     Ok(Name::new(text))
 }
 
-// The names behind those of a list.
+// Appends copies of names to a list.
 fn copy_into(out: &mut Vec<Name>, names: &[Name]) -> Result<(), NoMemory>
     ensures { OnOk result (out.new.items ≡ out.old.items ++ names.now) }
 {

@@ -1,4 +1,4 @@
-// Why the files refuse something: of each row of refusals the first that holds.
+// Why the files refuse a call: for each call, the first of its refusals that applies.
 ghost use Rattle.std.specs.Prelude.{◌≡◌, ◌+◌, ℕ, List, length, Some, IfOk};
 ghost use Rattle.std.specs.Option.{option_copied};
 ghost use Rattle.std.specs.Result.{result_err};
@@ -14,11 +14,11 @@ use crate::places::{is_below, is_same};
 use crate::table::{Table, bytes_at};
 use ados_text::{Name, Result2};
 
-// How many bytes a file may hold.
+// The greatest number of bytes of a file.
 const FILE_LIMIT: usize = 65_536;
-// How many bytes all files together may hold.
+// The greatest number of bytes of all files together.
 const BYTES_LIMIT: usize = 1_048_576;
-// How many objects there may be, with the root.
+// The greatest number of objects, with the root.
 const OBJECTS_LIMIT: usize = 1_025;
 
 /// Why a file is not read; `is_open` says that it is an open output.
@@ -41,7 +41,7 @@ pub fn read_refusal(is_open: bool, entry: Option<&Entry>) -> Option<Result2>
     }
 }
 
-/// Why a directory is not listed: 205 (object not found) where nothing is there, 212 (wrong type of object) for a file.
+/// Why a directory is not listed: 205 (object not found) if there is nothing, 212 (wrong type of object) for a file.
 pub fn list_refusal(entry: Option<&Entry>) -> Option<Result2>
     ensures { result ≡ list_fault (option_copied entry.entry) }
 {
@@ -52,7 +52,7 @@ pub fn list_refusal(entry: Option<&Entry>) -> Option<Result2>
     }
 }
 
-/// Why bytes are not written at a place behind those that are kept there; `is_open` says that it is an open output.
+/// Why bytes are not written at a place after those that are kept there; `is_open` says that it is an open output.
 pub fn write_refusal(
     is_open: bool,
     table: &Table,
@@ -68,7 +68,7 @@ pub fn write_refusal(
         .or(limits(table, names, kept, more))
 }
 
-/// Bytes that are put to an open output change something: there is one or more, and a file stands there.
+/// Whether bytes that are appended to an open output change something: there is one or more, and there is a file.
 pub fn is_put(entry: Option<&Entry>, bytes: &[u8]) -> bool
     ensures { result ≡ is_put (option_copied entry.entry) bytes.now }
 {
@@ -78,7 +78,7 @@ pub fn is_put(entry: Option<&Entry>, bytes: &[u8]) -> bool
     }
 }
 
-/// Why bytes are not put to an open output.
+/// Why bytes are not appended to an open output.
 pub fn put_refusal(table: &Table, names: &[Name], bytes: &[u8]) -> Option<Result2>
     ensures { (name : List ℕ) → result ≡ put_open_fault table.now (key_of names.now) name bytes.now }
 {
@@ -90,7 +90,7 @@ pub fn put_refusal(table: &Table, names: &[Name], bytes: &[u8]) -> Option<Result
     }
 }
 
-/// Why a directory is not made.
+/// Why a directory is not created.
 pub fn make_dir_refusal(table: &Table, names: &[Name]) -> Option<Result2>
     ensures { (name : List ℕ) → result ≡ make_dir_fault table.now (key_of names.now) name }
 {
@@ -164,7 +164,7 @@ fn rename_target(busy: &Busy, table: &Table, from: &[Name], to: &[Name]) -> Opti
     None
 }
 
-// The fault of what stands where a file is to be written.
+// The fault of the entry at a place where a file is to be written.
 fn write_target(is_open: bool, entry: Option<&Entry>) -> Option<Result2>
     ensures { result ≡ write_target_fault is_open (option_copied entry.entry) }
 {
@@ -184,7 +184,7 @@ fn write_target(is_open: bool, entry: Option<&Entry>) -> Option<Result2>
     }
 }
 
-// The fault of the limits, where what stands at a place then holds the bytes that are kept and more.
+// The fault of the limits, if the object at a place then holds the bytes that are kept and more.
 fn limits(table: &Table, names: &[Name], kept: usize, more: usize) -> Option<Result2>
     ensures { (new : Entry) → size_of new ≡ kept + more → result ≡ full_fault (kept + more) (map.insert table.now (key_of names.now) new) }
 {

@@ -7,7 +7,7 @@ use crate::places::{Place, behind, is_below};
 use ados_text::Name;
 use std::marker::Model;
 
-/// An entry with its place. How the place is spelled does not matter.
+/// An entry with its place. The spelling of the place does not matter.
 #[derive(Drop)]
 pub struct Row {
     place: Place,
@@ -48,7 +48,7 @@ impl Row {
         &self.place
     }
 
-    /// It is directly in a directory.
+    /// Whether it is directly in a directory.
     pub fn is_in(&self, directory: &[Name]) -> bool
         ensures { result ≡ is_child (key_of directory.now) self.now.0 }
     {
@@ -58,7 +58,7 @@ impl Row {
         }
     }
 
-    /// It is below a directory.
+    /// Whether it is below a directory.
     pub fn is_below(&self, directory: &[Name]) -> bool
         ensures { result ≡ is_below (key_of directory.now) self.now.0 }
     {

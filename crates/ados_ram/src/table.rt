@@ -23,13 +23,13 @@ use ados_text::{Name, NoMemory, Result2, Text};
 use std::alloc::Global;
 use std::marker::Model;
 
-/// All objects. Versions share what no change touched.
+/// All objects. Versions share what no change has touched.
 #[derive(Drop)]
 pub struct Table {
     root: Branch,
-    // how many bytes all files hold
+    // the number of bytes of all files
     total: usize,
-    // how many objects there are, with the root
+    // the number of objects, with the root
     count: usize,
     alloc: Global,
 }
@@ -49,7 +49,7 @@ impl Model for Table {
 }
 
 impl Table {
-    /// The files at first: the root with C, Env, S and T in it.
+    /// The initial files: the root with C, Env, S and T in it.
     pub fn first(alloc: Global) -> Result<Table, NoMemory>
         ensures { IfOk result (λ table. table ≡ first_files) }
     {
@@ -63,35 +63,35 @@ impl Table {
         })
     }
 
-    /// What stands at a place.
+    /// The entry at a place.
     pub fn find(&self, names: &[Name]) -> Option<&Entry>
         ensures { option_copied result ≡ map.get self.now (key_of names.now) }
     {
         self.root.find(names)
     }
 
-    /// What stands at a place and below it.
+    /// The entries at a place and below it.
     pub fn below(&self, names: &[Name]) -> Cursor<'_>
         ensures { result ≡ rows_from (key_of names.now) (map.entries self.now) }
     {
         Cursor::new(self.root.at(names))
     }
 
-    /// The fault of the places above a place.
+    /// The fault of the directories above a place.
     pub fn way(&self, names: &[Name]) -> Option<Result2>
         ensures { result ≡ way_fault self.now [] (key_of names.now) }
     {
         self.root.way(names)
     }
 
-    /// A place with its names as they are written; what is not there stays as it is.
+    /// A place with its names as they are written in the files; names that are not there stay as they are.
     pub fn written(&self, place: &Place) -> Result<Place, NoMemory>
         ensures { IfOk result (λ written. written ≡ written_place self.now place.now) }
     {
         self.root.written(Place::root(self.alloc), place.names())
     }
 
-    /// Something is below a place.
+    /// Whether something is below a place.
     pub fn any_below(&self, names: &[Name]) -> bool
         ensures { result ≡ any_below (key_of names.now) (map.entries self.now) }
     {
@@ -101,7 +101,7 @@ impl Table {
         }
     }
 
-    /// The rows of what is directly in a directory, or of all that is below it, in order.
+    /// The rows of the objects directly in a directory, or of all that are below it, in order.
     pub fn rows_below(&self, directory: &Place, all: bool) -> Result<Vec<Row>, NoMemory>
         ensures { IfOk result (λ rows. rows.items ≡ rows_within all (key_of directory.now) (map.entries self.now)) }
     {
@@ -113,7 +113,7 @@ impl Table {
         Ok(rows)
     }
 
-    /// The places below a directory, in lower case and in order, but each directory behind what is in it.
+    /// The places below a directory, in lower case and in order, except that each directory comes after what is in it.
     pub fn contents(&self, directory: &Place) -> Result<Vec<Place>, NoMemory>
         ensures { IfOk result (λ places. places.items ≡ contents (key_of directory.now) (map.entries self.now)) }
     {
@@ -125,7 +125,7 @@ impl Table {
         Ok(places)
     }
 
-    /// How many bytes all files hold but that at a place.
+    /// The number of bytes of all files except the one at a place.
     pub fn bytes_beside(&self, names: &[Name]) -> usize
         ensures total { (new : Entry) → total_of (map.entries (map.insert self.now (key_of names.now) new)) ≡ size_of new + result }
         ensures fits { result ≤ bytes_limit }
@@ -133,7 +133,7 @@ impl Table {
         self.total - bytes_at(self.find(names)).len()
     }
 
-    /// How many objects there are once something stands at a place.
+    /// The number of objects if there is one at this place.
     pub fn objects_with(&self, names: &[Name]) -> usize
         ensures { (new : Entry) → map.len (map.insert self.now (key_of names.now) new) ≡ result }
     {
@@ -161,7 +161,7 @@ impl Table {
         })
     }
 
-    /// The table without what stands at a place, which is not the root, and has nothing below it.
+    /// The table without the object at a place, which is not the root, and has nothing below it.
     pub fn without(&self, names: &[Name]) -> Result<Table, NoMemory>
         requires root { is_root (key_of names.now) ≡ false }
         requires inside { IsSome (map.get self.now (above (key_of names.now))) }
@@ -176,7 +176,7 @@ impl Table {
         })
     }
 
-    /// The table after a rename, where the object takes the last name of the new place.
+    /// The table after a rename, in which the object takes the last name of the new place.
     pub fn moved(&self, from: &[Name], to: &Place) -> Result<Table, NoMemory>
         requires { MayMove (key_of from.now) (key_of to.now) self.now }
         ensures { IfOk result (λ new. new ≡ rename_of self.now (key_of from.now) (key_of to.now) (last_name to.now)) }
@@ -207,7 +207,7 @@ impl Table {
     }
 }
 
-/// The bytes that stand at a place; none where no file is there.
+/// The bytes of an entry; none if there is no file.
 pub fn bytes_at(entry: Option<&Entry>) -> &[u8]
     ensures { result.now ≡ bytes_at (option_copied entry.entry) }
 {
@@ -217,7 +217,7 @@ pub fn bytes_at(entry: Option<&Entry>) -> &[u8]
     }
 }
 
-// What stands at a place with another entry, or a new object there.
+// The branch at a place with another entry, or a new object there.
 fn with_entry(
     alloc: Global,
     there: Option<&Branch>,
@@ -234,7 +234,7 @@ fn with_entry(
     }
 }
 
-// An object under the last name of a place, with the same in it.
+// An object under the last name of a place, with the same objects in it.
 fn renamed(branch: &Branch, to: &Place) -> Result<Branch, NoMemory>
     ensures name { IfOk result (λ b. b.0 ≡ last_name (key_of to.now)) }
     ensures rows { IfOk result (λ b. IsRenamed (last_name to.now) branch.now.1 b.1) }
@@ -244,7 +244,7 @@ fn renamed(branch: &Branch, to: &Place) -> Result<Branch, NoMemory>
     branch.with_entry(name, entry)
 }
 
-// The objects at first.
+// The initial objects.
 fn first_kids(alloc: Global) -> Result<Vec<Branch>, NoMemory>
     ensures { IfOk result (λ kids. kids.items ≡ first_kids) }
 {

@@ -17,7 +17,7 @@ impl Place {
     }
 }
 
-// Adds names to a text, with a slash between each two.
+// Appends names to a text, with a slash between each two.
 fn push_names(text: &mut Text, names: &[Name]) -> Result<(), NoMemory>
     ensures { OnOk result (text.new ≡ text.old ++ slashed names.now) }
 {
@@ -29,7 +29,7 @@ fn push_names(text: &mut Text, names: &[Name]) -> Result<(), NoMemory>
     push_names(text, rest)
 }
 
-// Adds a slash before names, unless there is none.
+// Appends a slash before names, unless there are none.
 fn push_slash(text: &mut Text, names: &[Name]) -> Result<(), NoMemory>
     ensures { OnOk result (text.new ≡ text.old ++ slash_before names.now) }
 {

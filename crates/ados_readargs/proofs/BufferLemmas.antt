@@ -1,4 +1,4 @@
--- texts in a buffer stay as they are when more is put behind them
+-- texts in a buffer stay as they are when more is put after them
 use Rattle.std.proofs.Common.{ℕ, suc, ◌≡◌, ◌<◌, ◌≤◌, ◌+◌, ◌-◌, List, [], ◌∷◌, ◌++◌, map, length, take, drop, get_or, refl, ap, sym, subst, ◌∙◌, append_assoc, length-append, arith}
 use Rattle.std.specs.List.{All}
 use Rattle.std.proofs.lemmas.Bool.Decides.{nat_tests}
@@ -29,7 +29,7 @@ texts-kept bytes more (span ∷ spans) within =
     let first : text_in (bytes ++ more) span ≡ text_in bytes span = between-append bytes more span.from span.to here.0 here.1 in
     let rest = texts-kept bytes more spans (λ k d h. within (suc k) d (omega arith)) in cc
 
--- and one more behind them
+-- and one more after them
 pub one-more : (bytes more : List ℕ) (spans : List Span) (from to : ℕ) → from ≡ length bytes → to ≡ length bytes + length more → All (LiesIn (length bytes)) spans
     → texts_in (bytes ++ more) (spans ++ record { from = from; to = to } ∷ []) ≡ texts_in bytes spans ++ more ∷ []
 one-more bytes more spans from to a b within =
@@ -39,7 +39,7 @@ one-more bytes more spans from to a b within =
 
 pub ruleset laid = (texts-kept, one-more)
 
--- what is ASCII stays as it is
+-- bytes that are ASCII stay as they are
 text-kept : (bytes : List ℕ) → IsText bytes → map to_ascii bytes ≡ bytes
 text-kept [] ascii = refl
 text-kept (c ∷ cs) ascii =
@@ -47,7 +47,7 @@ text-kept (c ∷ cs) ascii =
     let first : to_ascii c ≡ c = grind (arith, nat_tests) in
     let rest = text-kept cs (λ k d h. ascii (suc k) d (omega arith)) in cc
 
--- where a line was copied to the end of the bytes, its words are spans
+-- if a line was copied to the end of the bytes, its words are spans
 word-copied : (bytes line : List ℕ) (base from to : ℕ) → IsText bytes → drop base bytes ≡ line
     → bytes_between bytes (base + from) (base + to) ≡ value_of line (Word from to)
 word-copied bytes line base from to ascii copied =
@@ -75,7 +75,7 @@ word-pushed bytes line base from to first spans items place ascii copied w e h =
     ∙ ap (λ more. texts_in bytes first ++ more) (sym (map-append (value_of line) (take place items) (Word from to ∷ [])))
     ∙ ap (λ more. texts_in bytes first ++ map (value_of line) more) (ap (λ item. take place items ++ item ∷ []) (sym e) ∙ sym (take_more items place (Word 0 0) w))
 
--- the spans so far, where a line was copied behind the bytes
+-- the spans so far, if a line was copied after the bytes
 pub line-copied : (bytes line : List ℕ) (spans : List Span) → AreLaid bytes spans → IsText line → AreLaid (bytes ++ line) spans
 line-copied bytes line spans laid text =
     let long : length (bytes ++ line) ≡ length bytes + length line = length-append bytes line in

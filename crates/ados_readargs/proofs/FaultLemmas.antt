@@ -1,4 +1,4 @@
--- Of the text of a template nothing but memory can be wanting.
+-- For the text of a template the only fault is running out of memory.
 use Rattle.std.proofs.Common.{◌≡◌, ◌≢◌, ℕ, List, refl, false, ap}
 use Rattle.std.specs.Option.{is_some}
 use Rattle.ados_readargs.specs.Template.{template_of, IsTemplate}

@@ -1,4 +1,4 @@
--- how the words of a line come to their end, or to a fault
+-- how the words of a line end, or lead to a fault
 use Rattle.std.proofs.Common.{ℕ, ◌≡◌, ◌∙◌, ◌+◌, ◌-◌, List, [], ◌∷◌, ◌++◌, Bool, true, false, ◌&&◌, ◌||◌, not, Result, Ok, Err, refl, ap, sym, subst, append_assoc, append-nil}
 use Rattle.std.specs.List.{flat_map}
 use Rattle.ados_items.specs.declared.items.Item.{Item}
@@ -18,7 +18,7 @@ use Rattle.ados_readargs.specs.Phrases.{Phrase, words_in, fillings, plain_words,
 use Rattle.ados_readargs.specs.FirstFault.{IsFaultAt, GoOn}
 use Rattle.ados_readargs.proofs.PhraseLemmas.{Said, with_phrase, says-more}
 
--- phrases that are the first of these words, with those behind them, and what was read behind the phrases
+-- phrases that are the first of these words, with the words after them, and what was read after the phrases
 pub record Leads (options : List TemplateOption) (line : List ℕ) (before after : Readings) (whole behind : List LineWord) (phrases : List Phrase) : Type 0 where
   pub words : flat_map words_in phrases ++ behind ≡ whole
   pub said : ArePhrases options line before.given phrases
@@ -26,7 +26,7 @@ pub record Leads (options : List TemplateOption) (line : List ℕ) (before after
   pub plain : after.plain ≡ before.plain ++ flat_map plain_words phrases
   pub onward : GoOn phrases
 
--- what words come to: all are phrases, or phrases lead to words at which a fault stands
+-- what words give: all are phrases, or phrases lead to words at which a fault is
 abbrev pub Comes : List TemplateOption → List ℕ → Readings → List LineWord → Result Readings ArgFault → Type 0
 Comes options line before words (Ok after) = Said options line before after words
 Comes options line before words (Err found) =

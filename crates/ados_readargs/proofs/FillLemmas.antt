@@ -56,13 +56,13 @@ by-read options line (Ok readings) args e given taken =
     )
 by-read options line (Err fault) args e given taken = cc
 
--- what a line gives to options, its phrases say
+-- what a line gives to options is what its phrases say
 pub filled : {T : Type 0} (result : Result T ArgFault) (args : List Arg) (options : List TemplateOption) (line : List ℕ) → OnOk result (args_for options line ≡ Ok args)
     → OnOk result (LosesNoWord options line) → OnOk result (IsFilled options line args)
 filled (Ok value) args options line e taken = by-read options line _ args refl e taken
 filled (Err fault) args options line e taken = tt
 
--- what was read is what the phrases say, where these lead from nothing
+-- what was read is what the phrases say, if they begin with nothing read
 all-said : (phrases : List Phrase) (readings : Readings) → readings.given ≡ flat_map fillings phrases → readings.plain ≡ flat_map plain_words phrases → said_by phrases ≡ readings
 all-said phrases readings given plain =
     ap (λ l. record { given = l; plain = flat_map plain_words phrases }) (sym given) ∙ ap (λ l. record { given = readings.given; plain = l }) (sym plain)
@@ -82,7 +82,7 @@ at-fault options line fault.ValueMissing told phrases behind stand onward here e
 at-fault options line fault.Unmatched told phrases behind stand onward here e = subst (λ f. IsFirstFault options line f) e (at_words phrases behind fault.Unmatched stand onward here (λ h. cc))
 at-fault options line fault.NoMemory told phrases behind stand onward here e = subst (λ f. IsFirstFault options line f) e (at_words phrases behind fault.NoMemory stand onward here (λ h. cc))
 
--- the words are not read
+-- the words are not all read
 words-fault : (options : List TemplateOption) (line : List ℕ) (read : Result Readings ArgFault) (told : ArgFault) → read_from options line nothing_read Free (line_words_of line) ≡ read
     → with_quotes (is_unclosed line) read ≡ Err told → IsFirstFault options line told
 words-fault options line (Ok readings) told e refused = cc

@@ -1,4 +1,4 @@
--- what is known of options that no line changes
+-- what holds of options whatever the line is
 use Rattle.std.proofs.Common.{zero, suc, ◌≡◌, ◌<◌, ◌+◌, ◌==◌, ◌∙◌, ℕ, List, [], ◌∷◌, Bool, true, false, Option, Some, None, ◌||◌, ◌&&◌, not, if◌then◌else◌, length, drop, position, get_or, replicate, refl, ap, sym, arith}
 use Rattle.std.specs.Prelude.{IfSome}
 use Rattle.std.specs.List.{list_any, position_from}
@@ -37,14 +37,14 @@ neither-right : (a b : Bool) → (a || b) ≡ false → b ≡ false
 neither-right true b e = absurd cc
 neither-right false b e = e
 
--- where no option has /A, none lacks a value
+-- if no option has /A, none lacks a value
 pub none_lacks : (options : List TemplateOption) (args : List Arg) → list_any is_required options ≡ false → lacks options args ≡ false
 none_lacks [] args e = refl
 none_lacks (option ∷ options) [] e = refl
 none_lacks (option ∷ options) (arg ∷ args) e =
     rw (neither-left (is_required option) (list_any is_required options) e, none_lacks options args (neither-right (is_required option) (list_any is_required options) e)) refl
 
--- where no option has /N, no text is a bad number
+-- if no option has /N, no text is a bad number
 pub none_bad : (options : List TemplateOption) (args : List Arg) → list_any takes_number options ≡ false → has_bad options args ≡ false
 none_bad [] args e = refl
 none_bad (option ∷ options) [] e = refl
@@ -75,11 +75,11 @@ none-from (option ∷ options) name place e =
       none-from options name (place + 1) (neither-right (has_as_long (length name) option) (one_is_as_long (length name) options) e),
     ) refl
 
--- where no option has a name as long, the name is a keyword of none
+-- if no option has a name of that length, the name is a keyword of none
 pub none_named : (options : List TemplateOption) (name : List ℕ) → one_is_as_long (length name) options ≡ false → position (is_keyword name true) options ≡ None
 none_named options name e = position_from-zero (is_keyword name true) options ∙ none-from options name 0 e
 
--- in a list of `true` alone no `false` is found
+-- in a list that only has `true`, no `false` is found
 pub true-alone : (count size : ℕ) → get_or (replicate count true) size true ≡ true
 true-alone zero size = refl
 true-alone (suc count) zero = refl
@@ -101,6 +101,6 @@ none-behind options zero e = e
 none-behind [] (suc n) e = refl
 none-behind (option ∷ options) (suc n) e = none-behind options n (neither-right (is_required option) (list_any is_required options) e)
 
--- where no option has /A, none from a place on is needed
+-- if no option has /A, none from a place on is needed
 pub none_needed : (options : List TemplateOption) (given : List Reading) (place : ℕ) → list_any is_required options ≡ false → vacant_count true place (drop place options) given ≡ 0
 none_needed options given place e = none-needed (drop place options) given place (none-behind options place e)

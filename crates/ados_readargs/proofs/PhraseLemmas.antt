@@ -20,7 +20,7 @@ use Rattle.ados_readargs.specs.Readings.{Readings}
 use Rattle.ados_readargs.specs.Meanings.{is_keyword, keyword_of, trimmed_from}
 use Rattle.ados_readargs.specs.Phrases.{Phrase, words_in, fillings, plain_words, IsKeyword, EndsInBlanks, IsPhrase, IsLast, ArePhrases}
 
--- phrases that are these words, and what was read behind them by what was read before
+-- phrases that are these words, and what was read after them by what was read before
 pub record Says (options : List TemplateOption) (line : List ℕ) (before after : Readings) (whole : List LineWord) (phrases : List Phrase) : Type 0 where
   pub words : flat_map words_in phrases ≡ whole
   pub said : ArePhrases options line before.given phrases

@@ -22,7 +22,7 @@ use Rattle.ados_readargs.specs.declared.readings.Reading.{Reading}
 use Rattle.ados_readargs.specs.declared.meanings.Meaning.TheVariants.{Plain}
 use Rattle.ados_readargs.proofs.WordsLemmas.{words-step}
 
--- there is none
+-- no word is there
 pub read-none : (whole : Result Readings ArgFault) (options : List TemplateOption) (line : List ℕ) (readings : Readings) (pending : Pending) (n place : ℕ)
     → None ≡ word_of line (item_at true line place)
     → whole ≡ read_from options line readings pending (words_from (suc n) line place) → whole ≡ read_end readings pending
@@ -58,7 +58,7 @@ plain-by : (options : List TemplateOption) (given : List Reading) (word : LineWo
 plain-by options given word true found e = refl
 plain-by options given word false found e = ap (word_meaning options given None word) e
 
--- a run with no equal sign that is no keyword, in a template with no /F
+-- a run with no equal sign that is not a keyword, in a template with no /F
 pub plain-word : (options : List TemplateOption) (line : List ℕ) (place from to : ℕ) → list_any is_rest options ≡ false
     → item.Word from to ≡ item_at true line place → run_end line to ≡ to → position (is_keyword (bytes_between line from to) true) options ≡ None
     → IsPlainAt options line place (record { from = from; to = to })

@@ -23,7 +23,7 @@ use Rattle.ados_readargs.specs.FirstFault.{IsPassedOver, IsFaultAt, twice, full_
 use Rattle.ados_readargs.proofs.PhraseLemmas.{Said, with_phrase, says-none, keyword-is, no-keyword, trimmed-is}
 use Rattle.ados_readargs.proofs.FaultSteps.{Comes, comes-more, first-free, full-is, full-not, given-nil, named-not, plain-nil, stop, switch-not, takes-not, toggle-free}
 
--- the words that wait for the value of a keyword: the keyword, and an `=` alone that was passed over
+-- the words so far, if a keyword waits for its value: the keyword, and an `=` alone that was skipped
 abbrev IsPassed : LineWord → Bool → List LineWord → Type 0
 IsPassed keyword equal [] = equal ≡ is_whole keyword
 IsPassed keyword equal (passed ∷ []) = (equal ≡ false) × ((is_whole keyword && is_equal passed) ≡ true)
@@ -41,7 +41,7 @@ abbrev Waits : List TemplateOption → List ℕ → List Reading → Pending →
 Waits options line given Free front = front ≡ []
 Waits options line given (Value place equal) front = (keyword : LineWord) × (passed : List LineWord) × IsWaiting options line given place equal front keyword passed
 
--- what is known of the words behind a word
+-- what is known of the words after a word
 abbrev GoesOn : List TemplateOption → List ℕ → List LineWord → Result Readings ArgFault → Type 0
 GoesOn options line words answer = (readings : Readings) (pending : Pending) (front : List LineWord) → Waits options line readings.given pending front
     → read_from options line readings pending words ≡ answer → Comes options line readings (front ++ words) answer
@@ -60,7 +60,7 @@ given-said options line words readings answer full place it whole refuses then_ 
     cond_both full (says.Refuse fault.TooMany) (says.Read (Given place it)) P
     (λ taken e. stop options line readings whole fault.TooMany answer (refuses taken) e) (λ free e. then_ free e)
 
--- a phrase that fills an option, and what stands behind it
+-- a phrase that fills an option, and what follows it
 filling-said : (options : List TemplateOption) (line : List ℕ) (words : List LineWord) (readings : Readings) (answer : Result Readings ArgFault) (phrase : Phrase) (reading : Reading)
     → fillings phrase ≡ reading ∷ [] → plain_words phrase ≡ [] → IsPhrase options line readings.given phrase → ((behind : List Phrase) → IsLast phrase behind)
     → GoesOn options line words answer → read_from options line (record readings { given = readings.given ++ reading ∷ [] }) Free words ≡ answer
@@ -111,7 +111,7 @@ keyword-said options line words readings answer place keyword named no_rest goes
     (record { keyword = named; free = first-free filled q.many q.toggle free; no_rest = no_rest }, switch-not q s) (λ _. tt) goes e))
     (λ s. value-said options line words readings answer place keyword named (takes-not q t s) no_rest goes))
 
--- a word that is no keyword
+-- a word that is not a keyword
 plain-said : (options : List TemplateOption) (line : List ℕ) (words : List LineWord) (readings : Readings) (answer : Result Readings ArgFault) (said : LineWord) (vacant : Option ℕ)
     → next_open options readings.given ≡ vacant → IsPlainWord options line readings.given said → GoesOn options line words answer
     → Ends options line words readings answer (plain_meaning vacant said) → Comes options line readings (said ∷ words) answer
@@ -164,7 +164,7 @@ free-said options line words readings answer said (Some place) open_is goes =
     ))
     (λ other. next-said options line words readings answer said (Some place) open_is (rw open_is other) goes)
 
--- an `=` alone is passed over
+-- an `=` alone is skipped
 passes : (options : List TemplateOption) (line : List ℕ) (given : List Reading) (place : ℕ) (equal : Bool) (front : List LineWord) (keyword : LineWord) (passed : List LineWord) (said : LineWord)
     → IsWaiting options line given place equal front keyword passed → (equal && is_equal said) ≡ true
     → IsWaiting options line given place false (front ++ said ∷ []) keyword (said ∷ [])
@@ -201,7 +201,7 @@ parted options line words readings answer said place equal front keyword (one �
     (λ _. tt) goes e)
 parted options line words readings answer said place equal front keyword (one ∷ two ∷ more) w closed other free goes e = absurd w.between
 
--- what stands behind a keyword that waits for its value, in the words of phrases
+-- what follows a keyword that waits for its value, in the words of phrases
 between-is : (keyword said : LineWord) (equal : Bool) (passed : List LineWord) → IsPassed keyword equal passed → (equal && is_equal said) ≡ false → IsBetween keyword passed said
 between-is keyword said equal [] p other = ap (λ b. b && is_equal said) (sym p) ∙ other
 between-is keyword said equal (one ∷ []) p other = p.1

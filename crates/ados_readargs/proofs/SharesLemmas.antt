@@ -15,7 +15,7 @@ use Rattle.ados_readargs.specs.Shares.{vacant_count, front_share, middle_share, 
 abbrev no_option : TemplateOption
 no_option = record { names = []; qualifiers = unqualified }
 
--- what an option counts
+-- how much an option counts
 abbrev counted : Bool → ℕ → Qualifiers → List Reading → ℕ
 counted needed place q given = if is_vacant place q given && (not needed || q.required) then 1 else 0
 
@@ -49,7 +49,7 @@ back-less options given n h =
     let e4 : counted true n (get_or options n no_option).qualifiers given ≡ counted true n (qualifiers_at options n) given = ap (λ q. counted true n q given) (sym (qualifiers-at options n h)) in
     omega (arith, e1, e4)
 
--- one more word, where there is one
+-- one more word, if there is one
 one-more : (more : Bool) (k n : ℕ) (plain : List Item) → n ≡ k + (if more then 1 else 0)
     → take k plain ++ (if more then take 1 (drop k plain) else []) ≡ take n plain
 one-more true k n plain e = let same : k + 1 ≡ n = omega (arith, e) in sym (take-add k 1 plain) ∙ ap (λ i. take i plain) same
@@ -126,7 +126,7 @@ back-words true false front behind count plain e =
     append-nil _ ∙ ap (λ i. take (front + (length plain - front - i)) plain) same
 back-words true true front behind count plain e = back-last (nat_lt behind (length plain - front)) front behind count plain refl e
 
--- behind the /M, all words are taken but those of the options still to come
+-- after the /M, all words are taken except those of the options still to come
 abbrev kept : ℕ → ℕ → List TemplateOption → Readings → List Item
 kept m n options readings =
     let front = vacant_count false 0 (take m options) readings.given in

@@ -1,4 +1,4 @@
--- what options were given stays as it is when more texts are put behind its own
+-- what options were given stays as it is when more texts are put after its own
 use Rattle.std.proofs.Common.{ℕ, suc, ◌≡◌, ◌≤◌, ◌+◌, ◌-◌, ◌==◌, List, [], ◌∷◌, ◌++◌, Bool, true, false, map, length, take, drop, get_or, slice_get, Some, if◌then◌else◌, refl, ap, ◌∙◌, arith}
 use Rattle.std.specs.List.{All}
 use Rattle.std.specs.Option.{option_map}
@@ -33,7 +33,7 @@ args-kept texts more (slot ∷ slots) within =
     let first : arg_in (texts ++ more) slot ≡ arg_in texts slot = arg-kept texts more slot here in
     let rest = args-kept texts more slots (λ k d h. within (suc k) d (omega arith)) in cc
 
--- what was put behind them, with /M or without
+-- what was put after them, with /M or without
 slot-value : (many : Bool) (line : List ℕ) (items : List Item) (texts : List Text) (from to : ℕ) → from ≡ length texts → to ≡ length texts + length items
     → arg_in (texts ++ map (value_of line) items) (slot_of many from to) ≡ (if many then many_of line items else one_of line items)
 slot-value true line [] texts from to a b = let same : (from == to) ≡ true = grind (arith, nat_tests) in rw same refl

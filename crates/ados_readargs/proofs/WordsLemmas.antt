@@ -10,7 +10,7 @@ pub run_end-item : (whole n : ℕ) (line : List ℕ) (place : ℕ) (item : Item)
     → whole ≡ run_end_from (suc n) line place → whole ≡ run_end_behind (λ to. run_end_from n line to) place item
 run_end-item whole n line place item e h = h ∙ ap (λ it. run_end_behind (λ to. run_end_from n line to) place it) (sym e)
 
--- the words from a place on are those behind the word that was found there
+-- the words from a place on are those after the word that was found there
 pub words-step : (n : ℕ) (line : List ℕ) (place : ℕ) (found : Option (LineWord × ℕ)) → found ≡ word_of line (item_at true line place)
     → words_from (suc n) line place ≡ words_behind (λ to. words_from n line to) found
 words-step n line place found e = ap (λ f. words_behind (λ to. words_from n line to) f) (sym e)

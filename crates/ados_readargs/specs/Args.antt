@@ -28,11 +28,11 @@ abbrev pub one_of : Bytes → List Item → Arg
 one_of line [] = Absent
 one_of line (item ∷ items) = One (value_of line item)
 
--- a switch or toggle that was named so often is on
+-- a switch or toggle that was named `named` times is on
 abbrev pub is_named : Qualifiers → ℕ → Bool
 is_named q named = if q.switch then nat_lt 0 named else named % 2 == 1
 
--- the argument of a switch or toggle that was named so often
+-- the argument of a switch or toggle that was named `named` times
 abbrev pub named_arg : Qualifiers → ℕ → Arg
 named_arg q named = on_where (is_named q named)
 
@@ -80,7 +80,7 @@ abbrev pub texts_or_none : Option Arg → List Text
 texts_or_none None = []
 texts_or_none (Some arg) = texts_in arg
 
--- an argument; `Absent` where there is none
+-- an argument; `Absent` if there is none
 abbrev pub or_absent : Option Arg → Arg
 or_absent None = Absent
 or_absent (Some arg) = arg

@@ -1,4 +1,4 @@
--- Texts that lie one behind another in one buffer, by their places.
+-- Texts that are one after another in one buffer, by their places.
 use Rattle.std.specs.Prelude.{ℕ, ◌≤◌, List, map, length}
 use Rattle.std.specs.List.{All}
 use Rattle.ados_text.specs.Text.{Bytes, Text, IsText}
@@ -13,11 +13,11 @@ text_in bytes span = bytes_between bytes span.from span.to
 abbrev pub texts_in : Bytes → List Span → List Text
 texts_in bytes spans = map (text_in bytes) spans
 
--- the span lies within so many bytes
+-- the span is within the first `count` bytes
 abbrev pub LiesIn : ℕ → Span → Type 0
 LiesIn count span = (span.from ≤ span.to) × (span.to ≤ count)
 
--- the bytes are ASCII, and each span lies within them
+-- the bytes are ASCII, and each span is within them
 pub record AreLaid (bytes : Bytes) (spans : List Span) : Type 0 where
   pub ascii : IsText bytes
   pub within : All (LiesIn (length bytes)) spans

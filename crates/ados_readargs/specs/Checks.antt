@@ -24,22 +24,22 @@ lacks [] args = false
 lacks (option ∷ options) [] = false
 lacks (option ∷ options) (arg ∷ args) = is_lacking option arg || lacks options args
 
--- the text is no number
+-- the text is not a number
 abbrev pub is_bad_text : Text → Bool
 is_bad_text text = not (is_number text)
 
--- one of the texts of an argument is no number
+-- one of the texts of an argument is not a number
 abbrev pub has_bad_number : Arg → Bool
 has_bad_number Absent = false
 has_bad_number On = false
 has_bad_number (One text) = is_bad_text text
 has_bad_number (Many texts) = list_any is_bad_text texts
 
--- the option has /N, and a text that is no number
+-- the option has /N, and a text that is not a number
 abbrev pub is_bad : TemplateOption → Arg → Bool
 is_bad option arg = option.qualifiers.number && has_bad_number arg
 
--- an option with /N has a text that is no number
+-- an option with /N has a text that is not a number
 abbrev pub has_bad : List TemplateOption → List Arg → Bool
 has_bad [] args = false
 has_bad (option ∷ options) [] = false

@@ -5,7 +5,7 @@ use Rattle.ados_text.specs.declared.errors.NoMemory.{NoMemory}
 use Rattle.ados_readargs.specs.declared.errors.ArgFault.{ArgFault}
 use Rattle.ados_readargs.specs.declared.errors.ArgFault.TheVariants as fault
 
--- the fault is the one that was defined, or want of memory
+-- the fault is the one that was defined, or running out of memory
 abbrev pub IsFaultOf : {A : Type 0} → Result A ArgFault → ArgFault → Type 0
 IsFaultOf defined fault.BadTemplate = defined ≡ Err fault.BadTemplate
 IsFaultOf defined fault.BadNumber = defined ≡ Err fault.BadNumber
@@ -15,7 +15,7 @@ IsFaultOf defined fault.TooMany = defined ≡ Err fault.TooMany
 IsFaultOf defined fault.Unmatched = defined ≡ Err fault.Unmatched
 IsFaultOf defined fault.NoMemory = Unit {0}
 
--- the template is bad, or memory is wanting
+-- the template is bad, or an allocation failed
 abbrev pub IsBadTemplate : {A : Type 0} → Option A → ArgFault → Type 0
 IsBadTemplate defined fault.BadTemplate = defined ≡ None
 IsBadTemplate defined fault.BadNumber = ⊥
@@ -25,7 +25,7 @@ IsBadTemplate defined fault.TooMany = ⊥
 IsBadTemplate defined fault.Unmatched = ⊥
 IsBadTemplate defined fault.NoMemory = Unit {0}
 
--- the number by which a command answers the fault; want of memory has none
+-- the number by which a command answers the fault; running out of memory has none
 abbrev pub result2_of : ArgFault → Result Result2 NoMemory
 result2_of fault.BadTemplate = Ok (record { 0 = 114 })
 result2_of fault.BadNumber = Ok (record { 0 = 115 })

@@ -13,7 +13,7 @@ use Rattle.ados_readargs.specs.Args.{args_of}
 use Rattle.ados_readargs.specs.Checks.{lacks, has_bad}
 use Rattle.ados_readargs.specs.Template.{template_of}
 
--- the arguments, where no word is left over, none is missing and numbers are numbers
+-- the arguments, if no word is left over, none is missing and numbers are numbers
 abbrev pub checked_args : List TemplateOption → Bool → List Arg → Result (List Arg) ArgFault
 checked_args options left args =
     if left then Err fault.TooMany else
@@ -29,7 +29,7 @@ args_read options line (Ok readings) = checked_args options (is_left options rea
 abbrev pub args_for : List TemplateOption → Bytes → Result (List Arg) ArgFault
 args_for options line = args_read options line (read_of options line (line_words_of line))
 
--- the same, where there are options
+-- the same, if there are options
 abbrev pub fill_by : Bytes → Option (List TemplateOption) → Result (List Arg) ArgFault
 fill_by line None = Err fault.BadTemplate
 fill_by line (Some options) = args_for options line

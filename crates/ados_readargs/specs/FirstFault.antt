@@ -1,4 +1,4 @@
--- Which fault a line has that does not fill options: the first by what stands in it, and else by what was given.
+-- Which fault a line has that does not fill options: the first by what is in it, and otherwise by what was given.
 use Rattle.std.specs.Prelude.{◌≡◌, ℕ, List, [], ◌∷◌, ◌++◌, Bool, true, false, ◌&&◌, Err}
 use Rattle.std.specs.List.{flat_map, list_any}
 use Rattle.ados_text.specs.Text.{Bytes}
@@ -22,14 +22,14 @@ pub record TakesValue (options : List TemplateOption) (line : Bytes) (before : L
   pub no_rest : is_rest_next options before ≡ false
   pub takes : takes_value (qualifiers_at options place) ≡ true
 
--- behind a keyword nothing stands, or an `=` alone that is passed over
+-- nothing follows a keyword, or only an `=` alone that is skipped
 abbrev pub IsPassedOver : LineWord → List LineWord → Type 0
 IsPassedOver keyword [] = Unit {0}
 IsPassedOver keyword (equal ∷ []) = (is_whole keyword && is_equal equal) ≡ true
 IsPassedOver keyword (equal ∷ other ∷ more) = ⊥
 
--- The fault that stands in front of words, behind these fillings: a switch that was set before; a value for an option that
--- takes no more, behind the `=` of its keyword or as a word of its own; a keyword without a value; and a quote that is not
+-- The fault at the beginning of words, after these fillings: a switch that was set before; a value for an option that
+-- takes no more, after the `=` of its keyword or as a word of its own; a keyword without a value; and a quote that is not
 -- closed, as a word or as a value.
 pub data IsFaultAt (options : List TemplateOption) (line : Bytes) (before : List Reading) : List LineWord → ArgFault → Type 0 where
   twice : (place : ℕ) (keyword : LineWord) (behind : List LineWord) → IsKeyword options line place keyword → is_rest_next options before ≡ false
@@ -48,7 +48,7 @@ pub data IsFaultAt (options : List TemplateOption) (line : Bytes) (before : List
   open_word : (word : LineWord) (behind : List LineWord) → is_rest_next options before ≡ false → is_open_quote word ≡ true
       → IsFaultAt options line before (word ∷ behind) Unmatched
 
--- words may stand behind these phrases: none of them is the rest of the line
+-- words may follow these phrases: none of them is the rest of the line
 abbrev pub GoOn : List Phrase → Type 0
 GoOn [] = Unit {0}
 GoOn (phrase ∷ phrases) = ((behind : List Phrase) → IsLast phrase behind) × GoOn phrases
@@ -62,9 +62,9 @@ pub record Stand (options : List TemplateOption) (line : Bytes) (phrases : List 
 abbrev pub is_unclosed : Bytes → Bool
 is_unclosed line = list_any is_open_quote (line_words_of line)
 
--- The first fault: that of the first word behind phrases that has one, but that a quote which is not closed comes before a word
--- too many; or, where all words are phrases, a plain word that is left over, then an option with /A that was given nothing,
--- then a value that is no number.
+-- The first fault: that of the first word after phrases that has one, except that a quote which is not closed comes before a
+-- word too many; or, if all words are phrases, a plain word that is left over, then an option with /A that was given nothing,
+-- then a value that is not a number.
 pub data IsFirstFault (options : List TemplateOption) (line : Bytes) : ArgFault → Type 0 where
   at_words : (phrases : List Phrase) (behind : List LineWord) (fault : ArgFault) → Stand options line phrases behind → GoOn phrases
       → IsFaultAt options line (said_by phrases).given behind fault → (fault ≡ TooMany → is_unclosed line ≡ false) → IsFirstFault options line fault

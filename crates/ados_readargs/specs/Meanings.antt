@@ -1,4 +1,4 @@
--- What each word of a line says, read from left to right, behind what was read before it.
+-- What each word of a line says, read from left to right, after what was read before it.
 use Rattle.std.specs.Prelude.{ℕ, ◌+◌, ◌==◌, nat_lt, List, [], ◌∷◌, ◌++◌, Bool, false, ◌&&◌, ◌||◌, not, Option, Some, None, Result, Ok, Err, position, if◌then◌else◌}
 use Rattle.std.specs.List.{list_any}
 use Rattle.ados_text.specs.Text.{Bytes}
@@ -32,7 +32,7 @@ keyword_of options line (word.Run from key to) =
 keyword_of options line (word.Quoted from to) = None
 keyword_of options line (word.Open from) = None
 
--- the place behind the last byte that is no blank, or `end`, where the text stands at `place`
+-- the place after the last byte that is not a blank, or `end` if there is none, in a text that begins at `place`
 abbrev pub trimmed_from : ℕ → ℕ → Bytes → ℕ
 trimmed_from end place [] = end
 trimmed_from end place (c ∷ cs) = trimmed_from (if is_blank c then end else place + 1) (place + 1) cs
@@ -66,12 +66,12 @@ abbrev pub plain_meaning : Option ℕ → LineWord → Meaning
 plain_meaning None word = Plain (item_of word)
 plain_meaning (Some place) word = Read (Given place (item_of word))
 
--- what a word says for which no keyword waits
+-- what a word says, if no keyword waits for its value
 abbrev pub word_meaning : List TemplateOption → List Reading → Option ℕ → LineWord → Option ℕ → Meaning
 word_meaning options given vacant word None = plain_meaning vacant word
 word_meaning options given vacant word (Some place) = keyword_meaning (qualifiers_at options place) (is_filled place given) place word
 
--- what the word says behind a keyword of the option at a place; `equal` says that an `=` alone may stand before its value
+-- what the word says after a keyword of the option at a place; `equal` says that an `=` alone may come before its value
 abbrev pub value_meaning : Bool → ℕ → Bool → LineWord → Meaning
 value_meaning full place equal word =
     if is_open_quote word then Refuse fault.Unmatched else
@@ -86,7 +86,7 @@ next_meaning options line given word vacant =
 abbrev pub rest_of : Bytes → LineWord → Item
 rest_of line word = item.Word (start_of word) (trimmed_from 0 0 line)
 
--- what a word says, by the first vacant option of a template with /F: where that is the /F, no other is vacant
+-- what a word says, by the first vacant option of a template with /F: if that is the /F, no other is vacant
 abbrev pub free_meaning : List TemplateOption → Bytes → List Reading → LineWord → Option ℕ → Meaning
 free_meaning options line given word None = next_meaning options line given word None
 free_meaning options line given word (Some place) =
@@ -96,17 +96,17 @@ free_meaning options line given word (Some place) =
 abbrev pub next_open : List TemplateOption → List Reading → Option ℕ
 next_open options given = if list_any is_rest options then first_vacant options given else None
 
--- what a word says behind what is given so far; which option is open matters only to a template with /F
+-- what a word says after what is given so far; which option is open matters only to a template with /F
 abbrev pub meaning_of : List TemplateOption → Bytes → List Reading → Pending → LineWord → Meaning
 meaning_of options line given Free word = free_meaning options line given word (next_open options given)
 meaning_of options line given (Value place equal) word = value_meaning (is_full (qualifiers_at options place) (is_filled place given)) place equal word
 
--- the readings where no word is left
+-- the readings if no word is left
 abbrev pub read_end : Readings → Pending → Result Readings ArgFault
 read_end readings Free = Ok readings
 read_end readings (Value place equal) = Err fault.ValueMissing
 
--- the readings by what a word says, where `next` goes on
+-- the readings by what a word says, if `next` gives the rest
 abbrev pub read_behind : (Readings → Pending → Result Readings ArgFault) → Readings → Meaning → Result Readings ArgFault
 read_behind next readings (Read reading) = next (record readings { given = readings.given ++ reading ∷ [] }) Free
 read_behind next readings (Plain item) = next (record readings { plain = readings.plain ++ item ∷ [] }) Free
@@ -114,13 +114,13 @@ read_behind next readings (Wait place equal) = next readings (Value place equal)
 read_behind next readings (Stop reading) = Ok (record readings { given = readings.given ++ reading ∷ [] })
 read_behind next readings (Refuse fault) = Err fault
 
--- the readings of the words, behind the readings so far
+-- the readings of the words, after the readings so far
 abbrev pub read_from : List TemplateOption → Bytes → Readings → Pending → List LineWord → Result Readings ArgFault
 read_from options line readings pending [] = read_end readings pending
 read_from options line readings pending (word ∷ words) =
     read_behind (λ more next. read_from options line more next words) readings (meaning_of options line readings.given pending word)
 
--- where a quote is not closed, that comes before a word too many
+-- if a quote is not closed, that comes before a word too many
 abbrev pub quotes_first : Bool → ArgFault → ArgFault
 quotes_first unclosed fault.BadTemplate = fault.BadTemplate
 quotes_first unclosed fault.BadNumber = fault.BadNumber

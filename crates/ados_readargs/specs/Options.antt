@@ -1,4 +1,4 @@
--- The options of a template: their names, and what their qualifiers make of them.
+-- The options of a template: their names, and what their qualifiers mean.
 use Rattle.std.specs.Prelude.{ℕ, List, Bool, false, ◌||◌, not, Option, Some, None, slice_get}
 use Rattle.std.specs.List.{list_any}
 use Rattle.ados_text.specs.Text.{Bytes, is_same}
@@ -25,7 +25,7 @@ takes_number option = option.qualifiers.number
 abbrev pub unqualified : Qualifiers
 unqualified = record { required = false; keyword = false; switch = false; toggle = false; number = false; many = false; rest = false }
 
--- neither /K, /S nor /T
+-- none of /K, /S and /T
 abbrev pub is_plain : Qualifiers → Bool
 is_plain q = not (q.keyword || q.switch || q.toggle)
 

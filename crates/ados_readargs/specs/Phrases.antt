@@ -21,8 +21,8 @@ use Rattle.ados_readargs.specs.Shares.{TakesAll}
 use Rattle.ados_readargs.specs.Words.{line_words_of, item_of, start_of, is_open_quote, is_equal}
 
 -- Words of a line that say one thing, with the place of the option of which they say it: a keyword that takes no value;
--- a keyword and its value behind the `=`, in one run; a keyword, what stands between, and the word that is its value; a
--- word that an option takes at once; a word and all behind it, up to a place, as the rest of the line; a plain word.
+-- a keyword and its value after the `=`, in one run; a keyword, what is between, and the word that is its value; a
+-- word that an option takes at once; a word and all after it, up to a place, as the rest of the line; a plain word.
 pub data Phrase : Type 0 where
   Switch : ℕ → LineWord → Phrase
   Joined : ℕ → LineWord → Phrase
@@ -40,7 +40,7 @@ words_in (Direct place word) = word ∷ []
 words_in (Rest place word behind end) = word ∷ behind
 words_in (Plain word) = word ∷ []
 
--- what stands behind the `=` of a run
+-- what follows the `=` of a run
 abbrev pub joined_value : LineWord → Item
 joined_value (word.Run from key to) = item.Word (key + 1) to
 joined_value (word.Quoted from to) = item.Quoted from to
@@ -65,7 +65,7 @@ plain_words (Rest place word behind end) = []
 plain_words (Plain word) = item_of word ∷ []
 
 -- A keyword of the option at a place is a run whose first Word is a name of it, unless it has /F, and which ends there
--- or, where the option takes a value, goes on with `=`. A quoted word is no keyword.
+-- or, if the option takes a value, goes on with `=`. A quoted word is not a keyword.
 abbrev pub IsKeyword : List TemplateOption → Bytes → ℕ → LineWord → Type 0
 IsKeyword options line place (word.Run from key to) =
     ((from == key) ≡ false) × (option : TemplateOption) × (slice_get options place ≡ Some option) × (is_keyword (bytes_between line from key) (key == to) option ≡ true)
@@ -84,7 +84,7 @@ has_value (word.Run from key to) = nat_lt (key + 1) to
 has_value (word.Quoted from to) = false
 has_value (word.Open from) = false
 
--- an option is filled once, and again where it has /M or /T
+-- an option is filled once, and again if it has /M or /T
 abbrev pub may_fill : List TemplateOption → List Reading → ℕ → Bool
 may_fill options before place = not (is_filled place before) || ((qualifiers_at options place).many || (qualifiers_at options place).toggle)
 
@@ -98,26 +98,26 @@ pub record IsKeyed (options : List TemplateOption) (line : Bytes) (before : List
   pub free : may_fill options before place ≡ true
   pub no_rest : is_rest_next options before ≡ false
 
--- the value of a keyword is the next word; where the keyword has no `=`, one that stands alone is passed over
+-- the value of a keyword is the next word; if the keyword has no `=`, one that is a word of its own is skipped
 abbrev pub IsBetween : LineWord → List LineWord → LineWord → Type 0
 IsBetween keyword [] value = (is_whole keyword && is_equal value) ≡ false
 IsBetween keyword (equal ∷ []) value = (is_whole keyword && is_equal equal) ≡ true
 IsBetween keyword (equal ∷ other ∷ more) value = ⊥
 
--- a word that is no keyword, and not the rest of the line
+-- a word that is not a keyword, and not the rest of the line
 pub record IsPlainWord (options : List TemplateOption) (line : Bytes) (before : List Reading) (word : LineWord) : Type 0 where
   pub closed : is_open_quote word ≡ false
   pub no_keyword : (place : ℕ) → IsKeyword options line place word → ⊥
   pub no_rest : is_rest_next options before ≡ false
 
--- a line ends in blanks from a place on, and in no blank before it
+-- a line is blank from a place on, and not right before it
 pub record EndsInBlanks (line : Bytes) (end : ℕ) : Type 0 where
   pub blank : (place : ℕ) → end ≤ place → place < length line → is_blank (slice_index line place) ≡ true
   pub text : (end ≡ 0) ⊎ (is_blank (slice_index line (end - 1)) ≡ false)
 
--- What a phrase is, behind the fillings before it. A keyword of a switch or toggle stands alone; the value of any other is
--- what stands behind its `=`, or else the next word. In a template with /F a plain word fills the first plain option that
--- is open; where that is the /F, the line from the word on is its value, without the blanks at its end.
+-- What a phrase is, after the fillings before it. A keyword of a switch or toggle is a phrase alone; the value of any other is
+-- what follows its `=`, or otherwise the next word. In a template with /F a plain word fills the first plain option that
+-- is open; if that is the /F, the line from the word on is its value, without the blanks at its end.
 abbrev pub IsPhrase : List TemplateOption → Bytes → List Reading → Phrase → Type 0
 IsPhrase options line before (Switch place keyword) = IsKeyed options line before place keyword × (takes_value (qualifiers_at options place) ≡ false)
 IsPhrase options line before (Joined place keyword) =
@@ -129,7 +129,7 @@ IsPhrase options line before (Direct place word) = IsPlainWord options line befo
 IsPhrase options line before (Rest place word behind end) = (next_open options before ≡ Some place) × (is_rest_next options before ≡ true) × EndsInBlanks line end
 IsPhrase options line before (Plain word) = IsPlainWord options line before word × (next_open options before ≡ None)
 
--- nothing stands behind the rest of the line
+-- nothing follows the rest of the line
 abbrev pub IsLast : Phrase → List Phrase → Type 0
 IsLast (Switch place keyword) behind = Unit {0}
 IsLast (Joined place keyword) behind = Unit {0}
@@ -138,7 +138,7 @@ IsLast (Direct place word) behind = Unit {0}
 IsLast (Rest place word words end) behind = behind ≡ []
 IsLast (Plain word) behind = Unit {0}
 
--- the phrases stand one behind another, behind the fillings before them
+-- the phrases come in order, after the fillings before them
 abbrev pub ArePhrases : List TemplateOption → Bytes → List Reading → List Phrase → Type 0
 ArePhrases options line before [] = Unit {0}
 ArePhrases options line before (phrase ∷ behind) =

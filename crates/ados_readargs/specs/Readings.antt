@@ -8,7 +8,7 @@ use Rattle.ados_readargs.specs.declared.readings.Reading.{Reading}
 use Rattle.ados_readargs.specs.declared.readings.Reading.TheVariants.{Named, Given}
 use Rattle.ados_readargs.specs.Options.{is_plain}
 
--- what the words of a line were read as: what is said of options, and the plain words, which are laid on options once all words are read
+-- what the words of a line were read as: what is said of options, and the plain words, which options take once all words are read
 pub record Readings : Type 0 where
   pub given : List Reading
   pub plain : List Item
@@ -30,7 +30,7 @@ is_filled place given = list_any (fills place) given
 abbrev pub is_vacant : ℕ → Qualifiers → List Reading → Bool
 is_vacant place q given = is_plain q && not (is_filled place given)
 
--- the first option that is vacant, where the options stand from a place on
+-- the first option that is vacant, in options that begin at a place
 abbrev pub first_vacant_from : ℕ → List TemplateOption → List Reading → Option ℕ
 first_vacant_from place [] given = None
 first_vacant_from place (option ∷ options) given =

@@ -1,4 +1,4 @@
--- How plain words are laid on the options that are open: in front of the /M, on it, and behind it.
+-- How plain words are assigned to the options that are open: before the /M, to it, and after it.
 use Rattle.std.specs.Prelude.{◌≡◌, ℕ, zero, suc, ◌+◌, ◌-◌, ◌==◌, nat_lt, List, [], ◌∷◌, ◌++◌, Bool, true, false, ◌&&◌, ◌||◌, not, Option, Some, None, length, take, drop, position, if◌then◌else◌}
 use Rattle.ados_items.specs.declared.items.Item.{Item}
 use Rattle.ados_readargs.specs.declared.options.TemplateOption.{TemplateOption}
@@ -6,7 +6,7 @@ use Rattle.ados_readargs.specs.declared.readings.Reading.{Reading}
 use Rattle.ados_readargs.specs.Options.{is_plain, qualifiers_at}
 use Rattle.ados_readargs.specs.Readings.{Readings, is_vacant, given_items}
 
--- how many of the options, which stand from a place on, are vacant, and have /A where that is `needed`
+-- how many of the options, which begin at a place, are vacant, and have /A if that is `needed`
 abbrev pub vacant_count : Bool → ℕ → List TemplateOption → List Reading → ℕ
 vacant_count needed place [] given = 0
 vacant_count needed place (option ∷ options) given =
@@ -20,19 +20,19 @@ is_middle option = is_plain option.qualifiers && option.qualifiers.many
 abbrev pub middle_of : List TemplateOption → Option ℕ
 middle_of options = position is_middle options
 
--- the plain word of a vacant option in front: the option with so many vacant ones before it takes the word with so many before it
+-- the plain word of a vacant option before the /M: the option with n vacant ones before it takes the word with n words before it
 abbrev pub front_share : List TemplateOption → Readings → ℕ → List Item
 front_share options readings place =
     if is_vacant place (qualifiers_at options place) readings.given then take 1 (drop (vacant_count false 0 (take place options) readings.given) readings.plain) else []
 
--- the plain words of the /M: all but those of the front, and of the vacant /A options behind
+-- the plain words of the /M: all except those of the options before it, and of the vacant /A options after it
 abbrev pub middle_share : List TemplateOption → Readings → ℕ → List Item
 middle_share options readings middle =
     let front = vacant_count false 0 (take middle options) readings.given in
     let behind = vacant_count true (middle + 1) (drop (middle + 1) options) readings.given in
     take (length readings.plain - front - behind) (drop front readings.plain)
 
--- the plain word of a vacant /A option behind the /M: the last option takes the last word
+-- the plain word of a vacant /A option after the /M: the last option takes the last word
 abbrev pub back_share : List TemplateOption → Readings → ℕ → ℕ → List Item
 back_share options readings middle place =
     let front = vacant_count false 0 (take middle options) readings.given in
@@ -56,11 +56,11 @@ is_left_by (Some middle) options readings = false
 abbrev pub is_left : List TemplateOption → Readings → Bool
 is_left options readings = is_left_by (middle_of options) options readings
 
--- What the option at a place holds: what keywords give it, and behind that its plain words.
+-- What the option at a place holds: what keywords give it, and after that its plain words.
 abbrev pub held_items : List TemplateOption → Readings → ℕ → List Item
 held_items options readings place = given_items place readings.given ++ share_by (middle_of options) options readings place
 
--- the plain words that the first options take, so many of them, one behind another
+-- the plain words that the first n options take, in order
 abbrev pub shares_to : Option ℕ → ℕ → List TemplateOption → Readings → List Item
 shares_to middle zero options readings = []
 shares_to middle (suc n) options readings = shares_to middle n options readings ++ share_by middle options readings n

@@ -17,7 +17,7 @@ arg_in texts (Many from to) = arg.Many (take (to - from) (drop from texts))
 abbrev pub args_in : List Text → List Slot → List Arg
 args_in texts slots = map (arg_in texts) slots
 
--- the slot's texts are among so many
+-- the slot's texts are among the first `count`
 abbrev pub HoldsIn : ℕ → Slot → Type 0
 HoldsIn count Absent = Unit {0}
 HoldsIn count On = Unit {0}

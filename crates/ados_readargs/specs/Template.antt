@@ -6,7 +6,7 @@ use Rattle.ados_readargs.specs.declared.options.Qualifiers.{Qualifiers}
 use Rattle.ados_readargs.specs.declared.options.TemplateOption.{TemplateOption}
 use Rattle.ados_readargs.specs.Options.{has_name, is_rest, unqualified}
 
--- the qualifiers with one more, by its letter in lower case; none where it is unknown or there already
+-- the qualifiers with one more, by its letter in lower case; none if it is unknown or there already
 abbrev pub with_letter : ℕ → Qualifiers → Option Qualifiers
 with_letter c q =
     if c == 97 && not q.required then Some (record q { required = true }) else
@@ -23,7 +23,7 @@ with_piece [] q = None
 with_piece (c ∷ []) q = with_letter (fold_of c) q
 with_piece (c ∷ d ∷ more) q = None
 
--- the same where there are qualifiers
+-- the same if there are qualifiers
 abbrev pub letters_behind : (Qualifiers → Option Qualifiers) → Option Qualifiers → Option Qualifiers
 letters_behind next None = None
 letters_behind next (Some q) = next q
@@ -33,7 +33,7 @@ abbrev pub qualifiers_from : Qualifiers → List Bytes → Option Qualifiers
 qualifiers_from q [] = Some q
 qualifiers_from q (piece ∷ pieces) = letters_behind (λ more. qualifiers_from more pieces) (with_piece piece q)
 
--- /S and /T stand with no other qualifier
+-- /S and /T occur with no other qualifier
 abbrev pub alone : ℕ → Qualifiers → Option Qualifiers
 alone count q = if (q.switch || q.toggle) && nat_lt 1 count then None else Some q
 
@@ -41,20 +41,20 @@ alone count q = if (q.switch || q.toggle) && nat_lt 1 count then None else Some 
 abbrev pub qualifiers_of_pieces : List Bytes → Option Qualifiers
 qualifiers_of_pieces pieces = letters_behind (alone (length pieces)) (qualifiers_from unqualified pieces)
 
--- the byte is the one
+-- the two bytes are equal
 abbrev pub is_byte : ℕ → ℕ → Bool
 is_byte c b = b == c
 
--- the names, parted by `=`
+-- the names, separated by `=`
 abbrev pub names_of : Bytes → List Text
 names_of text = map (map to_ascii) (slice_split (is_byte 61) text)
 
--- the option of the names, where there are qualifiers
+-- the option with the names, if there are qualifiers
 abbrev pub option_with : Bytes → Option Qualifiers → Option TemplateOption
 option_with names None = None
 option_with names (Some q) = Some (record { names = names_of names; qualifiers = q })
 
--- an option from its names and qualifiers, which `/` parts
+-- an option from its names and qualifiers, which `/` separates
 abbrev pub option_of_pieces : List Bytes → Option TemplateOption
 option_of_pieces [] = None
 option_of_pieces (names ∷ pieces) = option_with names (qualifiers_of_pieces pieces)
@@ -63,26 +63,26 @@ option_of_pieces (names ∷ pieces) = option_with names (qualifiers_of_pieces pi
 abbrev pub option_of : Bytes → Option TemplateOption
 option_of text = option_of_pieces (slice_split (is_byte 47) text)
 
--- the options with one more, if there is one, where `next` goes on
+-- the options with one more, if there is one, after which `next` continues
 abbrev pub options_behind : (List TemplateOption → Option (List TemplateOption)) → List TemplateOption → Option TemplateOption → Option (List TemplateOption)
 options_behind next done None = None
 options_behind next done (Some option) = next (done ++ option ∷ [])
 
--- the options of the texts, behind those so far
+-- the options of the texts, after those so far
 abbrev pub options_from : List TemplateOption → List Bytes → Option (List TemplateOption)
 options_from done [] = Some done
 options_from done (text ∷ texts) = options_behind (λ more. options_from more texts) done (option_of text)
 
--- the name is not empty, and stands among the names or in one of the options
+-- the name is not empty, and is among the names or in one of the options
 abbrev pub stands_again : Text → List Text → List TemplateOption → Bool
 stands_again name names later = nat_lt 0 (length name) && (list_any (is_same name) names || list_any (has_name name) later)
 
--- one of the names stands twice in the option, or in a later option
+-- one of the names occurs twice in the option, or in a later option
 abbrev pub is_twice : List Text → List TemplateOption → Bool
 is_twice [] later = false
 is_twice (name ∷ names) later = stands_again name names later || is_twice names later
 
--- a name stands twice
+-- a name occurs twice
 abbrev pub has_twice : List TemplateOption → Bool
 has_twice [] = false
 has_twice (option ∷ options) = is_twice option.names options || has_twice options
@@ -91,18 +91,18 @@ has_twice (option ∷ options) = is_twice option.names options || has_twice opti
 abbrev pub is_many : TemplateOption → Bool
 is_many option = option.qualifiers.many
 
--- one /M at most, not with /F, which stands last; no name twice
+-- at most one /M, not with /F, which is last; no name twice
 abbrev pub is_template : List TemplateOption → Bool
 is_template options =
     not (nat_lt 1 (count_by is_many options)) && (not (list_any is_many options && list_any is_rest options) &&
     (not (list_any is_rest (take (length options - 1) options)) && not (has_twice options)))
 
--- the options, where they are a template
+-- the options, if they are a template
 abbrev pub checked : Option (List TemplateOption) → Option (List TemplateOption)
 checked None = None
 checked (Some options) = if is_template options then Some options else None
 
--- The options of a template's text, which commas part; none where the text is no template.
+-- The options of a template's text, which commas separate; none if the text is not a template.
 abbrev pub template_of : Text → Option (List TemplateOption)
 template_of [] = Some []
 template_of (c ∷ cs) = checked (options_from [] (slice_split (is_byte 44) (c ∷ cs)))
@@ -112,7 +112,7 @@ abbrev pub options_or_none : Option (List TemplateOption) → List TemplateOptio
 options_or_none None = []
 options_or_none (Some options) = options
 
--- the options of a template's text, none where it is bad
+-- the options of a template's text, none if it is bad
 abbrev pub options_of : Text → List TemplateOption
 options_of text = options_or_none (template_of text)
 

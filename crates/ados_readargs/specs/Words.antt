@@ -7,7 +7,7 @@ use Rattle.ados_items.specs.declared.items.Item.TheVariants as item
 use Rattle.ados_readargs.specs.declared.words.LineWord.{LineWord}
 use Rattle.ados_readargs.specs.declared.words.LineWord.TheVariants.{Run, Quoted, Open}
 
--- where a run ends that has come to a place, by the item there, where `next` gives the end from a place on
+-- where a run ends that has reached a place, by the item there, if `next` gives the end from a place on
 abbrev pub run_end_behind : (ℕ → ℕ) → ℕ → Item → ℕ
 run_end_behind next place (item.Word from to) = if from == place then next to else place
 run_end_behind next place (item.Equal from) = if from == place then next (from + 1) else place
@@ -15,16 +15,16 @@ run_end_behind next place (item.Quoted from to) = place
 run_end_behind next place (item.End from) = place
 run_end_behind next place (item.Unmatched from) = place
 
--- where the touching Word and Equal items from a place on end, at most so many
+-- where the touching Word and Equal items from a place on end, at most `count` of them
 abbrev pub run_end_from : ℕ → Bytes → ℕ → ℕ
 run_end_from zero line place = place
 run_end_from (suc count) line place = run_end_behind (λ to. run_end_from count line to) place (item_at true line place)
 
--- where the run that has come to a place ends
+-- where the run that has reached a place ends
 abbrev pub run_end : Bytes → ℕ → ℕ
 run_end line place = run_end_from (length line + 1) line place
 
--- the word that begins with an item, and where the words behind it begin; none at the line's end
+-- the word that begins with an item, and where the words after it begin; none at the line's end
 abbrev pub word_of : Bytes → Item → Option (LineWord × ℕ)
 word_of line (item.Word from to) = Some (Run from to (run_end line to), run_end line to)
 word_of line (item.Equal from) = Some (Run from from (run_end line (from + 1)), run_end line (from + 1))
@@ -32,17 +32,17 @@ word_of line (item.Quoted from to) = Some (Quoted from to, to + 1)
 word_of line (item.Unmatched from) = Some (Open from, length line)
 word_of line (item.End from) = None
 
--- the words from one that was found on, where `next` gives those from a place on
+-- the words from one that was found on, if `next` gives those from a place on
 abbrev pub words_behind : (ℕ → List LineWord) → Option (LineWord × ℕ) → List LineWord
 words_behind next None = []
 words_behind next (Some (word, behind)) = word ∷ next behind
 
--- the words of a line from a place on, at most so many
+-- the words of a line from a place on, at most `count`
 abbrev pub words_from : ℕ → Bytes → ℕ → List LineWord
 words_from zero line place = []
 words_from (suc count) line place = words_behind (λ to. words_from count line to) (word_of line (item_at true line place))
 
--- The words of a line, in order, by their places; a quote that none closes is the last. A line has no more words than bytes.
+-- The words of a line, in order, by their places; a quote that is never closed is the last. A line has no more words than bytes.
 abbrev pub line_words_of : Bytes → List LineWord
 line_words_of line = words_from (length line + 1) line 0
 
@@ -58,7 +58,7 @@ start_of (Run from key to) = from
 start_of (Quoted from to) = from - 1
 start_of (Open from) = from - 1
 
--- the word is a quote that none closes
+-- the word is a quote that is never closed
 abbrev pub is_open_quote : LineWord → Bool
 is_open_quote (Run from key to) = false
 is_open_quote (Quoted from to) = false

@@ -26,18 +26,18 @@ pub enum Arg {
     On,
     /// The value of an option without `/M`.
     One(Text),
-    /// The values of an `/M`, one at least: those by keyword first, then the plain words.
+    /// The values of an `/M`, at least one: those by keyword first, then the plain words.
     Many(Texts),
 }
 
 /// What a line gives to each option of a template, in the order of the options.
 ///
-/// The texts lie in a buffer that is kept from line to line, and are lent as bytes; `made_text` and
-/// `made_texts` make such as outlive the line.
+/// The texts are kept in a buffer that is reused from line to line, and are borrowed as bytes; `made_text` and
+/// `made_texts` make owned texts that outlive the line.
 #[derive(Drop)]
 pub struct Args {
     slots: Slots,
-    // Room for what the words of a line are read as; between two lines it says nothing.
+    // Room for what the words of a line are read as; between two lines its contents mean nothing.
     readings: Readings,
 }
 
@@ -51,7 +51,7 @@ impl Model for Args {
 }
 
 impl Args {
-    /// No argument, for lines to be filled in.
+    /// No argument yet, for lines to fill in.
     pub fn new(alloc: Global) -> Args
         ensures { result ≡ [] }
     {
@@ -68,8 +68,8 @@ impl Args {
         self.slots.len()
     }
 
-    /// The argument of the option at a place, counted from 0, with texts of its own; `None` past the
-    /// last. `NoMemory` only where a growth was refused.
+    /// The argument of the option at a place, counted from 0, with owned texts; `None` past the
+    /// last. `NoMemory` only if an allocation fails.
     pub fn get(&self, alloc: Global, place: usize) -> Result<Option<Arg>, NoMemory>
         ensures { IfOk result (λ arg. arg ≡ slice_get self.now place) }
     {
@@ -83,7 +83,7 @@ impl Args {
         self.slots.is_on(place)
     }
 
-    /// The text of the option without `/M` at a place; `None` where it was given none.
+    /// The text of the option without `/M` at a place; `None` if it was given none.
     pub fn text(&self, place: usize) -> Option<&[u8]>
         ensures value { option_map (λ t. t.now) result ≡ text_at self.now place }
         ensures ascii { IfSome result (λ t. IsText t.now) }
@@ -98,7 +98,7 @@ impl Args {
         self.slots.texts_len(place)
     }
 
-    /// The text with a number, from 0, of the option at a place; the empty text past its last.
+    /// The text with an index, from 0, of the option at a place; the empty text past its last.
     pub fn text_of(&self, place: usize, number: usize) -> &[u8]
         ensures value { result.now ≡ get_or (texts_at self.now place) number [] }
         ensures ascii { IsText result.now }
@@ -106,32 +106,32 @@ impl Args {
         self.slots.text_of(place, number)
     }
 
-    /// The number of the option without `/M` at a place; `None` where it was given none, or where
-    /// its text is no number: with `/N` it is one.
+    /// The number of the option without `/M` at a place; `None` if it was given none, or if
+    /// its text is not a number: with `/N` it always is one.
     pub fn number(&self, place: usize) -> Option<i32>
         ensures { result ≡ number_at self.now place }
     {
         number_in(self.text(place)?)
     }
 
-    /// The text of the option without `/M` at a place, for a value that outlives the line; `None`
-    /// where it was given none. `NoMemory` only where a growth was refused.
+    /// The text of the option without `/M` at a place, owned, for a value that outlives the line; `None`
+    /// if it was given none. `NoMemory` only if an allocation fails.
     pub fn made_text(&self, alloc: Global, place: usize) -> Result<Option<Text>, NoMemory>
         ensures { IfOk result (λ text. text ≡ text_at self.now place) }
     {
         self.slots.made_text(alloc, place)
     }
 
-    /// The texts of the option at a place, in order, for values that outlive the line; none where it
-    /// was given none. `NoMemory` only where a growth was refused.
+    /// The texts of the option at a place, in order, owned, for values that outlive the line; none if it
+    /// was given none. `NoMemory` only if an allocation fails.
     pub fn made_texts(&self, alloc: Global, place: usize) -> Result<Texts, NoMemory>
         ensures { IfOk result (λ texts. texts ≡ texts_at self.now place) }
     {
         self.slots.made_texts(alloc, place)
     }
 
-    /// What a line gives to the options, in place of what is there. At a fault nothing is known of
-    /// what is there.
+    /// Replaces the arguments by what a line gives to the options. After a fault the contents are
+    /// unspecified.
     pub fn refill(&mut self, options: &OptionList, line: &[u8]) -> Result<(), ArgFault>
         ensures ok { OnOk result (args_for options.now line.now ≡ Ok self.new) }
         ensures numbers { OnOk result (has_bad options.now self.new ≡ false) }

@@ -8,14 +8,14 @@ use ados_text::NoMemory;
 use std::alloc::Global;
 use std::marker::Model;
 
-/// Where a text lies in a buffer: from one place up to another.
+/// Where a text is in a buffer: from one place up to another.
 #[derive(Clone, Copy)]
 pub struct Span {
     from: usize,
     to: usize,
 }
 
-/// Texts of items, one behind another in a buffer that is kept from line to line.
+/// Texts of items, one after another in a buffer that is reused from line to line.
 #[derive(Drop)]
 pub struct Buffer {
     bytes: Vec<u8>,
@@ -44,7 +44,7 @@ impl Buffer {
         }
     }
 
-    /// Takes all texts out, and keeps the room.
+    /// Removes all texts, and keeps the allocation.
     pub fn clear(&mut self)
         ensures { self.new ≡ [] }
     {
@@ -71,7 +71,7 @@ impl Buffer {
     }
 
     #[tactic(auto, using(crate::proofs::BufferLemmas::laid))]
-    /// Adds the text of an item of a line; at `NoMemory` the texts are as before.
+    /// Adds the text of an item of a line; at `NoMemory` the texts are unchanged.
     pub fn push(&mut self, line: &[u8], item: &Item) -> Result<(), NoMemory>
         ensures ok { OnOk result (self.new ≡ self.old ++ value_of line.now item.now ∷ []) }
         ensures err { OnErr result (self.new ≡ self.old) }
@@ -83,7 +83,7 @@ impl Buffer {
         Ok(())
     }
 
-    /// Adds the texts of items of a line, in order. At `NoMemory` nothing is known of what is there.
+    /// Adds the texts of items of a line, in order. At `NoMemory` the contents are unspecified.
     pub fn push_all(&mut self, line: &[u8], items: &[Item]) -> Result<(), NoMemory>
         ensures ok { OnOk result (self.new ≡ self.old ++ map (value_of line.now) items.now) }
         ensures grown { length self.old ≤ length self.new }
@@ -95,9 +95,9 @@ impl Buffer {
         Ok(())
     }
 
-    // Adds the texts of the words with which items begin; how many they are. Nearly always a line is
+    // Adds the texts of the words with which items begin; returns how many they are. Nearly always a line is
     // ASCII: then it is copied once, and each of its words is a place in the copy. For a single item
-    // that does not pay.
+    // it does not pay.
     fn push_copied(&mut self, line: &[u8], items: &[Item]) -> Result<usize, NoMemory>
         ensures ok { IfOk result (λ count. self.new ≡ self.old ++ map (value_of line.now) (take count items.now)) }
         ensures within { IfOk result (λ count. count ≤ length items.now) }
@@ -112,7 +112,7 @@ impl Buffer {
     }
 }
 
-// Lays the words with which items begin on a line that was copied to the end of the bytes; how many
+// Adds spans for the words with which items begin, in a line that was copied to the end of the bytes; returns how many
 // they are.
 fn lay_words(
     spans: &mut Vec<Span>,

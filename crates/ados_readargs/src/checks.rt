@@ -41,7 +41,7 @@ fn is_bad_text(text: &[u8]) -> bool
     number_in(text).is_none()
 }
 
-// Whether a text of the option at a place is no number.
+// Whether a text of the option at a place is not a number.
 fn has_bad_text(args: &Slots, place: usize) -> bool
     ensures { result ≡ list_any is_bad_text (texts_at args.now place) }
 {
@@ -53,7 +53,7 @@ fn has_bad_text(args: &Slots, place: usize) -> bool
     false
 }
 
-/// Whether an option with `/N` has a text that is no number.
+/// Whether an option with `/N` has a text that is not a number.
 #[tactic(auto, using(crate::proofs::OptionLemmas::none_bad))]
 pub fn has_bad(options: &OptionList, args: &Slots) -> bool
     requires { length args.now ≡ length options.now }

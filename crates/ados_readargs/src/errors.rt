@@ -6,13 +6,13 @@ use ados_text::{NoMemory, Result2};
 use std::alloc::{AllocError, AllocFailed};
 use thiserror::Error;
 
-/// Why a template is none, or why a line does not fill it.
+/// Why a text is not a template, or why a line does not fill one.
 #[derive(Clone, Copy, Debug, PartialEq, Eq, Error)]
 pub enum ArgFault {
-    /// The text is no template: fault 114.
+    /// The text is not a template: fault 114.
     #[error("bad template")]
     BadTemplate,
-    /// A value of an option with `/N` is no number: fault 115.
+    /// A value of an option with `/N` is not a number: fault 115.
     #[error("bad number")]
     BadNumber,
     /// An option with `/A` has no value: fault 116.
@@ -28,7 +28,7 @@ pub enum ArgFault {
     /// fault 119.
     #[error("unmatched quotes")]
     Unmatched,
-    /// No memory for the answer.
+    /// Out of memory for the answer.
     #[error("no free store")]
     NoMemory,
 }
@@ -36,7 +36,7 @@ pub enum ArgFault {
 impl ArgFault {
     /// The number by which a command answers the fault.
     ///
-    /// Want of memory is no answer of a command: it is given back as `NoMemory`.
+    /// Running out of memory is not an answer of a command: it is returned as `NoMemory`.
     pub fn result2(self) -> Result<Result2, NoMemory>
         ensures { result ≡ result2_of self }
     {

@@ -12,8 +12,8 @@ use crate::readings::Readings;
 use crate::shares::is_left;
 use crate::slots::Slots;
 
-/// The arguments, where no word is left over, none is missing and numbers are numbers. At a fault
-/// nothing is known of what is there.
+/// The arguments, if no word is left over, none is missing and numbers are numbers. After a fault
+/// the contents are unspecified.
 pub fn args_read(
     options: &OptionList,
     line: &[u8],

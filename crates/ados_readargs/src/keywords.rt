@@ -1,10 +1,10 @@
 // Keywords: which option a word names.
 ghost use Rattle.std.specs.Prelude.{◌≡◌, None, position};
-ghost use Rattle.ados_items.specs.Items.{bytes_between};
 ghost use Rattle.ados_readargs.specs.Meanings.{is_keyword, keyword_of, trimmed_from};
 
 use crate::options::TemplateOption;
 use crate::words::LineWord;
+use ados_items::{between, is_blank};
 
 fn is_keyword(name: &[u8], whole: bool, option: &TemplateOption) -> bool
     ensures { result ≡ is_keyword name.now whole option.now }
@@ -12,15 +12,7 @@ fn is_keyword(name: &[u8], whole: bool, option: &TemplateOption) -> bool
     option.has_name(name) && !option.qualifiers.rest && (whole || option.qualifiers.takes_value())
 }
 
-// The bytes of a line from one place up to another; none where the places are the other way round.
-pub fn between(line: &[u8], from: usize, to: usize) -> &[u8]
-    ensures { result.now ≡ bytes_between line.now from to }
-{
-    let to = to.min(line.len());
-    if from >= to { &[] } else { &line[from..to] }
-}
-
-// The option of which a run is a keyword that has the name in front; `whole` says that it ends there.
+// The option of which a run that begins with the name is a keyword; `whole` says that it ends there.
 pub fn option_named(options: &[TemplateOption], name: &[u8], whole: bool) -> Option<usize>
     ensures { result ≡ position (is_keyword name.now whole) options.now }
 {
@@ -46,13 +38,13 @@ pub fn keyword_of(options: &[TemplateOption], line: &[u8], word: LineWord) -> Op
     }
 }
 
-// The place behind the last byte that is no blank.
+// The place after the last byte that is not a blank.
 pub fn trimmed_len(line: &[u8]) -> usize
     ensures { result ≡ trimmed_from 0 0 line.now }
 {
     let mut end = 0;
     for place in 0..line.len() {
-        if !(line[place] == b' ' || line[place] == b'\t') {
+        if !is_blank(line[place]) {
             end = place + 1;
         }
     }

@@ -8,7 +8,7 @@ use crate::shares::share;
 use crate::slots::Slots;
 use ados_text::NoMemory;
 
-// Whether a switch or toggle that was named so often is on.
+// Whether a switch or toggle that was named `named` times is on.
 fn is_named(q: Qualifiers, named: usize) -> bool
     ensures { result ≡ is_named q named }
 {
@@ -36,8 +36,8 @@ fn lay_option(
     }
 }
 
-/// Lays what the words of a line were read as on the options, in place of what is there. At `NoMemory`
-/// nothing is known of what is there.
+/// Assigns what the words of a line were read as to the options, in place of what is there. At `NoMemory`
+/// the contents are unspecified.
 pub fn lay(
     options: &OptionList,
     line: &[u8],

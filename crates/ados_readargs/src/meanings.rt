@@ -15,26 +15,26 @@ use ados_items::Item;
 pub enum Pending {
     /// None does.
     Free,
-    /// The option at a place does; an `=` alone may stand before the value.
+    /// The option at a place does; an `=` alone may come before the value.
     Value { option: usize, equal: bool },
 }
 
 /// What a word of a line says.
 #[derive(Clone, Copy)]
 pub enum Meaning {
-    /// It is read so.
+    /// It is this reading.
     Read(Reading),
     /// It is a plain word, the text of an item.
     Plain(Item),
-    /// The option at a place waits for its value; an `=` alone may stand before that.
+    /// The option at a place waits for its value; an `=` alone may come before that.
     Wait { option: usize, equal: bool },
-    /// It and what follows are read so, to the end of the line.
+    /// It and what follows, to the end of the line, are this reading.
     Stop(Reading),
     /// It is refused.
     Refuse(ArgFault),
 }
 
-// Whether the option takes no more, by whether it was filled.
+// Whether the option takes no more, given whether it was filled.
 fn is_full(q: Qualifiers, filled: bool) -> bool
     ensures { result ≡ is_full q filled }
 {

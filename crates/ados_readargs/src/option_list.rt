@@ -15,7 +15,7 @@ pub struct OptionList {
     with_required: bool,
     with_number: bool,
     middle: Option<usize>,
-    // Whether an option has a name of so many bytes, from 0 on; of longer names nothing is said.
+    // Whether an option has a name of each length, from 0 on; of longer names nothing is said.
     lengths: [bool; 32],
 }
 
@@ -37,7 +37,7 @@ impl Model for OptionList {
 }
 
 impl OptionList {
-    /// The options of a vector, taken over without memory.
+    /// The options of a vector, which is moved: nothing is allocated.
     pub fn new(items: Vec<TemplateOption>) -> OptionList
         ensures { result ≡ items.items }
     {
@@ -93,7 +93,7 @@ impl OptionList {
         self.middle
     }
 
-    /// Whether it is known that no option has a name of so many bytes.
+    /// Whether it is known that no option has a name of this length.
     pub fn has_none_as_long(&self, size: usize) -> bool
         ensures { result ≡ true → one_is_as_long size self.now ≡ false }
     {
@@ -104,7 +104,7 @@ impl OptionList {
     }
 }
 
-// Whether an option has a name of so many bytes, from 0 on.
+// Whether an option has a name of each length, from 0 on.
 fn name_lengths(options: &[TemplateOption]) -> [bool; 32]
     ensures { (size : ℕ) → get_or result size true ≡ false → one_is_as_long size options.now ≡ false }
 {

@@ -40,14 +40,14 @@ impl Qualifiers {
         }
     }
 
-    /// Whether plain words fill the option: it has neither `/K`, `/S` nor `/T`.
+    /// Whether plain words can fill the option: it has none of `/K`, `/S` and `/T`.
     pub fn is_plain(self) -> bool
         ensures { result ≡ is_plain self }
     {
         !(self.keyword || self.switch || self.toggle)
     }
 
-    /// Whether a keyword of the option stands before a value: it has neither `/S` nor `/T`.
+    /// Whether a keyword of the option comes before a value: it has neither `/S` nor `/T`.
     pub fn takes_value(self) -> bool
         ensures { result ≡ takes_value self }
     {
@@ -60,11 +60,11 @@ impl Qualifiers {
 pub struct TemplateOption {
     /// Its names, in order; a name may be empty.
     pub names: Texts,
-    /// What stands behind the names.
+    /// What follows the names.
     pub qualifiers: Qualifiers,
 }
 
-/// The two are one name: alike where case is ignored.
+/// The two are the same name; case is ignored.
 pub fn same_name(a: &[u8], b: &[u8]) -> bool
     ensures { result ≡ is_same a.now b.now }
 {
@@ -83,7 +83,7 @@ impl TemplateOption {
     }
 }
 
-/// The qualifiers of the option at a place; none past the last option.
+/// The qualifiers of the option at a place; past the last option there are none.
 pub fn qualifiers_at(options: &[TemplateOption], place: usize) -> Qualifiers
     ensures { result ≡ qualifiers_at options.now place }
 {

@@ -1,21 +1,21 @@
 // The pass over the words of a line: what each says is kept, up to the first fault.
-ghost use Rattle.std.specs.Prelude.{◌≡◌, ℕ, suc, true, None, Ok, IfSome, IfOk, IfErr, OnOk, position};
+ghost use Rattle.std.specs.Prelude.{◌≡◌, true, None, Ok, IfSome, IfOk, IfErr, OnOk, position};
 ghost use Rattle.ados_readargs.specs.Faults.{IsFaultOf};
-ghost use Rattle.ados_readargs.specs.Words.{line_words_of, words_from};
-ghost use Rattle.ados_readargs.specs.Steps.{IsPlainAt, goes_on};
+ghost use Rattle.ados_readargs.specs.Words.{line_words_of};
+ghost use Rattle.ados_readargs.specs.Steps.{IsPlainAt, ReadsOn, StopsReading};
 ghost use Rattle.ados_readargs.specs.Meanings.{is_keyword, meaning_of, read_end, read_from, read_of, quotes_first};
 ghost use Rattle.ados_readargs.specs.Readings.{Readings, nothing_read};
 ghost use Rattle.ados_readargs.specs.declared.meanings.Pending.TheVariants.{Free};
 
 use crate::errors::ArgFault;
-use crate::keywords::{between, option_named};
+use crate::keywords::option_named;
 use crate::meanings::{Meaning, Pending, meaning_of};
 use crate::option_list::OptionList;
 use crate::readings::{Reading, Readings};
 use crate::words::{is_run_over, is_unclosed, word_at};
-use ados_items::{Item, next_item};
+use ados_items::{Item, between, next_item};
 
-// What it says that no word is left.
+// What it means that no word is left.
 fn read_end(pending: Pending) -> Result<(), ArgFault>
     ensures ok { OnOk result ((readings : Readings) → read_end readings pending ≡ Ok readings) }
     ensures fault { IfErr result (λ e. (readings : Readings) → IsFaultOf (read_end readings pending) e) }
@@ -33,7 +33,7 @@ struct PlainWord {
     to: usize,
 }
 
-// Whether a name is a keyword of no option. Nearly always no option has a name as long.
+// Whether a name is a keyword of no option. Nearly always no option has a name of that length.
 #[tactic(auto, using(crate::proofs::OptionLemmas::none_named))]
 #[inline(always)]
 fn is_no_keyword(options: &OptionList, name: &[u8]) -> bool
@@ -42,8 +42,8 @@ fn is_no_keyword(options: &OptionList, name: &[u8]) -> bool
     options.has_none_as_long(name.len()) || option_named(options.as_slice(), name, true).is_none()
 }
 
-// The plain word at a place, where that is seen at once: a word with no quote and no equal sign that
-// is no keyword, in a template with no /F. `None` says nothing.
+// The plain word at a place, if that is seen at once: a word with no quote and no equal sign that
+// is not a keyword, in a template with no /F. `None` if that is not known.
 #[inline(always)]
 fn plain_word(options: &OptionList, line: &[u8], place: usize) -> Option<PlainWord>
     ensures { IfSome result (λ word. IsPlainAt options.now line.now place word) }
@@ -65,7 +65,7 @@ fn plain_word(options: &OptionList, line: &[u8], place: usize) -> Option<PlainWo
     }
 }
 
-// Reads the word at a place: gives the place behind it, and `None` where the line says no more.
+// Reads the word at a place: gives the place after it, and `None` if the line says no more.
 #[inline(never)]
 fn read_word(
     options: &OptionList,
@@ -75,8 +75,11 @@ fn read_word(
     given: &mut Vec<Reading>,
     plain: &mut Vec<Item>,
 ) -> Result<Option<usize>, ArgFault>
-    ensures on { IfOk result (λ next. (n : ℕ) → read_from options.now line.now (record { given = given.old.items; plain = plain.old.items }) pending.old (words_from (suc n) line.now place) ≡ goes_on (λ behind. read_from options.now line.now (record { given = given.new.items; plain = plain.new.items }) pending.new (words_from n line.now behind)) (record { given = given.new.items; plain = plain.new.items }) next) }
-    ensures fault { IfErr result (λ e. (n : ℕ) → IsFaultOf (read_from options.now line.now (record { given = given.old.items; plain = plain.old.items }) pending.old (words_from (suc n) line.now place)) e) }
+    ensures on { IfOk result (λ next. ReadsOn options.now line.now place
+        (record { given = given.old.items; plain = plain.old.items }) pending.old
+        (record { given = given.new.items; plain = plain.new.items }) pending.new next) }
+    ensures fault { IfErr result (λ e. StopsReading options.now line.now place
+        (record { given = given.old.items; plain = plain.old.items }) pending.old e) }
 {
     let Some((word, behind)) = word_at(line, place) else {
         return match read_end(*pending) {
@@ -107,7 +110,7 @@ fn read_word(
     }
 }
 
-// The same, where a plain word is read at once, as nearly all are, and so is the line's end.
+// The same, but a plain word is read at once, as nearly all are, and so is the line's end.
 #[inline(always)]
 fn read_next(
     options: &OptionList,
@@ -117,8 +120,11 @@ fn read_next(
     given: &mut Vec<Reading>,
     plain: &mut Vec<Item>,
 ) -> Result<Option<usize>, ArgFault>
-    ensures on { IfOk result (λ next. (n : ℕ) → read_from options.now line.now (record { given = given.old.items; plain = plain.old.items }) pending.old (words_from (suc n) line.now place) ≡ goes_on (λ behind. read_from options.now line.now (record { given = given.new.items; plain = plain.new.items }) pending.new (words_from n line.now behind)) (record { given = given.new.items; plain = plain.new.items }) next) }
-    ensures fault { IfErr result (λ e. (n : ℕ) → IsFaultOf (read_from options.now line.now (record { given = given.old.items; plain = plain.old.items }) pending.old (words_from (suc n) line.now place)) e) }
+    ensures on { IfOk result (λ next. ReadsOn options.now line.now place
+        (record { given = given.old.items; plain = plain.old.items }) pending.old
+        (record { given = given.new.items; plain = plain.new.items }) pending.new next) }
+    ensures fault { IfErr result (λ e. StopsReading options.now line.now place
+        (record { given = given.old.items; plain = plain.old.items }) pending.old e) }
 {
     if place >= line.len() {
         return match read_end(*pending) {
@@ -141,7 +147,7 @@ fn read_next(
     }
 }
 
-// What the words of a line say, in place of what is there, with the faults as they come.
+// What the words of a line say, in place of what is there, with the faults in the order of the words.
 fn read_words(
     options: &OptionList,
     line: &[u8],
@@ -177,8 +183,8 @@ fn quotes_first(unclosed: bool, fault: ArgFault) -> ArgFault
 
 /// What the words of a line say, from left to right, in place of what is there.
 ///
-/// `Unmatched` comes before `TooMany`, wherever the open quote stands; `ValueMissing` where a
-/// keyword is the last word. At a fault nothing is known of what is there.
+/// `Unmatched` comes before `TooMany`, wherever the open quote is; `ValueMissing` if a
+/// keyword is the last word. After a fault the contents are unspecified.
 pub fn read(options: &OptionList, line: &[u8], readings: &mut Readings) -> Result<(), ArgFault>
     ensures ok { OnOk result (read_of options.now line.now (line_words_of line.now) ≡ Ok readings.new) }
     ensures fault { IfErr result (λ e. IsFaultOf (read_of options.now line.now (line_words_of line.now)) e) }

@@ -52,7 +52,7 @@ impl Reading {
 pub struct Readings {
     /// What they say of options, in order.
     pub given: Vec<Reading>,
-    /// The plain words, in order, which are laid on options once all words are read.
+    /// The plain words, in order, which are assigned to options once all words are read.
     pub plain: Vec<Item>,
 }
 

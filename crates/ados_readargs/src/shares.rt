@@ -6,7 +6,7 @@ use crate::options::{TemplateOption, qualifiers_at};
 use crate::readings::{Reading, Readings, is_vacant};
 use ados_items::Item;
 
-// How many options from a place on are vacant, and have /A where that is needed.
+// How many options from a place on are vacant, and have /A if `needed` says so.
 fn vacant_count(needed: bool, from: usize, options: &[TemplateOption], given: &[Reading]) -> usize
     ensures value { result ≡ vacant_count needed from (drop from options.now) given.now }
     ensures within { result ≤ length options.now }
@@ -21,7 +21,7 @@ fn vacant_count(needed: bool, from: usize, options: &[TemplateOption], given: &[
     count
 }
 
-// So many of the items from a place on, or as many as there are.
+// At most `count` of the items from a place on.
 fn piece(items: &[Item], from: usize, count: usize) -> &[Item]
     ensures { result.now ≡ take count (drop from items.now) }
 {
@@ -33,7 +33,7 @@ fn piece(items: &[Item], from: usize, count: usize) -> &[Item]
     &rest[..count]
 }
 
-// How many vacant options stand before a place.
+// How many vacant options are before a place.
 fn front_count(options: &[TemplateOption], given: &[Reading], place: usize) -> usize
     requires { place < length options.now }
     ensures { result ≡ vacant_count false 0 (take place options.now) given.now }
@@ -83,7 +83,7 @@ fn middle_share<'a>(options: &OptionList, readings: &'a Readings, middle: usize)
     )
 }
 
-// The plain word of an option behind the /M.
+// The plain word of an option after the /M.
 fn back_share<'a>(
     options: &[TemplateOption],
     readings: &'a Readings,

@@ -25,12 +25,12 @@ pub enum Slot {
     On,
     /// The text at a place.
     One(usize),
-    /// The texts from one place up to another, one at least.
+    /// The texts from one place up to another, at least one.
     Many { from: usize, to: usize },
 }
 
 /// What a line gives to each option of a template, in the order of the options, in buffers that are
-/// kept from line to line.
+/// reused from line to line.
 #[derive(Drop)]
 pub struct Slots {
     texts: Buffer,
@@ -61,7 +61,7 @@ impl Slots {
         }
     }
 
-    /// Takes all out, and keeps the room.
+    /// Removes all options, and keeps the allocations.
     pub fn clear(&mut self)
         ensures { self.new ≡ [] }
     {
@@ -83,7 +83,7 @@ impl Slots {
         matches!(slot_at(self.slots.as_slice(), place), Some(Slot::On))
     }
 
-    /// The text of the option without `/M` at a place; `None` where it was given none.
+    /// The text of the option without `/M` at a place; `None` if it was given none.
     pub fn text(&self, place: usize) -> Option<&[u8]>
         ensures value { option_map (λ t. t.now) result ≡ text_at self.now place }
         ensures ascii { IfSome result (λ t. IsText t.now) }
@@ -105,7 +105,7 @@ impl Slots {
         }
     }
 
-    /// The text with a number, from 0, of the option at a place; the empty text past its last.
+    /// The text with an index, from 0, of the option at a place; the empty text past its last.
     pub fn text_of(&self, place: usize, number: usize) -> &[u8]
         ensures value { result.now ≡ get_or (texts_at self.now place) number [] }
         ensures ascii { IsText result.now }
@@ -131,7 +131,7 @@ impl Slots {
         }
     }
 
-    /// Whether the option at a place was given nothing; so it is past the last.
+    /// Whether the option at a place was given nothing, as any past the last.
     pub fn is_absent(&self, place: usize) -> bool
         ensures { result ≡ is_absent (or_absent (slice_get self.now place)) }
     {
@@ -144,7 +144,7 @@ impl Slots {
         }
     }
 
-    /// The argument of the option at a place, with texts of its own; `None` past the last.
+    /// The argument of the option at a place, with owned texts; `None` past the last.
     pub fn arg(&self, alloc: Global, place: usize) -> Result<Option<Arg>, NoMemory>
         ensures { IfOk result (λ arg. arg ≡ slice_get self.now place) }
     {
@@ -157,7 +157,7 @@ impl Slots {
         }
     }
 
-    /// The text of the option without `/M` at a place, in a value of its own.
+    /// The text of the option without `/M` at a place, owned.
     pub fn made_text(&self, alloc: Global, place: usize) -> Result<Option<Text>, NoMemory>
         ensures { IfOk result (λ text. text ≡ text_at self.now place) }
     {
@@ -167,7 +167,7 @@ impl Slots {
         }
     }
 
-    /// The texts of the option at a place, in order, in values of their own.
+    /// The texts of the option at a place, in order, owned.
     pub fn made_texts(&self, alloc: Global, place: usize) -> Result<Texts, NoMemory>
         ensures { IfOk result (λ texts. texts ≡ texts_at self.now place) }
     {
@@ -178,7 +178,7 @@ impl Slots {
         Ok(texts)
     }
 
-    /// Adds a switch or toggle, on or not; at `NoMemory` nothing is known of what is there.
+    /// Adds a switch or toggle, on or not; at `NoMemory` the contents are unspecified.
     pub fn push_switch(&mut self, on: bool) -> Result<(), NoMemory>
         ensures { OnOk result (self.new ≡ self.old ++ on_where on ∷ []) }
     {
@@ -186,8 +186,8 @@ impl Slots {
         Ok(())
     }
 
-    /// Adds an option that takes values: what readings give to the option at a place, and behind that
-    /// its plain words. At `NoMemory` nothing is known of what is there.
+    /// Adds an option that takes values: what readings give to the option at a place, and after that
+    /// its plain words. At `NoMemory` the contents are unspecified.
     pub fn push_values(
         &mut self,
         q: Qualifiers,

@@ -37,9 +37,9 @@ impl Model for Template {
 impl Template {
     /// The template of a text.
     ///
-    /// `BadTemplate` where it has a qualifier that is unknown or stands twice in an option, `/S`
-    /// or `/T` beside another qualifier, two `/M`, `/M` and `/F`, an `/F` that is not last, or a
-    /// name, empty ones aside, that stands twice. The empty text has no option.
+    /// `BadTemplate` if it has a qualifier that is unknown or occurs twice in an option, `/S`
+    /// or `/T` with another qualifier, two `/M`, `/M` and `/F`, an `/F` that is not last, or a
+    /// name, except an empty one, that occurs twice. The empty text has no option.
     pub fn parse(alloc: Global, text: &Text) -> Result<Template, ArgFault>
         ensures text { IfOk result (λ template. template ≡ text.now) }
         ensures good { IfOk result (λ _. IsTemplate text.now) }
@@ -52,7 +52,7 @@ impl Template {
         })
     }
 
-    /// The template of a text that is known to be one; `NoMemory` only where a growth was refused.
+    /// The template of a text that is known to be one; `NoMemory` only if an allocation fails.
     pub fn known(alloc: Global, text: &str) -> Result<Template, NoMemory>
         requires ascii { map to_ascii text.now ≡ text.now }
         requires template { IsTemplate text.now }
@@ -71,13 +71,13 @@ impl Template {
     /// What a line gives to each option.
     ///
     /// The words of the line are keywords with their values, plain words, and the rest of the line
-    /// for an `/F`, in order. A quoted word is no keyword, and each plain word is taken by one option.
+    /// for an `/F`, in order. A quoted word is not a keyword, and each plain word is taken by one option.
     ///
-    /// Of the faults the first that holds: `Unmatched` where a word's quote is never closed,
+    /// Of the faults the first that holds: `Unmatched` if a word's quote is never closed,
     /// outside the rest that an `/F` option takes; `ValueMissing` or `TooMany` at the first word
-    /// that asks for it; `TooMany` for a plain word left over; `ArgumentMissing` for an `/A`
-    /// without a value; `BadNumber` for a value of an `/N` that is no number. `NoMemory` only
-    /// where a growth was refused.
+    /// that causes it; `TooMany` for a plain word left over; `ArgumentMissing` for an `/A`
+    /// without a value; `BadNumber` for a value of an `/N` that is not a number. `NoMemory` only
+    /// if an allocation fails.
     pub fn fill(&self, alloc: Global, line: &[u8]) -> Result<Args, ArgFault>
         ensures ok { IfOk result (λ args. fill_of self.now line.now ≡ Ok args) }
         ensures numbers { IfOk result (λ args. has_bad (options_of self.now) args ≡ false) }
@@ -90,8 +90,8 @@ impl Template {
         Ok(args)
     }
 
-    /// The same in lent arguments, in place of what is there: they keep the room that they have. At a
-    /// fault nothing is known of what is there.
+    /// The same into existing arguments, in place of what is there: they keep the room that they have. After a
+    /// fault their contents are unspecified.
     pub fn fill_into(&self, line: &[u8], args: &mut Args) -> Result<(), ArgFault>
         ensures ok { OnOk result (fill_of self.now line.now ≡ Ok args.new) }
         ensures numbers { OnOk result (has_bad (options_of self.now) args.new ≡ false) }
@@ -110,7 +110,7 @@ impl Template {
     }
 }
 
-// The qualifiers with one more; none where it is unknown or there already.
+// The qualifiers with one more; `None` if it is unknown or there already.
 fn with_letter(letter: u8, q: Qualifiers) -> Option<Qualifiers>
     ensures { result ≡ with_letter letter q }
 {
@@ -158,7 +158,7 @@ fn letters_of(pieces: &[&[u8]]) -> Option<Qualifiers>
     Some(q)
 }
 
-// The pieces of a text, which a sign parts.
+// The pieces of a text, which a sign separates.
 fn pieces_at(alloc: Global, sign: u8, text: &[u8]) -> Result<Vec<&[u8]>, AllocError>
     ensures { IfOk result (λ pieces. map (λ p. p.now) pieces.items ≡ slice_split (is_byte sign) text.now) }
 {
@@ -183,7 +183,7 @@ fn names_of(alloc: Global, text: &[u8]) -> Result<Texts, NoMemory>
     texts_of(alloc, pieces_at(alloc, b'=', text)?.as_slice())
 }
 
-// The option of a text; None where there is none.
+// The option of a text; `None` if it is not one.
 fn option_of(alloc: Global, text: &[u8]) -> Result<Option<TemplateOption>, NoMemory>
     ensures { IfOk result (λ option. option ≡ option_of text.now) }
 {

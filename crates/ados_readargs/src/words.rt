@@ -5,15 +5,15 @@ ghost use Rattle.ados_readargs.specs.Words.{run_end, run_end_from, word_of, line
 
 use ados_items::{Item, next_item};
 
-/// A word of a line, by its places; bytes count from 0, and `to` is the place behind the last.
+/// A word of a line, by its places; bytes count from 0, and `to` is the place after the last.
 #[derive(Clone, Copy)]
 pub enum LineWord {
-    /// Touching Word and Equal items. `key` is where the Word that they begin with ends: `from`
-    /// where they begin with an equal sign.
+    /// Touching Word and Equal items. `key` is where the Word with which they begin ends: `from`
+    /// if they begin with an equal sign.
     Run { from: usize, key: usize, to: usize },
     /// The bytes between the quotes.
     Quoted { from: usize, to: usize },
-    /// The place behind a quote that none closes.
+    /// The place after a quote that is never closed.
     Open(usize),
 }
 
@@ -29,7 +29,7 @@ impl LineWord {
         }
     }
 
-    /// Where it begins, with its quote.
+    /// Where it begins, including its quote.
     pub fn start(self) -> usize
         ensures { result ≡ start_of self }
     {
@@ -40,7 +40,7 @@ impl LineWord {
         }
     }
 
-    /// Whether it is a quote that none closes.
+    /// Whether it is a quote that is never closed.
     pub fn is_open_quote(self) -> bool
         ensures { result ≡ is_open_quote self }
     {
@@ -59,7 +59,7 @@ impl LineWord {
     }
 }
 
-/// A blank or the line's end stands at a place, so that a run which has come there ends.
+/// A blank or the line's end is at a place, so that a run that has reached it ends.
 pub fn is_run_over(line: &[u8], place: usize) -> bool
     ensures { result ≡ true → run_end line.now place ≡ place }
 {
@@ -74,7 +74,7 @@ fn run_end(line: &[u8], from: usize) -> usize
     ensures { result ≡ run_end_from (length line.now + 1) line.now from }
 {
     if is_run_over(line, from) {
-        // nearly always: the word behind the blank is not read here, only to be read again
+        // nearly always: the word after the blank is not read here, only to be read again
         return from;
     }
     let mut end = from;
@@ -100,7 +100,7 @@ fn run_end(line: &[u8], from: usize) -> usize
     end
 }
 
-/// The word at a place of a line, behind the blanks there, and where the words behind it begin; `None`
+/// The word at a place of a line, after the blanks there, and where the words after it begin; `None`
 /// at the line's end.
 pub fn word_at(line: &[u8], place: usize) -> Option<(LineWord, usize)>
     ensures { result ≡ word_of line.now (item_at true line.now place) }
@@ -130,7 +130,7 @@ pub fn word_at(line: &[u8], place: usize) -> Option<(LineWord, usize)>
     }
 }
 
-/// Whether one of the words of a line is a quote that none closes.
+/// Whether one of the words of a line is a quote that is never closed.
 pub fn is_unclosed(line: &[u8]) -> bool
     ensures { result ≡ list_any is_open_quote (line_words_of line.now) }
 {

@@ -11,21 +11,21 @@ use crate::residents::{Internal, Resident};
 use ados_text::{NoMemory, Text};
 use std::alloc::Global;
 
-/// How many of these uses are those of an entry of a name: the shells that run from it.
+/// How many of these uses are of the entry with a name: the shells that run from it.
 pub fn count(uses: &[Text], name: &Text) -> usize
     ensures { result ≡ count_of uses.now name.now }
 {
     uses.iter().filter(|entry| is_same(entry, name)).count()
 }
 
-// The two are one name.
+// The two are the same name; case is ignored.
 pub fn is_same(a: &Text, b: &Text) -> bool
     ensures { result ≡ is_same a.now b.now }
 {
     a.as_bytes().eq_ignore_ascii_case(b.as_bytes())
 }
 
-// The commands, each found.
+// The commands, each enabled.
 pub fn enabled(alloc: Global, commands: &[InternalCommand]) -> Result<Vec<Internal>, NoMemory>
     ensures { IfOk result (λ internals. internals.items ≡ map enabled commands.now) }
 {
@@ -39,7 +39,7 @@ pub fn enabled(alloc: Global, commands: &[InternalCommand]) -> Result<Vec<Intern
     Ok(internals)
 }
 
-// The internal commands with that of a name disabled, or found again.
+// The internal commands; the one with a name is disabled, or enabled again.
 pub fn switched(
     alloc: Global,
     internals: &[Internal],
@@ -56,7 +56,7 @@ pub fn switched(
 }
 
 impl Internal {
-    // The same, disabled or found again if this is its name.
+    // The same, disabled or enabled again if this is its name.
     fn switched(self, is_disabled: bool, name: &Text) -> Internal
         ensures { result ≡ switched is_disabled name.now self }
     {
@@ -71,7 +71,7 @@ impl Internal {
     }
 }
 
-// The internal command of a name.
+// The internal command with a name.
 pub fn internal_in(internals: &[Internal], name: &Text) -> Option<Internal>
     ensures { result ≡ first_with_name (λ internal. name_of internal.command) name.now internals.now }
 {
@@ -83,7 +83,7 @@ pub fn internal_in(internals: &[Internal], name: &Text) -> Option<Internal>
     None
 }
 
-// The entry of a name.
+// The entry with a name.
 pub fn entry_in<'a>(entries: &'a [Resident], name: &Text) -> Option<&'a Resident>
     ensures { option_copied result ≡ first_with_name (λ entry. entry.name) name.now entries.now }
 {
@@ -95,7 +95,7 @@ pub fn entry_in<'a>(entries: &'a [Resident], name: &Text) -> Option<&'a Resident
     None
 }
 
-// The entries with one in the place of that of its name, or else behind them all, put behind those of a list.
+// Appends the entries, with one in place of the one with its name, or else after them all.
 pub fn put_into(
     out: &mut Vec<Resident>,
     entries: &[Resident],
@@ -115,7 +115,7 @@ pub fn put_into(
     put_into(out, further, entry)
 }
 
-// The entries behind those of a list.
+// Appends the entries.
 pub fn copy_into(out: &mut Vec<Resident>, entries: &[Resident]) -> Result<(), NoMemory>
     ensures { OnOk result (out.new.items ≡ out.old.items ++ entries.now) }
 {

@@ -10,7 +10,7 @@ use Rattle.ados_script.specs.Blocks.{is_if, is_end_if, ends, ends_block, is_leve
 use Rattle.ados_script.specs.Lines.{below, between}
 use Rattle.ados_script.proofs.LineLemmas.{find-here, find-further, find-past, line_of-place}
 
--- the next line ends the block where it is such a line, and as many blocks are open as none
+-- the next line ends the block if it is such a line and no inner block is open
 ends_block-place : (at_else : Bool) (lines : List Head) (from i depth : ℕ) (d : Head) → i < length lines
     → count_by is_if (between lines from (i + 1)) ≡ depth + count_by is_end_if (between lines from (i + 1))
     → ends_block at_else lines from (i + 1) ≡ (ends at_else (get_or lines i d) && (depth == 0))
@@ -30,12 +30,12 @@ count_by-between test lines from i d h within =
     let less : i + 1 - (from + 1) ≡ n = omega arith in
     rw (more, less, ← here) (sum_by_more (λ line. cond (test line) 1 0) rest n d long)
 
--- the search is at a place: no line before it ends the block, and so many blocks are open
+-- the search is at a place: no line before it ends the block, and `depth` inner blocks are open
 record IsSought (at_else : Bool) (lines : List Head) (from i depth : ℕ) : Type 0 where
   pub left : find (ends_block at_else lines from) (below lines from) ≡ find (ends_block at_else lines from) (below lines i)
   pub counted : count_by is_if (between lines from (i + 1)) ≡ depth + count_by is_end_if (between lines from (i + 1))
 
--- the next line, and those behind it
+-- the next line, and those after it
 pub record IsNext (lines : List Head) (i : ℕ) (head : Head) (rest : List Head) : Type 0 where
   pub within : i < length lines
   pub here : get_or lines i head ≡ head
@@ -64,7 +64,7 @@ sought-further {at_else} {lines} {from} {i} {depth} {head} more s order n t step
       counted = omega (arith, ifs, ends, s.counted, step);
     }
 
--- the number of the first line that ends the block, where so many blocks are open and so many lines stand above
+-- the number of the first line that ends the block, if `depth` inner blocks are open and i lines are above
 abbrev pub ended : Bool → ℕ → ℕ → List Head → Option ℕ
 ended at_else depth i [] = None
 ended at_else depth i (If ∷ rest) = ended at_else (suc depth) (i + 1) rest
@@ -116,17 +116,17 @@ ended-is at_else lines i =
     let none : i + 1 - (i + 1) ≡ 0 = omega arith in
     ended-sought at_else lines i i 0 (drop i lines) (omega arith) refl (record { left = refl; counted = rw none refl })
 
--- so many blocks more, and one
+-- n blocks more, and one
 abbrev deeper : ℕ → ℕ → ℕ
 deeper zero depth = suc depth
 deeper (suc j) depth = suc (deeper j depth)
 
--- the search behind the line that was found
+-- the search after the line that was found
 abbrev pub past : Bool → ℕ → List Head → Option ℕ → Option ℕ
 past at_else depth lines None = None
 past at_else depth lines (Some m) = ended at_else depth m (drop m lines)
 
--- the outer search is the inner one, and the outer one behind the EndIf that it finds
+-- the outer search is the inner one, and then the outer one after the EndIf that it finds
 inner : (a : Bool) (lines : List Head) (i j d : ℕ) (rest : List Head) → drop i lines ≡ rest → ended a (deeper j d) i rest ≡ past a d lines (ended false j i rest)
 inner a lines i j d [] e = refl
 inner a lines i j d (If ∷ rest) e = inner a lines (i + 1) (suc j) d rest (next lines i If rest e).behind
@@ -138,6 +138,6 @@ inner a lines i j d (EndSkip ∷ rest) e = inner a lines (i + 1) j d rest (next 
 inner a lines i j d (Lab ∷ rest) e = inner a lines (i + 1) j d rest (next lines i Lab rest e).behind
 inner a lines i j d (Other ∷ rest) e = inner a lines (i + 1) j d rest (next lines i Other rest e).behind
 
--- below an If a block ends where it does behind the If's own EndIf
+-- below an If a block ends where it does after the If's own EndIf
 pub below_if : (a : Bool) (lines : List Head) (i : ℕ) → ended a 1 i (drop i lines) ≡ past a 0 lines (ended false 0 i (drop i lines))
 below_if a lines i = inner a lines i 0 0 (drop i lines) refl

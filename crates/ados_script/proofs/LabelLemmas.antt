@@ -1,4 +1,4 @@
--- labels in the order of their texts: those of one text stand together
+-- labels in the order of their texts: those with the same text are neighbours
 use Rattle.std.proofs.Common.{ℕ, ◌+◌, ◌≤◌, ◌≡◌, ◌∙◌, List, true, false, not, ◌&&◌, length, take, drop, get_or, refl, ap, sym, arith}
 use Rattle.std.specs.declared.cmp.Ordering.{Ordering}
 use Rattle.std.specs.declared.cmp.Ordering.TheVariants.{Less, Equal, Greater}
@@ -15,7 +15,7 @@ use Rattle.ados_script.specs.declared.labels.Label.{Label}
 use Rattle.ados_script.specs.Tables.{has_text}
 use Rattle.ados_script.proofs.ListLemmas.{filter-alike, filter-behind, filter-front}
 
--- how the text of a label stands to another
+-- how the text of a label compares to another
 abbrev pub against : Text → Label → Ordering
 against text label = name_cmp (folded label.text) (folded text)
 
@@ -54,7 +54,7 @@ pub parted_less : (text : Text) (labels : List Label) → AreSorted labels → I
 parted_less text labels sorted i j d a b h =
     less-index _ (omega (arith, rises text labels sorted i j d a b, index-less _ h))
 
--- behind those of lesser texts
+-- no label has a lesser text
 pub AreNoLess : Text → List Label → Type 0
 AreNoLess text labels = AllWithin (λ label. is_lt (against text label) ≡ false) labels 0 (length labels)
 
@@ -66,7 +66,7 @@ parted_equal text labels k sorted high i j d a b h =
     equal-index _ (omega (arith, IsNonDecreasingBy-drop (λ (label : Label). ordering_index (against text label)) k labels (rises text labels sorted) i j d a b, index-equal _ h))
     (ap (λ label. is_lt (against text label)) first ∙ high (k + i) d (omega arith) (omega arith))
 
--- the labels of a text are what two searches by its order find
+-- the labels with a text are what two searches by its order find
 pub found_all : (text : Text) (labels : List Label) (k n : ℕ)
     → IsPartitionPoint (λ label. is_lt (against text label) ≡ true) (λ label. is_lt (against text label) ≡ false) labels k
     → IsPartitionPoint (λ label. is_eq (against text label) ≡ true) (λ label. is_eq (against text label) ≡ false) (drop k labels) n
@@ -76,7 +76,7 @@ found_all text labels k n less equal =
     ∙ filter-behind (λ label. is_eq (against text label)) labels k (λ i d a b. not-equal _ (less.0 i d a b))
     ∙ filter-alike _ (has_text text) (λ label. is_eq-slice_cmp (folded label.text) (folded text)) labels
 
--- labels that tie with one of a text have it
+-- a label whose text compares as equal to a text has it
 tie-equal : (o : Ordering) → (not (is_lt (ordering_reverse o)) && not (is_lt o)) ≡ is_eq o
 tie-equal Less = refl
 tie-equal Equal = refl

@@ -30,7 +30,7 @@ find-past test lines i h =
     let none : length lines - i ≡ 0 = omega arith in
     rw none refl
 
--- what is found stands below, at most at the last line
+-- what is found is below, at most the last line
 pub find-within : (test : ℕ → Bool) (a n : ℕ) → IfSome (find test (range_with_len a n)) (λ j. (a ≤ j) × (j < a + n))
 find-within test a zero = tt
 find-within test a (suc n) = by_test (test a) (IfSome_then (find test (range_with_len (a + 1) n)) (find-within test (a + 1) n) (λ j h. (omega arith, omega arith)))

@@ -40,7 +40,7 @@ by_depth-is heads i = rw (ended-is false heads i, ended-is true heads i) refl
 row-is : (heads : List Head) (i down j : ℕ) (rows : List Ends) → AreRows heads i rows → i + down ≡ j → row_at rows down ≡ by_depth heads j
 row-is heads i down j rows are e = are down ∙ ap (ends_of heads) e ∙ sym (by_depth-is heads j)
 
--- an end of a block stands below
+-- an end of a block is below
 pub end_below : (heads : List Head) (i : ℕ) (rows : List Ends) → AreRows heads i rows → IfSome (row_at rows 0).end_if (λ m. i ≤ m)
 end_below heads i rows are =
     let e : (row_at rows 0).end_if ≡ (ends_of heads i).end_if = ap (λ (row : Ends). row.end_if) (are 0 ∙ ap (ends_of heads) (omega arith)) in
@@ -51,7 +51,7 @@ behind_if : (heads : List Head) (i : ℕ) (rows : List Ends) → AreRows heads (
 behind_if heads i rows are None h = refl
 behind_if heads i rows are (Some m) h = row-is heads (i + 1) (m - (i + 1)) m rows are (omega arith)
 
--- the row of one line more
+-- the row of one more line
 above-is : (heads : List Head) (i : ℕ) (head : Head) (rest : List Head) (rows : List Ends) → AreRows heads (i + 1) rows → drop i heads ≡ head ∷ rest
     → ends_above rows (i + 1) head ≡ by_depth heads i
 above-is heads i EndIf rest rows are e = rw e refl

@@ -1,4 +1,4 @@
--- where a Skip goes on: at the first of two lines, each the first of a rising list
+-- where a Skip leads: to the first of two lines, each the first in an ascending list
 use Rattle.std.proofs.Common.{ℕ, zero, suc, ◌+◌, ◌-◌, ◌<◌, ◌≤◌, ◌≡◌, ◌∙◌, ◌^◌, List, Bool, true, false, cond, ◌&&◌, ◌||◌, Option, Some, None, length, map, nat_lt, refl, ap, sym, arith}
 use Rattle.std.specs.List.{filter, find, range_with_len}
 use Rattle.std.specs.List.Sorted.{IsNonDecreasing, IsNonDecreasingBy}
@@ -45,7 +45,7 @@ above-all test i a (suc n) h =
     let high : nat_lt i a ≡ true = grind (arith, nat_tests) in
     rw (high, and-true (test a), above-all test i (a + 1) n (omega arith)) refl
 
--- the numbers up to the limit are passed
+-- the numbers up to the limit are skipped
 low-passed : (test : ℕ → Bool) (i k a n : ℕ) → a + k ≤ i + 1
     → find (λ j. test j && nat_lt i j) (range_with_len a n) ≡ find (λ j. test j && nat_lt i j) (range_with_len (a + k) (n - k))
 low-passed test i zero a n h =
@@ -92,7 +92,7 @@ label-is text lines labels i are =
 pub any-is : (lines : List Text) (i : ℕ) → find (is_lab_at lines) (below lines i) ≡ find (sought_at None lines) (below lines i)
 any-is lines i = find-alike (is_lab_at lines) (sought_at None lines) (λ j. sym (and-true (is_lab_at lines j))) (below lines i)
 
--- lists of numbers that passed a test rise
+-- lists of numbers that passed a test are ascending
 below-rises : (lines : List Text) → IsNonDecreasing (below lines 0)
 below-rises lines i j d a b =
     let long = length-range_with_len 1 (length lines - 0) in
@@ -114,7 +114,7 @@ pub text_rises : (text : Text) (lines : List Text) (labels : List Label) → Are
 text_rises text lines labels are =
     rw (are.all text) (IsNonDecreasingBy-filter (λ (label : Label). label.line) (has_text text) (labels_below lines 0) (labels-rise lines (filter (is_lab_at lines) (below lines 0)) (numbers_rise (is_lab_at lines) lines)))
 
--- a line stops a Skip where it is a Lab that is sought, or an EndSkip; no line is both
+-- a line stops a Skip if it is a Lab that is sought, or an EndSkip; no line is both
 record Stops (stops lab end : Bool) : Type 0 where
   pub either : stops ≡ (lab || end)
   pub apart : (lab && end) ≡ false
@@ -132,7 +132,7 @@ line_stops : (label : Option Text) (line : Option Text)
 line_stops label None = record { either = refl; apart = refl }
 line_stops label (Some line) = head_stops label line (head_of line)
 
--- the first of the lines that stop it, by what is found further on
+-- the first of the lines that stop it, by what is found after them
 nearer : (lines : List Text) (a : ℕ) (stop lab end : Bool) (stops labs ends : Option ℕ) → is_end_skip_at lines a ≡ end → stop ≡ (lab || end) → (lab && end) ≡ false
     → IfSome labs (λ j. a < j) → IfSome ends (λ j. a < j) → behind_stop lines stops ≡ behind_first labs ends
     → behind_stop lines (cond stop (Some a) stops) ≡ behind_first (cond lab (Some a) labs) (cond end (Some a) ends)
@@ -157,7 +157,7 @@ first_stop label lines a (suc n) =
     (IfSome_then (find (is_end_skip_at lines) (range_with_len (a + 1) n)) (find-within (is_end_skip_at lines) (a + 1) n) (λ j h. omega arith))
     (first_stop label lines (a + 1) n)
 
--- what the tables find of a Skip
+-- what the tables find for a Skip
 pub record AreFound (label : Option Text) (lines : List Text) (i : ℕ) (lab end : Option ℕ) : Type 0 where
   pub lab_is : lab ≡ find (sought_at label lines) (below lines i)
   pub end_is : end ≡ find (is_end_skip_at lines) (below lines i)
@@ -165,7 +165,7 @@ pub record AreFound (label : Option Text) (lines : List Text) (i : ℕ) (lab end
 pub skip-is : {label : Option Text} {lines : List Text} {i : ℕ} {lab end : Option ℕ} → AreFound label lines i lab end → behind_first lab end ≡ skip_below label lines i
 skip-is {label} {lines} {i} are = rw (are.lab_is, are.end_is) (sym (first_stop label lines (i + 1) (length lines - i)))
 
--- a line that was found stands among the lines
+-- a line that was found is one of the lines
 abbrev pub IsWithin : List Text → Option ℕ → Type 0
 IsWithin lines o = IfSome o (λ j. (0 < j) × (j ≤ length lines))
 
@@ -185,7 +185,7 @@ leads_first lines (Some lab) (Some end) h k = cond_both (nat_lt end lab) _ _ (Le
 pub small : (lines : List Text) (o : Option ℕ) → length lines < 2 ^ 63 → IsWithin lines o → IfSome o (λ j. j + 1 < 2 ^ 64)
 small lines o few h = IfSome_then o h (λ j k. omega (arith, few))
 
--- so does one at which a block ends
+-- so is one at which a block ends
 pub block-within : (at_else : Bool) (lines : List Text) (i : ℕ) (o : Option ℕ) →
     o ≡ find (ends_block at_else (map head_of lines) i) (below (map head_of lines) i) → IsWithin lines o
 block-within at_else lines i o e =

@@ -42,7 +42,7 @@ tested : (lines : List Text) (i : ℕ) (text : Text) (head : Head) (test : Head 
     → is_some_and (λ line. test (head_of line)) (line_of lines (i + 1)) ≡ test head
 tested lines i text head test is = rw (line_of-place lines i text is.within, ← is.line, ← is.head) refl
 
--- a number joins a list, or does not
+-- a number is added to a list, or not
 joined : (test : ℕ → Bool) (lines : List Text) (i : ℕ) (old : List ℕ) → i < length lines → reverse old ≡ filter test (below lines (i + 1)) → test (i + 1) ≡ true
     → reverse (old ++ (i + 1) ∷ []) ≡ filter test (below lines i)
 joined test lines i old h e t = reverse-append old ((i + 1) ∷ []) ∙ rw (below-more lines i h, t, e) refl
@@ -68,7 +68,7 @@ rows_more : (lines : List Text) (i : ℕ) (text : Text) (head : Head) (table : L
     → AreRows (map head_of lines) i (with_row table (ends_above table (i + 1) head))
 rows_more lines i text head table is are = with_more (map head_of lines) i head (drop (i + 1) (map head_of lines)) table are (rest_of lines i text head is)
 
--- the first row tells an end below
+-- the first row gives an end below
 pub ends_below : {lines : List Text} {i : ℕ} {table : List Ends} {skips numbers : List ℕ} {found : List Label} → AreRead lines i table skips numbers found → IfSome (row_at table 0).end_if (λ m. i ≤ m)
 ends_below {lines} {i} {table} are = end_below (map head_of lines) i table are.rows
 

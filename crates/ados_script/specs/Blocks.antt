@@ -1,5 +1,5 @@
--- Where an If that fails goes on, and an Else. Depth is counted from the line that jumps, so that it is right also for
--- a script whose If and EndIf lines do not match.
+-- Where a script continues after an If that fails, and after an Else. Depth is counted from the line that jumps, so that
+-- it is right even for a script whose If and EndIf lines do not match.
 use Rattle.std.specs.Prelude.{ℕ, List, map, Bool, true, false, ◌==◌, ◌&&◌}
 use Rattle.std.specs.List.{count_by, find}
 use Rattle.ados_text.specs.Text.{Text}
@@ -24,7 +24,7 @@ ends at_else EndIf = true
 ends at_else Else = at_else
 ends at_else _ = false
 
--- depth 0 behind these lines: as many of them are If lines as EndIf lines
+-- depth 0 after these lines: as many of them are If lines as EndIf lines
 abbrev pub is_level : List Head → Bool
 is_level lines = count_by is_if lines == count_by is_end_if lines
 
@@ -32,13 +32,13 @@ is_level lines = count_by is_if lines == count_by is_end_if lines
 abbrev pub ends_block : Bool → List Head → ℕ → ℕ → Bool
 ends_block at_else lines i j = is_some_and (ends at_else) (line_of lines j) && is_level (between lines i j)
 
--- behind the first line below line i that ends its block
+-- after the first line below line i that ends its block
 abbrev pub after : Bool → List Text → ℕ → Jump
 after at_else lines i =
     let heads = map head_of lines in
     behind (find (ends_block at_else heads i) (below heads i))
 
--- an If that fails goes on behind its Else or EndIf, and an Else behind its EndIf
+-- an If that fails leads to after its Else or EndIf, and an Else to after its EndIf
 abbrev pub after_if : List Text → ℕ → Jump
 after_if = after true
 

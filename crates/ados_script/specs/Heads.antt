@@ -1,4 +1,4 @@
--- What a line of a script is to a search, by its first item as it stands, and the label of a Lab line.
+-- The kind of a line of a script, by its first item as it is written, and the label of a Lab line.
 use Rattle.std.specs.Prelude.{[], true, codes, if◌then◌else◌}
 use Rattle.ados_text.specs.Text.{Text, is_same}
 use Rattle.ados_items.specs.declared.items.Item.{Item}
@@ -7,7 +7,7 @@ use Rattle.ados_items.specs.Items.{item_at, value_of, bytes_between}
 use Rattle.ados_script.specs.declared.heads.Head.{Head}
 use Rattle.ados_script.specs.declared.heads.Head.TheVariants.{If, Else, EndIf, EndSkip, Lab, Other}
 
--- a line whose first item is this word
+-- the kind of a line with this first word
 abbrev pub head_of_word : Text → Head
 head_of_word word =
     if is_same word (codes "If") then If else
@@ -16,20 +16,20 @@ head_of_word word =
     (if is_same word (codes "EndSkip") then EndSkip else
     (if is_same word (codes "Lab") then Lab else Other))))
 
--- a line by its first item: a search knows it by an unquoted word alone
+-- the kind of a line by its first item: only an unquoted word counts
 abbrev pub head_by : Text → Item → Head
 head_by line (Word from to) = head_of_word (bytes_between line from to)
 head_by line _ = Other
 
--- what a line is
+-- the kind of a line
 abbrev pub head_of : Text → Head
 head_of line = head_by line (item_at true line 0)
 
--- the text of the item behind a line's first word
+-- the text of the item after a line's first word
 abbrev pub text_behind : Text → Item → Text
 text_behind line (Word from to) = value_of line (item_at true line to)
 text_behind line _ = []
 
--- The label of a Lab line: the text of its second item. It is empty where there is none, and for an open quote.
+-- The label of a Lab line: the text of its second item. It is empty if there is none, and for an open quote.
 abbrev pub label_of : Text → Text
 label_of line = text_behind line (item_at true line 0)

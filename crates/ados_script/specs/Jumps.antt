@@ -1,15 +1,15 @@
--- Where a jump leads: to the line behind the one that was found.
+-- Where a jump leads: to the line after the one that was found.
 use Rattle.std.specs.Prelude.{ℕ, ◌+◌, ◌<◌, ◌≤◌, ⊤, List, length, Option, Some, None}
 use Rattle.ados_text.specs.Text.{Text}
 use Rattle.ados_script.specs.declared.jumps.Jump.{Jump}
 use Rattle.ados_script.specs.declared.jumps.Jump.TheVariants.{To, EndSkip, None as Nowhere}
 
--- to the line behind a line that was found
+-- to the line after a line that was found
 abbrev pub behind : Option ℕ → Jump
 behind None = Nowhere
 behind (Some j) = To (j + 1)
 
--- it leads to a line below the first, at most to the one behind the last
+-- it leads to a line below the first, at most to the one after the last
 abbrev pub LeadsWithin : List Text → Jump → Type 0
 LeadsWithin lines (To j) = (1 < j) × (j ≤ length lines + 1)
 LeadsWithin lines (EndSkip j) = (1 < j) × (j ≤ length lines + 1)

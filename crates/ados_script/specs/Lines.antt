@@ -8,7 +8,7 @@ abbrev pub line_of : {Line : Type 0} → List Line → ℕ → Option Line
 line_of lines zero = None
 line_of lines (suc place) = slice_get lines place
 
--- it is there, and passes a test
+-- it exists, and passes a test
 abbrev pub is_some_and : {Line : Type 0} → (Line → Bool) → Option Line → Bool
 is_some_and test None = false
 is_some_and test (Some line) = test line

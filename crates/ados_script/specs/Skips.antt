@@ -1,4 +1,4 @@
--- Where a Skip goes on: behind the first line at which it stops.
+-- Where a script continues after a Skip: after the first line at which it stops.
 use Rattle.std.specs.Prelude.{ℕ, ◌+◌, List, Bool, true, false, Option, Some, None, if◌then◌else◌}
 use Rattle.std.specs.List.{find}
 use Rattle.ados_text.specs.Text.{Text, is_same}
@@ -9,7 +9,7 @@ use Rattle.ados_script.specs.declared.jumps.Jump.TheVariants.{To, EndSkip as Beh
 use Rattle.ados_script.specs.Heads.{head_of, label_of}
 use Rattle.ados_script.specs.Lines.{line_of, is_some_and, below}
 
--- the label that is sought, or any one where none is named
+-- the label that is sought, or any one if none is named
 abbrev pub is_sought : Option Text → Text → Bool
 is_sought None found = true
 is_sought (Some label) found = is_same found label
@@ -32,15 +32,15 @@ is_end_skip _ = false
 abbrev pub is_end_skip_at : List Text → ℕ → Bool
 is_end_skip_at lines j = is_some_and (λ line. is_end_skip (head_of line)) (line_of lines j)
 
--- to the line behind the one at which it stops
+-- to the line after the one at which it stops
 abbrev pub behind_stop : List Text → Option ℕ → Jump
 behind_stop lines None = Nowhere
 behind_stop lines (Some j) = if is_end_skip_at lines j then BehindEndSkip (j + 1) else To (j + 1)
 
--- behind the first line below a line at which it stops
+-- after the first line below a line at which it stops
 abbrev pub skip_below : Option Text → List Text → ℕ → Jump
 skip_below label lines i = behind_stop lines (find (stops_at label lines) (below lines i))
 
--- a Skip at line i goes on below it, and with BACK from the first line on
+-- a Skip at line i searches below it, and with BACK from the first line on
 abbrev pub skip : List Text → ℕ → Option Text → Bool → Jump
 skip lines i label back = skip_below label lines (if back then 0 else i)

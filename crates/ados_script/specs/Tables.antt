@@ -31,11 +31,11 @@ abbrev pub row_or : Option Ends → Ends
 row_or None = nowhere
 row_or (Some row) = row
 
--- the row of the line that stands so many below the topmost, whose row comes last; where no row is kept, no block ends
+-- the row of the line `down` lines below the topmost, whose row comes last; if no row is kept, no block ends
 abbrev pub row_at : List Ends → ℕ → Ends
 row_at rows down = row_or (slice_get (reverse rows) down)
 
--- what the rows from a line on say of the line where a block ends
+-- the row of the line where a block ends, by the rows from a line on
 abbrev pub behind_end : List Ends → ℕ → Option ℕ → Ends
 behind_end rows line None = nowhere
 behind_end rows line (Some end) = row_at rows (end - line)
@@ -47,7 +47,7 @@ ends_above rows line Else = record { end_if = (row_at rows 0).end_if; branch = S
 ends_above rows line If = behind_end rows line (row_at rows 0).end_if
 ends_above rows line _ = row_at rows 0
 
--- rows with one more on top; the first that are kept say that a block ends
+-- rows with one more on top; the first that is kept says that a block ends
 abbrev pub with_row : List Ends → Ends → List Ends
 with_row [] row = if is_nowhere row then [] else row ∷ []
 with_row (last ∷ rows) row = (last ∷ rows) ++ row ∷ []
@@ -60,7 +60,7 @@ is_lab _ = false
 abbrev pub is_lab_at : List Text → ℕ → Bool
 is_lab_at lines j = is_some_and (λ line. is_lab (head_of line)) (line_of lines j)
 
--- the first of some lines that stands below line i
+-- the first of some lines that is below line i
 abbrev pub first_below : List ℕ → ℕ → Option ℕ
 first_below numbers i = find (λ line. nat_lt i line) numbers
 
@@ -79,12 +79,12 @@ labels_below lines i = map (label_at lines) (filter (is_lab_at lines) (below lin
 abbrev pub has_text : Text → Label → Bool
 has_text text label = is_same label.text text
 
--- the labels stand in the order of their texts, where case is ignored, and those of one text in the order of their lines
+-- the labels are in the order of their texts, ignoring case, and those with the same text in the order of their lines
 pub record AreByText (lines : List Text) (labels : List Label) : Type 0 where
   pub sorted : IsSortedByKey (λ (label : Label). folded label.text) name_cmp labels
   pub all : (text : Text) → filter (has_text text) labels ≡ filter (has_text text) (labels_below lines 0)
 
--- the tables are those of these lines, which are so few that the one behind the last has a number too
+-- the tables are those of these lines, which are few enough that the one after the last has a number too
 pub record AreTables (lines : List Text) (tables : Tables) : Type 0 where
   pub few : length lines < 2 ^ 63
   pub ends : (i : ℕ) → row_at tables.ends.items i ≡ ends_of (map head_of lines) i
@@ -92,7 +92,7 @@ pub record AreTables (lines : List Text) (tables : Tables) : Type 0 where
   pub labs : tables.labs.items ≡ filter (is_lab_at lines) (below lines 0)
   pub labels : AreByText lines tables.labels.items
 
--- the jump to behind the Lab or the EndSkip that was found, whichever stands first
+-- the jump to after the Lab or the EndSkip that was found, whichever comes first
 abbrev pub behind_first : Option ℕ → Option ℕ → Jump
 behind_first None None = Nowhere
 behind_first (Some lab) None = To (lab + 1)

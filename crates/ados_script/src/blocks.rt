@@ -11,20 +11,20 @@ use ados_text::NoMemory;
 pub struct Ends {
     /// At its EndIf.
     pub end_if: Option<usize>,
-    /// At its Else, or its EndIf where that comes first.
+    /// At its Else, or its EndIf if that comes first.
     pub branch: Option<usize>,
 }
 
 impl Ends {
-    // Neither is there.
+    // Neither exists.
     const NOWHERE: Ends = Ends {
         end_if: None,
         branch: None,
     };
 }
 
-/// The row of the line that stands so many below the topmost that was read. Rows that are missing at the end say
-/// that no block ends there.
+/// The row of the line that is `down` lines below the topmost one that was read. If there is no such row, no block
+/// ends there.
 pub fn row_at(rows: &[Ends], down: usize) -> Ends
     ensures { result ≡ row_at rows.now down }
 {
@@ -34,12 +34,12 @@ pub fn row_at(rows: &[Ends], down: usize) -> Ends
     }
 }
 
-/// Puts the row of the line above this one on top.
+/// Pushes the row of the line above this one.
 pub fn push_row(rows: &mut Vec<Ends>, line: usize, head: Head) -> Result<(), NoMemory>
     requires { IfSome (row_at rows.old.items 0).end_if (λ end. line ≤ end) }
     ensures { OnOk result (rows.new.items ≡ with_row rows.old.items (ends_above rows.old.items line head)) }
 {
-    // Below the last end of a block no line has one, and none is looked for.
+    // Below the last line that ends a block no line has an end, so no row is kept for it.
     if rows.is_empty() && !is_end(head) {
         return Ok(());
     }
@@ -54,7 +54,7 @@ fn is_end(head: Head) -> bool
     matches!(head, Head::EndIf | Head::Else)
 }
 
-// Where the block of a line ends that stands above this one. Behind an If it ends where that of the If's own end does.
+// Where the block of the line above this one ends. If this is an If, it ends where the block of that If's EndIf does.
 fn ends_above(rows: &[Ends], line: usize, head: Head) -> Ends
     requires { IfSome (row_at rows.now 0).end_if (λ end. line ≤ end) }
     ensures { result ≡ ends_above rows.now line head }

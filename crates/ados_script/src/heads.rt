@@ -1,15 +1,15 @@
-// What the lines of a script are to a search.
+// The kinds of lines of a script, as a search tells them apart.
 ghost use Rattle.std.specs.Prelude.{◌≡◌};
 ghost use Rattle.ados_script.specs.Heads.{head_of, head_of_word};
 
 use ados_items::{Item, next_item};
 
-/// What a line of a script is to a search.
+/// The kind of a line of a script, as a search sees it.
 #[derive(Clone, Copy)]
 pub enum Head {
     /// It begins a block.
     If,
-    /// It ends what runs where the If of its block holds.
+    /// It ends what is executed if the If of its block holds.
     Else,
     /// It ends a block.
     EndIf,
@@ -17,11 +17,11 @@ pub enum Head {
     EndSkip,
     /// It has a label.
     Lab,
-    /// It is nothing to a search.
+    /// Any other line; a search passes over it.
     Other,
 }
 
-/// What a line is by its first item, where that is an unquoted word.
+/// The kind of a line, by its first item, if that is an unquoted word.
 pub fn read_head(line: &[u8]) -> Head
     ensures { result ≡ head_of line.now }
 {
@@ -31,7 +31,7 @@ pub fn read_head(line: &[u8]) -> Head
     }
 }
 
-// What a line with this first word is. Words of other lengths are told apart without reading them.
+// The kind of a line with this first word. Words of other lengths are told apart without reading them.
 fn head_of_word(word: &[u8]) -> Head
     ensures { result ≡ head_of_word word.now }
 {

@@ -4,15 +4,15 @@ ghost use Rattle.ados_script.specs.Jumps.{behind};
 /// Where a jump leads. Lines are numbered from 1.
 #[derive(Clone, Copy, Debug, PartialEq, Eq)]
 pub enum Jump {
-    /// To the line of this number, which may be the one behind the last.
+    /// To the line of this number, which may be the one after the last.
     To(usize),
-    /// The same, but it stands behind an EndSkip.
+    /// The same, but the line follows an EndSkip.
     EndSkip(usize),
-    /// What is sought is not there.
+    /// What is searched for does not exist.
     None,
 }
 
-/// To the line behind a line that was found.
+/// To the line after a line that was found.
 pub fn behind(line: Option<usize>) -> Jump
     requires { IfSome line (λ line. line + 1 < 2 ^ 64) }
     ensures { result ≡ behind line }

@@ -1,4 +1,4 @@
-// The labels of Lab lines, in the order of their texts. A search compares bytes where they stand, and takes no memory.
+// The labels of Lab lines, in the order of their texts. A search compares the bytes in place, and allocates nothing.
 ghost use Rattle.std.specs.Prelude.{◌≡◌, ℕ, List, nat_lt, IfOk, OnOk};
 ghost use Rattle.std.specs.List.{filter, find};
 ghost use Rattle.std.specs.List.Sorted.{IsNonDecreasingBy, IsSortedByKey};
@@ -23,7 +23,7 @@ pub struct Label {
     pub line: usize,
 }
 
-/// The label of a Lab line: the text of its second item, empty where there is none and for an open quote.
+/// The label of a Lab line: the text of its second item, empty if there is none and for an open quote.
 pub fn read_label(alloc: Global, line: &Text) -> Result<Name, NoMemory>
     ensures { IfOk result (λ text. text ≡ label_of line.now) }
 {
@@ -35,7 +35,7 @@ pub fn read_label(alloc: Global, line: &Text) -> Result<Name, NoMemory>
     Ok(Name::new(text))
 }
 
-/// Puts labels in the order of their texts; those of one text stay in the order that they have.
+/// Sorts labels by their texts; those with the same text keep their order.
 pub fn sort(labels: &mut Vec<Label>) -> Result<(), NoMemory>
     ensures sorted { OnOk result (IsSortedByKey (λ (label : Label). folded label.text) name_cmp labels.new.items) }
     ensures stable { OnOk result ((text : List ℕ) → filter (has_text text) labels.new.items ≡ filter (has_text text) labels.old.items) }
@@ -53,7 +53,7 @@ pub fn first_of(labels: &[Label], text: &[u8], i: usize) -> Option<usize>
     Some(first_behind(all_of(labels, text), i)?.line)
 }
 
-// The first of these labels that stands below line `i`.
+// The first of these labels that is below line `i`.
 fn first_behind(labels: &[Label], i: usize) -> Option<&Label>
     requires { IsNonDecreasingBy (λ (label : Label). label.line) labels.now }
     ensures { option_copied result ≡ find (λ (label : Label). nat_lt i label.line) labels.now }
@@ -61,7 +61,7 @@ fn first_behind(labels: &[Label], i: usize) -> Option<&Label>
     labels.get(labels.partition_point(|label| label.line <= i))
 }
 
-// The labels of this text.
+// The labels with this text.
 fn all_of<'a>(labels: &'a [Label], text: &[u8]) -> &'a [Label]
     requires { IsSortedByKey (λ (label : Label). folded label.text) name_cmp labels.now }
     ensures { result.now ≡ filter (has_text text.now) labels.now }
@@ -71,7 +71,7 @@ fn all_of<'a>(labels: &'a [Label], text: &[u8]) -> &'a [Label]
     &rest[..rest.partition_point(|label| order(label, text).is_eq())]
 }
 
-// How the text of a label stands to another.
+// How the text of a label compares to another.
 fn order(label: &Label, text: &[u8]) -> Ordering
     ensures { result ≡ name_cmp (folded label.now.text) (folded text.now) }
 {

@@ -1,5 +1,5 @@
 #![tactic(auto)]
-//! The lines of a script, and its jumps: where an If that fails, an Else and a Skip go on.
+//! The lines of a script, and its jumps: where it continues after an If that fails, an Else and a Skip.
 
 mod blocks;
 mod heads;

@@ -16,9 +16,9 @@ use std::marker::Model;
 
 /// The lines of a script, numbered from 1.
 ///
-/// A jump goes by the lines as they stand, takes no memory, and leads to the line behind the one that it finds. Below
-/// line 0 stand all lines, and below the last or a number past it none. Where each leads is found once, when the script
-/// is made, and looked up from then on.
+/// A jump searches the lines as they are written, allocates nothing, and leads to the line after the one that it finds.
+/// All lines are below line 0, and none is below the last line or a number past it. Where each jump leads is found once,
+/// when the script is made, and looked up from then on.
 #[derive(Drop)]
 pub struct Script {
     lines: Vec<Text>,
@@ -39,7 +39,7 @@ impl Model for Script {
 }
 
 impl Script {
-    /// A script of these lines. At `NoMemory`, where the room for what its jumps find was refused, they
+    /// A script of these lines. At `NoMemory`, if an allocation for what its jumps find fails, they
     /// are dropped.
     pub fn of(alloc: Global, lines: Vec<Text>) -> Result<Script, NoMemory>
         ensures { IfOk result (λ script. script ≡ lines.items) }
@@ -62,8 +62,8 @@ impl Script {
         self.lines.get(i.checked_sub(1)?)
     }
 
-    /// Where an If that fails goes on from line `i`: behind the first Else or EndIf below it at depth 0, with as many
-    /// If lines as EndIf lines between. `None` where there is no such line.
+    /// Where the script continues after an If in line `i` that fails: after the first Else or EndIf below it at depth 0,
+    /// that is with as many If lines as EndIf lines between. `None` if there is no such line.
     pub fn after_if(&self, i: usize) -> Jump
         ensures jump { result ≡ after_if self.now i }
         ensures within { LeadsWithin self.now result }
@@ -71,8 +71,8 @@ impl Script {
         behind(row_at(&self.tables.ends, i).branch)
     }
 
-    /// Where an Else goes on from line `i`: behind the first EndIf below it at depth 0. `None` where there is no such
-    /// line.
+    /// Where the script continues after an Else in line `i`: after the first EndIf below it at depth 0. `None` if there
+    /// is no such line.
     pub fn after_else(&self, i: usize) -> Jump
         ensures jump { result ≡ after_else self.now i }
         ensures within { LeadsWithin self.now result }
@@ -80,10 +80,10 @@ impl Script {
         behind(row_at(&self.tables.ends, i).end_if)
     }
 
-    /// Where a Skip goes on from line `i`: behind the first Lab below it that has the label, where case is ignored, or
-    /// behind the first Lab where no label is given; with `back` the search begins at line 1. A Lab with no second
-    /// item, or with an open quote there, has the empty label. `EndSkip` where an EndSkip comes first, `None` where
-    /// neither is there.
+    /// Where the script continues after a Skip in line `i`: after the first Lab below it that has the label, ignoring
+    /// case, or after the first Lab if no label is given; with `back` the search begins at line 1. A Lab with no second
+    /// item, or with an open quote there, has the empty label. `EndSkip` if an EndSkip comes first, `None` if
+    /// neither exists.
     pub fn skip(&self, i: usize, label: Option<&[u8]>, back: bool) -> Jump
         ensures jump { result ≡ skip self.now i (option_map (λ t. t.now) label.entry) back }
         ensures within { LeadsWithin self.now result }

@@ -1,11 +1,11 @@
-// Where a Skip goes on: at the nearer of two lines, each the first of a rising list.
+// Where a Skip leads: to the nearer of two lines, each the first one below the Skip in an ascending list.
 ghost use Rattle.std.specs.Prelude.{◌≡◌, ◌+◌, ◌<◌, ◌^◌, IfSome};
 ghost use Rattle.std.specs.List.Sorted.{IsNonDecreasing};
 ghost use Rattle.ados_script.specs.Tables.{behind_first, first_below};
 
 use crate::jumps::Jump;
 
-/// The first of these lines that stands below line `i`.
+/// The first of these lines that is below line `i`.
 pub fn first_below(lines: &[usize], i: usize) -> Option<usize>
     requires { IsNonDecreasing lines.now }
     ensures { result ≡ first_below lines.now i }
@@ -13,7 +13,7 @@ pub fn first_below(lines: &[usize], i: usize) -> Option<usize>
     lines.get(lines.partition_point(|line| *line <= i)).copied()
 }
 
-/// To behind the Lab or the EndSkip that was found, whichever stands first.
+/// To the line after the Lab or the EndSkip that was found, whichever comes first.
 pub fn behind_first(lab: Option<usize>, end_skip: Option<usize>) -> Jump
     requires lab { IfSome lab (λ line. line + 1 < 2 ^ 64) }
     requires end_skip { IfSome end_skip (λ line. line + 1 < 2 ^ 64) }

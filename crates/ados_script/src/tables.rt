@@ -1,4 +1,4 @@
-// What the jumps of a script would find, read from its lines once.
+// What the jumps of a script find, read from its lines once.
 ghost use Rattle.std.specs.Prelude.{IfOk};
 ghost use Rattle.ados_script.specs.Tables.{AreTables};
 
@@ -11,18 +11,18 @@ use std::alloc::Global;
 /// What the jumps of a script find.
 #[derive(Drop)]
 pub struct Tables {
-    /// For each line where its block ends, from the last line that has such an end up to line 0, above the first.
+    /// For each line where its block ends, from the last line that has such an end up to line 0, which is above line 1.
     pub ends: Vec<Ends>,
-    /// The EndSkip lines, rising.
+    /// The EndSkip lines, in ascending order.
     pub end_skips: Vec<usize>,
-    /// The Lab lines, rising.
+    /// The Lab lines, in ascending order.
     pub labs: Vec<usize>,
-    /// The labels of the Lab lines, in the order of their texts; those of one text stand in the order of their lines.
+    /// The labels of the Lab lines, in the order of their texts; those with the same text in the order of their lines.
     pub labels: Vec<Label>,
 }
 
-/// The tables of these lines, made in one pass from the last line up. `NoMemory` only where room was refused; lines
-/// that no jump finds take none.
+/// The tables of these lines, made in one pass from the last line up. `NoMemory` only if an allocation fails; nothing
+/// is allocated for lines that no jump finds.
 pub fn read_tables(alloc: Global, lines: &[Text]) -> Result<Tables, NoMemory>
     ensures { IfOk result (λ tables. AreTables lines.now tables) }
 {

@@ -26,7 +26,7 @@ and_true : (a b : Bool) → ((a && true) && b) ≡ (a && b)
 and_true true b = refl
 and_true false b = refl
 
--- where the lines before are good, all are as the last one is
+-- if the lines before are good, all are as the last one is
 all_more : (p : Text → Bool) (done : List Text) (line : Text) (free : Bool) → list_all p done ≡ true → (list_all p (done ++ line ∷ []) && free) ≡ (p line && free)
 all_more p done line free h = rw (list_all-append p done (line ∷ []), h) (and_true (p line) free)
 
@@ -76,7 +76,7 @@ hosts_free lines hosts good is = rw is (and_right _ _ good)
 pub records_free : (form : Form) (lines : List Text) (session : Recorded) → are_records form lines ≡ true → session ≡ recorded form lines → are_free session.hosts ≡ true
 records_free form lines session good is = rw is (and_left _ _ (and_right _ _ good))
 
--- and their breaks do not fall
+-- and the event numbers of their breaks do not decrease
 pub records_rise : (form : Form) (lines : List Text) (session : Recorded) → are_records form lines ≡ true → session ≡ recorded form lines → are_rising session.breaks ≡ true
 records_rise form lines session good is = rw is (and_right (are_free (recorded form lines).hosts) _ (and_right _ _ good))
 

@@ -29,11 +29,11 @@ abbrev pub byte_in : Option ℤ → Option ℕ
 byte_in (Some (pos n)) = if nat_lt n 256 then Some n else None
 byte_in _ = None
 
--- the status that digits write: 0 to 255
+-- the exit status that digits write: 0 to 255
 abbrev pub status_of : Text → Option ℕ
 status_of digits = if is_negative digits then None else byte_in (number_of digits)
 
--- the answer of these bytes, where they are 1 to 4,096
+-- the answer of these bytes, if they are 1 to 4,096
 abbrev pub piece : Bytes → Option Answer
 piece bytes = if is_piece bytes then Some (Piece bytes) else None
 
@@ -42,7 +42,7 @@ abbrev pub bytes_answer : Result Bytes FromHexError → Option Answer
 bytes_answer (Ok bytes) = piece bytes
 bytes_answer (Err fault) = None
 
--- the answer of a word with a value behind it
+-- the answer of a word that is followed by a value
 abbrev pub valued_answer : Text → Text → Option Answer
 valued_answer word value =
     if bytes_eq word (codes "exit") then option_map Exit (status_of value) else

@@ -9,7 +9,7 @@ use Rattle.ados_machine.specs.declared.events.Kind.{Kind}
 use Rattle.ados_machine.specs.declared.events.Kind.TheVariants.{C, D}
 use Rattle.ados_session.specs.Parts.{parted}
 
--- the number that digits write, from 1 to the most
+-- the number that digits write, from 1 to a highest one
 abbrev pub number_up_to : ℕ → Option ℤ → Option ℕ
 number_up_to most (Some (pos n)) = if nat_le 1 n && nat_le n most then Some n else None
 number_up_to most number = None
@@ -32,7 +32,7 @@ break_behind event rest = option_map_or (λ p. break_by (number_in 1_000_000_000
 abbrev pub break_of : Text → Option BreakAt
 break_of text = option_map_or (λ p. break_behind p.0 p.1) (parted text) None
 
--- from this number on the numbers of events do not fall
+-- from this number on the numbers of events do not decrease
 abbrev pub rise_from : ℕ → List BreakAt → Bool
 rise_from least [] = true
 rise_from least (at ∷ breaks) = nat_le least at.event && rise_from at.event breaks
@@ -40,7 +40,7 @@ rise_from least (at ∷ breaks) = nat_le least at.event && rise_from at.event br
 abbrev pub are_rising : List BreakAt → Bool
 are_rising breaks = rise_from 0 breaks
 
--- the number of the last event, or the least where there is none
+-- the number of the last event, or the least if there is none
 abbrev pub last_event : ℕ → List BreakAt → ℕ
 last_event least [] = least
 last_event least (at ∷ breaks) = last_event at.event breaks

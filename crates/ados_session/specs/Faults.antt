@@ -1,4 +1,4 @@
--- The first line at fault.
+-- The first invalid line.
 use Rattle.std.specs.Prelude.{◌≡◌, ◌<◌, ◌+◌, ℕ, Bool, true, false, List, length, take}
 use Rattle.ados_text.specs.Text.{Text}
 use Rattle.ados_session.specs.declared.faults.FileFault.{FileFault}
@@ -8,7 +8,7 @@ use Rattle.ados_session.specs.declared.faults.FileFault.TheVariants.{BadLine, No
 abbrev pub IsFirstBad : (List Text → Bool) → List Text → ℕ → Type 0
 IsFirstBad are_good lines place = (place < length lines) × (are_good (take place lines) ≡ true) × (are_good (take (place + 1) lines) ≡ false)
 
--- A fault names the first line at fault, where the lines begin behind so many others. Want of memory names none.
+-- A fault names the first invalid line; the lines begin after this many others. Out of memory names none.
 abbrev pub IsFault : (List Text → Bool) → ℕ → List Text → FileFault → Type 0
 IsFault are_good before lines (BadLine number) = (place : ℕ) × (number ≡ place + before + 1) × IsFirstBad are_good lines place
 IsFault are_good before lines NoMemory = Unit {0}

@@ -19,12 +19,12 @@ use Rattle.ados_session.specs.declared.recordings.RecordLine.TheVariants.{Host, 
 use Rattle.ados_session.specs.declared.recordings.Form.{Form}
 use Rattle.ados_session.specs.declared.recordings.Form.TheVariants.{First, Second}
 
--- what a line says that gives this answer
+-- what a line that gives this answer says
 abbrev pub answered : Option Answer → RecordLine
 answered (Some answer) = Answered answer
 answered None = Bad
 
--- what a line says that writes this break
+-- what a line that writes this break says
 abbrev pub broken : Option BreakAt → RecordLine
 broken (Some at) = Broken at
 broken None = Bad
@@ -34,7 +34,7 @@ abbrev pub broken_in : Form → Text → RecordLine
 broken_in First text = Bad
 broken_in Second text = broken (break_of text)
 
--- what the text behind a word says: a command whose program has its name, a typed line, an answer, or a break
+-- what the text after a word says: a command whose program has its name, a typed line, an answer, or a break
 abbrev pub record_of : Form → Text → Text → RecordLine
 record_of form word text =
     if bytes_eq word (codes "host") then Host (record { name = text; program = text }) else
@@ -42,7 +42,7 @@ record_of form word text =
     (if bytes_eq word (codes "answer") then answered (answer_of text) else
     (if bytes_eq word (codes "break") then broken_in form text else Bad)))
 
--- what a line behind the first says
+-- what a line after the first says
 abbrev pub record_line : Form → Text → RecordLine
 record_line form line = option_map_or (λ p. record_of form p.0 p.1) (parted line) Bad
 
@@ -74,7 +74,7 @@ pub record Recorded : Type 0 where
   pub answers : List Answer
   pub breaks : List BreakAt
 
--- the one session, and the other behind it
+-- the one session followed by the other
 abbrev pub joined : Recorded → Recorded → Recorded
 joined one other = record {
   hosts = one.hosts ++ other.hosts;
@@ -83,7 +83,7 @@ joined one other = record {
   breaks = one.breaks ++ other.breaks;
 }
 
--- the session of the lines behind the first
+-- the session of the lines after the first
 abbrev pub recorded : Form → List Text → Recorded
 recorded form lines = record {
   hosts = filter_map (λ line. host_in (record_line form line)) lines;
@@ -117,7 +117,7 @@ abbrev pub session_in : List Text → Option Recorded
 session_in [] = None
 session_in (first ∷ lines) = session_of (form_of first) lines
 
--- a fault names the first line at fault: the first, which names no form or is missing, or one behind it
+-- a fault names the first invalid line: the first, which names no form or is missing, or one after it
 abbrev pub IsFaultBehind : Option Form → List Text → FileFault → Type 0
 IsFaultBehind (Some form) lines fault = IsFault (are_records form) 1 lines fault
 IsFaultBehind None lines (BadLine number) = number ≡ 1

@@ -10,10 +10,10 @@ use ados_world::Answer;
 use hex::FromHexError;
 use std::alloc::Global;
 
-// A piece of a program's output has so many bytes at most.
+// A piece of a program's output has at most this many bytes.
 const PIECE_BYTES: usize = 4096;
 
-/// The answer that a text writes, where it writes one.
+/// The answer that a text writes, if it writes one.
 pub fn answer_of(alloc: Global, text: &[u8]) -> Result<Option<Answer>, NoMemory>
     requires { IsText text.now }
     ensures { IfOk result (λ answer. answer ≡ answer_of text.now) }
@@ -51,7 +51,7 @@ fn plain_answer(word: &[u8]) -> Option<Answer>
     }
 }
 
-// The answer of a word that has a value behind it.
+// The answer of a word that is followed by a value.
 fn valued_answer(alloc: Global, word: &[u8], value: &[u8]) -> Result<Option<Answer>, NoMemory>
     ensures { IfOk result (λ answer. answer ≡ valued_answer word.now value.now) }
 {
@@ -64,7 +64,7 @@ fn valued_answer(alloc: Global, word: &[u8], value: &[u8]) -> Result<Option<Answ
     }
 }
 
-// The status that digits write: 0 to 255.
+// The exit status that digits write: 0 to 255.
 fn status_of(digits: &[u8]) -> Option<u8>
     ensures { result ≡ status_of digits.now }
 {
@@ -85,7 +85,7 @@ fn bytes_answer(alloc: Global, digits: &[u8]) -> Result<Option<Answer>, NoMemory
     }
 }
 
-// The answer of these bytes, where they are 1 to 4,096.
+// The answer of these bytes, if they are 1 to 4,096.
 fn piece(bytes: Vec<u8>) -> Option<Answer>
     ensures { result ≡ piece bytes.items }
 {

@@ -8,13 +8,13 @@ use ados_machine::BreakAt;
 use ados_text::{NoMemory, number_in};
 use ados_world::Kind;
 
-// The last event that a break may name.
+// The highest number of an event that a break may name.
 const EVENTS: u64 = 1_000_000_000;
 
-// The last number of a shell.
+// The highest number of a shell.
 const SHELLS: u8 = 20;
 
-/// The break that a text writes, where it writes one: the number of an event, that of a shell, and `C` or `D`.
+/// The break that a text writes, if it writes one: the number of an event, that of a shell, and `C` or `D`.
 pub fn break_of(text: &[u8]) -> Option<BreakAt>
     requires { IsText text.now }
     ensures { result ≡ break_of text.now }
@@ -28,7 +28,7 @@ pub fn break_of(text: &[u8]) -> Option<BreakAt>
     })
 }
 
-/// Adds a break; `false` where it names an earlier event than the one before it.
+/// Adds a break; `false` if it names an earlier event than the one before it.
 pub fn add_break(breaks: &mut Vec<BreakAt>, at: BreakAt) -> Result<bool, NoMemory>
     requires { are_rising breaks.old.items ≡ true }
     ensures rising { IfOk result (λ is_rising. is_rising ≡ are_rising (breaks.old.items ++ at ∷ [])) }
@@ -39,7 +39,7 @@ pub fn add_break(breaks: &mut Vec<BreakAt>, at: BreakAt) -> Result<bool, NoMemor
     Ok(is_rising)
 }
 
-// The event that the last break names, 0 where there is none.
+// The event that the last break names, 0 if there is none.
 fn last_event(breaks: &[BreakAt]) -> u64
     ensures { result ≡ last_event 0 breaks.now }
 {

@@ -9,10 +9,10 @@ use thiserror::Error;
 /// Why a file of hosts or a recording is not read.
 #[derive(Clone, Copy, Debug, PartialEq, Eq, Error)]
 pub enum FileFault {
-    /// The line of this number, from 1, is the first that is at fault.
+    /// The line of this number, from 1, is the first that is invalid.
     #[error("bad line {0}")]
     BadLine(usize),
-    /// There was no memory for what it holds.
+    /// There was not enough memory for what it holds.
     #[error("no free store")]
     NoMemory,
 }

@@ -6,7 +6,8 @@ ghost use Rattle.ados_session.specs.Hosts.{are_hosts, are_free, host_line, hosts
 ghost use Rattle.ados_session.specs.declared.hosts.HostLine.TheVariants.{Host};
 
 use crate::faults::FileFault;
-use crate::parts::{first_word, rest_of, text_of, trimmed};
+use crate::parts::text_of;
+use ados_items::{first_word, rest_of, trimmed};
 use ados_text::{NoMemory, Text, lines_of};
 use ados_world::{HostEntry, hosts_fault};
 use std::alloc::Global;
@@ -24,11 +25,11 @@ pub enum HostLine {
 
 /// The commands that a file names, in order. A world can be made with them.
 ///
-/// Each line is a command's name, blanks, and the path of a program; blanks round the whole are dropped. Blank lines,
+/// Each line is a command's name, blanks, and the path of a program; blanks around the whole are dropped. Blank lines,
 /// and lines that begin with `#`, say nothing. A byte past ASCII is read as `?`.
 ///
-/// `BadLine` names the first line at fault: it has no path, or its name is none, that of a command, or that of an
-/// earlier line, or it is a 65th command.
+/// `BadLine` names the first line that is invalid: it has no path, or its name is not a name, that of a command, or that of
+/// an earlier line, or it is a 65th command.
 pub fn read_hosts(alloc: Global, bytes: &[u8]) -> Result<Vec<HostEntry>, FileFault>
     ensures good { IfOk result (λ hosts. are_hosts (lines_of bytes.now) ≡ true) }
     ensures hosts { IfOk result (λ hosts. hosts.items ≡ hosts_in (lines_of bytes.now)) }
@@ -55,7 +56,7 @@ fn hosts_of(alloc: Global, lines: &[Text]) -> Result<Vec<HostEntry>, FileFault>
     Ok(hosts)
 }
 
-// Adds the command of a line, if it names one; `false` where the line is at fault.
+// Adds the command of a line, if it names one; `false` if the line is invalid.
 fn take_line(alloc: Global, line: &Text, hosts: &mut Vec<HostEntry>) -> Result<bool, NoMemory>
     requires { are_free hosts.old.items ≡ true }
     ensures good { IfOk result (λ is_good. is_good ≡ (is_host_line (host_line line.now) && are_free hosts.new.items)) }
@@ -68,7 +69,7 @@ fn take_line(alloc: Global, line: &Text, hosts: &mut Vec<HostEntry>) -> Result<b
     }
 }
 
-/// Adds a command; `false` where a world can't be made with them.
+/// Adds a command; `false` if a world can't be made with them.
 pub fn add_host(hosts: &mut Vec<HostEntry>, host: HostEntry) -> Result<bool, NoMemory>
     ensures free { IfOk result (λ is_free. is_free ≡ are_free (hosts.old.items ++ host ∷ [])) }
     ensures hosts { IfOk result (λ _. hosts.new.items ≡ hosts.old.items ++ host ∷ []) }

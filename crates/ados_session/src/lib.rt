@@ -1,6 +1,6 @@
 #![tactic(auto)]
 //! What a session is made from: the programs of the host that are commands, named in a file, and recordings, whose typed
-//! lines, answers and breaks are run in the place of a terminal, of programs and of one who breaks.
+//! lines, answers and breaks are run in place of a terminal, of programs and of a user who breaks.
 
 mod answers;
 mod breaks;

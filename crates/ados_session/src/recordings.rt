@@ -27,7 +27,7 @@ pub enum Form {
     Second,
 }
 
-/// What a line of a recording says, behind the first.
+/// What a line of a recording says, after the first.
 #[derive(Drop)]
 pub enum RecordLine {
     /// A program of the host is a command.
@@ -47,7 +47,7 @@ pub enum RecordLine {
 pub struct Recording {
     /// The programs of the host that are commands.
     pub hosts: Vec<HostEntry>,
-    /// The typed lines, each with a byte 10 behind it.
+    /// The typed lines, each followed by a byte 10.
     pub typed: Vec<u8>,
     /// The answers of a launcher.
     pub answers: Vec<Answer>,
@@ -67,11 +67,11 @@ impl Model for Recording {
 ///
 /// Its first line is `amishell 1` or `amishell 2`. Each other one is `host NAME`, a command whose program is NAME; `line TEXT`, a
 /// typed line; or `answer ANSWER`, the next answer of a launcher: `started`, `notfound`, `denied`, `memory`, `other`, `bytes HEX`
-/// of 1 to 4,096 bytes, `end`, `pipefault`, `exit N` with N from 0 to 255, `signal` or `waitfault`. Behind `amishell 2` a line may
+/// of 1 to 4,096 bytes, `end`, `pipefault`, `exit N` with N from 0 to 255, `signal` or `waitfault`. After `amishell 2` a line may
 /// also be `break N K C` or `break N K D`: shell K, from 1 to 20, is broken before event N, from 1 to 1,000,000,000. A byte past
 /// ASCII is read as `?`.
 ///
-/// `BadLine` names the first line that is none of these, or whose NAME is no name, that of a command, or that of an earlier
+/// `BadLine` names the first line that is none of these, or whose NAME is not a name, that of a command, or that of an earlier
 /// host, or that is a 65th host, or whose N is less than that of the break before it. It names line 1 of an empty file.
 pub fn read_recording(alloc: Global, bytes: &[u8]) -> Result<Recording, FileFault>
     ensures good { IfOk result (λ recording. is_recording (lines_of bytes.now) ≡ true) }
@@ -103,7 +103,7 @@ fn form_of(line: &Text) -> Option<Form>
     }
 }
 
-// The session of the lines behind the first.
+// The session of the lines after the first.
 fn read_records(alloc: Global, form: Form, lines: &[Text]) -> Result<Recording, FileFault>
     ensures good { IfOk result (λ recording. are_records form lines.now ≡ true) }
     ensures recording { IfOk result (λ recording. recording ≡ recorded form lines.now) }
@@ -133,7 +133,7 @@ impl Recording {
         }
     }
 
-    // Adds what a line says; `false` where the line is at fault.
+    // Adds what a line says; `false` if the line is invalid.
     fn take(&mut self, alloc: Global, form: Form, line: &Text) -> Result<bool, NoMemory>
         requires free { are_free self.old.hosts ≡ true }
         requires rising { are_rising self.old.breaks ≡ true }
@@ -167,7 +167,7 @@ fn record_line(alloc: Global, form: Form, line: &Text) -> Result<RecordLine, NoM
     }
 }
 
-// What the text behind a word says.
+// What the text after a word says.
 fn record_of(alloc: Global, form: Form, word: &[u8], text: &[u8]) -> Result<RecordLine, NoMemory>
     requires { IsText text.now }
     ensures { IfOk result (λ read. read ≡ record_of form word.now text.now) }
@@ -188,7 +188,7 @@ fn record_of(alloc: Global, form: Form, word: &[u8], text: &[u8]) -> Result<Reco
     }
 }
 
-// What a line says that gives this answer.
+// What a line that gives this answer says.
 fn answered(answer: Option<Answer>) -> RecordLine
     ensures { result ≡ answered answer }
 {
@@ -209,7 +209,7 @@ fn broken_in(form: Form, text: &[u8]) -> RecordLine
     }
 }
 
-// What a line says that writes this break.
+// What a line that writes this break says.
 fn broken(at: Option<BreakAt>) -> RecordLine
     ensures { result ≡ broken at }
 {

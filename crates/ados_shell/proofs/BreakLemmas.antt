@@ -29,7 +29,7 @@ use Rattle.ados_shell.specs.Stacks.{frames_in}
 use Rattle.ados_shell.proofs.StackLemmas.{some-run}
 use Rattle.ados_shell.proofs.TurnLemmas.{IsStill, goes-on, said_in, step-ruled, still-course}
 
--- a mark changes nothing of what is asked for
+-- a mark does not change what is asked for
 pub marked_request : (number : ℕ) (phase : Phase) → request_of number (marked_in phase) ≡ request_of number phase
 marked_request number Ready = refl
 marked_request number (GoingOn parted) = refl
@@ -47,7 +47,7 @@ on_err (Err fault) p = p
 never : true ≡ false → ⊥
 never e = cc
 
--- a turn that takes a line of its input, or the end of that, where one is there
+-- a turn that takes a line of its input, or the end of that, if one is there
 input-taken : (queue : List (List ℕ)) (is_ended : Bool) (input : Input) (frames : List FrameState) (course : Course) (by_line : List ℕ → Deed) (by_end : Deed)
     → (nat_lt 0 (length queue) || is_ended) ≡ true
     → in_place_of (input_turning queue is_ended frames by_line by_end) input frames course ≡ Takes input.queue (broken_turned frames course)
@@ -55,7 +55,7 @@ input-taken [] true input frames course by_line by_end e = refl
 input-taken [] false input frames course by_line by_end e = absurd cc
 input-taken (line ∷ rest) is_ended input frames course by_line by_end e = refl
 
--- and where none is
+-- and if none is
 input-refused : (queue : List (List ℕ)) (is_ended : Bool) (input : Input) (frames : List FrameState) (course : Course) (by_line : List ℕ → Deed) (by_end : Deed)
     → (nat_lt 0 (length queue) || is_ended) ≡ false
     → in_place_of (input_turning queue is_ended frames by_line by_end) input frames course ≡ Refuses NotReady
@@ -63,7 +63,7 @@ input-refused [] true input frames course by_line by_end e = absurd cc
 input-refused [] false input frames course by_line by_end e = refl
 input-refused (line ∷ rest) is_ended input frames course by_line by_end e = absurd (never (ap (λ b. b || is_ended) (sym (some-run (length rest))) ∙ e))
 
--- the turn of a shell in which a script runs, where it can take one
+-- the turn of a shell in which a script runs, if it can take one
 pub script-taken : (input : Input) (frames : List FrameState) (course : Course) (phase : Phase) → has_script frames ≡ true → can_take input frames phase ≡ true
     → in_place_of (turning input frames course phase) input frames course ≡ Takes input.queue (broken_turned frames course)
 script-taken input [] course phase there e = absurd cc
@@ -75,7 +75,7 @@ script-taken input (frame ∷ frames) course (Waiting (ForStart starting)) there
 script-taken input (frame ∷ frames) course (Waiting (ForPiece child)) there e = absurd cc
 script-taken input (frame ∷ frames) course (Waiting (ForEnd child)) there e = absurd cc
 
--- and where it can't
+-- and if it can't
 pub script-refused : (input : Input) (frames : List FrameState) (course : Course) (phase : Phase) → has_script frames ≡ true → can_take input frames phase ≡ false
     → in_place_of (turning input frames course phase) input frames course ≡ Refuses NotReady
 script-refused input [] course phase there e = absurd cc
@@ -104,7 +104,7 @@ ends-is : (scripts : ℕ) (kind : Kind) (limit : Code) (further : Settled) (fram
 ends-is zero kind limit further frames said e = refl
 ends-is (suc scripts) kind limit further frames said e = absurd (never (sym (some-run scripts) ∙ e))
 
--- a frame fewer is left
+-- one frame fewer is left
 pub frames-fewer : (scene : Scene) (before popped reported mid : Draft) (frame : FrameState) (frames : List FrameState)
     → frames_of scene before ≡ frame ∷ frames → frames_of scene popped ≡ frames
     → ReportsBreak scene popped reported frame → GivesUp scene reported mid frame
@@ -146,7 +146,7 @@ break-deeper scene before popped reported mid after frame frames there s f r scr
     ∙ ap (λ x. reports_of scene.number (item ∷ []) ++ reports_of scene.number x.log) (sym now))
     g
 
--- a frame ended at a break, above no further script: the command that made it is finished, at the limit that comes back
+-- a frame ended at a break, with no other script below it: the command that made it is finished, with the limit restored
 pub break-ends : (scene : Scene) (before popped reported after : Draft) (limit : Code) (frame : FrameState) (frames : List FrameState)
     → frames_of scene before ≡ frame ∷ frames → IsStill before popped → frames_of scene popped ≡ frames
     → ReportsBreak scene popped reported frame → has_script (frames_of scene reported) ≡ false

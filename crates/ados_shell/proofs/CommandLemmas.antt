@@ -1,4 +1,4 @@
--- The texts of the templates are ASCII, and templates; each stands at its command's place.
+-- The texts of the templates are ASCII, and templates; each is at its command's place.
 use Rattle.std.proofs.Common.{◌≡◌, ◌<◌, ℕ, List, Some, map, option_map, length, get_or, slice_get, refl, ap, ◌∙◌}
 use Rattle.std.proofs.lemmas.Option.{slice_get-map, slice_get_within, get_or_from_slice_get}
 use Rattle.ados_text.specs.Text.{to_ascii}

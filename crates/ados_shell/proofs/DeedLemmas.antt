@@ -1,4 +1,4 @@
--- Deeds: what a line comes to is what the code rule makes of it.
+-- Deeds: what a line results in is what the code rule makes of it.
 use Rattle.std.proofs.Common.{◌≡◌, ◌∙◌, ◌++◌, ◌∷◌, [], List, ℕ, Bool, true, false, Option, None, length, nat_le, ap, sym, refl}
 use Rattle.std.proofs.lemmas.List.{append-nil}
 use Rattle.std.specs.Prelude.{if◌then◌else◌}
@@ -56,7 +56,7 @@ begin-goes scene before mid after word output script f s g =
     let on : GoesOn scene before after t = goes-same scene before mid after _ t s.reports e g in
     record { frames = on.frames; phase = on.phase; course = on.course; reports = on.reports }
 
--- a script is called where a frame more may stand
+-- a script is called if there is room for another frame
 pub call-begins : (scene : Scene) (before after : Draft) (word : List ℕ) (output : Option Target) (script : Called)
     → nat_le frame_limit (length (frames_of scene before)) ≡ false
     → IsRuled scene before after (begun word output script (frames_of scene before) (said_in scene before))
@@ -64,7 +64,7 @@ pub call-begins : (scene : Scene) (before after : Draft) (word : List ℕ) (outp
 call-begins scene before after word output script e g =
     goes-same scene before before after _ _ refl (ap (by_rule (course_of scene before)) (sym (else-is _ _ _ e))) g
 
--- and where none may
+-- and if there is none
 pub call-refused : (scene : Scene) (before after : Draft) (word : List ℕ) (output : Option Target) (script : Called)
     → nat_le frame_limit (length (frames_of scene before)) ≡ true
     → Settles scene before after (refused word TOO_MANY_LEVELS (course_of scene before))
@@ -84,7 +84,7 @@ jump-goes scene before mid after word codes line f s g =
     ∙ ap (λ x. by_rule (course_of scene before) (finished word codes false x (said_in scene before))) f)
     g
 
--- a tick begins where a frame more may stand
+-- a tick begins if there is room for another frame
 pub tick-begins : (scene : Scene) (before after : Draft) (front command rear : Text)
     → nat_le frame_limit (length (frames_of scene before)) ≡ false
     → IsRuled scene before after (tick_begun front command rear (frames_of scene before) (said_in scene before))
@@ -92,7 +92,7 @@ pub tick-begins : (scene : Scene) (before after : Draft) (front command rear : T
 tick-begins scene before after front command rear e g =
     goes-same scene before before after _ _ refl (ap (λ deed. settle deed (frames_of scene before)) (sym (else-is _ _ _ e))) g
 
--- and where none may
+-- and if there is none
 pub tick-refused : (scene : Scene) (before after : Draft) (front command rear : Text)
     → nat_le frame_limit (length (frames_of scene before)) ≡ true
     → Settles scene before after (line_fault TOO_MANY_LEVELS (course_of scene before))
@@ -100,7 +100,7 @@ pub tick-refused : (scene : Scene) (before after : Draft) (front command rear : 
 tick-refused scene before after front command rear e g =
     goes-same scene before before after _ _ refl (ap (λ deed. settle deed (frames_of scene before)) (sym (then-is _ _ _ e))) g
 
--- a tick was put on
+-- a tick was pushed
 pub tick-goes : (scene : Scene) (before after : Draft) (front command rear : Text)
     → frames_of scene after ≡ began (Tick front rear) (command ∷ []) before.shell.limit None ∷ frames_of scene before
     → phase_in after.shell ≡ Ready

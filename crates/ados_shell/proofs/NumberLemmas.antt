@@ -1,4 +1,4 @@
--- The numbers of shells: what is seen of them stands where they do.
+-- The numbers of shells: what is seen of a shell is at the shell's number.
 use Rattle.std.proofs.Common.{◌≡◌, ℕ, suc, List, [], ◌∷◌, Option, Some, None, refl}
 use Rattle.ados_machine.specs.Numbers.{free_from, free_number}
 use Rattle.ados_machine.specs.Shells.{ShellState}

@@ -50,7 +50,7 @@ begun-put scene before mid after codes number commands output n b g =
 pub front-is : (text front command : Text) → IsText text → before_plus text ≡ Some front → command ≡ map to_ascii front → command ≡ front
 front-is text front command t e c = c ∙ front_stays text front t e
 
--- on the console a Run waits for a further line
+-- on the console a Run waits for another line
 pub typed-waits : (scene : Scene) (before after : Draft) (word text command : Text) (output : Option Target) (sink : Sink)
     → before_plus text ≡ Some command
     → Settles scene before after (Waits (ForLines (record { word = word; output = output; commands = command ∷ [] })) (course_of scene before))
@@ -59,7 +59,7 @@ typed-waits scene before after word text command output sink e g =
     let P : Option Text → Type 0 = λ o. Settles scene before after (console_run word output text sink (course_of scene before) o) in
     subst P (sym e) g
 
--- a Run that gathers waits again, where it may take a further line
+-- a Run that gathers waits again, if it may take another line
 pub joins-waits : (scene : Scene) (before after : Draft) (gathering : Gathering) (line command : Text) (sink : Sink)
     → before_plus line ≡ Some command → nat_le (run_limit - 1) (length gathering.commands) ≡ false
     → Settles scene before after (Waits (ForLines (with_command command gathering)) (course_of scene before))
@@ -71,7 +71,7 @@ joins-waits scene before after gathering line command sink e b g =
     (if x then gathered_deed (with_command command gathering) sink course else Waits (ForLines (with_command command gathering)) course) in
     subst P (sym e) (subst Q (sym b) g)
 
--- and makes its shell, where it may not
+-- and makes its shell, if it may not
 pub joins-last : (scene : Scene) (before after : Draft) (gathering : Gathering) (line command : Text) (sink : Sink)
     → before_plus line ≡ Some command → nat_le (run_limit - 1) (length gathering.commands) ≡ true
     → Settles scene before after (gathered_deed (with_command command gathering) sink (course_of scene before))
@@ -86,7 +86,7 @@ joins-last scene before after gathering line command sink e b g =
 abbrev all_of : Text → FrameLines → Gathered
 all_of text frame = gathered (run_limit - 1) text (drop frame.position frame.lines)
 
--- in a frame a Run takes further lines, makes its shell, and the frame goes on behind them
+-- in a frame a Run takes more lines, makes its shell, and the frame goes on after them
 pub run-goes : (scene : Scene) (before mid after : Draft) (word text : Text) (codes : Codes) (all : Gathered) (output : Option Target)
     → option_map (all_of text) (here scene before).frame_lines ≡ Some all
     → IsPut scene before mid codes (new_shell all.commands output (here scene before).sink (course_of scene before))

@@ -16,7 +16,7 @@ use Rattle.ados_machine.specs.Settle.{newest}
 pub some-run : (scripts : ℕ) → nat_lt 0 (suc scripts) ≡ true
 some-run scripts = lt-ltb 0 (suc scripts) (omega arith)
 
--- the limit of its beginning comes back at a script's end where a script is left
+-- at a script's end the limit of its beginning is restored if a script is left
 pub limit_is : (frames : List FrameState) (limit : Code) → limit_behind frames limit ≡ (if has_script frames then limit else first_limit)
 limit_is frames limit = limit-of (scripts_in frames)
   where
@@ -24,7 +24,7 @@ limit_is frames limit = limit-of (scripts_in frames)
     limit-of zero = refl
     limit-of (suc scripts) = sym (ap (λ b. if b then limit else first_limit) (some-run scripts))
 
--- a script runs where the newest frame is one, or one runs below it
+-- a script runs if the newest frame is one, or one runs below it
 pub script_first : (frame : FrameState) (frames : List FrameState) → has_script (frame ∷ frames) ≡ (is_script frame.kind || has_script frames)
 script_first frame frames = by-kind frame.kind
   where
@@ -33,7 +33,7 @@ script_first frame frames = by-kind frame.kind
     by-kind Lines = refl
     by-kind (Tick before after) = refl
 
--- one of frames above others is a script
+-- frames and those below them contain a script if either do
 pub script_append : (above below : List FrameState) → has_script (above ++ below) ≡ (has_script above || has_script below)
 script_append [] below = refl
 script_append (frame ∷ above) below =
@@ -53,7 +53,7 @@ pub sink-alone : (frames : List FrameState) → sink_above frames Console ≡ si
 sink-alone [] = refl
 sink-alone (frame ∷ frames) = ap (sink_by frame.kind frame.output) (sink-alone frames)
 
--- the newest frame has so many further lines
+-- the newest frame's position after this many more lines is a number of 64 bits
 pub taken-of : (frames : List FrameState) (frame : FrameState) (taken : ℕ) → newest frames ≡ Some frame → frame.position + taken < 2 ^ 64 → HasTaken taken frames
 taken-of [] frame taken e lt = tt
 taken-of (first ∷ frames) frame taken e lt = let same : first ≡ frame = cc in rw same lt

@@ -1,4 +1,4 @@
--- How a turn goes on: what is left to do from a middle of it on does what the whole does from its beginning on.
+-- How a turn goes on: what is left to do from its middle on does what the whole does from its beginning.
 use Rattle.std.proofs.Common.{◌≡◌, ◌∙◌, ◌++◌, ◌∷◌, [], List, ℕ, Bool, true, false, length, suc, ap, sym, refl, append_assoc}
 use Rattle.std.proofs.lemmas.List.{append-nil}
 use Rattle.std.specs.Prelude.{if◌then◌else◌}
@@ -37,7 +37,7 @@ goes-on scene before mid after t t' rs r tf tp tc l g = record {
       ∙ ap (λ x. before.reports.items ++ x) (sym l);
 }
 
--- the same where nothing was reported on the way
+-- the same if nothing was reported on the way
 pub goes-same : (scene : Scene) (before mid after : Draft) (t t' : Turned)
     → mid.reports.items ≡ before.reports.items → t ≡ t'
     → GoesOn scene mid after t → GoesOn scene before after t'
@@ -55,7 +55,7 @@ then-is b x y e = ap (λ t. if t then x else y) e
 pub else-is : {X : Type 0} (b : Bool) (x y : X) → b ≡ false → (if b then x else y) ≡ y
 else-is b x y e = ap (λ t. if t then x else y) e
 
--- a command answered: the shell has its codes, and that it failed was printed where its code reaches the limit
+-- a command answered: the shell has its codes, and its failure was printed if its code reaches the limit
 pub record IsTold (before mid : Draft) (word : List ℕ) (codes : Codes) : Type 0 where
   pub held : held_of mid ≡ held_of before
   pub limit : mid.shell.limit ≡ before.shell.limit
@@ -76,7 +76,7 @@ told-course scene before mid word codes t =
     ∙ ap (λ c. course_by scene (held_of before) before.shell.limit c mid.printed.items) t.codes_are
     ∙ ap (λ p. course_by scene (held_of before) before.shell.limit codes p) t.printed
 
--- what the code rule has to work on
+-- the input of the code rule
 abbrev pub said_in : Scene → Draft → Said
 said_in scene draft = said_of (course_of scene draft)
 
@@ -128,7 +128,7 @@ leads last frames codes said =
 abbrev pub led : FrameState → List FrameState → Codes → Said → Settled
 led last frames codes said = behind (end_of (suc (length frames)) last ∷ []) (leads last frames codes said)
 
--- the code rule goes on from a middle, before which it gave these items
+-- the code rule goes on from the middle, before which it gave these items
 pub step-ruled : (scene : Scene) (before mid after : Draft) (rs : List EndReport) (items : List Item) (settled settled' : Settled)
     → settled' ≡ behind items settled
     → ((log : List Item) → reports_of scene.number (items ++ log) ≡ rs ++ reports_of scene.number log)
@@ -147,7 +147,7 @@ end-script : (shell depth line : ℕ) (kind : Kind) (codes : Codes) (early : Boo
     ≡ record { shell = shell; name = name; last_line = line; code = codes.code; early = early; broken = false } ∷ reports_of shell log
 end-script shell depth line kind codes early name command log e = ap (λ k. reports_of shell (Ended depth k line codes early ∷ log)) e
 
--- what is said behind the end of a script
+-- what is said after the end of a script
 reported-said : (scene : Scene) (mid ended : Draft) (name : Text) (last : FrameState) → IsReported scene mid ended name last
     → said_in scene ended ≡ with_limit (limit_behind (frames_of scene mid) last.limit) (said_in scene mid)
 reported-said scene mid ended name last e =
@@ -190,7 +190,7 @@ lines-lead scene mid codes last k p =
     goes-same scene mid mid mid (by_rule (course_of scene mid) rested) _ refl (ap (by_rule (course_of scene mid)) (sym e))
     (record { frames = refl; phase = p; course = refl; reports = sym (append-nil mid.reports.items) })
 
--- behind a tick its line goes on
+-- after a tick its line goes on
 pub tick-leads : (scene : Scene) (mid after : Draft) (codes : Codes) (last : FrameState) (front rear : Text)
     → last.kind ≡ Tick front rear → IsTicked scene mid after front rear
     → IsRuled scene mid after (led last (frames_of scene mid) codes (said_in scene mid))

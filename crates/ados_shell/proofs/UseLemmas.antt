@@ -60,12 +60,12 @@ opened-used scene before mid after output target opened l u = record {
   reports = u.reports ∙ l.reports;
 }
 
--- where no assign changes, binding changes nothing
+-- if no assign changes, binding changes nothing
 pub settled : (used : List Text) (shared : SharedState) → bound_of used shared.files shared.assigns ≡ shared.assigns
     → shared ≡ with_assigns shared (bound_of used shared.files shared.assigns)
 settled used shared e = ap (with_assigns shared) (sym e)
 
--- where a device was used, all its assigns are bound
+-- if a device was used, all its assigns are bound
 pub bound : (used : List Text) (shared : SharedState) → (length used == 0) ≡ false
     → with_assigns shared (bound_of used shared.files shared.assigns) ≡ bound_in used shared
 bound [] shared e = absurd cc

@@ -1,4 +1,4 @@
--- What a launcher's answer to a shell comes to.
+-- What a launcher's answer to a shell results in.
 use Rattle.std.specs.Prelude.{◌≡◌, ℕ, List, Option, Some, None}
 use Rattle.ados_machine.specs.declared.answers.Answer.{Answer}
 use Rattle.ados_machine.specs.declared.refusals.Refusal.TheVariants as refusal
@@ -25,11 +25,11 @@ IsAnswering scene queue _ draft _ = ⊥
 abbrev pub GivesReply : Scene → Answer → Answering → Draft → Type 0
 GivesReply scene answer answering draft = (input : machine.Input) → IsAnswering scene input.queue answering draft (answering_in scene input answer)
 
--- the machine goes on by the answer, for which memory may be wanting
+-- the machine goes on by the answer, but an allocation may fail
 abbrev pub TakesReply : Scene → Answer → Type 0
 TakesReply scene answer = (input : machine.Input) → MayWantMemory (answering_in scene input answer)
 
--- a turn went on by the deed that an answer comes to, if it comes to one
+-- a turn went on by the deed that an answer gives, if it gives one
 abbrev pub IsReplied : Scene → Draft → Draft → Answering → Option Deed → Type 0
 IsReplied scene before after WrongAnswer None = Unit {0}
 IsReplied scene before after Goes (Some deed) = Settles scene before after deed

@@ -4,7 +4,7 @@ use Rattle.ados_machine.specs.declared.phases.Phase.{Phase}
 use Rattle.ados_machine.specs.declared.phases.Phase.TheVariants.{Ready, GoingOn, Waiting}
 use Rattle.ados_machine.specs.World.{is_for_input}
 
--- it waits for an answer to a prompt, or for a further line of a Run
+-- it waits for an answer to a prompt, or for another line of a Run
 abbrev pub asks_for_line : Phase → Bool
 asks_for_line Ready = false
 asks_for_line (GoingOn parted) = false

@@ -12,27 +12,27 @@ use Rattle.ados_shell.specs.declared.turnings.Turning.{Turning}
 use Rattle.ados_shell.specs.Drafts.{course_of, turn_start}
 use Rattle.ados_shell.specs.Turnings.{IsFirst, IsTurning, MayWantMemory, input_with, plain_turning}
 
--- the machine's turn of the scene's shell that ends its scripts in place of what it would come to
+-- the machine's turn of the scene's shell that ends its scripts instead of doing what it would have done
 abbrev pub broken_turning : Scene → Input → List (List ℕ) → machine.Turning
 broken_turning scene input queue =
     machine.in_place_of (plain_turning scene input scene.shell.now.phase queue) (input_with input queue) scene.shell.now.frames (turn_start scene)
 
--- a turn is that one, whatever lines wait behind the first
+-- a turn is that one, whatever lines wait after the first
 abbrev pub GivesBroken : Scene → Input → Turning → Draft → Type 0
 GivesBroken scene input turn draft =
     (queue : List (List ℕ)) → IsFirst (option_copied input.line) queue → IsTurning scene queue turn draft (broken_turning scene input queue)
 
--- the machine goes on at it, for which memory may be wanting
+-- the machine goes on at it, but an allocation may fail
 abbrev pub TakesBroken : Scene → Input → Type 0
 TakesBroken scene input =
     (queue : List (List ℕ)) → IsFirst (option_copied input.line) queue → MayWantMemory (broken_turning scene input queue)
 
--- that a frame ended at a break was reported, if it is a script's, and nothing else was done
+-- the end of a frame at a break was reported, if the frame is a script's, and nothing else was done
 pub record ReportsBreak (scene : Scene) (before after : Draft) (frame : FrameState) : Type 0 where
   pub same : after ≡ record before { reports = after.reports }
   pub reports : (depth : ℕ) → after.reports.items ≡ before.reports.items ++ reports_of scene.number (break_of depth frame ∷ [])
 
--- what a frame put out that ended at a break was given up, if it is a tick's, and nothing else was done
+-- the output of a frame that ended at a break was dropped, if the frame is a tick's, and nothing else was done
 pub record GivesUp (scene : Scene) (before after : Draft) (frame : FrameState) : Type 0 where
   pub frames : after.shell.frames ≡ before.shell.frames
   pub course : course_of scene after ≡ record (course_of scene before) { kept = kept_without frame.kind (course_of scene before).kept }

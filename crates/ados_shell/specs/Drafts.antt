@@ -37,16 +37,16 @@ use Rattle.ados_shell.specs.Stacks.{frames_in}
 abbrev pub phase_in : ShellDraft → Phase
 phase_in draft = phase_of (option_map (λ p. p.value) draft.phase)
 
--- what the ticks put out, where that changed
+-- what the ticks put out, if that changed
 abbrev pub kept_in : ShellDraft → Option (List Bytes)
 kept_in draft = option_map (λ k. reverse k.items) draft.kept
 
--- what is set behind a change, if there was one
+-- the settings after a change, if there was one
 abbrev pub set_by : Option Setting → Settings → Settings
 set_by None settings = settings
 set_by (Some setting) settings = with_setting setting settings
 
--- the shell behind what a turn makes of it
+-- the shell after what a turn makes of it
 abbrev pub behind : ShellDraft → ShellState → ShellState
 behind draft shell = record {
   frames = frames_in shell draft.frames;
@@ -62,18 +62,18 @@ behind draft shell = record {
   flagged = draft.flagged;
 }
 
--- what an event gives that a draft holds
+-- what is given by an event that a draft holds
 abbrev pub out_of : Draft → Out
 out_of draft = giving draft.printed.items draft.request draft.reports.items
 
 abbrev pub frames_of : Scene → Draft → List FrameState
 frames_of scene draft = frames_in scene.shell.now draft.shell.frames
 
--- where the next line of the newest frame stands
+-- the place of the next line of the newest frame
 abbrev pub here : Scene → Draft → Here
 here scene draft = here_of (frames_of scene draft)
 
--- the shell's parts as they stand
+-- the shell's parts as they are now
 abbrev pub parts_of : Scene → Draft → Parts
 parts_of scene draft = (behind draft.shell scene.shell.now).parts
 
@@ -92,7 +92,7 @@ start_of scene = record {
   flagged = scene.shell.now.flagged;
 }
 
--- a turn begins: it takes the flag away
+-- a turn begins: it clears the flag
 abbrev pub turn_start : Scene → Course
 turn_start scene = unflagged (start_of scene)
 
@@ -141,11 +141,11 @@ course_by scene held limit codes printed = record {
   flagged = held.flagged;
 }
 
--- what a turn hands on that sees this
+-- what a turn that sees this hands on
 abbrev pub course_of : Scene → Draft → Course
 course_of scene draft = course_by scene (held_of draft) draft.shell.limit draft.shell.codes draft.printed.items
 
--- nothing is set yet: a command changes what is set once at most
+-- nothing is set yet: a command changes a setting at most once
 abbrev pub IsUnset : Draft → Type 0
 IsUnset draft = draft.shell.setting ≡ None
 

@@ -11,7 +11,7 @@ use Rattle.ados_shell.specs.declared.drafts.Draft.{Draft}
 use Rattle.ados_shell.specs.Drafts.{course_of}
 use Rattle.ados_shell.specs.Uses.{HasUsed}
 
--- a turn after the input of a line was read, if it names one: these are its lines, and its device is used; where it was
+-- a turn after the input of a line was read, if it names one: these are its lines, and its device is used; if it was
 -- refused, nothing changed
 pub record Reads (scene : Scene) (before after : Draft) (name : Option Text) (lines given : Option (List Text)) : Type 0 where
   pub lines_are : lines ≡ given

@@ -18,7 +18,7 @@ use Rattle.ados_shell.specs.declared.scenes.Scene.{Scene}
 use Rattle.ados_shell.specs.declared.drafts.Draft.{Draft}
 use Rattle.ados_shell.specs.Drafts.{course_of}
 
--- an output was opened: a file, with the shared parts behind that, or another, for which nothing changes
+-- an output was opened: a file, with the shared parts after its opening, or another output, for which nothing changes
 abbrev pub IsOpened : SharedState → Result Opened FsFault → Result line.Opened Result2 → Type 0
 IsOpened shared (Ok Nothing) (Ok opened) = opened ≡ record { shared = shared; target = None }
 IsOpened shared (Ok Nil) (Ok opened) = opened ≡ record { shared = shared; target = Some Null }
@@ -27,7 +27,7 @@ IsOpened shared (Err (Refused fault)) (Err other) = fault ≡ other
 IsOpened shared (Err NoMemory) opened = Unit {0}
 IsOpened shared _ _ = ⊥
 
--- a turn after what a line's redirection opens was opened: it leads there, and the shared parts are new ones; where it
+-- a turn after what a line's redirection opens was opened: it leads there, and the shared parts are new ones; if it
 -- was refused, nothing changed
 pub record LeadsTo (scene : Scene) (before after : Draft) (target : Option Target) (opened : line.Opened) (course : Course) : Type 0 where
   pub frames : after.shell.frames ≡ before.shell.frames
@@ -36,7 +36,7 @@ pub record LeadsTo (scene : Scene) (before after : Draft) (target : Option Targe
   pub setting : after.shell.setting ≡ before.shell.setting
   pub reports : after.reports.items ≡ before.reports.items
 
--- the course of an event where an output was opened
+-- the course of an event after an output was opened
 abbrev pub opened_in : Course → line.Opened → Course
 opened_in course opened = record course { shared = opened.shared }
 

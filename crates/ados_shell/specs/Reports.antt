@@ -5,7 +5,7 @@ use Rattle.ados_flow.specs.Frames.{FrameState, last_line, last_codes, is_early}
 use Rattle.ados_machine.specs.declared.outs.EndReport.{EndReport}
 use Rattle.ados_machine.specs.Items.{broken_codes}
 
--- the report of the end of a frame that is the script of a name
+-- the report of the end of a frame that is the script with this name
 abbrev pub report_of : ℕ → Text → FrameState → EndReport
 report_of shell name frame = record {
   shell = shell;

@@ -9,7 +9,7 @@ use Rattle.ados_shell.specs.declared.stacks.Way.{Way}
 use Rattle.ados_shell.specs.declared.stacks.Way.TheVariants as ways
 use Rattle.ados_shell.specs.declared.stacks.Stack.{Stack}
 
--- so many of the oldest frames, the newest first
+-- this many of the oldest frames, the newest first
 abbrev pub oldest : ℕ → List FrameState → List FrameState
 oldest n frames = reverse (take n (reverse frames))
 
@@ -17,7 +17,7 @@ oldest n frames = reverse (take n (reverse frames))
 abbrev pub frames_in : ShellState → Stack → List FrameState
 frames_in shell stack = reverse stack.own.items ++ oldest stack.kept shell.frames
 
--- the newest frame, if there is one, was taken off
+-- the newest frame, if there is one, was popped
 abbrev pub IsPopped : ShellState → Stack → Stack → Option FrameState → Type 0
 IsPopped shell before after None = (frames_in shell before ≡ []) × (frames_in shell after ≡ [])
 IsPopped shell before after (Some frame) = frames_in shell before ≡ frame ∷ frames_in shell after
@@ -27,13 +27,13 @@ abbrev pub sink_above : List FrameState → Sink → Sink
 sink_above [] below = below
 sink_above (frame ∷ frames) below = sink_by frame.kind frame.output (sink_above frames below)
 
--- what a sink of the code is
+-- the sink that corresponds to one of the code
 abbrev pub sink_of : code.Sink → Sink
 sink_of sinks.Console = Console
 sink_of sinks.Kept = Kept
 sink_of (sinks.To target) = To target
 
--- the sink to which a way leads that frames give, above this one
+-- the sink to which the way of some frames leads, above this one
 abbrev pub sink_by_way : Way → Sink → Sink
 sink_by_way ways.Below below = below
 sink_by_way ways.Kept below = Kept
@@ -44,7 +44,7 @@ abbrev pub HasRoom : List FrameState → Type 0
 HasRoom [] = Unit {0}
 HasRoom (frame ∷ frames) = frame.position + 1 < 2 ^ 64
 
--- so many further lines of the newest frame are there to be taken
+-- the newest frame's position after this many more lines is a number of 64 bits
 abbrev pub HasTaken : ℕ → List FrameState → Type 0
 HasTaken taken [] = Unit {0}
 HasTaken taken (frame ∷ frames) = frame.position + taken < 2 ^ 64

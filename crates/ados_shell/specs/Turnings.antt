@@ -1,4 +1,4 @@
--- What a turn of a shell comes to.
+-- What a turn of a shell results in.
 use Rattle.std.specs.Prelude.{◌≡◌, ℕ, List, [], ◌∷◌, Option, Some, None, drop, slice_get}
 use Rattle.std.specs.Option.{option_copied}
 use Rattle.ados_machine.specs.declared.refusals.Refusal.TheVariants as refusal
@@ -16,25 +16,25 @@ use Rattle.ados_shell.specs.declared.turnings.Turning.{Turning}
 use Rattle.ados_shell.specs.declared.turnings.Turning.TheVariants.{NotReady, Ends, Goes, Takes}
 use Rattle.ados_shell.specs.Drafts.{IsDrafted, turn_start}
 
--- the first of the lines that wait, or none where none does
+-- the first of the lines that wait, or none if no line waits
 abbrev pub IsFirst : Option (List ℕ) → List (List ℕ) → Type 0
 IsFirst None queue = queue ≡ []
 IsFirst (Some line) queue = queue ≡ line ∷ drop 1 queue
 
--- the input, where these lines wait
+-- the input, when these lines wait
 abbrev pub input_with : Input → List (List ℕ) → machine.Input
 input_with input queue = record { queue = queue; is_ended = input.is_ended }
 
--- the machine's turn of the scene's shell, where these lines wait: a flag that it finds ends its scripts
+-- the machine's turn of the scene's shell, when these lines wait: a flag that it finds ends its scripts
 abbrev pub turning_in : Scene → Input → List (List ℕ) → machine.Turning
 turning_in scene input queue =
     machine.flagged_turning scene.shell.now.flagged (input_with input queue) scene.shell.now.frames (turn_start scene) scene.shell.now.phase
 
--- the same in a phase, where it finds no flag
+-- the same in a phase, if it finds no flag
 abbrev pub plain_turning : Scene → Input → Phase → List (List ℕ) → machine.Turning
 plain_turning scene input phase queue = machine.turning (input_with input queue) scene.shell.now.frames (turn_start scene) phase
 
--- a turn is that of the machine: it leaves these lines to wait, or takes the first of them
+-- a turn is that of the machine: it leaves these lines waiting, or takes the first of them
 abbrev pub IsTurning : Scene → List (List ℕ) → Turning → Draft → machine.Turning → Type 0
 IsTurning scene queue NotReady draft (machine.Refuses why) = why ≡ refusal.NotReady
 IsTurning scene queue Ends draft machine.Ends = Unit {0}
@@ -42,13 +42,13 @@ IsTurning scene queue Goes draft (machine.Takes rest turned) = (rest ≡ queue) 
 IsTurning scene queue Takes draft (machine.Takes rest turned) = (line : List ℕ) × (queue ≡ line ∷ rest) × IsDrafted scene draft turned
 IsTurning scene queue _ draft _ = ⊥
 
--- the turn of the scene's shell that takes of this input, whatever lines wait behind the first
+-- the turn of the scene's shell that reads this input, whatever lines wait after the first
 abbrev pub GivesTurning : Scene → Input → Turning → Draft → Type 0
 GivesTurning scene input turn draft =
     (queue : List (List ℕ)) → IsFirst (option_copied input.line) queue →
     IsTurning scene queue turn draft (turning_in scene input queue)
 
--- the same where it finds no flag
+-- the same if it finds no flag
 abbrev pub GivesPlain : Scene → Input → Turning → Draft → Type 0
 GivesPlain scene input turn draft =
     (queue : List (List ℕ)) → IsFirst (option_copied input.line) queue →
@@ -88,18 +88,18 @@ IsScriptDrafted scene draft [] = Unit {0}
 IsScriptDrafted scene draft (frame ∷ frames) =
     IsDrafted scene draft (machine.frame_turned frame frames (turn_start scene) (slice_get frame.lines frame.position))
 
--- the machine goes on, for which memory may be wanting: a refusal and a shell's end take none
+-- the machine goes on, but an allocation may fail: a refusal and a shell's end allocate nothing
 abbrev pub MayWantMemory : machine.Turning → Type 0
 MayWantMemory (machine.Refuses why) = ⊥
 MayWantMemory machine.Ends = ⊥
 MayWantMemory (machine.Takes rest turned) = Unit {0}
 
--- the machine goes on at a turn of the scene's shell with this input, whatever lines wait behind the first
+-- the machine goes on at a turn of the scene's shell with this input, whatever lines wait after the first
 abbrev pub TakesTurn : Scene → Input → Type 0
 TakesTurn scene input =
     (queue : List (List ℕ)) → IsFirst (option_copied input.line) queue → MayWantMemory (turning_in scene input queue)
 
--- the same where it finds no flag
+-- the same if it finds no flag
 abbrev pub TakesPlain : Scene → Input → Type 0
 TakesPlain scene input =
     (queue : List (List ℕ)) → IsFirst (option_copied input.line) queue → MayWantMemory (plain_turning scene input scene.shell.now.phase queue)

@@ -1,4 +1,4 @@
--- Devices that a turn uses, and the end at which their assigns are bound.
+-- Devices that a turn uses, and the end of the event, when their assigns are bound.
 use Rattle.std.specs.Prelude.{◌≡◌, Option}
 use Rattle.ados_assign.specs.Uses.{bound_of}
 use Rattle.ados_find.specs.Shared.{SharedState, version, with_assigns}
@@ -14,7 +14,7 @@ pub record HasUsed (scene : Scene) (before after : Draft) (course : Course) : Ty
   pub setting : after.shell.setting ≡ before.shell.setting
   pub reports : after.reports.items ≡ before.reports.items
 
--- these are the shared parts with the assigns that it used bound, or none, where they stay as they are
+-- these are the shared parts with the assigns that it used bound, or none, if they stay as they are
 abbrev pub IsBound : Scene → Draft → Option SharedState → Type 0
 IsBound scene draft new =
     version (course_of scene draft).shared new ≡ with_assigns (course_of scene draft).shared

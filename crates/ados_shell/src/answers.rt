@@ -14,7 +14,7 @@ use ados_machine::{Answer, Child, Phase, Starting, Wait};
 use ados_ram::FsFault;
 use ados_text::{Code, NoMemory, Octets, Result2, Text};
 
-/// What an answer for a shell comes to.
+/// What an answer for a shell results in.
 #[derive(Clone, Copy)]
 pub enum Answering {
     /// The shell does not wait for it.
@@ -23,20 +23,20 @@ pub enum Answering {
     Goes,
 }
 
-/// A piece of a program's output has so many bytes at most.
+/// The most bytes of a piece of a program's output.
 const PIECE_LIMIT: usize = 4096;
 
 impl Draft {
     ghost use Rattle.ados_shell.specs.Answerings.{GivesReply, IsReplied, TakesReply};
     ghost use Rattle.ados_shell.specs.Drafts.{Settles, course_of, here};
 
-    /// A launcher's answer for the scene's shell: where it waits for one of this kind, the draft is filled with what is
+    /// A launcher's answer for the scene's shell: if it waits for one of this kind, the draft is filled with what is
     /// to be changed. Nothing else is changed, and what the draft held before is forgotten.
     ///
     /// A program that has started has its output opened, and is read until that ends; then its end is waited for, and its
-    /// command answers. A piece of no byte, or of more than 4,096, is none that is waited for.
+    /// command answers. A piece of no bytes, or of more than 4,096, is never waited for.
     ///
-    /// `NoMemory` where there is none for what the answer makes, and only where the shell waits for it.
+    /// `NoMemory` if there is none for what the answer makes, and only if the shell waits for it.
     pub fn take_answer_of(&mut self, scene: &Scene, answer: &Answer) -> Result<Answering, NoMemory>
         ensures answering { IfOk result (λ answering. GivesReply scene.now answer.now answering self.new) }
         ensures memory { OnErr result (TakesReply scene.now answer.now) }
@@ -86,7 +86,7 @@ impl Draft {
         }
     }
 
-    /// An answer for a shell that waits for a start. A program that could not be started is its command's fault.
+    /// An answer for a shell that waits for a start. If the program could not be started, that is its command's fault.
     fn reply_to_start(
         &mut self,
         scene: &Scene,
@@ -115,7 +115,7 @@ impl Draft {
     }
 
     /// The program has started: its output is opened by its text, and the shell waits for a piece, or for the program's end
-    /// where that was broken. That the output is refused is the program's first fault.
+    /// if that was broken. That the output is refused is the program's first fault.
     fn begin_to_read(&mut self, scene: &Scene, starting: &Starting) -> Result<(), NoMemory>
         ensures { OnOk result (Settles scene.now self.old self.new
             (started_deed starting.now (course_of scene.now self.old) (opening (course_of scene.now self.old) starting.now.output))) }
@@ -165,8 +165,8 @@ impl Draft {
         Ok(Answering::Goes)
     }
 
-    /// A piece of the program's output goes out as it comes, and the shell waits for the next, or for the program's end where
-    /// that was broken; behind a fault the piece is dropped.
+    /// A piece of the program's output is put out as it comes, and the shell waits for the next, or for the program's end if
+    /// that was broken; after a fault the piece is dropped.
     fn take_piece(&mut self, scene: &Scene, child: &Child, bytes: &Octets) -> Result<(), NoMemory>
         ensures { OnOk result (Settles scene.now self.old self.new
             (piece_deed child.now bytes.now (here scene.now self.old).sink (course_of scene.now self.old) child.now.fault)) }
@@ -177,7 +177,7 @@ impl Draft {
         }
     }
 
-    /// A piece of the program's output is put out, and the shell waits for what comes next. That it does not fit is the
+    /// A piece of the program's output is put out, and the shell waits for what comes next. If it does not fit, that is the
     /// program's first fault, unless it was broken before; its output stays open.
     fn put_piece(&mut self, scene: &Scene, child: &Child, bytes: &Octets) -> Result<(), NoMemory>
         ensures { OnOk result (Settles scene.now self.old self.new
@@ -223,7 +223,7 @@ impl Draft {
         Ok(Answering::Goes)
     }
 
-    /// The program has ended: the first fault that came is its command's, and without one it answers so.
+    /// The program has ended: the first fault that came is its command's; without one the command answers with these codes.
     fn end_program(&mut self, scene: &Scene, child: &Child, codes: Codes) -> Result<(), NoMemory>
         ensures { OnOk result (Settles scene.now self.old self.new (ended_deed child.now codes (course_of scene.now self.old) child.now.fault)) }
     {
@@ -253,7 +253,7 @@ fn is_piece(bytes: &Octets) -> bool
     !bytes.is_empty() && bytes.len() <= PIECE_LIMIT
 }
 
-/// What the command of a program answers that ended with a status.
+/// What the command of a program that ended with a status answers.
 fn codes_of(status: u8) -> Codes
     ensures { result ≡ record { code = code_of status; result2 = NONE } }
 {

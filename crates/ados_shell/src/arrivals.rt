@@ -59,7 +59,7 @@ impl Draft {
     }
 }
 
-/// What the change to a directory makes: it takes no arguments.
+/// What the change to a directory does: it takes no arguments.
 fn arrival(alloc: Global, place: Place, args: &Text) -> Result<Outcome, NoMemory>
     ensures { IfOk result (λ outcome. DoesTo outcome (λ shared. arrival shared place args.now)) }
 {

@@ -18,7 +18,7 @@ use ados_machine::EndReport;
 use ados_text::{NoMemory, Result2, Text};
 
 impl Shell {
-    /// It is broken: by C a program that it is to start, or reads, is marked, and by D its scripts end at its next turn.
+    /// The shell is broken: by C, a program that it is to start, or reads, is marked; by D, its scripts end at its next turn.
     pub fn break_by(&mut self, breaks: Breaks)
         ensures { self.new ≡ broken_shell breaks self.old }
     {
@@ -42,8 +42,8 @@ impl Draft {
     ghost use Rattle.ados_shell.specs.Breaks.{GivesBroken, GivesUp, ReportsBreak, TakesBroken};
     ghost use Rattle.ados_shell.specs.Drafts.{IsDrafted, IsRuled, course_of, frames_of, turn_start};
 
-    /// A turn of a shell that is flagged, in which a script runs: where it can take one, its scripts end in place of what
-    /// that would come to, and its input stays.
+    /// A turn of a shell that is flagged, in which a script runs: if it can take one, its scripts end instead of
+    /// what it would have done, and its input stays.
     pub fn broken_turn(&mut self, scene: &Scene, input: &Input) -> Result<Turning, NoMemory>
         requires { has_script scene.now.shell.now.frames ≡ true }
         ensures turn { IfOk result (λ turn. GivesBroken scene.now input.now turn self.new) }
@@ -67,8 +67,8 @@ impl Draft {
         self.bind(scene)
     }
 
-    /// Every frame ends from the newest to the outermost script, and no command of them is finished. The command that made
-    /// that script is, with 10 and 304, and the code rule follows.
+    /// Every frame ends from the newest to the outermost script, and none of their commands is finished. The command that made
+    /// that script is finished, with 10 and 304, and the code rule follows.
     fn break_frames(&mut self, scene: &Scene) -> Result<(), NoMemory>
         ensures { OnOk result (IsRuled scene.now self.old self.new
             (broken_off (frames_of scene.now self.old) (said_of (course_of scene.now self.old)))) }
@@ -87,7 +87,7 @@ impl Draft {
         }
     }
 
-    /// Reports that a frame that was taken off ended at a break, if it is a script's.
+    /// Reports that a frame that was popped ended at a break, if it is a script's.
     fn report_break(&mut self, scene: &Scene, frame: &Frame) -> Result<(), NoMemory>
         ensures { OnOk result (ReportsBreak scene.now self.old self.new frame.now) }
     {
@@ -98,7 +98,7 @@ impl Draft {
         Ok(())
     }
 
-    /// Gives up what a frame that was taken off put out, if it is a tick's.
+    /// Drops the output of a frame that was popped, if it is a tick's.
     fn give_up(&mut self, scene: &Scene, frame: &Frame) -> Result<(), NoMemory>
         ensures { OnOk result (GivesUp scene.now self.old self.new frame.now) }
     {
@@ -111,7 +111,7 @@ impl Draft {
     }
 }
 
-/// The report of the end at a break of the script of a name, whose shell has this number.
+/// The report of the end at a break of the script with this name, whose shell has this number.
 fn broken_report(shell: u8, name: &Text, frame: &Frame) -> Result<EndReport, NoMemory>
     ensures { IfOk result (λ report. report ≡ broken_report shell name.now frame.now) }
 {
@@ -135,7 +135,7 @@ fn maker(frame: &Frame) -> &[u8]
     }
 }
 
-/// A shell of this number breaks itself, and by D.
+/// A shell with this number breaks itself, and by D.
 pub fn flags_own(number: u8, breaking: Option<Breaking>) -> bool
     ensures { result ≡ flags_own number breaking }
 {

@@ -61,7 +61,7 @@ impl Draft {
         self.act(scene, &line.command, target, None, action)
     }
 
-    /// What the call of a script does whose output leads there, as the shell and the shared parts stand.
+    /// What the call of a script does whose output leads there, with the shell and the shared parts as they are now.
     fn script(
         &self,
         scene: &Scene,

@@ -9,7 +9,7 @@ use ados_ram::Place;
 use ados_text::NoMemory;
 
 impl Shell {
-    /// Its current directory, where what was moved has gone along.
+    /// Its current directory, moved along with what was moved.
     pub fn carried_directory(&self, moved: &Renamed) -> Result<Place, NoMemory>
         ensures { IfOk result (λ place. place ≡ carried_directory moved.now self.now) }
     {
@@ -27,7 +27,7 @@ impl Shell {
 impl ShellDraft {
     ghost use Rattle.ados_shell.specs.Drafts.{behind};
 
-    /// The current directory of the shell behind its turn, where what was moved has gone along.
+    /// The current directory of the shell after its turn, moved along with what was moved.
     pub fn carried_directory(&self, shell: &Shell, moved: &Renamed) -> Result<Place, NoMemory>
         ensures { IfOk result (λ place. place ≡ carried_directory moved.now (behind self.now shell.now)) }
     {

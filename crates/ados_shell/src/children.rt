@@ -1,4 +1,4 @@
-// How far the program of the host is that a shell started.
+// The state of the program of the host that a shell started.
 ghost use Rattle.std.specs.Prelude.{◌≡◌};
 ghost use Rattle.ados_machine.specs.Children.{child_during, child_while};
 
@@ -6,7 +6,7 @@ use crate::shells::Shell;
 use ados_machine::{ChildState, Phase, Wait};
 
 impl Shell {
-    /// How far the program of the host is that it started.
+    /// The state of the program of the host that the shell started.
     pub fn child(&self) -> ChildState
         ensures { result ≡ child_during self.now.phase }
     {

@@ -18,7 +18,7 @@ use ados_text::{NoMemory, Result2, Text};
 impl Draft {
     ghost use Rattle.ados_shell.specs.Drafts.{IsReported, IsRuled, Settles, course_of, frames_of};
 
-    /// No command was there to answer: the newest frame ends where no line is left.
+    /// No command was there to answer: the newest frame ends if no line is left.
     pub fn pass(&mut self, scene: &Scene) -> Result<(), NoMemory>
         ensures { OnOk result (Settles scene.now self.old self.new (Passes (course_of scene.now self.old))) }
     {
@@ -74,7 +74,7 @@ impl Draft {
         self.answer(scene, word.as_bytes(), codes, false)
     }
 
-    /// A command answered that took so many further lines of the newest frame, if there is one.
+    /// A command answered that took this many more lines of the newest frame, if there is one.
     pub fn skip(
         &mut self,
         scene: &Scene,
@@ -90,7 +90,7 @@ impl Draft {
         self.answer(scene, word.as_bytes(), codes, false)
     }
 
-    /// A script is called: where there are as many frames as a shell may have, that is the command's fault.
+    /// A script is called: if there are as many frames as a shell may have, that is the command's fault.
     pub fn call(
         &mut self,
         scene: &Scene,
@@ -107,7 +107,7 @@ impl Draft {
         }
     }
 
-    /// A script begins, with the limit that stands, and ends at once where it has no line.
+    /// A script begins, with the current limit, and ends at once if it has no line.
     fn begin_script(
         &mut self,
         scene: &Scene,
@@ -127,7 +127,7 @@ impl Draft {
         self.pass(scene)
     }
 
-    /// The code rule: the newest frame ends where it quits, at the limit, or where no line is left,
+    /// The code rule: the newest frame ends if it quits, at the limit, or if no line is left,
     /// and its end is the answer of the command that made it, and so on down.
     pub fn finish(
         &mut self,
@@ -160,7 +160,7 @@ impl Draft {
         }
     }
 
-    /// Reports the end of the script of a name that was taken off, and restores the limit of its beginning.
+    /// Reports the end of the script with this name that was popped, and restores the limit of its beginning.
     fn report(&mut self, scene: &Scene, name: &Text, frame: &Frame) -> Result<(), NoMemory>
         ensures { OnOk result (IsReported scene.now self.old self.new name.now frame.now) }
     {
@@ -170,7 +170,7 @@ impl Draft {
     }
 }
 
-/// The report of the end of the script of a name, whose shell has this number.
+/// The report of the end of the script with this name, whose shell has this number.
 fn report_of(shell: u8, name: &Text, frame: &Frame) -> Result<EndReport, NoMemory>
     ensures { IfOk result (λ report. report ≡ report_of shell name.now frame.now) }
 {

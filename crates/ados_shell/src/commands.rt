@@ -51,7 +51,7 @@ impl Commands {
         &self.templates[builtin.place()]
     }
 
-    /// What a command of the newest frame does with the text of its arguments, which are filled into those that are
+    /// What a command of the newest frame does with the text of its arguments, which are filled into the arguments that are
     /// lent; and the devices that they use are pushed.
     #[tactic(auto, unfolding(ados_machine::specs::Commands::action_of, ados_machine::specs::Uses::devices_of))]
     pub fn perform(

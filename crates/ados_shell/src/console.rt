@@ -6,7 +6,7 @@ ghost use Rattle.ados_machine.specs.CodeRule.{fault_line, failure, failed_line};
 use ados_flow::is_reached;
 use ados_text::{Code, NoMemory, Octets, Result2, fault_text, push_number};
 
-/// Prints what a command puts out. Where nothing was printed before it is moved, and not copied.
+/// Prints what a command puts out. If nothing was printed before, the output is moved, not copied.
 pub fn push_output(out: &mut Vec<u8>, output: Octets) -> Result<(), NoMemory>
     ensures { OnOk result (out.new.items ≡ out.old.items ++ output) }
 {
@@ -18,7 +18,7 @@ pub fn push_output(out: &mut Vec<u8>, output: Octets) -> Result<(), NoMemory>
     Ok(())
 }
 
-/// Prints the text of a fault under the command's word, where there is a fault.
+/// Prints the text of a fault under the command's word, if there is a fault.
 pub fn push_fault(out: &mut Vec<u8>, word: &[u8], fault: Result2) -> Result<(), NoMemory>
     ensures { OnOk result (out.new.items ≡ out.old.items ++ fault_line word.now fault) }
 {
@@ -32,7 +32,7 @@ pub fn push_fault(out: &mut Vec<u8>, word: &[u8], fault: Result2) -> Result<(), 
     Ok(())
 }
 
-/// Prints that a command failed, where its code is at the limit or above.
+/// Prints that a command failed, if its code is at the limit or above.
 pub fn push_failed(out: &mut Vec<u8>, word: &[u8], code: Code, limit: Code) -> Result<(), NoMemory>
     ensures { OnOk result (out.new.items ≡ out.old.items ++ failed_line word.now code limit) }
 {

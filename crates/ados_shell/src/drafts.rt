@@ -21,7 +21,7 @@ use std::alloc::Global;
 pub struct Draft {
     /// What the turn makes of its shell.
     pub shell: ShellDraft,
-    /// The shared parts, where they are new ones.
+    /// The shared parts, if they are new ones.
     pub shared: Option<Shared>,
     /// The object that was renamed, by which the current directories of all shells are carried.
     pub renamed: Option<Box<Renamed>>,
@@ -35,9 +35,9 @@ pub struct Draft {
     pub request: Option<Request>,
     /// The scripts that ended, innermost first.
     pub reports: Vec<EndReport>,
-    /// Room for the arguments of the line at work; between two lines it says nothing.
+    /// Room for the arguments of the line that runs; between two lines its content has no meaning.
     pub args: Args,
-    /// The devices that the event used so far, with those to which they lead; it takes no memory where none was used.
+    /// The devices that the event used so far, with those to which they lead; it takes no memory if none was used.
     pub used: Vec<Name>,
     /// What the cache of the shared parts may learn: what this turn, or one before it, asked for and did not find. It is
     /// a hint, and no definition speaks of it.
@@ -48,23 +48,23 @@ pub struct Draft {
 pub struct ShellDraft {
     /// The frames.
     pub frames: Stack,
-    /// What the shell does next; `None` where it is ready.
+    /// What the shell does next; `None` if it is ready.
     pub phase: Option<Box<Phase>>,
     /// The fail limit.
     pub limit: Code,
     /// What the last command answered.
     pub codes: Codes,
-    /// The current directory, where it is a new one.
+    /// The current directory, if it is a new one.
     pub directory: Option<Place>,
     /// What the command set in the shell, if it set something.
     pub setting: Option<Setting>,
-    /// What its ticks put out so far, where that changed; that of the newest is the last.
+    /// What its ticks put out so far, if that changed; that of the newest is the last.
     pub kept: Option<Vec<Octets>>,
     /// Its scripts end at its next turn.
     pub flagged: bool,
 }
 
-// Written out, so that for whoever drops a draft it is one step, and not one for each of its parts.
+// Written out, so that to drop a draft is one step, and not one for each of its parts.
 impl Drop for Draft {
     fn drop(self) {
         let Draft {
@@ -130,7 +130,7 @@ impl Draft {
         }
     }
 
-    /// A turn of a shell begins: nothing is changed yet, but that its flag is taken away.
+    /// A turn of a shell begins: nothing is changed yet, except that its flag is cleared.
     pub fn begin_turn(&mut self, shell: &Shell)
         ensures { IsFresh shell.now false self.new }
     {
@@ -161,7 +161,7 @@ impl Draft {
         self.reports.clear();
     }
 
-    /// The launcher is asked for what the shell waits for behind its event.
+    /// The launcher is asked for what the shell waits for after its event.
     pub fn ask_for(&mut self, shell: &Shell) -> Result<(), NoMemory>
         ensures { OnOk result (self.new ≡ record self.old { request = request_of shell.now.parts.number (phase_in self.old.shell) }) }
     {
@@ -169,7 +169,7 @@ impl Draft {
         Ok(())
     }
 
-    /// What the event gives that printed this, asks for this, and at which these scripts ended.
+    /// What is given by the event that printed this, asks for this, and at which these scripts ended.
     pub fn into_out(self) -> Out
         ensures { result ≡ out_of self }
     {
@@ -189,14 +189,14 @@ impl Draft {
         Out::giving(printed, request, reports)
     }
 
-    /// The current directory as it stands.
+    /// The current directory as it is now.
     pub fn directory<'b>(&'b self, scene: &'b Scene) -> &'b Place
         ensures { result.now ≡ (parts_of scene.now self.now).directory }
     {
         self.shell.directory(scene.shell)
     }
 
-    /// The shared parts as they stand.
+    /// The shared parts as they are now.
     pub fn current<'b>(&'b self, scene: &'b Scene) -> &'b Shared
         ensures { result.now ≡ version scene.now.shared.now self.now.shared }
     {
@@ -206,8 +206,8 @@ impl Draft {
         }
     }
 
-    /// What a command of the shell of a number made is moved in: what it changed of the shell's parts, new shared parts,
-    /// where there are any, what was renamed, and which shell was broken. A shell that breaks itself is flagged at once.
+    /// What a command of the shell with this number made is moved in: what it changed of the shell's parts, new shared parts,
+    /// if there are any, what was renamed, and which shell was broken. A shell that breaks itself is flagged at once.
     pub fn affect(
         &mut self,
         number: u8,

@@ -18,7 +18,7 @@ use ados_text::{NoMemory, Result2, Text, Texts};
 impl Draft {
     ghost use Rattle.ados_shell.specs.Drafts.{IsUnset, Settles, course_of, here};
 
-    /// Works a line whose command is a program, which runs from an entry of the resident list, or from a file.
+    /// Runs a line whose command is a program, which runs from an entry of the resident list, or from a file.
     pub fn run_program(
         &mut self,
         scene: &Scene,

@@ -13,7 +13,7 @@ use std::alloc::Global;
 
 /// The lines of an input, from a current directory, where these outputs are open; NIL: has none.
 ///
-/// 210 for a name that is no path, what resolving refuses (204, 205, 212, 218), and what reading refuses (202, 205,
+/// 210 for a name that is not a path, what resolving refuses (204, 205, 212, 218), and what reading refuses (202, 205,
 /// 212, 224).
 pub fn input_lines(
     alloc: Global,
@@ -66,7 +66,7 @@ fn is_question(args: &[u8], item: Item) -> bool
     }
 }
 
-/// Nothing more stands there.
+/// Nothing more follows.
 pub fn is_end(item: Item) -> bool
     ensures { result ≡ is_end item }
 {

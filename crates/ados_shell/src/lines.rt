@@ -35,7 +35,7 @@ impl Draft {
         self.work_line(scene, expanded)
     }
 
-    /// Works what a line came to.
+    /// Runs a line after its expansion.
     pub fn work_line(
         &mut self,
         scene: &Scene,
@@ -54,7 +54,7 @@ impl Draft {
         }
     }
 
-    /// The line is at fault: it uses nothing.
+    /// The line is invalid: it uses nothing.
     pub fn fault_line(&mut self, scene: &Scene, fault: Result2) -> Result<(), NoMemory>
         ensures { OnOk result (Settles scene.now self.old self.new (line_fault fault (course_of scene.now self.old))) }
     {
@@ -62,7 +62,7 @@ impl Draft {
         self.answer(scene, b"Shell", Codes::failed(fault), false)
     }
 
-    /// What a raw line comes to, as the shell and the shared parts stand.
+    /// The expansion of a raw line, with the shell and the shared parts as they are now.
     fn expanded(&self, scene: &Scene, raw: &Text) -> Result<Expanded, LineFault>
         requires { IsUnset self.now }
         ensures { Gives result (expanded_in (course_of scene.now self.now).parts.settings.aliases (variables_in (course_of scene.now self.now)) raw.now) }
@@ -71,7 +71,7 @@ impl Draft {
         expand(&scope, raw)
     }
 
-    /// Where the words of a line have their meanings, as the shell and the shared parts stand.
+    /// Where the words of a line have their meanings, with the shell and the shared parts as they are now.
     pub fn scope<'b>(&'b self, scene: &'b Scene) -> Scope<'b>
         requires { IsUnset self.now }
         ensures aliases { result.aliases.now ≡ (course_of scene.now self.now).parts.settings.aliases }
@@ -92,7 +92,7 @@ impl Draft {
         }
     }
 
-    /// Seeks the command of a line.
+    /// Searches for the command of a line.
     fn seek(&mut self, scene: &Scene, line: &Line) -> Result<(), NoMemory>
         requires { IsUnset self.old }
         ensures { OnOk result (Settles scene.now self.old self.new
@@ -103,7 +103,7 @@ impl Draft {
         self.work_found(scene, found, line)
     }
 
-    /// Works a line for whose command this was found. What is not known, or can't be run, reads and opens nothing.
+    /// Runs a line for whose command this was found. If it is not known, or can't be run, nothing is read or opened.
     fn work_found(&mut self, scene: &Scene, found: Found, line: &Line) -> Result<(), NoMemory>
         requires { IsUnset self.old }
         ensures { OnOk result (Settles scene.now self.old self.new
@@ -129,7 +129,7 @@ impl Draft {
         }
     }
 
-    /// What a word stands for, as the shell and the shared parts stand, and which device its search used.
+    /// What a word stands for, with the shell and the shared parts as they are now, and which device its search used.
     fn find(&self, scene: &Scene, word: &Text) -> Result<Search, NoMemory>
         requires { IsUnset self.now }
         ensures found { IfOk result (λ s. s.found ≡ found_in (course_of scene.now self.now) word.now) }

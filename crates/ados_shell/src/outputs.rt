@@ -26,7 +26,7 @@ pub enum Opened {
     Nothing,
     /// NIL:.
     Nil,
-    /// A file, with the shared parts behind its opening.
+    /// A file, with the shared parts after its opening.
     File(Shared, Place),
 }
 
@@ -36,7 +36,7 @@ impl Opened {
     /// Opens what a redirection names, from a current directory, where these outputs are open: `>` empties the file or
     /// makes it, `>>` keeps it or makes it.
     ///
-    /// 210 for a name that is no path, what resolving refuses (204, 205, 212, 218), and what writing refuses (202,
+    /// 210 for a name that is not a path, what resolving refuses (204, 205, 212, 218), and what writing refuses (202,
     /// 212, 221, 223).
     pub fn by(
         alloc: Global,
@@ -68,7 +68,7 @@ impl Draft {
     ghost use Rattle.ados_shell.specs.Outputs.{HasHeld, HasOpened, HoldsFiles, IsOpened, IsPut};
     ghost use Rattle.ados_shell.specs.Drafts.{course_of, here};
 
-    /// Opens what a redirection names, as the shell and the shared parts stand.
+    /// Opens what a redirection names, with the shell and the shared parts as they are now.
     pub fn open(&self, scene: &Scene, output: Option<&Redirection>) -> Result<Opened, FsFault>
         ensures { IsOpened (course_of scene.now self.now).shared result (opening (course_of scene.now self.now) (option_copied output.entry)) }
     {
@@ -88,9 +88,9 @@ impl Draft {
     }
 
     /// Opens what a redirection names, holds what that makes of the shared parts, and uses its device; gives where it
-    /// leads, if one is named. Where it is refused nothing is changed.
+    /// leads, if one is named. If it is refused nothing is changed.
     ///
-    /// 210 for a name that is no path, what resolving refuses (204, 205, 212, 218), and what writing refuses (202,
+    /// 210 for a name that is not a path, what resolving refuses (204, 205, 212, 218), and what writing refuses (202,
     /// 212, 221, 223).
     pub fn open_own(
         &mut self,
@@ -106,7 +106,7 @@ impl Draft {
         Ok(target)
     }
 
-    /// The same, where its device is not used yet.
+    /// The same, if its device is not used yet.
     fn hold_opened(
         &mut self,
         scene: &Scene,
@@ -124,8 +124,8 @@ impl Draft {
         }
     }
 
-    /// Puts a command's output where it goes: to its own target, where it has one, else where that of the newest
-    /// frame goes; what the command answers then.
+    /// Puts a command's output where it goes: to its own target, if it has one, otherwise where that of the newest
+    /// frame goes; gives what the command answers then.
     pub fn put(
         &mut self,
         scene: &Scene,
@@ -188,9 +188,9 @@ impl Draft {
         }
     }
 
-    /// The files once bytes were put at a place, where an output is open.
+    /// The files after bytes were put at a place, where an output is open.
     ///
-    /// 221 where they do not fit.
+    /// 221 if they do not fit.
     fn files_with(&self, scene: &Scene, place: &Place, output: &[u8]) -> Result<Ram, FsFault>
         ensures ok { IfOk result (λ files. files ≡ put_open_of (course_of scene.now self.now).shared.files (key_of place.now) (last_name place.now) output.now) }
         ensures fault { Answers result (put_open_fault (course_of scene.now self.now).shared.files (key_of place.now) (last_name place.now) output.now) }

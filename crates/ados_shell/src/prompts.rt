@@ -20,7 +20,7 @@ impl Draft {
     ghost use Rattle.ados_shell.specs.Drafts.{IsUnset, Settles, course_of, here};
     ghost use Rattle.ados_shell.specs.Inputs.{HasRead};
 
-    /// Reads the input of a command, if it has one, and asks for its arguments where they are `?`.
+    /// Reads the input of a command, if it has one, and asks for its arguments if they are `?`.
     pub fn prepare(&mut self, scene: &Scene, builtin: Builtin, line: &Line) -> Result<(), NoMemory>
         requires { IsUnset self.old }
         ensures { OnOk result (Settles scene.now self.old self.new
@@ -34,7 +34,7 @@ impl Draft {
         }
     }
 
-    /// The lines of an input, if there is one, as the shell and the shared parts stand.
+    /// The lines of an input, if there is one, with the shell and the shared parts as they are now.
     fn input(&self, scene: &Scene, name: Option<&Text>) -> Result<Option<Texts>, FsFault>
         ensures { Gives result (input_lines (course_of scene.now self.now) (option_copied name.entry)) }
     {
@@ -48,7 +48,7 @@ impl Draft {
         }
     }
 
-    /// Reads an input, if there is one, and uses its device. Where it is refused nothing is changed.
+    /// Reads an input, if there is one, and uses its device. If it is refused nothing is changed.
     pub fn read_own(&mut self, scene: &Scene, name: Option<&Text>) -> Result<Option<Texts>, FsFault>
         ensures { HasRead scene.now self.old self.new (option_copied name.entry) result (input_lines (course_of scene.now self.old) (option_copied name.entry)) }
     {
@@ -59,7 +59,7 @@ impl Draft {
         Ok(lines)
     }
 
-    /// Asks for a command's arguments where they are `?`, and lets it begin; its input has these lines, if there is one.
+    /// Asks for a command's arguments if they are `?`, and lets it begin; its input has these lines, if there is one.
     fn proceed(
         &mut self,
         scene: &Scene,
@@ -111,7 +111,7 @@ impl Draft {
         Ok(())
     }
 
-    /// Lets a command begin for whose arguments the first of these lines stands.
+    /// Lets a command begin; the first of these lines stands for its arguments.
     fn begin_with(
         &mut self,
         scene: &Scene,
@@ -143,7 +143,7 @@ impl Draft {
     }
 }
 
-/// The lines behind the first.
+/// The lines after the first.
 fn behind_first(lines: &[Text]) -> &[Text]
     ensures { result.now ≡ drop 1 lines.now }
 {
@@ -153,7 +153,7 @@ fn behind_first(lines: &[Text]) -> &[Text]
     }
 }
 
-/// A copy of the first line; an empty one where there is none.
+/// A copy of the first line; an empty one if there is none.
 fn first_of(alloc: Global, lines: &[Text]) -> Result<Text, NoMemory>
     ensures { IfOk result (λ line. line ≡ first_of lines.now) }
 {

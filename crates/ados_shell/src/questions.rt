@@ -1,4 +1,4 @@
-// Questions: what Ask comes to, and what a reply does.
+// Questions: what Ask does, and what a reply does.
 ghost use Rattle.std.specs.Prelude.{◌≡◌, ◌++◌, IfOk, OnOk};
 ghost use Rattle.std.specs.Option.{option_map};
 ghost use Rattle.ados_machine.specs.Questions.{ask_deed, inquiry, question_deed, question_text, reply_deed};
@@ -14,7 +14,7 @@ use ados_text::{NoMemory, Text};
 impl Draft {
     ghost use Rattle.ados_shell.specs.Drafts.{Settles, course_of};
 
-    /// Ask asks its input, and where it has none its shell waits.
+    /// Ask asks its input, and if it has none its shell waits.
     pub fn inquire(
         &mut self,
         scene: &Scene,
@@ -41,7 +41,7 @@ impl Draft {
         self.wait(scene, Wait::ForAnswer(Asking::Reply(question)))
     }
 
-    /// Takes a reply to a question that waited; where it is none, the question is asked again.
+    /// Takes a reply to a question that waited; if it is not a reply, the question is asked again.
     pub fn reply(&mut self, scene: &Scene, question: &Question, line: &Text) -> Result<(), NoMemory>
         ensures { OnOk result (Settles scene.now self.old self.new (reply_deed line.now question.now (course_of scene.now self.old))) }
     {
@@ -63,7 +63,7 @@ fn copied(question: &Question) -> Result<Question, NoMemory>
     })
 }
 
-/// Asks lines, one after another, up to the first that replies; their end is no.
+/// Asks for one line after another, up to the first that is a reply; the end of the lines means no.
 fn inquire(printed: &mut Vec<u8>, prompt: &Text, lines: &[Text]) -> Result<Codes, NoMemory>
     ensures { IfOk result (λ codes. (codes ≡ (inquiry prompt.now lines.now).answered)
         × (printed.new.items ≡ printed.old.items ++ (inquiry prompt.now lines.now).printed)) }

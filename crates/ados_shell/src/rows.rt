@@ -1,4 +1,4 @@
-// What a command does: its output is opened, its row is worked, and what it made is moved in.
+// What a command does: its output is opened, its row runs, and what it made is moved in.
 ghost use Rattle.std.specs.Prelude.{◌≡◌, None, IfOk, OnOk};
 ghost use Rattle.std.specs.Option.{option_copied, option_map};
 ghost use Rattle.ados_find.specs.Effects.{effect_of};
@@ -58,7 +58,7 @@ impl Draft {
         self.act(scene, &line.command, target, input, action)
     }
 
-    /// Moves in what a command does, whose output leads there, and whose input has these lines.
+    /// Moves in what is done by a command whose output leads there, and whose input has these lines.
     pub fn act(
         &mut self,
         scene: &Scene,
@@ -88,7 +88,7 @@ impl Draft {
         }
     }
 
-    /// What a command does whose output leads there, as the shell and the shared parts stand; the devices that its
+    /// What a command does whose output leads there, with the shell and the shared parts as they are now; the devices that its
     /// arguments use are used.
     #[tactic(auto, unfolding(ados_machine::specs::Uses::reached))]
     fn action(
@@ -114,7 +114,7 @@ impl Draft {
             .perform(scene, builtin, line, shared, others, args, used)
     }
 
-    /// What the command of this word, whose output leads there, sees of the shells that run.
+    /// What the command with this word, whose output leads there, sees of the shells that run.
     fn others_for(
         &self,
         scene: &Scene,
@@ -225,7 +225,7 @@ impl ShellDraft {
     ghost use Rattle.ados_shell.specs.Stacks.{frames_in};
     ghost use Rattle.ados_shell.specs.Views.{seen};
 
-    /// What a command of the newest frame does that sees this of the shells that run; its arguments are filled into those
+    /// What is done by a command of the newest frame that sees this of the shells that run; its arguments are filled into those
     /// that are lent, and the devices that they use are pushed.
     fn perform(
         &self,

@@ -23,7 +23,7 @@ impl Draft {
     ghost use Rattle.ados_shell.specs.Drafts.{HasBegun, IsUnset, Settles, course_of, frames_of, here};
     ghost use Rattle.ados_shell.specs.Outputs.{IsPut};
 
-    /// Reads the input of a Run, if it has one, which nothing takes, and runs its text.
+    /// Reads the input of a Run, if it has one, which is ignored, and runs its text.
     pub fn run(&mut self, scene: &Scene, line: &Line) -> Result<(), NoMemory>
         requires { IsUnset self.old }
         ensures { OnOk result (Settles scene.now self.old self.new
@@ -67,7 +67,7 @@ impl Draft {
         }
     }
 
-    /// Runs the commands of a Run, whose output leads there: in a frame with further lines of that, on the console with
+    /// Runs the commands of a Run, whose output leads there: in a frame with more of its lines, on the console with
     /// those for which the shell waits.
     fn run_commands(
         &mut self,
@@ -88,7 +88,7 @@ impl Draft {
         }
     }
 
-    /// The commands of a Run with this text, and how many further lines of the newest frame it takes; `None` on the
+    /// The commands of a Run with this text, and how many more lines of the newest frame it takes; `None` on the
     /// console.
     fn gathered(&self, scene: &Scene, text: &Text) -> Result<Option<Gathered>, NoMemory>
         ensures gathered { IfOk result (λ all. all ≡ option_map (λ frame. gathered (run_limit - 1) text.now (drop frame.position frame.lines)) (here scene.now self.now).frame_lines) }
@@ -100,7 +100,7 @@ impl Draft {
         }
     }
 
-    /// Runs the text of a Run on the console: where it goes on the shell waits for further lines.
+    /// Runs the text of a Run on the console: if it goes on the shell waits for more lines.
     fn run_typed(
         &mut self,
         scene: &Scene,
@@ -128,7 +128,7 @@ impl Draft {
         }
     }
 
-    /// Takes a further line for a Run that gathers. Where that goes on the shell waits again, up to the last command that
+    /// Takes another line for a Run that gathers. If that goes on the shell waits again, up to the last command that
     /// a new shell is given.
     pub fn join(
         &mut self,
@@ -164,7 +164,7 @@ impl Draft {
         }
     }
 
-    /// Makes the shell of a Run that gathers, for which no further line comes.
+    /// Makes the shell of a Run that gathers, for which no more lines come.
     pub fn gather_no_more(&mut self, scene: &Scene, gathering: &Gathering) -> Result<(), NoMemory>
         requires { IsUnset self.old }
         ensures { OnOk result (Settles scene.now self.old self.new
@@ -178,7 +178,7 @@ impl Draft {
         self.answer_begun(scene, word, commands.copy()?, output.as_ref())
     }
 
-    /// Makes a shell for these commands, whose output leads there, and the Run of a word answers.
+    /// Makes a shell for these commands, whose output leads there, and the Run with this word answers.
     fn answer_begun(
         &mut self,
         scene: &Scene,
@@ -194,8 +194,8 @@ impl Draft {
         self.answer(scene, word.as_bytes(), codes, false)
     }
 
-    /// Makes a shell with the lowest free number for these commands, whose output leads there, and puts its number out;
-    /// what Run answers then. Where no number is free nothing is changed.
+    /// Makes a shell with the lowest free number for these commands, whose output leads there, and puts out its number;
+    /// gives what Run answers then. If no number is free nothing is changed.
     fn make_shell(
         &mut self,
         scene: &Scene,
@@ -214,7 +214,7 @@ impl Draft {
         self.put(scene, output, line, Codes::NONE)
     }
 
-    /// Drafts the shell of a number for these commands, whose output leads there.
+    /// Drafts the shell with this number for these commands, whose output leads there.
     fn draft_shell(
         &mut self,
         scene: &Scene,
@@ -236,7 +236,7 @@ impl Draft {
     }
 }
 
-/// Commands with one more behind them.
+/// Commands with one more after them.
 fn behind(alloc: Global, commands: &[Text], command: Text) -> Result<Texts, NoMemory>
     ensures { IfOk result (λ all. all ≡ commands.now ++ command ∷ []) }
 {

@@ -22,23 +22,23 @@ pub struct Scene<'a> {
     pub number: u8,
     /// That shell, as it was.
     pub shell: &'a Shell,
-    /// All shells by their numbers, the first at place 0: of them a turn knows what is seen of them.
+    /// All shells by their numbers, the first at place 0. A turn knows only what is seen of them.
     pub shells: &'a [Option<Shell>; 20],
     /// What all shells share.
     pub shared: &'a Shared,
 }
 
-/// The input of a shell: the first of the lines that wait for it, and whether no further one will come.
+/// The input of a shell: the first of the lines that wait for it, and whether no more will come.
 #[derive(Drop)]
 pub struct Input<'a> {
     /// The first line that waits.
     pub line: Option<&'a Text>,
-    /// No further line will come.
+    /// No more lines will come.
     pub is_ended: bool,
 }
 
 impl Input<'_> {
-    /// A line waits, or no further one will come.
+    /// A line waits, or no more will come.
     pub fn has_lines(&self) -> bool
         ensures { (queue : List (List ℕ)) → IsFirst (option_copied self.now.line) queue → has_input (input_with self.now queue) ≡ result }
     {

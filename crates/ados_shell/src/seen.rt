@@ -69,7 +69,7 @@ fn directories(alloc: Global, shells: &[Option<Shell>; 20]) -> Result<Vec<Place>
     Ok(places)
 }
 
-/// The file that a target keeps open, and behind it the open outputs of the shells that run, in order of their numbers.
+/// The file that a target keeps open, and after it the open outputs of the shells that run, in order of their numbers.
 fn outputs(
     alloc: Global,
     shells: &[Option<Shell>; 20],
@@ -88,7 +88,7 @@ fn outputs(
     Ok(places)
 }
 
-/// The open outputs of a shell, behind other places.
+/// The open outputs of a shell, after other places.
 fn push_open(places: &mut Vec<Place>, shell: &Shell) -> Result<(), NoMemory>
     ensures { OnOk result (places.new.items ≡ places.old.items ++ (seen_of shell.now).outputs) }
 {
@@ -99,7 +99,7 @@ fn push_open(places: &mut Vec<Place>, shell: &Shell) -> Result<(), NoMemory>
     }
 }
 
-/// The file that a shell keeps open which waits, behind other places.
+/// The file that a waiting shell keeps open, after other places.
 fn push_held(places: &mut Vec<Place>, wait: &Wait) -> Result<(), NoMemory>
     ensures { OnOk result (places.new.items ≡ places.old.items ++ held_while wait.now) }
 {
@@ -112,7 +112,7 @@ fn push_held(places: &mut Vec<Place>, wait: &Wait) -> Result<(), NoMemory>
     }
 }
 
-/// The open outputs of frames, of which the newest is the last, behind other places.
+/// The open outputs of frames, of which the newest is the last, after other places.
 fn push_outputs(places: &mut Vec<Place>, frames: &[Frame]) -> Result<(), NoMemory>
     ensures { OnOk result (places.new.items ≡ places.old.items ++ outputs_in (reverse frames.now)) }
 {
@@ -123,7 +123,7 @@ fn push_outputs(places: &mut Vec<Place>, frames: &[Frame]) -> Result<(), NoMemor
     push_outputs(places, below)
 }
 
-/// The file that a target keeps open, behind other places.
+/// The file that a target keeps open, after other places.
 fn push_output(places: &mut Vec<Place>, target: Option<&Target>) -> Result<(), NoMemory>
     ensures { OnOk result (places.new.items ≡ places.old.items ++ open_at (option_copied target.entry)) }
 {
@@ -150,7 +150,7 @@ pub fn uses(alloc: Global, shells: &[Option<Shell>; 20]) -> Result<Texts, NoMemo
     Ok(uses)
 }
 
-/// The resident entry from which a shell runs, if it runs from one, behind others.
+/// The resident entry from which a shell runs, if it runs from one, after others.
 fn push_use(uses: &mut Texts, shell: &Shell) -> Result<(), NoMemory>
     ensures { OnOk result (uses.new ≡ uses.old ++ with_use (seen_of shell.now).entry []) }
 {
@@ -160,7 +160,7 @@ fn push_use(uses: &mut Texts, shell: &Shell) -> Result<(), NoMemory>
     }
 }
 
-/// The names in Status of the shells that run, from number 1, while the shell of this number runs the command of a word,
+/// The names in Status of the shells that run, from number 1, while the shell of this number runs the command with this word,
 /// which is its name then.
 pub fn names_while(
     alloc: Global,
@@ -191,7 +191,7 @@ fn names(alloc: Global, shells: &[Option<Shell>; 20]) -> Result<Vec<Option<Text>
     Ok(names)
 }
 
-/// The name of a shell in Status: the word of its command that waits, or else its innermost script.
+/// The name of a shell in Status: the word of its command that waits, otherwise its innermost script.
 fn name(alloc: Global, shell: &Shell) -> Result<Text, NoMemory>
     ensures { IfOk result (λ name. name ≡ (seen_of shell.now).name) }
 {
@@ -246,7 +246,7 @@ fn free_place(shells: &[Option<Shell>]) -> Option<u8>
     }
 }
 
-/// The first number without a shell, counted on from a number.
+/// The first number without a shell, from a number upwards.
 fn free_from(number: u8, shells: &[Option<Shell>]) -> Option<u8>
     requires { number + length shells.now ≤ 21 }
     ensures { result ≡ free_from number shells.now }

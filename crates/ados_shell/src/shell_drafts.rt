@@ -17,7 +17,7 @@ impl ShellDraft {
     ghost use Rattle.ados_machine.specs.Requests.{request_of};
     ghost use Rattle.ados_shell.specs.Views.{seen};
 
-    /// A turn of a shell begins: nothing is changed yet, but that its flag is taken away.
+    /// A turn of a shell begins: nothing is changed yet, except that its flag is cleared.
     pub(crate) fn begin_turn(&mut self, shell: &Shell)
         ensures unchanged { IsUnchanged shell.now self.new }
         ensures flag { self.new.flagged ≡ false }
@@ -32,7 +32,7 @@ impl ShellDraft {
         self.flagged = false;
     }
 
-    /// What the shell of a number asks a launcher for behind its turn.
+    /// What the shell with this number asks a launcher for after its turn.
     pub fn request(&self, number: u8) -> Result<Option<Request>, NoMemory>
         ensures { IfOk result (λ request. request ≡ request_of number (phase_in self.now)) }
     {
@@ -42,7 +42,7 @@ impl ShellDraft {
         }
     }
 
-    /// What commands read of the shell as it stands, and of the shells that run.
+    /// What commands read of the shell as it is now, and of the shells that run.
     pub fn view<'b>(&'b self, shell: &'b Shell, others: Others) -> ShellView<'b>
         requires { self.now.setting ≡ None }
         ensures { result ≡ seen (behind self.now shell.now).parts others.busy others.names others.uses }
@@ -60,7 +60,7 @@ impl ShellDraft {
         }
     }
 
-    /// The current directory as it stands.
+    /// The current directory as it is now.
     pub fn directory<'b>(&'b self, shell: &'b Shell) -> &'b Place
         ensures { result.now ≡ (behind self.now shell.now).parts.directory }
     {
@@ -102,7 +102,7 @@ impl ShellDraft {
 
     /// Moves in what a turn makes of its shell.
     ///
-    /// `NoMemory` where there is no room for the frames, for a new name or for what is asked for; the shell is then as it
+    /// `NoMemory` if there is no room for the frames, for a new name or for what is asked for; the shell is then as it
     /// was.
     pub fn move_in(&mut self, shell: &mut Shell) -> Result<(), NoMemory>
         ensures ok { OnOk result (shell.new ≡ behind self.old shell.old) }

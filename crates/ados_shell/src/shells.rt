@@ -19,7 +19,7 @@ use std::marker::Model;
 pub struct Shell {
     // The newest is the last.
     pub(crate) frames: Vec<Frame>,
-    // `None` where it is ready.
+    // `None` if it is ready.
     pub(crate) phase: Option<Box<Phase>>,
     // What it asked a launcher for, and waits for.
     pub(crate) request: Option<Request>,
@@ -34,7 +34,7 @@ pub struct Shell {
     pub(crate) flagged: bool,
 }
 
-// Written out, so that for whoever drops a shell it is one step, and not one for each of its parts.
+// Written out, so that to drop a shell is one step, and not one for each of its parts.
 impl Drop for Shell {
     fn drop(self) {
         let Shell {
@@ -79,7 +79,7 @@ impl Shell {
     ghost use Rattle.ados_machine.specs.World.{can_take, has_frame, has_input, takes_input};
     ghost use Rattle.ados_shell.specs.Asking.{asks_for_line};
 
-    /// The shell of a number in which nothing has answered yet, in the root.
+    /// The shell with this number in which nothing has answered yet, in the root.
     pub fn new(alloc: Global, number: u8) -> Result<Shell, NoMemory>
         ensures { IfOk result (λ shell. shell ≡ fresh_shell number) }
     {
@@ -97,7 +97,7 @@ impl Shell {
         })
     }
 
-    /// The shell of a number that a Run makes, in which nothing has answered yet; its commands are its one frame.
+    /// The shell with this number that a Run makes, in which nothing has answered yet; its commands are its one frame.
     pub fn begun(alloc: Global, number: u8, begun: Begun) -> Result<Shell, NoMemory>
         ensures { IfOk result (λ shell. shell ≡ begun_shell number begun) }
     {
@@ -182,7 +182,7 @@ impl Shell {
         }
     }
 
-    /// It takes of its input next: it is ready and runs no frame, or waits for a line.
+    /// It reads its input next: it is ready and runs no frame, or waits for a line.
     pub fn takes_input(&self) -> bool
         ensures { result ≡ takes_input self.now.frames self.now.phase }
     {
@@ -193,7 +193,7 @@ impl Shell {
         }
     }
 
-    /// It waits for a line of its input: an answer to a prompt, or a further line of a Run.
+    /// It waits for a line of its input: an answer to a prompt, or another line of a Run.
     pub fn asks_for_line(&self) -> bool
         ensures { result ≡ asks_for_line self.now.phase }
     {
@@ -203,7 +203,7 @@ impl Shell {
         }
     }
 
-    /// The name of the resident entry from which it runs: where it starts a program from one, reads its output, or waits
+    /// The name of the resident entry from which it runs: if it starts a program from one, reads its output, or waits
     /// for its end.
     pub fn entry(&self) -> Option<&Text>
         ensures { option_copied result ≡ entry_in self.now.phase }

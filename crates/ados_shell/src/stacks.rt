@@ -14,11 +14,11 @@ use ados_flow::{FIRST_LIMIT, FRAME_LIMIT, Frame, Kind};
 use ados_text::{Code, NoMemory};
 use std::alloc::Global;
 
-/// The frames of a shell, as a turn changes them: so many of the oldest stay as they are in the shell, and those above
+/// The frames of a shell, as a turn changes them: a number of the oldest stay as they are in the shell, and those above
 /// them are new.
 #[derive(Drop)]
 pub struct Stack {
-    /// So many of the shell's oldest frames stay as they are.
+    /// How many of the shell's oldest frames stay as they are.
     pub kept: usize,
     /// The frames above them, the oldest first.
     pub own: Vec<Frame>,
@@ -53,7 +53,7 @@ impl Stack {
         &frames[..self.kept.min(frames.len())]
     }
 
-    /// The newest frame; `None` where none runs.
+    /// The newest frame; `None` if none runs.
     pub fn newest<'b>(&'b self, shell: &'b Shell) -> Option<&'b Frame>
         ensures { option_copied result ≡ newest (frames_in shell.now self.now) }
     {
@@ -70,7 +70,7 @@ impl Stack {
         FRAME_LIMIT <= self.own.len().saturating_add(self.lent(shell).len())
     }
 
-    /// Takes the newest frame off.
+    /// Pops the newest frame.
     pub fn pop(&mut self, shell: &Shell) -> Result<Option<Frame>, NoMemory>
         ensures { IfOk result (λ frame. IsPopped shell.now self.old self.new frame) }
     {
@@ -87,7 +87,7 @@ impl Stack {
         }
     }
 
-    /// Puts a frame on.
+    /// Pushes a frame.
     pub fn push(&mut self, frame: Frame) -> Result<(), NoMemory>
         ensures { OnOk result ((shell : ShellState) → frames_in shell self.new ≡ frame ∷ frames_in shell self.old) }
     {
@@ -122,7 +122,7 @@ impl Stack {
         }
     }
 
-    /// So many further lines of the newest frame are taken.
+    /// More lines of the newest frame are taken, this many.
     pub fn skip(&mut self, shell: &Shell, taken: usize) -> Result<(), NoMemory>
         requires { HasTaken taken (frames_in shell.now self.old) }
         ensures { OnOk result (IsSkipped shell.now self.new taken (frames_in shell.now self.old)) }
@@ -136,8 +136,8 @@ impl Stack {
         }
     }
 
-    /// The limit behind the end of a script above these frames that began at a limit: it comes back, and it is the
-    /// first one where no script is left.
+    /// The limit after a script above these frames that began at a limit ends: that limit is restored, or it is the
+    /// first one if no script is left.
     pub fn limit_behind(&self, shell: &Shell, limit: Code) -> Code
         ensures { result ≡ limit_behind (frames_in shell.now self.now) limit }
     {
@@ -181,7 +181,7 @@ pub enum Sink {
 /// Where the output of some frames goes.
 #[derive(Clone, Copy)]
 enum Way<'f> {
-    /// Where that of what stands below them goes.
+    /// Where the output of what is below them goes.
     Below,
     /// Into the newest tick.
     Kept,
@@ -206,7 +206,7 @@ fn way_of(frames: &[Frame]) -> Way<'_>
     Way::Below
 }
 
-/// The sink to which that leads; that of the console, where nothing stands below.
+/// The sink to which a way leads; the console's, if nothing is below.
 fn sink_of(way: Way) -> Result<Sink, NoMemory>
     ensures { IfOk result (λ sink. sink_of sink ≡ sink_by_way way.entry Console) }
 {
@@ -217,7 +217,7 @@ fn sink_of(way: Way) -> Result<Sink, NoMemory>
     }
 }
 
-/// One of some frames, or of those below them, is a script.
+/// A script is among some frames, or among those below them.
 #[tactic(auto, using(crate::proofs::StackLemmas::script_append))]
 fn any_script(frames: &[Frame], below: &[Frame]) -> bool
     ensures { result ≡ has_script (reverse frames.now ++ reverse below.now) }

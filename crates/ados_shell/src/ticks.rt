@@ -1,4 +1,4 @@
-// Ticks: a line that has one waits for it, and goes on with what it put out.
+// Ticks: a line that has one waits for it, and goes on with its output.
 ghost use Rattle.std.specs.Prelude.{◌≡◌, ◌++◌, ◌∷◌, [], reverse, take, IfOk, OnOk};
 ghost use Rattle.ados_machine.specs.Course.{put, tick_limit};
 ghost use Rattle.std.specs.Prelude.{if◌then◌else◌};
@@ -18,14 +18,14 @@ use ados_script::Script;
 use ados_text::{NoMemory, Octets, Result2, Text};
 use std::alloc::Global;
 
-/// A tick keeps so many bytes, the first ones.
+/// A tick keeps at most this many bytes, the first ones.
 const TICK_LIMIT: usize = 1024;
 
 impl Draft {
     ghost use Rattle.ados_shell.specs.Drafts.{IsRuled, IsTicked, IsUnset, Settles, course_of, frames_of, here};
     ghost use Rattle.ados_shell.specs.Outputs.{IsPut};
 
-    /// A line has a tick, which begins: where there are as many frames as a shell may have, that is the line's fault.
+    /// A tick of a line begins: if there are as many frames as a shell may have, that is the line's fault.
     pub fn tick(&mut self, scene: &Scene, tick: Tick) -> Result<(), NoMemory>
         ensures { OnOk result (Settles scene.now self.old self.new
             (if (here scene.now self.old).is_full then line_fault TOO_MANY_LEVELS (course_of scene.now self.old)
@@ -58,7 +58,7 @@ impl Draft {
         self.shell.frames.push(frame)
     }
 
-    /// The newest tick has ended, which was taken off: its line goes on with what it put out, between these texts.
+    /// The newest tick has ended and was popped: its line goes on with what the tick put out, between these texts.
     pub fn end_tick(&mut self, scene: &Scene, before: &Text, after: &Text) -> Result<(), NoMemory>
         ensures { OnOk result (IsTicked scene.now self.old self.new before.now after.now) }
     {
@@ -126,7 +126,7 @@ fn copied(alloc: Global, kept: &[Octets]) -> Result<Vec<Octets>, NoMemory>
     Ok(copy)
 }
 
-/// The bytes that a tick keeps behind these, and what is put out then.
+/// What a tick keeps that kept these bytes so far, after this output.
 fn joined(kept: Octets, output: &[u8]) -> Result<Octets, NoMemory>
     ensures { IfOk result (λ joined. joined ≡ take tick_limit (kept ++ output.now)) }
 {

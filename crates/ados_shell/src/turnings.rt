@@ -13,7 +13,7 @@ use crate::shells::Shell;
 use ados_machine::{Asking, Gathering, Parted, Phase, Wait};
 use ados_text::{NoMemory, Text};
 
-/// What a turn of a shell comes to.
+/// What a turn of a shell results in.
 #[derive(Clone, Copy)]
 pub enum Turning {
     /// The shell has nothing to take.
@@ -30,17 +30,17 @@ impl Draft {
     ghost use Rattle.ados_shell.specs.Drafts.{IsDrafted, turn_start};
     ghost use Rattle.ados_shell.specs.Turnings.{GivesAnswer, GivesConsole, GivesGathering, GivesPlain, GivesReady, GivesTurning, IsScriptDrafted, TakesAnswer, TakesConsole, TakesGathering, TakesPlain, TakesReady, TakesTurn};
 
-    /// A turn of the scene's shell: where it goes on, the draft is filled with what is to be changed. Nothing else is
+    /// A turn of the scene's shell: if it goes on, the draft is filled with what is to be changed. Nothing else is
     /// changed, and what the draft held before is forgotten.
     ///
     /// A shell that waits for the answer to a prompt takes a line of its input, and at its end an empty one; one whose Run
     /// gathers takes a line, and goes on without one at the end; one that waits for a launcher takes nothing. A line whose
     /// tick has ended goes on. A shell that is
     /// ready takes the next line of its newest frame; without a frame it takes a line of its input, and ends at the end
-    /// of that. Where the shell is flagged and runs a script, its scripts end in place of all this, and no line is taken.
+    /// of that. If the shell is flagged and runs a script, its scripts end instead of all this, and no line is taken.
     ///
-    /// `NoMemory` where there is none for what the turn makes, and only where the shell has something to
-    /// take: its end takes none.
+    /// `NoMemory` if there is none for what the turn makes, and only if the shell has something to
+    /// take: its end needs no memory.
     pub fn turn(&mut self, scene: &Scene, input: &Input) -> Result<Turning, NoMemory>
         ensures turn { IfOk result (λ turn. GivesTurning scene.now input.now turn self.new) }
         ensures memory { OnErr result (TakesTurn scene.now input.now) }
@@ -53,7 +53,7 @@ impl Draft {
         }
     }
 
-    /// The same where no flag is found.
+    /// The same if no flag is found.
     fn plain_turn(&mut self, scene: &Scene, input: &Input) -> Result<Turning, NoMemory>
         ensures turn { IfOk result (λ turn. GivesPlain scene.now input.now turn self.new) }
         ensures memory { OnErr result (TakesPlain scene.now input.now) }
@@ -125,7 +125,7 @@ impl Draft {
         }
     }
 
-    /// A further line is taken for a Run that gathers.
+    /// Another line is taken for a Run that gathers.
     fn take_command(
         &mut self,
         scene: &Scene,
@@ -140,7 +140,7 @@ impl Draft {
         self.bind(scene)
     }
 
-    /// No further line comes for a Run that gathers.
+    /// No more lines come for a Run that gathers.
     fn take_no_command(&mut self, scene: &Scene, gathering: &Gathering) -> Result<(), NoMemory>
         ensures { OnOk result (IsDrafted scene.now self.new
             (settle (gathered_deed gathering.now (here_of scene.now.shell.now.frames).sink (turn_start scene.now)) scene.now.shell.now.frames)) }
@@ -229,7 +229,7 @@ impl Draft {
 }
 
 impl Shell {
-    /// The next line of the newest frame; `None` where none is left.
+    /// The next line of the newest frame; `None` if none is left.
     fn next_line(&self) -> Option<&Text>
         ensures line { option_copied result ≡ next_of self.now.frames }
         ensures below { OnSome result (HasRoom self.now.frames) }

@@ -58,7 +58,7 @@ impl Draft {
         self.use_device(scene, device)
     }
 
-    /// The device is used to which the search of a word led.
+    /// The device to which the search of a word led is used.
     pub fn use_route(&mut self, scene: &Scene, route: Route, word: &Text) -> Result<(), NoMemory>
         ensures { OnOk result (HasUsed scene.now self.old self.new (using (devices_by route word.now) (course_of scene.now self.old))) }
     {
@@ -85,7 +85,7 @@ impl Draft {
             .question(scene.alloc, directory, front, word);
     }
 
-    /// ENV: is used where a line asks for a variable that is none of the shell's own.
+    /// ENV: is used if a line asks for a variable that is not one of the shell's own.
     pub fn use_variables(&mut self, scene: &Scene, raw: &Text) -> Result<(), NoMemory>
         requires { IsUnset self.old }
         ensures { OnOk result (HasUsed scene.now self.old self.new (with_variables raw.now (course_of scene.now self.old))) }
@@ -97,7 +97,7 @@ impl Draft {
         }
     }
 
-    /// The line asks for such a variable, as the shell and the shared parts stand.
+    /// The line asks for such a variable, with the shell and the shared parts as they are now.
     fn asks_global(&self, scene: &Scene, raw: &Text) -> Result<bool, NoMemory>
         requires { IsUnset self.now }
         ensures { IfOk result (λ asks. asks ≡ asks_global (parts_of scene.now self.now).settings.aliases (locals_of (parts_of scene.now self.now)) raw.now) }
@@ -105,7 +105,7 @@ impl Draft {
         asks_global(&self.scope(scene), raw)
     }
 
-    /// No device is used any more.
+    /// No device counts as used any longer.
     pub fn use_nothing(&mut self, scene: &Scene)
         ensures { HasUsed scene.now self.old self.new (using_nothing (course_of scene.now self.old)) }
     {
@@ -129,7 +129,7 @@ impl Draft {
         }
     }
 
-    /// The shared parts with the used assigns of Defer bound; `None` where nothing can bind.
+    /// The shared parts with the used assigns of Defer bound; `None` if nothing can bind.
     fn bound(&self, scene: &Scene) -> Result<Option<Shared>, NoMemory>
         ensures { IfOk result (λ new. IsBound scene.now self.now new) }
     {

@@ -23,9 +23,9 @@ use Rattle.ados_subst.specs.Lines.{substituted}
 use Rattle.ados_subst.specs.References.{referred}
 use Rattle.ados_subst.specs.Scripts.{directive_in, with_line, behind, line_before, lines_below, is_dotted, script_of}
 use Rattle.ados_subst.specs.Slots.{is_named, with_default_in, with_default}
-use Rattle.ados_subst.specs.Words.{first_word, rest_of}
+use Rattle.ados_items.specs.Parts.{first_word, rest_of}
 
--- where a default finds no option
+-- if a default finds no option
 map-none : {X Y : Type 0} (f : X → Y) (o : Option X) → option_map f o ≡ None → o ≡ None
 map-none f None e = refl
 map-none f (Some x) e = cc
@@ -144,7 +144,7 @@ fault-directed : (above : Above) (args : Bytes) (number : ℕ) (body : Text) (fa
 fault-directed above args number body fault none it =
     ap (λ b. if b then Ok above else directed_by above args number (rest_of body) (directive_named (first_word body))) none ∙ fault-named it
 
--- a line in front, which has no fault
+-- one more line before others, which has no fault
 extend : (args : Bytes) (above next : Above) (number : ℕ) (line : Text) (lines : List Text) (fault : SubstFault) →
     ((front : List Text) (end : Above) → Leads args next (number + 1) front end → Leads args above number (line ∷ front) end) →
     FaultBelow args next (number + 1) lines fault → FaultBelow args above number (line ∷ lines) fault
@@ -167,7 +167,7 @@ with-line-fault : (line : Text) (rest : Result (List Text) SubstFault) (fault : 
 with-line-fault line (Ok more) fault e = cc
 with-line-fault line (Err found) fault e = e
 
--- the fault of lines stands below them
+-- the fault of lines is one below what holds above them
 abbrev Goes : Bytes → Text → ℕ → List Text → Type 0
 Goes args process number lines = (above : Above) (fault : SubstFault) → lines_below args process above number lines ≡ Err fault → FaultBelow args above number lines fault
 
@@ -210,7 +210,7 @@ lines-fault args process number [] above fault e = cc
 lines-fault args process number (line ∷ lines) above fault e =
     line-fault args process above number line lines (directive_in above.marks.dot line) fault (lines-fault args process (number + 1) lines) refl e
 
--- and what stands below them is their fault
+-- and a fault below it is the fault of the lines
 led-fault : (args : Bytes) (process : Text) {above there : Above} {number : ℕ} {front : List Text} → Leads args above number front there →
     (line : Text) (rest : List Text) (body : Text) (fault : SubstFault) → directive_in there.marks.dot line ≡ Some body →
     directed there args (number + length front) body ≡ Err fault → lines_below args process above number (front ++ line ∷ rest) ≡ Err fault

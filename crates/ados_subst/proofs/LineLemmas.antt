@@ -38,7 +38,7 @@ segment-put m r whole text new taken count place line rest lt same none e f g =
     ∙ ap (λ n. new ++ values m r n rest) (sym f)
     ∙ ap (λ l. new ++ values m r count l) same
 
--- all bytes were put
+-- all bytes were added
 pub all-put : (m : Marks) (r : References) (whole text : Text) (taken place : ℕ) (line : Text) → length line ≤ place
     → whole ≡ text ++ values m r taken (drop place line) → text ≡ whole
 all-put m r whole text taken place line past e =

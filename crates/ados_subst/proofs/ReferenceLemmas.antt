@@ -11,7 +11,7 @@ use Rattle.ados_subst.specs.declared.marks.Marks.{Marks}
 use Rattle.ados_subst.specs.References.{References, is_byte}
 use Rattle.ados_subst.specs.Lines.{Lacks, LineBecomes, byte, ended, reference, Segment, Literal, by_ket, by_value, first_segment, further, meant, substituted, values}
 
--- the next ket stands behind a text that lacks it
+-- the next ket follows a text that lacks it
 ket-place : (ket : ℕ) (name rest : Text) → Lacks ket name
     → position (is_byte ket) (name ++ ket ∷ rest) ≡ Some (length name)
 ket-place ket name rest lacks =
@@ -30,7 +30,7 @@ ket-place ket name rest lacks =
     let within : nat_lt (length name) (length line) ≡ true = grind (arith, nat_tests, long) in
     subst P (sym at) (cond-true (nat_lt (length name) (length line)) (Some (length name)) None within)
 
--- a text with a ket is what stands before the next one, the ket, and what stands behind it
+-- a text with a ket is what comes before the next one, the ket, and what follows it
 ket-parts : (ket : ℕ) (line : Text) (place : ℕ) → position (is_byte ket) line ≡ Some place
     → Lacks ket (take place line) × (line ≡ take place line ++ ket ∷ drop (length (take place line) + 1) line)
 ket-parts ket line place e =
@@ -50,7 +50,7 @@ ket-parts ket line place e =
 abbrev Begins : Marks → References → ℕ → Text → Segment → Type 0
 Begins m r c cs segment = LineBecomes m r (c ∷ cs) (meant segment ++ values m r (further segment) cs)
 
--- what is behind a segment, by how many bytes of it are left
+-- what follows a segment, by how many bytes of it are left
 abbrev Behind : Marks → References → Text → Type 0
 Behind m r cs = (taken : ℕ) → LineBecomes m r (drop taken cs) (values m r taken cs)
 
@@ -101,6 +101,6 @@ behind m r (suc taken) [] = ended
 behind m r (suc taken) (c ∷ cs) = behind m r taken cs
 behind m r zero (c ∷ cs) = segment-begins m r c cs (λ taken. behind m r taken cs)
 
--- a line becomes what it is with its references
+-- a line becomes what `substituted` gives
 pub line-becomes : (m : Marks) (r : References) (line : Text) → LineBecomes m r line (substituted m r line)
 line-becomes m r line = behind m r 0 line

@@ -11,12 +11,12 @@ use Rattle.ados_subst.specs.References.{referred}
 use Rattle.ados_subst.specs.Scripts.{LinesBecome, directive, ended, other, ScriptBecomes, behind, directive_in, is_dotted, line_before, lines_below, script_of, with_line}
 use Rattle.ados_subst.proofs.ReferenceLemmas.{line-becomes}
 
--- these lines before others, where there are such
+-- these lines before others, if there are others
 abbrev pub with_lines : List Text → Result (List Text) SubstFault → Result (List Text) SubstFault
 with_lines done (Ok lines) = Ok (done ++ lines)
 with_lines done (Err fault) = Err fault
 
--- a line before others, parted from them
+-- a line before others, separated from them
 parted : (line : Text) (rest : Result (List Text) SubstFault) (texts : List Text) → with_line line rest ≡ Ok texts
     → (more : List Text) × (rest ≡ Ok more) × (line ∷ more ≡ texts)
 parted line (Ok more) texts e = (more, refl, cc)
@@ -27,7 +27,7 @@ abbrev Goes : Bytes → Text → ℕ → List Text → Type 0
 Goes args process number lines = (above : Above) (texts : List Text)
     → lines_below args process above number lines ≡ Ok texts → LinesBecome args process above number lines texts
 
--- a directive, and the lines behind it
+-- a directive, and the lines after it
 below-becomes : (args : Bytes) (process : Text) (above : Above) (number : ℕ) (line body : Text)
     (lines texts : List Text) (made : Result Above SubstFault) → Goes args process (number + 1) lines
     → directive_in above.marks.dot line ≡ Some body → directed above args number body ≡ made
@@ -39,7 +39,7 @@ below-becomes args process above number line body lines texts (Ok next) goes som
     let P : List Text → Type 0 = λ all. LinesBecome args process above number (line ∷ lines) all in
     subst P it.2 (directive above next number line body lines it.0 some made (goes next it.0 it.1))
 
--- any line, and those behind it
+-- any line, and those after it
 from-becomes : (args : Bytes) (process : Text) (above : Above) (number : ℕ) (line : Text) (lines texts : List Text)
     (body : Option Text) → Goes args process (number + 1) lines → directive_in above.marks.dot line ≡ body
     → line_before (λ next. lines_below args process next (number + 1) lines) args process above number line body

@@ -1,4 +1,4 @@
--- the options with a default, by the place of the one that has the name; texts joined one after another
+-- the options with a default, by the place of the one that has the name; texts joined in order
 use Rattle.std.proofs.Common.{◌≡◌, ◌∙◌, ℕ, zero, suc, ◌+◌, ◌<◌, ◌≤◌, ◌==◌, List, [], ◌∷◌, ◌++◌, Bool, true, false, Some, None, length, drop, get_or, slice_get, slice_set, refl, sym, ap, arith, append_assoc}
 use Rattle.std.specs.List.{join_with_byte, position, position_from}
 use Rattle.std.specs.Option.{option_map}
@@ -12,7 +12,7 @@ use Rattle.ados_readargs.specs.declared.args.Arg.{Arg}
 use Rattle.ados_subst.specs.declared.slots.Slot.{Slot}
 use Rattle.ados_subst.specs.Slots.{with_default, is_named, slot_for, slots_of, with_default_in}
 
--- the first option of the name
+-- the first option with the name
 first-at : (name text : Text) (slots : List Slot) (i : ℕ) (d : Slot)
     → i < length slots → is_named name (get_or slots i d) ≡ true
     → ((k : ℕ) → k < i → is_named name (get_or slots k d) ≡ false)
@@ -87,7 +87,7 @@ slots-past whole done options args place none e =
     ∙ ap (λ l. done ++ l) (slots-nil (drop place options) ∙ sym (slots-nil (drop (place + 1) options)))
     ∙ ap (λ a. done ++ slots_of (drop (place + 1) options) a) (sym (drop_all (place + 1) args (omega arith)))
 
--- the texts that are not yet joined: a blank stands before them where there are some before
+-- the texts that are not yet joined: a blank comes before them if there are some before
 abbrev pub further : ℕ → List Text → Text
 further place [] = []
 further zero (text ∷ texts) = join_with_byte 32 (text ∷ texts)

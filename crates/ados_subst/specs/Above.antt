@@ -1,4 +1,4 @@
--- What stands above a line of a script.
+-- What holds above a line of a script.
 use Rattle.std.specs.Prelude.{[], Option, None, unwrap_or}
 use Rattle.ados_text.specs.Text.{Text}
 use Rattle.ados_subst.specs.declared.above.Above.{Above}
@@ -6,10 +6,10 @@ use Rattle.ados_subst.specs.declared.slots.Slot.{Slot}
 use Rattle.ados_subst.specs.Marks.{first_marks}
 use Rattle.ados_subst.specs.Slots.{slot_of}
 
--- what stands above the first line
+-- what holds above the first line
 abbrev pub at_first : Above
 at_first = record { marks = first_marks; slots = None }
 
--- the option of a name; above the template there is none
+-- the option with a name; above the template there is none
 abbrev pub slot_in : Above → Text → Option Slot
 slot_in above name = slot_of (unwrap_or above.slots []) name

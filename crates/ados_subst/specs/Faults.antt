@@ -1,4 +1,4 @@
--- The faults of a script, and what a call answers by a definition that knows no want of memory.
+-- The faults of a script, and what a call returns, by a definition in which allocations never fail.
 use Rattle.std.specs.Prelude.{◌≡◌, ◌⊎◌, Result, Ok, Err}
 use Rattle.ados_text.specs.declared.codes.Result2.{Result2}
 use Rattle.ados_text.specs.declared.errors.NoMemory.{NoMemory}
@@ -18,12 +18,12 @@ unfilled arg.TooMany = fault.Args arg.TooMany
 unfilled arg.Unmatched = fault.Args arg.Unmatched
 unfilled arg.NoMemory = fault.NoMemory
 
--- the number by which a command answers the fault; want of memory has none
+-- the number by which a command answers the fault; running out of memory has none
 abbrev pub result2_of : SubstFault → Result Result2 NoMemory
 result2_of (fault.Args of_args) = result2_of_args of_args
 result2_of (fault.BadDirective line) = Ok (record { 0 = 114 })
 result2_of fault.NoMemory = Err (record {})
 
--- the answer is the definition's, or memory was wanting
+-- the result is the definition's, or an allocation failed
 abbrev pub Gives : {X : Type 0} → Result X SubstFault → Result X SubstFault → Type 0
 Gives result whole = (result ≡ Err fault.NoMemory) ⊎ (result ≡ whole)

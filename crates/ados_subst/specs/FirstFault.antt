@@ -1,4 +1,4 @@
--- Where a script's first fault stands: in a directive, below lines that have none.
+-- Where a script's first fault is: in a directive, below lines that have none.
 use Rattle.std.specs.Prelude.{◌≡◌, ◌≢◌, ◌⊎◌, ℕ, ◌+◌, List, [], ◌∷◌, ◌++◌, length, true, false, Option, Some, None, is_some, unwrap_or, Ok, Err}
 use Rattle.ados_text.specs.Text.{Bytes, Text}
 use Rattle.ados_readargs.specs.declared.errors.ArgFault.{ArgFault}
@@ -14,13 +14,13 @@ use Rattle.ados_subst.specs.Directives.{directed, directive_named, is_remark}
 use Rattle.ados_subst.specs.Faults.{unfilled}
 use Rattle.ados_subst.specs.Scripts.{directive_in}
 use Rattle.ados_subst.specs.Slots.{slot_of}
-use Rattle.ados_subst.specs.Words.{first_word, rest_of}
+use Rattle.ados_items.specs.Parts.{first_word, rest_of}
 
--- a name of no option: above the template there is none, and an empty name is none
+-- a name that no option has: above the template there are no options, and an empty name is not a name
 abbrev pub NamesNone : Option (List Slot) → Text → Type 0
 NamesNone slots name = (name ≡ []) ⊎ (slot_of (unwrap_or slots []) name ≡ None)
 
--- The fault of a directive with this behind its dot, in the line of a number: its word is none; a second template; a template
+-- The fault of a directive with this after its dot, in the line with a number: an unknown word; a second template; a template
 -- that is bad, or that the arguments do not fill; a default of no option; and another character that is not just one.
 pub data IsDirectiveFault (above : Above) (args : Bytes) (number : ℕ) (body : Text) : SubstFault → Type 0 where
   unknown : directive_named (first_word body) ≡ None → IsDirectiveFault above args number body (BadDirective number)
@@ -33,7 +33,7 @@ pub data IsDirectiveFault (above : Above) (args : Bytes) (number : ℕ) (body : 
   no_character : (mark : Mark) → directive_named (first_word body) ≡ Some (Sets mark) → length (rest_of body) ≢ 1
       → IsDirectiveFault above args number body (BadDirective number)
 
--- lines without a fault lead from what stands above them to what stands above the next one
+-- lines without a fault lead from what holds above them to what holds above the next one
 pub data Leads (args : Bytes) : Above → ℕ → List Text → Above → Type 0 where
   here : (above : Above) (number : ℕ) → Leads args above number [] above
   directive : (above next end : Above) (number : ℕ) (line body : Text) (lines : List Text)
@@ -42,7 +42,7 @@ pub data Leads (args : Bytes) : Above → ℕ → List Text → Above → Type 0
   other : (above end : Above) (number : ℕ) (line : Text) (lines : List Text) → directive_in above.marks.dot line ≡ None
       → Leads args above (number + 1) lines end → Leads args above number (line ∷ lines) end
 
--- a fault stands in a directive among lines, the first of which has a number, and no line in front of that has one
+-- a fault is in a directive among lines, the first of which has a number, and no line before that has one
 pub record FaultBelow (args : Bytes) (above : Above) (number : ℕ) (lines : List Text) (fault : SubstFault) : Type 0 where
   pub front : List Text
   pub line : Text

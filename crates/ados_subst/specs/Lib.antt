@@ -7,5 +7,4 @@ pub mod Next
 pub mod References
 pub mod Scripts
 pub mod Slots
-pub mod Words
 pub mod FirstFault

@@ -1,4 +1,4 @@
--- A line with its references: it is a row of segments, and each is a byte that stands for itself, or a reference that
+-- A line with its references: it is a sequence of segments, and each is a byte that stands for itself, or a reference that
 -- stands for a value. Values are not read again.
 use Rattle.std.specs.Prelude.{◌≡◌, ◌≢◌, ℕ, zero, suc, ◌+◌, List, [], ◌∷◌, ◌++◌, length, take, ◌==◌, Option, Some, None, position, if◌then◌else◌}
 use Rattle.std.specs.List.{All, flat_map}
@@ -11,7 +11,7 @@ pub data Segment : Type 0 where
   Literal : ℕ → Segment
   Value : Text → Text → Segment
 
--- how many bytes it takes up behind its first
+-- how many bytes it has after its first
 abbrev pub further : Segment → ℕ
 further (Literal c) = 0
 further (Value name value) = length name + 1
@@ -21,7 +21,7 @@ abbrev pub meant : Segment → Text
 meant (Literal c) = c ∷ []
 meant (Value name value) = value
 
--- a bra round nothing that refers to something stays
+-- a bra stays if the text up to its ket refers to nothing
 abbrev pub by_value : ℕ → Text → Option Text → Segment
 by_value c name None = Literal c
 by_value c name (Some value) = Value name value
@@ -36,18 +36,18 @@ abbrev pub first_segment : Marks → References → ℕ → Text → Segment
 first_segment marks references c rest =
     if c == marks.bra then by_ket references c rest (position (is_byte marks.ket) rest) else Literal c
 
--- the segments of a line, behind so many bytes that belong to the segment before
+-- the segments of a line, after the bytes that belong to the segment before, of which `taken` are left
 abbrev pub segments : Marks → References → ℕ → Text → List Segment
 segments marks references taken [] = []
 segments marks references (suc taken) (c ∷ cs) = segments marks references taken cs
 segments marks references zero (c ∷ cs) =
     (let segment = first_segment marks references c cs in segment ∷ segments marks references (further segment) cs)
 
--- a line with its references, behind so many bytes of a segment before
+-- a line with its references replaced, after the bytes left of the segment before
 abbrev pub values : Marks → References → ℕ → Text → Text
 values marks references taken line = flat_map meant (segments marks references taken line)
 
--- A line with what its references stand for in their places.
+-- A line with its references replaced by what they stand for.
 abbrev pub substituted : Marks → References → Text → Text
 substituted marks references line = values marks references 0 line
 
@@ -55,13 +55,13 @@ substituted marks references line = values marks references 0 line
 abbrev pub Lacks : ℕ → Text → Type 0
 Lacks byte text = All (λ c. c ≢ byte) text
 
--- where a line begins with a bra, a name and the next ket, the name refers to nothing
+-- if a line begins with a bra, a name and the next ket, the name refers to nothing
 abbrev pub BeginsNoReference : Marks → References → Text → Type 0
 BeginsNoReference marks references line =
     (name rest : Text) → Lacks marks.ket name → line ≡ marks.bra ∷ (name ++ marks.ket ∷ rest) → references name ≡ None
 
--- A line becomes a text, from the left: a reference becomes what its name stands for, and a byte with which no
--- reference begins stays. What was put in is not read again.
+-- A line becomes a text, from the left: a reference becomes what its name stands for, and a byte that begins no
+-- reference stays. What was substituted is not read again.
 pub data LineBecomes (marks : Marks) (references : References) : Text → Text → Type 0 where
   ended : LineBecomes marks references [] []
   byte : (c : ℕ) (line text : Text) → BeginsNoReference marks references (c ∷ line)

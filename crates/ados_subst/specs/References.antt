@@ -7,11 +7,11 @@ use Rattle.ados_subst.specs.declared.above.Above.{Above}
 use Rattle.ados_subst.specs.Above.{slot_in}
 use Rattle.ados_subst.specs.Slots.{value_of, value_or}
 
--- what texts stand for, those that refer to something
+-- what each text stands for, if it refers to something
 abbrev pub References : Type 0
 References = Text → Option Text
 
--- the byte is the one
+-- the two bytes are equal
 abbrev pub is_byte : ℕ → ℕ → Bool
 is_byte c b = b == c
 
@@ -19,7 +19,7 @@ is_byte c b = b == c
 abbrev pub by_name : Above → Text → Option Text
 by_name above name = option_map value_of (slot_in above name)
 
--- the name of an option, the dollar at a place and a text stand for what the option was given, or else for that text
+-- the name of an option, the dollar at a place and a text stand for what the option was given, otherwise for that text
 abbrev pub by_dollar : Above → Text → ℕ → Option Text
 by_dollar above text place = option_map (value_or (drop (place + 1) text)) (slot_in above (take place text))
 

@@ -1,4 +1,4 @@
--- The lines of a script, each by what stands above it.
+-- The lines of a script, each by what holds above it.
 use Rattle.std.specs.Prelude.{◌≡◌, ℕ, ◌+◌, List, [], ◌∷◌, Bool, false, ◌==◌, Option, Some, None, is_some, MatchBool, Result, Ok, Err, if◌then◌else◌}
 use Rattle.ados_text.specs.Text.{Bytes, Text}
 use Rattle.ados_subst.specs.declared.above.Above.{Above}
@@ -8,17 +8,17 @@ use Rattle.ados_subst.specs.Directives.{directed}
 use Rattle.ados_subst.specs.Lines.{LineBecomes, substituted}
 use Rattle.ados_subst.specs.References.{referred}
 
--- what stands behind the dot, where the line is a directive
+-- what follows the dot, if the line is a directive
 abbrev pub directive_in : ℕ → Text → Option Text
 directive_in dot [] = None
 directive_in dot (c ∷ cs) = if c == dot then Some cs else None
 
--- a line before others, where there are such
+-- a line before others, if there are others
 abbrev pub with_line : Text → Result (List Text) SubstFault → Result (List Text) SubstFault
 with_line line (Ok lines) = Ok (line ∷ lines)
 with_line line (Err fault) = Err fault
 
--- what gives the lines below, by what stands above them
+-- what gives the lines below, by what holds above them
 abbrev pub Below : Type 0
 Below = Above → Result (List Text) SubstFault
 
@@ -27,13 +27,13 @@ abbrev pub behind : Below → Result Above SubstFault → Result (List Text) Sub
 behind below (Ok above) = with_line [] (below above)
 behind below (Err fault) = Err fault
 
--- a line before those below it, by what stands behind its dot where it is a directive
+-- a line before those below it, by what follows its dot if it is a directive
 abbrev pub line_before : Below → Bytes → Text → Above → ℕ → Text → Option Text → Result (List Text) SubstFault
 line_before below args process above number line None =
     with_line (substituted above.marks (referred above process) line) (below above)
 line_before below args process above number line (Some body) = behind below (directed above args number body)
 
--- the lines by what stands above them, the first with this number
+-- the lines by what holds above them, the first with this number
 abbrev pub lines_below : Bytes → Text → Above → ℕ → List Text → Result (List Text) SubstFault
 lines_below args process above number [] = Ok []
 lines_below args process above number (line ∷ lines) =
@@ -45,13 +45,13 @@ abbrev pub is_dotted : List Text → Bool
 is_dotted [] = false
 is_dotted (line ∷ lines) = is_some (directive_in 46 line)
 
--- The lines of a script, or the fault of its first directive that has one; those of a script whose first line begins
--- with no `.` stay.
+-- The lines of a script, or the fault of its first directive that has one; those of a script whose first line does
+-- not begin with `.` stay.
 abbrev pub script_of : List Text → Bytes → Text → Result (List Text) SubstFault
 script_of lines args process = if is_dotted lines then lines_below args process at_first 1 lines else Ok lines
 
--- Lines become texts, below what stands above them: a directive becomes an empty line, and changes what stands above
--- the next one; another line becomes a text by what stands above it.
+-- Lines become texts, below what holds above them: a directive becomes an empty line, and changes what holds above
+-- the next one; another line becomes a text by what holds above it.
 pub data LinesBecome (args : Bytes) (process : Text) : Above → ℕ → List Text → List Text → Type 0 where
   ended : (above : Above) (number : ℕ) → LinesBecome args process above number [] []
   directive : (above next : Above) (number : ℕ) (line body : Text) (lines texts : List Text)
@@ -63,7 +63,7 @@ pub data LinesBecome (args : Bytes) (process : Text) : Above → ℕ → List Te
       → LinesBecome args process above (number + 1) lines texts
       → LinesBecome args process above number (line ∷ lines) (text ∷ texts)
 
--- The lines of a script become texts where the first begins with a `.`, and else they stay.
+-- The lines of a script become texts if the first begins with a `.`, and otherwise they stay.
 abbrev pub ScriptBecomes : List Text → Bytes → Text → List Text → Type 0
 ScriptBecomes lines args process texts =
     MatchBool (is_dotted lines) (LinesBecome args process at_first 1 lines texts) (texts ≡ lines)

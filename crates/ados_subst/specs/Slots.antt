@@ -30,26 +30,26 @@ slots_of (option ∷ options) (arg ∷ args) = slot_for option arg ∷ slots_of 
 abbrev pub is_named : Text → Slot → Bool
 is_named name slot = list_any (λ own. is_same own name) slot.names
 
--- the option of a name
+-- the option with a name
 abbrev pub slot_of : List Slot → Text → Option Slot
 slot_of slots name = find (is_named name) slots
 
--- the text that the option was given, or else another one
+-- the text that the option was given, otherwise another one
 abbrev pub value_or : Text → Slot → Text
 value_or other slot = unwrap_or slot.given other
 
--- the text that the option was given, or else its default, or else nothing
+-- the text that the option was given, otherwise its default, otherwise nothing
 abbrev pub value_of : Slot → Text
 value_of slot = value_or (unwrap_or slot.default []) slot
 
--- the options with a default for the one of a name; none where no option has the name
+-- the options with a default for the one with a name; none if no option has the name
 abbrev pub with_default_in : Text → Text → List Slot → Option (List Slot)
 with_default_in name text [] = None
 with_default_in name text (slot ∷ slots) =
     if is_named name slot then Some (record slot { default = Some text } ∷ slots)
     else option_map (λ more. slot ∷ more) (with_default_in name text slots)
 
--- the same, where a default has to name its option: an empty name is none
+-- the same, but none if the name is empty
 abbrev pub with_default : List Slot → Text → Text → Option (List Slot)
 with_default slots [] text = None
 with_default slots (c ∷ cs) text = with_default_in (c ∷ cs) text slots

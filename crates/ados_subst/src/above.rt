@@ -9,14 +9,14 @@ use crate::slots::{Slot, Slots};
 pub struct Above {
     /// The characters of directives and of references.
     pub marks: Marks,
-    /// The options of the template, once there was one.
+    /// The options of the template, once there has been one.
     pub slots: Option<Slots>,
 }
 
 impl Above {
     ghost use Rattle.ados_subst.specs.Above.{at_first, slot_in};
 
-    /// What stands above the first line.
+    /// What holds above the first line, before any directive.
     pub fn first() -> Above
         ensures { result ≡ at_first }
     {
@@ -26,7 +26,7 @@ impl Above {
         }
     }
 
-    /// The option of a name; where there was no template yet, none.
+    /// The option with a name; `None` if there has been no template yet.
     pub fn slot(&self, name: &[u8]) -> Option<&Slot>
         ensures { option_copied result ≡ slot_in self.now name.now }
     {

@@ -7,8 +7,7 @@ use crate::above::Above;
 use crate::faults::SubstFault;
 use crate::marks::Mark;
 use crate::slots::Slots;
-use crate::words::{first_word, rest_of};
-use ados_items::{Item, next_item, value};
+use ados_items::{Item, first_word, next_item, rest_of, value};
 use ados_readargs::Template;
 use ados_text::{NoMemory, Text};
 use std::alloc::Global;
@@ -20,15 +19,15 @@ pub enum Directive {
     Key,
     /// `DEF`: the default of an option.
     Default,
-    /// `BRA` and its kin: another character for a mark.
+    /// `BRA`, `KET`, `DOLLAR`, `DOL` or `DOT`: another character for a mark.
     Sets(Mark),
 }
 
-/// What stands above the next line, by what stands above a directive, the arguments of the script, the directive's line
-/// number, from 1, and what stands behind its dot.
+/// What holds above the next line, by what holds above a directive, the arguments of the script, the directive's line
+/// number, from 1, and what follows its dot.
 ///
-/// `BadDirective` where there is no such directive, at a second `KEY`, at a default of an unknown option, and where
-/// `BRA` or its kin does not name one character; `Args` where the template is bad or is not filled by the arguments.
+/// `BadDirective` if there is no such directive, at a second `KEY`, at a default of an unknown option, and if
+/// `BRA` or one like it does not name one character; `Args` if the template is bad or is not filled by the arguments.
 pub fn directed(
     alloc: Global,
     above: Above,
@@ -51,7 +50,7 @@ pub fn directed(
     }
 }
 
-// The directive is a comment: nothing stands behind its dot, or a blank or a `\` does.
+// The directive is a comment: nothing follows its dot, or a blank or a `\` does.
 fn is_remark(body: &[u8]) -> bool
     ensures { result ≡ is_remark body.now }
 {
@@ -61,7 +60,7 @@ fn is_remark(body: &[u8]) -> bool
     }
 }
 
-// The two are one word: alike where case is ignored.
+// The two are the same word; case is ignored.
 fn is_same(word: &[u8], name: &[u8]) -> bool
     ensures { result ≡ is_same word.now name.now }
 {
@@ -143,7 +142,7 @@ fn defaulted(alloc: Global, above: Above, number: usize, text: &[u8]) -> Result<
     }
 }
 
-// The default that a text says: a quoted item's text, or the text as it stands.
+// The default that a text gives: a quoted item's text, or the text as it is.
 fn default_of(alloc: Global, text: &[u8]) -> Result<Text, NoMemory>
     requires { IsText text.now }
     ensures { IfOk result (λ default. default ≡ default_of text.now) }
@@ -155,7 +154,7 @@ fn default_of(alloc: Global, text: &[u8]) -> Result<Text, NoMemory>
     }
 }
 
-// `.BRA` and its kin: one other character.
+// `.BRA` and those like it: one other character.
 fn marked(above: Above, number: usize, mark: Mark, text: &[u8]) -> Result<Above, SubstFault>
     ensures { result ≡ marked above number mark text.now }
 {

@@ -12,10 +12,10 @@ pub enum SubstFault {
     /// The template is bad, or the arguments do not fill it. It is never `ArgFault::NoMemory`.
     #[error("{0}")]
     Args(ArgFault),
-    /// The directive in the line with this number, from 1, is none, or it stands in the wrong place: fault 114.
+    /// The directive in the line with this number, from 1, is unknown, or is not valid there: fault 114.
     #[error("bad directive in line {0}")]
     BadDirective(usize),
-    /// No memory for the lines.
+    /// Out of memory for the lines.
     #[error("no free store")]
     NoMemory,
 }
@@ -23,7 +23,7 @@ pub enum SubstFault {
 impl SubstFault {
     /// The number by which a command answers the fault.
     ///
-    /// Want of memory is no answer of a command: it is given back as `NoMemory`.
+    /// Running out of memory is not an answer of a command: it is returned as `NoMemory`.
     pub fn result2(self) -> Result<Result2, NoMemory>
         ensures { result ≡ result2_of self }
     {

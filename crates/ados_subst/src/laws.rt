@@ -5,8 +5,8 @@ ghost use Rattle.ados_subst.specs.declared.faults.SubstFault.{SubstFault};
 ghost use Rattle.ados_subst.specs.FirstFault.{IsFirstFault};
 ghost use Rattle.ados_subst.specs.Scripts.{is_dotted, script_of};
 
-/// A script whose first line begins with a dot has a fault exactly where one of its directives has one, and it is that of
-/// the first such directive, by what stands in its line and above it. Any other script has none.
+/// A script whose first line begins with a dot has a fault exactly if one of its directives has one, and it is that of
+/// the first such directive, by what its line says and what holds above it. Any other script has none.
 pub fn first_directive_is_told()
     ensures { (lines : List Text) (args : Bytes) (process : Text) (fault : SubstFault) →
         (script_of lines args process ≡ Err fault) ↔ (is_dotted lines ≡ true) × IsFirstFault args lines fault }

@@ -1,5 +1,5 @@
 #![tactic(auto)]
-//! The lines of a script, with its arguments put in.
+//! The lines of a script, with its arguments substituted.
 
 mod above;
 mod directives;
@@ -11,7 +11,6 @@ mod next;
 mod references;
 mod scripts;
 mod slots;
-mod words;
 
 pub use faults::SubstFault;
 pub use laws::first_directive_is_told;

@@ -10,7 +10,7 @@ use crate::references::referred;
 use ados_text::{NoMemory, Text};
 use std::alloc::Global;
 
-/// A line with what its references stand for in their places.
+/// A line with its references replaced by what they stand for.
 pub fn substituted(
     alloc: Global,
     above: &Above,
@@ -42,17 +42,17 @@ pub fn substituted(
     Ok(text)
 }
 
-// What stands after a byte of a line.
+// What follows a byte of a line.
 #[derive(Clone, Copy)]
 struct Rest<'a> {
     bytes: &'a [u8],
-    // The place of its first ket; without one its length.
+    // The place of its first ket; if there is none, its length.
     ket: usize,
-    // The place of its first dollar; without one its length.
+    // The place of its first dollar; if there is none, its length.
     dollar: usize,
 }
 
-// Adds the text of the segment that begins with a byte; gives how many of the rest belong to it.
+// Adds the text of the segment that begins with a byte; returns how many of the rest belong to it.
 #[tactic(auto, using(ados_text::proofs::TextLemmas::parts))]
 fn push_segment(
     above: &Above,

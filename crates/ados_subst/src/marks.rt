@@ -4,26 +4,26 @@ ghost use Rattle.ados_subst.specs.Marks.{first_marks, with_mark};
 /// The characters of directives and of references.
 #[derive(Clone, Copy)]
 pub struct Marks {
-    /// With it a reference begins.
+    /// It begins a reference.
     pub bra: u8,
-    /// With it a reference ends.
+    /// It ends a reference.
     pub ket: u8,
-    /// In a reference it stands before the text for an option that was not given.
+    /// In a reference it comes before the text for an option that was not given.
     pub dollar: u8,
-    /// With it a directive begins.
+    /// It begins a directive.
     pub dot: u8,
 }
 
 /// One of these characters.
 #[derive(Clone, Copy)]
 pub enum Mark {
-    /// The one with which a reference begins.
+    /// The one that begins a reference.
     Bra,
-    /// The one with which a reference ends.
+    /// The one that ends a reference.
     Ket,
     /// The one before the text for an option that was not given.
     Dollar,
-    /// The one with which a directive begins.
+    /// The one that begins a directive.
     Dot,
 }
 

@@ -3,7 +3,7 @@ ghost use Rattle.std.specs.List.{position_or_len};
 ghost use Rattle.ados_subst.specs.Next.{next_place};
 ghost use Rattle.ados_subst.specs.References.{is_byte};
 
-/// The place of the first such byte; without one the text's length.
+/// The place of the first such byte; if there is none, the text's length.
 pub fn place_or_len(byte: u8, text: &[u8]) -> usize
     ensures value { result ≡ position_or_len (is_byte byte) text.now }
     ensures within { result ≤ length text.now }
@@ -11,8 +11,8 @@ pub fn place_or_len(byte: u8, text: &[u8]) -> usize
     text.iter().take_while(|b| **b != byte).count()
 }
 
-/// The place of the first such byte after a place, by that of the first at or after it; without one the line's length.
-/// It looks from one such byte to the next alone, so that along a line each byte is looked at once.
+/// The place of the first such byte after a place, given that of the first at or after it; if there is none, the line's
+/// length. It only searches from one such byte to the next, so that along a line each byte is looked at once.
 #[tactic(auto, using(crate::proofs::NextLemmas::next))]
 pub fn next_place(byte: u8, line: &[u8], place: usize, here: usize) -> usize
     requires place { place < length line.now }

@@ -8,7 +8,7 @@ use crate::above::Above;
 use ados_text::Text;
 
 /// What the text of a reference stands for, with the shell's number; `None` if it refers to nothing. The place is that
-/// of the first dollar in the text; without one it is the text's length.
+/// of the first dollar in the text; if there is none, it is the text's length.
 #[tactic(auto, using(ados_text::proofs::TextLemmas::parts))]
 pub fn referred<'a>(
     above: &'a Above,

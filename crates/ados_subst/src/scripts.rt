@@ -15,14 +15,14 @@ use ados_text::{NoMemory, Text, Texts, lines_of};
 use itoa::Buffer;
 use std::alloc::Global;
 
-/// The lines of a script, from the bytes of its file, with its arguments put in; `process` is the shell's number.
+/// The lines of a script, from the bytes of its file, with its arguments substituted; `process` is the shell's number.
 ///
-/// Where the first line begins with `.`, each line that begins with the dot character is a directive and leaves an
-/// empty line, and in each other one the references are replaced, by the directives that stand above it. In any other
+/// If the first line begins with `.`, each line that begins with the dot character is a directive and leaves an
+/// empty line, and in every other line the references are replaced, by the directives that are above it. In any other
 /// script the lines stay and the arguments are not looked at.
 ///
 /// The fault is that of the first directive that has one: `BadDirective` with its line's number, or `Args`.
-/// `NoMemory` only where a growth was refused.
+/// `NoMemory` only if an allocation fails.
 pub fn script(alloc: Global, bytes: &[u8], args: &[u8], process: u8) -> Result<Texts, SubstFault>
     ensures value { Gives result (script_of (lines_of bytes.now) args.now (decimal process)) }
     ensures said { IfOk result (ScriptBecomes (lines_of bytes.now) args.now (decimal process)) }
@@ -44,7 +44,7 @@ fn is_dotted(lines: &[Text]) -> bool
     }
 }
 
-// What stands behind the dot, where the line is a directive.
+// What follows the dot, if the line is a directive.
 #[tactic(auto, using(ados_text::proofs::TextLemmas::parts))]
 fn directive_in(dot: u8, line: &[u8]) -> Option<&[u8]>
     requires { IsText line.now }

@@ -45,7 +45,7 @@ impl Slot {
             .any(|own| own.as_bytes().eq_ignore_ascii_case(name))
     }
 
-    /// What the option stands for: the text that it was given, or else its default, or else nothing.
+    /// What the option stands for: the text that it was given, otherwise its default, otherwise nothing.
     pub fn value(&self) -> &[u8]
         ensures value { result.now ≡ value_of self.now }
         ensures ascii { IsText result.now }
@@ -56,7 +56,7 @@ impl Slot {
         }
     }
 
-    /// The text that the option was given, or else another one.
+    /// The text that the option was given, otherwise another one.
     pub fn value_or<'a>(&'a self, other: &'a [u8]) -> &'a [u8]
         requires { IsText other.now }
         ensures value { result.now ≡ value_or other.now self.now }
@@ -101,14 +101,14 @@ impl Slots {
         Ok(Slots { items })
     }
 
-    /// The option of a name.
+    /// The option with a name.
     pub fn get(&self, name: &[u8]) -> Option<&Slot>
         ensures { option_copied result ≡ slot_of self.now name.now }
     {
         self.items.iter().find(|slot| slot.is_named(name))
     }
 
-    /// The same options, with a default for the one of a name; `None` where no option has the name, or it is empty.
+    /// The same options, with a default for the one with a name; `None` if no option has the name, or it is empty.
     pub fn with_default(self, name: &[u8], text: Text) -> Option<Slots>
         ensures { result ≡ with_default self name.now text }
     {
@@ -129,7 +129,7 @@ fn place_named(slots: &[Slot], name: &[u8]) -> Option<usize>
     slots.iter().position(|slot| slot.is_named(name))
 }
 
-// The text that an argument gives to the option of these names.
+// The text that an argument gives to the option with these names.
 fn given_text(alloc: Global, names: &Texts, arg: Arg) -> Result<Option<Text>, NoMemory>
     ensures { IfOk result (λ text. text ≡ given_text names.now arg) }
 {

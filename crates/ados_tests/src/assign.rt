@@ -100,7 +100,7 @@ fn a_text_leads_to_its_directory(rt: HostRuntime) -> Result<(), Wrong> {
     refuse(rt.alloc(), "Q:", 217)
 }
 
-// So many directories a path stands for.
+// A path stands for this many directories.
 fn count(alloc: Global, path: &'static str, want: usize) -> Result<(), Wrong> {
     let parsed = Path::parse(alloc, &text(alloc, path)?)?;
     match with_texts(alloc)?.places(&parsed, &Place::root(alloc), &files(alloc)?) {
@@ -115,7 +115,7 @@ fn a_device_alone_stands_for_all_its_directories(rt: HostRuntime) -> Result<(), 
     count(rt.alloc(), "M:x", 1)
 }
 
-// So many names hold T behind an event that used a device.
+// This many names hold T after an event that used a device.
 fn bind(alloc: Global, device: &'static str, want: usize) -> Result<(), Wrong> {
     let assigns = with_texts(alloc)?;
     let mut used = Vec::new(alloc);
@@ -125,7 +125,7 @@ fn bind(alloc: Global, device: &'static str, want: usize) -> Result<(), Wrong> {
     expect(assigns.is_settled(used.as_slice()) == (want == 2), device)
 }
 
-// M: and T: hold it at first, and D: too as soon as P:, which leads on to it, was used.
+// M: and T: hold it at first, and D: too once P:, which leads on to it, was used.
 #[test]
 fn a_used_defer_is_bound(rt: HostRuntime) -> Result<(), Wrong> {
     bind(rt.alloc(), "q", 2)?;

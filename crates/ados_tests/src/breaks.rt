@@ -6,7 +6,7 @@ use ados_text::NoMemory;
 use ados_world::{Kind, World};
 use std::alloc::Global;
 
-// How a fresh world ends that is driven by one line with these breaks. Want of memory for the world is handed on.
+// How a fresh world ends that is driven by one line with these breaks. `NoMemory` for the world is handed on.
 #[tactic(auto, using(ados_launch::proofs::NewPair::new_pair))]
 fn drive(
     alloc: Global,
@@ -28,7 +28,7 @@ fn drive(
     Ok(drive.run(&mut world, &mut launcher, &mut reader, &mut writer))
 }
 
-// How many events were taken, and how many bytes were written. Want of memory is handed on.
+// How many events were taken, and how many bytes were written. `NoMemory` is handed on.
 fn driven(
     alloc: Global,
     breaks: &[BreakAt],
@@ -42,9 +42,9 @@ fn driven(
     }
 }
 
-// The line, the turn that takes it, the end of the input and the turn that ends the shell are four events. A break is one more where
-// its event comes and its shell is there. Of each row: the event and the shell of the one break, the turns, how many events are
-// taken, none where one more is due, and how many bytes are written.
+// The line, the turn that takes it, the end of the input and the turn that ends the shell are four events. A break is one more if
+// its event comes and its shell runs. In each row: the event and the shell of the one break, the turns, how many events are
+// taken, none if one more is due, and how many bytes are written.
 const ROWS: &[(u64, u8, u64, Option<u64>, usize)] = &[
     (0, 1, 100, Some(5), 2),
     (1, 1, 100, Some(5), 2),
@@ -62,7 +62,7 @@ const ROWS: &[(u64, u8, u64, Option<u64>, usize)] = &[
     (0, 1, 0, None, 0),
 ];
 
-// Each row comes out so.
+// Each row has this result.
 fn rows(alloc: Global, rows: &[(u64, u8, u64, Option<u64>, usize)]) -> Result<(), Wrong> {
     for (place, (event, shell, turns, taken, bytes)) in rows.iter().enumerate() {
         let at = BreakAt {
@@ -81,7 +81,7 @@ fn a_break_is_an_event_where_its_shell_is_there(rt: HostRuntime) -> Result<(), W
     rows(rt.alloc(), ROWS)
 }
 
-// The second names an earlier event than the first, behind which it comes.
+// The second names an earlier event than the first, after which it comes.
 const FALLING: &[BreakAt] = &[
     BreakAt {
         event: 3,

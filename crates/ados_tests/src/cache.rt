@@ -1,4 +1,4 @@
-// The cache of resolved paths: what it knows, and that no version answers by another's.
+// The cache of resolved paths: what it knows, and that no version answers with the knowledge of another.
 use crate::places::{at, name};
 use crate::wrong::{Wrong, expect};
 use ados_assign::{Assigns, Binding, Places};
@@ -33,8 +33,8 @@ fn with_place_at_first(alloc: Global) -> Result<Shared, FsFault> {
 }
 
 // What is shared at first, with the directory `T/d`, and `X` bound to `S`. One function owns what is shared, and others
-// borrow it: to drop it at many exits is dear to prove.
-fn with_directory(alloc: Global) -> Result<Shared, FsFault> {
+// borrow it: to drop it at many exits is expensive to prove.
+pub fn with_directory(alloc: Global) -> Result<Shared, FsFault> {
     let shared = with_place_at_first(alloc)?;
     Ok(with_bound(alloc, &shared, "S")?)
 }
@@ -54,8 +54,8 @@ fn learn(alloc: Global, shared: &mut Shared, path: &str) -> Result<(), NoMemory>
     Ok(())
 }
 
-// A path leads to a place, or, by the empty text, nowhere.
-fn leads(alloc: Global, shared: &Shared, path: &str, want: &str) -> Result<bool, Wrong> {
+// A path leads to a place, or, if the text is empty, nowhere.
+pub fn leads(alloc: Global, shared: &Shared, path: &str, want: &str) -> Result<bool, Wrong> {
     let root = Place::root(alloc);
     match place_of(alloc, shared, &root, &text(alloc, path)?) {
         Err(Refusal::NoMemory) => Err(Wrong::NoMemory),
@@ -69,7 +69,7 @@ fn is_anew(alloc: Global, shared: &Shared, path: &str, want: &str) -> Result<boo
     Ok(!knows(alloc, shared, path)? && leads(alloc, shared, path, want)?)
 }
 
-// Has a path learned: it is not known then only if there was no memory for it.
+// Makes the cache learn a path: it is unknown afterwards only if there was no memory for it.
 fn teach(alloc: Global, shared: &mut Shared, path: &str) -> Result<(), Wrong> {
     learn(alloc, shared, path)?;
     if knows(alloc, shared, path)? {
@@ -213,7 +213,7 @@ fn is_not_learned(alloc: Global, shared: &mut Shared, path: &str) -> Result<bool
     Ok(!knows(alloc, shared, path)?)
 }
 
-// What may not be learned: a path that leads nowhere, and one behind several directories or a text.
+// What may not be learned: a path that leads nowhere, and one after several directories or a text.
 fn stays_unknown(alloc: Global, path: &str) -> Result<bool, Wrong> {
     let mut shared = with_many_bound(alloc)?;
     is_not_learned(alloc, &mut shared, path)
@@ -227,7 +227,7 @@ fn some_paths_stay_unknown(rt: HostRuntime) -> Result<(), Wrong> {
     Ok(())
 }
 
-// With memory and without: what is learned, or dropped, changes nothing of where the path leads.
+// With memory and without: what is learned, or dropped, does not change where the path leads.
 fn leads_where_it_led(alloc: Global, shared: &mut Shared) -> Result<bool, Wrong> {
     learn(alloc, shared, "X:y")?;
     learn(alloc, shared, "X:z")?;
@@ -242,68 +242,4 @@ fn refuses_nothing(alloc: Global) -> Result<bool, Wrong> {
 #[test]
 fn learning_refuses_nothing(rt: HostRuntime) -> Result<(), Wrong> {
     expect(refuses_nothing(rt.alloc())?, "X:y and X:z")
-}
-
-// The path of a letter, as `X:a`.
-fn lettered(alloc: Global, letter: u8) -> Result<Text, NoMemory> {
-    Text::from_bytes(alloc, &[b'X', b':', letter])
-}
-
-// Has the paths of the letters from `;` on learned, one after another; that of the end is not.
-fn teach_up_to(alloc: Global, shared: &mut Shared, end: u8) -> Result<(), NoMemory> {
-    for letter in b';'..end {
-        let path = lettered(alloc, letter)?;
-        shared.learn(alloc, &path, &Place::root(alloc));
-    }
-    Ok(())
-}
-
-// All of these are known.
-fn knows_each(alloc: Global, shared: &Shared, end: u8) -> Result<bool, NoMemory> {
-    for letter in b';'..end {
-        if !shared.knows(&lettered(alloc, letter)?, &Place::root(alloc)) {
-            return Ok(false);
-        }
-    }
-    Ok(true)
-}
-
-// From `;` up to `z` there are 64 letters: one is not known only if there was no memory for it.
-fn learns_all(alloc: Global, shared: &mut Shared) -> Result<bool, Wrong> {
-    teach_up_to(alloc, shared, b'{')?;
-    if knows_each(alloc, shared, b'{')? {
-        leads(alloc, shared, "X:z", "S/z")
-    } else {
-        Err(Wrong::NoMemory)
-    }
-}
-
-fn knows_all(alloc: Global) -> Result<bool, Wrong> {
-    let mut shared = with_directory(alloc)?;
-    learns_all(alloc, &mut shared)
-}
-
-#[test]
-fn sixty_four_paths_are_known_at_once(rt: HostRuntime) -> Result<(), Wrong> {
-    expect(knows_all(rt.alloc())?, "64 paths")
-}
-
-// With one more they are not all known, and each leads where it did.
-fn learns_some(alloc: Global, shared: &mut Shared) -> Result<bool, Wrong> {
-    teach_up_to(alloc, shared, b'|')?;
-    Ok(
-        !knows_each(alloc, shared, b'|')?
-            && leads(alloc, shared, "X:;", "S/;")?
-            && leads(alloc, shared, "X:{", "S/{")?,
-    )
-}
-
-fn knows_some(alloc: Global) -> Result<bool, Wrong> {
-    let mut shared = with_directory(alloc)?;
-    learns_some(alloc, &mut shared)
-}
-
-#[test]
-fn no_more_are_known_at_once(rt: HostRuntime) -> Result<(), Wrong> {
-    expect(knows_some(rt.alloc())?, "65 paths")
 }

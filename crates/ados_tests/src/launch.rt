@@ -22,7 +22,7 @@ const NONE_FAILS: Failing = Failing {
     stalled_write: NEVER,
 };
 
-// A fresh world driven by these bytes, read three at a time and written one at a time. Want of memory for the world is
+// A fresh world driven by these bytes, read three at a time and written one at a time. `NoMemory` for the world is
 // handed on.
 #[tactic(auto, using(ados_launch::proofs::NewPair::new_pair))]
 fn drive(
@@ -46,7 +46,7 @@ fn drive(
     Ok(drive.run(&mut world, &mut launcher, &mut reader, &mut writer))
 }
 
-// How a fresh world driven so ended, none where it ended well, and how many bytes it wrote. Want of memory is
+// How a fresh world that was driven in this way ended, none if it ended well, and how many bytes it wrote. `NoMemory` is
 // handed on.
 fn driven(
     alloc: Global,
@@ -61,7 +61,7 @@ fn driven(
     }
 }
 
-// What a fresh world driven by these bytes ends with, where nothing fails. Want of memory is handed on.
+// What a fresh world driven by these bytes ends with, if nothing fails. `NoMemory` is handed on.
 fn ended(alloc: Global, input: &[u8]) -> Result<Result<End, DriveFault>, NoMemory> {
     let mut text = Vec::with_capacity(alloc, 200)?;
     match drive(alloc, input, &mut text, NONE_FAILS, ENOUGH)? {
@@ -118,7 +118,7 @@ fn write_stalls_at(call: u64) -> Failing {
     }
 }
 
-// Each of these writes, of one byte each, fails in its turn, and then takes nothing in its turn.
+// Each of these writes, of one byte each, fails in its turn, and then writes nothing in its turn.
 fn fail_writes(alloc: Global, writes: usize) -> Result<(), Wrong> {
     for written in 0..writes {
         let call = written as u64 + 1;

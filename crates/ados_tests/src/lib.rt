@@ -1,8 +1,8 @@
 #![tactic(auto)]
 //! The tests of the crates, one file for each that has them, of what no contract says, and neither a dialogue of
-//! `tests/dialogues/` nor a list of events of `tests/events/` can show: that calls which no command makes yet succeed where
-//! there is memory, what stands where memory was refused, and readers and writers that fail.
-//! They stand here together, so that no crate is proved a second time for its tests.
+//! `tests/dialogues/` nor a list of events of `tests/events/` can show: that calls which no command makes succeed if
+//! there is memory, what the state is if an allocation failed, and readers and writers that fail.
+//! They are together here, so that no crate is proved a second time for its tests.
 
 #[cfg(test)]
 mod assign;
@@ -10,6 +10,8 @@ mod assign;
 mod breaks;
 #[cfg(test)]
 mod cache;
+#[cfg(test)]
+mod cache_room;
 #[cfg(test)]
 mod items;
 #[cfg(test)]

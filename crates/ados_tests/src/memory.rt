@@ -44,7 +44,7 @@ impl Read for FlakyReader<'_> {
     }
 }
 
-// Writes to memory, some bytes at a time, and at one call fails or takes nothing.
+// Writes to memory, some bytes at a time, and at one call fails or writes nothing.
 #[derive(Drop)]
 pub struct FlakyWriter<'a> {
     bytes: &'a mut Vec<u8>,

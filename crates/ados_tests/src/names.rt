@@ -15,7 +15,7 @@ fn joined(alloc: Global, path: &Path, name: &str) -> Result<Path, NameFault> {
     path.join(&text(alloc, name)?)
 }
 
-// Writes a step in brackets, `/` for the one upwards.
+// Writes a step in brackets, `/` for a step to the parent.
 fn show_step(out: &mut Vec<u8>, step: &Step) -> Result<(), NoMemory> {
     out.push(b'[')?;
     match step {
@@ -44,7 +44,7 @@ fn shown(alloc: Global, path: &Path) -> Result<Vec<u8>, NoMemory> {
     Ok(out)
 }
 
-// A path shows this, or `210` stands for one that is refused. Want of memory is handed on.
+// A path shows this, or `210` stands for one that is refused. `NoMemory` is handed on.
 fn shows(alloc: Global, found: Result<Path, NameFault>, want: &str) -> Result<bool, NoMemory> {
     match found {
         Ok(path) => Ok(shown(alloc, &path)?.as_slice() == want.as_bytes()),
@@ -83,7 +83,7 @@ fn joins_one_name(rt: HostRuntime) -> Result<(), Wrong> {
     )
 }
 
-// A text of names with nine letters each, the last one aside.
+// A text of names with nine letters each, except for the last one.
 fn long(alloc: Global, length: usize) -> Result<Text, NoMemory> {
     let mut text = Text::new(alloc);
     for place in 0..length {
@@ -92,12 +92,12 @@ fn long(alloc: Global, length: usize) -> Result<Text, NoMemory> {
     Ok(text)
 }
 
-// The path of a text of so many bytes, with a name joined to it.
+// The path of a text of this many bytes, with a name joined to it.
 fn long_path(alloc: Global, length: usize, name: &str) -> Result<Path, NameFault> {
     joined(alloc, &Path::parse(alloc, &long(alloc, length)?)?, name)
 }
 
-// How many steps a path has, none where it is refused. Want of memory is handed on.
+// How many steps a path has, none if it is refused. `NoMemory` is handed on.
 fn steps(found: Result<Path, NameFault>) -> Result<usize, NoMemory> {
     match found {
         Ok(path) => Ok(path.steps().len()),
@@ -106,7 +106,7 @@ fn steps(found: Result<Path, NameFault>) -> Result<usize, NoMemory> {
     }
 }
 
-// The paths of so many bytes, with these names joined to them, have so many steps.
+// The paths of this many bytes, with these names joined to them, have this many steps.
 fn long_paths(alloc: Global, rows: &[(usize, &str, usize)]) -> Result<(), Wrong> {
     for (place, (length, name, want)) in rows.iter().enumerate() {
         expect_row(steps(long_path(alloc, *length, *name))? == *want, place)?;

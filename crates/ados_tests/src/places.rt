@@ -1,4 +1,4 @@
-// Places of the files by their texts, as `S/q`.
+// Places of the files by their texts, like `S/q`.
 use ados_ram::Place;
 use ados_text::{Name, NoMemory, Text};
 use std::alloc::Global;

@@ -4,7 +4,7 @@ use ados_ram::{Busy, FsFault, Ram};
 use ados_text::NoMemory;
 use std::alloc::Global;
 
-// The number of the fault, 0 where there is none. Want of memory is handed on.
+// The number of the fault, 0 if there is none. `NoMemory` is handed on.
 fn fault(answer: Result<Ram, FsFault>) -> Result<u16, NoMemory> {
     match answer {
         Ok(_) => Ok(0),
@@ -33,7 +33,7 @@ fn renamed(alloc: Global, ram: &Ram, busy: &Busy, from: &str, to: &str) -> Resul
     ram.rename(busy, &at(alloc, from)?, &at(alloc, to)?)
 }
 
-// Where an output is open at `S/q` the deletion of each of these has this number.
+// If an output is open at `S/q` the deletion of each of these has this number.
 fn delete(alloc: Global, rows: &[(&'static str, u16)]) -> Result<(), Wrong> {
     let ram = with_script(alloc)?;
     let busy = in_use(alloc)?;
@@ -43,13 +43,12 @@ fn delete(alloc: Global, rows: &[(&'static str, u16)]) -> Result<(), Wrong> {
     Ok(())
 }
 
-// No command leaves an output open yet.
 #[test]
 fn what_is_above_an_output_is_not_deleted(rt: HostRuntime) -> Result<(), Wrong> {
     delete(rt.alloc(), &[("X", 205), ("S", 202)])
 }
 
-// Where an output is open at `S/q` the rename of each of these to T has this number.
+// If an output is open at `S/q` the rename of each of these to T has this number.
 fn rename(alloc: Global, rows: &[(&'static str, u16)]) -> Result<(), Wrong> {
     let ram = with_script(alloc)?;
     let busy = in_use(alloc)?;
@@ -72,12 +71,12 @@ fn files_below(alloc: Global, ram: &Ram) -> Result<usize, NoMemory> {
     Ok(ram.files_below(&at(alloc, "t")?, true)?.len())
 }
 
-// The files behind a rename of S to `T/n`.
+// The files after a rename of S to `T/n`.
 fn moved(alloc: Global, old: &Ram) -> Result<Ram, FsFault> {
     renamed(alloc, &old.copy()?, &Busy::none(alloc), "S", "T/n")
 }
 
-// One file more is below T behind the rename, and none before it.
+// One more file is below T after the rename, and none before it.
 fn is_moved(alloc: Global, old: &Ram, new: &Ram) -> Result<bool, NoMemory> {
     Ok(files_below(alloc, new)? == 1 && files_below(alloc, old)? == 0)
 }

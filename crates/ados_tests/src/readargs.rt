@@ -56,7 +56,7 @@ fn answer(alloc: Global, text: &str, line: &str) -> Result<Vec<u8>, NoMemory> {
     }
 }
 
-// In each row a template, a line, and the answer.
+// Each row has a template, a line, and the answer.
 const ROWS: &str = "\
 FROM/M,TO/A,ALL/S,QUIET/S!a b c1 QUIET![a|b]<c1>-+
 A/M,TO/A,Q/S!\"to\" x![to]<x>-
@@ -160,7 +160,7 @@ FROM/A/M!!116
 FILE/A!FILE!117
 !x!118";
 
-// Each row is answered so.
+// Each row gets its answer.
 fn follow(alloc: Global, rows: &'static str) -> Result<(), Wrong> {
     for row in rows.lines() {
         let mut parts = row.split('!');

@@ -21,7 +21,7 @@ enum Act<'a> {
 
 use Act::{Turn, Type};
 
-// An act, and what that prints.
+// An act, and what it prints.
 type Row<'a> = (Act<'a>, &'a str);
 
 fn event(alloc: Global, act: Act) -> Result<Event, NoMemory> {
@@ -38,7 +38,7 @@ fn prints(answer: &Result<Out, Refusal>, want: &str) -> bool {
     }
 }
 
-// Which shells run, of the first two the codes and whether they are ready, and whether a line is wanted.
+// Which shells run; of the first two the codes and whether they are ready; and whether a line is wanted.
 type Views = ([bool; 20], [Codes; 2], [bool; 2], bool);
 
 fn views(world: &World) -> Views {
@@ -50,7 +50,7 @@ fn views(world: &World) -> Views {
     )
 }
 
-// The event prints this; where memory was wanting it was refused before, and the world was as it was.
+// The event prints this; if an allocation failed it was refused before, and the world was unchanged.
 fn answers(world: &mut World, event: &Event, want: &str) -> bool {
     let before = views(world);
     match world.step(event) {
@@ -120,7 +120,7 @@ const HALF_COPIED: &[Row] = &[
     (Turn(1), "RAM:a..copied\nRAM:b..copied\n"),
 ];
 
-// The copy of `a` can't be written over: had a refused Copy left it, the next would be refused for that.
+// The copy of `a` can't be overwritten: if a refused Copy had left it, the next would be refused because of that.
 #[test]
 fn half_copied_file(rt: HostRuntime) -> Result<(), Wrong> {
     dialogue(rt.alloc(), HALF_COPIED)
@@ -192,7 +192,7 @@ const BACKGROUND: &[Row] = &[
     (Turn(1), "[CLI 2]\na 1\nb c\n"),
 ];
 
-// A typed Run that takes a further line, its output, what its shell copies, and the tick of a background shell.
+// A typed Run that takes another line, its output, what its shell copies, and the tick of a background shell.
 #[test]
 fn want_of_memory_begins_no_shell_and_loses_no_tick(rt: HostRuntime) -> Result<(), Wrong> {
     dialogue(rt.alloc(), BACKGROUND)
@@ -229,8 +229,8 @@ fn want_of_memory_moves_and_ends_no_background_shell(rt: HostRuntime) -> Result<
     dialogue(rt.alloc(), SHELL_OF_A_SCRIPT)
 }
 
-// The shell that is opened has this number, or no number is free; where memory was wanting it was refused before, and the
-// world was as it was.
+// The shell that is opened has this number, or no number is free; if an allocation failed it was refused before, and the
+// world was unchanged.
 fn opens(world: &mut World, line: &Text, want: Option<u8>) -> bool {
     let before = views(world);
     match world.open_shell(line) {

@@ -7,9 +7,9 @@ use ados_text::NoMemory;
 /// Why a test fails.
 #[derive(Clone, Copy, Debug)]
 pub enum Wrong {
-    /// What this asks for is answered otherwise.
+    /// What this asks for has another answer.
     At(&'static str),
-    /// The row at this place, from 0, is answered otherwise.
+    /// The row at this place, from 0, has another answer.
     Row(usize),
     /// There is no memory.
     NoMemory,
@@ -39,12 +39,12 @@ impl From<FsFault> for Wrong {
     }
 }
 
-/// What this asks for is answered as it should be.
+/// What this asks for has the answer that it should have.
 pub fn expect(holds: bool, asked: &'static str) -> Result<(), Wrong> {
     if holds { Ok(()) } else { Err(Wrong::At(asked)) }
 }
 
-/// The row at this place is answered as it should be.
+/// The row at this place has the answer that it should have.
 pub fn expect_row(holds: bool, place: usize) -> Result<(), Wrong> {
     if holds {
         Ok(())

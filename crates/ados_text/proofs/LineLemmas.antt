@@ -1,11 +1,11 @@
--- A line that was begun, and the lines behind it.
+-- A line that was begun, and the lines after it.
 use Rattle.std.proofs.Common.{ℕ, ◌+◌, ◌<◌, ◌≤◌, ◌≡◌, ◌∙◌, arith, List, [], ◌∷◌, ◌++◌, true, false, length, drop, refl, ap, sym, append-nil, append_assoc}
 use Rattle.std.specs.Prelude.{slice_index}
 use Rattle.std.proofs.lemmas.List.{drop_more, drop_all}
 use Rattle.ados_text.specs.Text.{to_ascii}
 use Rattle.ados_text.specs.Lines.{is_newline, before_lines, lines_of}
 
--- the first of these lines goes on with what was begun; the end of the bytes ends it, unless it is empty
+-- the first of these lines continues what was begun; at the end of the bytes that is a line itself, unless it is empty
 abbrev pub begun_by : List ℕ → List (List ℕ) → List (List ℕ)
 begun_by [] lines = lines
 begun_by (byte ∷ bytes) [] = (byte ∷ bytes) ∷ []
@@ -37,7 +37,7 @@ past_newline bytes i done line h b e =
     ∙ ap (λ l. done ++ l) (line-ends line (lines_of (drop (i + 1) bytes)))
     ∙ sym (append_assoc done (line ∷ []) _)
 
--- any other joins it
+-- any other byte is added to it
 pub past_byte : (bytes : List ℕ) (i : ℕ) (done : List (List ℕ)) (line : List ℕ) → i < length bytes → is_newline (slice_index bytes i) ≡ false
     → lines_of bytes ≡ done ++ begun_by line (lines_of (drop i bytes))
     → lines_of bytes ≡ done ++ begun_by (line ++ to_ascii (slice_index bytes i) ∷ []) (lines_of (drop (i + 1) bytes))
@@ -46,13 +46,13 @@ past_byte bytes i done line h b e =
     ∙ ap (λ l. done ++ begun_by line l) (byte-step _ (drop (i + 1) bytes) b)
     ∙ ap (λ l. done ++ l) (line-goes-on line _ (lines_of (drop (i + 1) bytes)))
 
--- a line that is not empty is the last
+-- a line that is not empty is the last one
 pub last_counts : (bytes : List ℕ) (i : ℕ) (done : List (List ℕ)) (line : List ℕ) → length bytes ≤ i → 0 < length line
     → lines_of bytes ≡ done ++ begun_by line (lines_of (drop i bytes)) → done ++ line ∷ [] ≡ lines_of bytes
 last_counts bytes i done [] past some e = absurd (omega arith)
 last_counts bytes i done (byte ∷ line) past some e = sym (e ∙ ap (λ l. done ++ begun_by (byte ∷ line) (lines_of l)) (drop_all i bytes past))
 
--- an empty one is none
+-- an empty one is not a line
 pub none_behind : (bytes : List ℕ) (i : ℕ) (done : List (List ℕ)) (line : List ℕ) → length bytes ≤ i → length line ≡ 0
     → lines_of bytes ≡ done ++ begun_by line (lines_of (drop i bytes)) → done ≡ lines_of bytes
 none_behind bytes i done [] past none e = sym (e ∙ ap (λ l. done ++ lines_of l) (drop_all i bytes past) ∙ append-nil done)

@@ -3,7 +3,7 @@ use Rattle.std.specs.Prelude.{ℕ, ◌-◌, ◌++◌, length}
 use Rattle.std.proofs.Math.ListN.{replicate}
 use Rattle.ados_text.specs.Text.{Bytes}
 
--- a text left in so many places, and right
+-- a text at the left of `width` columns, and at the right
 abbrev pub left_in : ℕ → Bytes → Bytes
 left_in width text = text ++ replicate (width - length text) 32
 

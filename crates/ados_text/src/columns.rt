@@ -5,7 +5,7 @@ ghost use Rattle.ados_text.specs.Columns.{left_in, right_in};
 
 use crate::errors::NoMemory;
 
-/// Puts out a text left in so many places: blanks fill them up, and a longer text stands as it is.
+/// Writes a text at the left of `width` columns: blanks fill them up; a longer text is written as it is.
 pub fn push_left(output: &mut Vec<u8>, width: usize, text: &[u8]) -> Result<(), NoMemory>
     ensures { OnOk result (output.new.items ≡ output.old.items ++ left_in width text.now) }
 {
@@ -13,7 +13,7 @@ pub fn push_left(output: &mut Vec<u8>, width: usize, text: &[u8]) -> Result<(), 
     push_blanks(output, width, text.len())
 }
 
-/// Puts out a text right in so many places: blanks fill them up, and a longer text stands as it is.
+/// Writes a text at the right of `width` columns: blanks fill them up; a longer text is written as it is.
 pub fn push_right(output: &mut Vec<u8>, width: usize, text: &[u8]) -> Result<(), NoMemory>
     ensures { OnOk result (output.new.items ≡ output.old.items ++ right_in width text.now) }
 {
@@ -22,7 +22,7 @@ pub fn push_right(output: &mut Vec<u8>, width: usize, text: &[u8]) -> Result<(),
     Ok(())
 }
 
-// Puts out the blanks of so many places of which some are taken.
+// Writes the blanks that fill up `width` columns, of which some are taken.
 fn push_blanks(output: &mut Vec<u8>, width: usize, taken: usize) -> Result<(), NoMemory>
     ensures { OnOk result (output.new.items ≡ output.old.items ++ replicate (width - taken) 32) }
 {

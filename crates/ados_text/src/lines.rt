@@ -7,10 +7,10 @@ use crate::lists::Texts;
 use crate::texts::Text;
 use std::alloc::Global;
 
-/// How many bytes a line of the Shell may have.
+/// The most bytes that a line of the Shell may have.
 pub const LINE_BYTES: usize = 512;
 
-/// The lines of a file's bytes: each ends at a byte 10, and the last one may lack it. A byte past ASCII is read as `?`.
+/// The lines of a file's bytes: each ends at a byte 10, which the last one may lack. A non-ASCII byte is read as `?`.
 pub fn lines_of(alloc: Global, bytes: &[u8]) -> Result<Texts, NoMemory>
     ensures { IfOk result (λ lines. lines ≡ lines_of bytes.now) }
 {
@@ -30,7 +30,7 @@ pub fn lines_of(alloc: Global, bytes: &[u8]) -> Result<Texts, NoMemory>
     Ok(lines)
 }
 
-/// The first line of a file's bytes; of none it is empty. A byte past ASCII is read as `?`.
+/// The first line of a file's bytes; empty if there are no bytes. A non-ASCII byte is read as `?`.
 pub fn first_line(alloc: Global, bytes: &[u8]) -> Result<Text, NoMemory>
     ensures { IfOk result (λ line. line ≡ first_line bytes.now) }
 {

@@ -5,7 +5,7 @@ use Rattle.std.proofs.lemmas.List.{length-set}
 use Rattle.ados_text.specs.Text.{Bytes}
 use Rattle.ados_transfer.specs.LeftOut.{IsBlanked}
 
--- a byte that is made a blank is one, and the others are as they were
+-- a byte that is made a blank is a blank, and the others are unchanged
 byte-set : (b : Bytes) (i k n : ℕ) → i < length b → (slice_index b k == n || slice_index b k == 32) ≡ true
     → (slice_index (slice_set b i 32) k == n || slice_index (slice_set b i 32) k == 32) ≡ true
 byte-set [] i k n inside h = absurd (omega (arith, inside))

@@ -1,4 +1,4 @@
--- what a text is read as where it stands in a line as a word
+-- how a text is read that is a word of a line
 use Rattle.std.proofs.Common.{ℕ, suc, OnOk, Result, Ok, Err, ◌≡◌, ◌+◌, ◌-◌, ◌<◌, ◌∙◌, List, [], ◌∷◌, ◌++◌, Bool, true, false, ◌||◌, ◌&&◌, ◌==◌, nat_lt, not, map, length, take, drop, Option, Some, None, refl, ap, sym, arith, append_assoc, length-append}
 use Rattle.std.proofs.lemmas.Bool.{cond_both, both_ways, false_from_ne_true}
 use Rattle.std.proofs.lemmas.Bool.Decides.{nat_tests}
@@ -10,7 +10,7 @@ use Rattle.ados_items.specs.declared.items.Item.TheVariants.{Word, Quoted, Equal
 use Rattle.ados_items.specs.Items.{is_blank, is_word_byte, closing_from, quoted_of, item_by_first, item_at, escape_of, unescaped, bytes_between, value_of}
 use Rattle.ados_transfer.specs.Words.{equal_signs, escaped, has_plain_ends, inside, is_bare, is_plain, is_starred, quoted, word_of, IsApart, ReadsAs, end_of}
 
--- the quote that closes is the one after the text
+-- the closing quote is the one after the text
 closing-inside : (t : Bytes) (place : ℕ) (after : Bytes) → closing_from place false (inside t ++ 34 ∷ after) ≡ Some (place + length (inside t))
 closing-inside [] place after = ap Some (omega arith)
 closing-inside (c ∷ cs) place after =
@@ -23,7 +23,7 @@ closing-inside (c ∷ cs) place after =
     let e42 : (c == 42) ≡ false = grind (arith, nat_tests) in
     rw (e34, e42) (closing-inside cs (place + 1) after ∙ ap Some (omega arith)))))
 
--- what stands inside the quotes is read as the text
+-- what is inside the quotes is read as the text
 unescaped-inside : (t : Bytes) → unescaped false (inside t) ≡ t
 unescaped-inside [] = refl
 unescaped-inside (c ∷ cs) =
@@ -36,7 +36,7 @@ unescaped-inside (c ∷ cs) =
     let e42 : (c == 42) ≡ false = grind (arith, nat_tests) in
     rw e42 (ap (λ xs. c ∷ xs) rest))))
 
--- a blank, then the word in quotes, then what comes after it
+-- a blank, then the word in quotes, then what follows it
 quoted_line : (before t after : Bytes) → (before ++ 32 ∷ quoted t) ++ after ≡ before ++ 32 ∷ 34 ∷ (inside t ++ 34 ∷ after)
 quoted_line before t after =
     append_assoc before (32 ∷ quoted t) after ∙ ap (λ rest. before ++ 32 ∷ 34 ∷ rest) (append_assoc (inside t) (34 ∷ []) after)
@@ -58,7 +58,7 @@ ascii (c ∷ cs) text =
     let first : to_ascii c ≡ c = grind (arith, nat_tests) in
     let rest = ascii cs (λ k d within. text (suc k) d (omega arith)) in cc
 
--- what stands in quotes is read as the text
+-- what is in quotes is read as the text
 quoted-value : (before t after : Bytes) (line : Bytes) → line ≡ before ++ 32 ∷ 34 ∷ (inside t ++ 34 ∷ after) → IsText t
     → value_of line (Quoted (length before + 1 + 1) (length before + 1 + 1 + length (inside t))) ≡ t
 quoted-value before t after line e text =
@@ -95,7 +95,7 @@ not-true : (a : Bool) → not a ≡ true → a ≡ false
 not-true true e = absurd cc
 not-true false e = refl
 
--- a plain byte is none that is not
+-- a plain byte differs from one that is not plain
 plain-other : (c k : ℕ) → is_plain c ≡ true → is_plain k ≡ false → (c == k) ≡ false
 plain-other c k plain other =
     false_from_ne_true (c == k) (λ e.
@@ -157,7 +157,7 @@ word-reads quotes before t after text apart =
     cond_both (not quotes && is_bare t) t (quoted t) (λ w. ReadsAs false ((before ++ 32 ∷ w) ++ after) (length before) (length (before ++ 32 ∷ w)) t)
     (λ e. bare-reads before t after text (both-right (not quotes) (is_bare t) e) apart) (λ _. quoted-reads false before t after text)
 
--- a line after which a blank and a word were put
+-- a line to which a blank and a word were appended
 put-after : (quotes : Bool) (before middle t line : Bytes) → middle ≡ before ++ 32 ∷ [] → line ≡ middle ++ word_of quotes t
     → line ≡ before ++ 32 ∷ word_of quotes t
 put-after quotes before middle t line blank is = is ∙ ap (λ m. m ++ word_of quotes t) blank ∙ append_assoc before (32 ∷ []) (word_of quotes t)

@@ -1,4 +1,4 @@
--- What becomes of an object of a share, which stands in a folder of this machine and in the Shell's files.
+-- What becomes of an object of a share, which is in a folder of this machine and in the Shell's files.
 use Rattle.std.specs.Prelude.{Bool, true, false, ◌&&◌, ◌==◌, if◌then◌else◌}
 use Rattle.std.specs.Str.{bytes_eq}
 use Rattle.ados_transfer.specs.declared.stamps.Time.{Time}
@@ -8,7 +8,7 @@ use Rattle.ados_transfer.specs.declared.decision.State.TheVariants.{Absent, Dire
 use Rattle.ados_transfer.specs.declared.decision.Deed.{Deed}
 use Rattle.ados_transfer.specs.declared.decision.Deed.TheVariants.{Keep, Bring, Write, Stand}
 
--- the two are one time
+-- the two are the same time
 abbrev pub is_same_time : Time → Time → Bool
 is_same_time a b = a.seconds == b.seconds && a.nanoseconds == b.nanoseconds
 
@@ -16,7 +16,8 @@ is_same_time a b = a.seconds == b.seconds && a.nanoseconds == b.nanoseconds
 abbrev pub is_same_stamp : Stamp → Stamp → Bool
 is_same_stamp a b = a.size == b.size && (a.number == b.number && (is_same_time a.modified b.modified && is_same_time a.changed b.changed))
 
--- what stands on two sides is alike: nothing, directories, files of the same bytes, files that the Shell can't hold of the same marks
+-- the objects on two sides are alike: nothing, directories, files with the same bytes, or with the same marks if the Shell can't
+-- hold them
 abbrev pub is_same : State → State → Bool
 is_same Absent Absent = true
 is_same Directory Directory = true
@@ -35,8 +36,8 @@ abbrev pub is_large : State → Bool
 is_large (Large stamp) = true
 is_large _ = false
 
--- What this machine has, `here`, may be replaced by what the Shell has: it is nothing, or what it was at the last time. A file that
--- the Shell can't hold is only deleted, by leave; what is neither a file nor a directory is not touched.
+-- What this machine has, `here`, may be replaced by what the Shell has: it is nothing, or what it was at the last time. A file
+-- that the Shell can't hold is only deleted, if that is allowed; what is neither a file nor a directory is not touched.
 abbrev pub may_write : State → State → State → Bool → Bool
 may_write last Absent there leave = true
 may_write last Directory there leave = is_same Directory last
@@ -44,8 +45,8 @@ may_write last (File bytes) there leave = is_same (File bytes) last
 may_write last (Large stamp) there leave = is_same (Large stamp) last && (is_absent there && leave)
 may_write last Foreign there leave = false
 
--- what is done: nothing where both sides are alike; else the one that changed goes to the other side, and this machine's stands where
--- both did
+-- what is done: nothing if both sides are alike; otherwise the changed one goes to the other side, and this machine's object
+-- stays if both changed
 abbrev pub decision : State → State → State → Bool → Deed
 decision last here there leave =
     if is_same here there then Keep else

@@ -1,4 +1,4 @@
--- Files and directories that are to stand in the Shell's world when the script begins.
+-- Files and directories that are to be in the Shell's world when the script begins.
 use Rattle.std.specs.Prelude.{Bool, true, false, ◌&&◌, not, Option, Some, None, List}
 use Rattle.std.specs.Bool.{beq}
 use Rattle.std.specs.FinMap as map
@@ -16,12 +16,12 @@ use Rattle.ados_transfer.specs.declared.told.Told.{Told}
 abbrev pub holds_file : Entry → Bytes → Bool → Bool
 holds_file entry bytes script = not (is_directory entry) && (bytes_eq (bytes_of entry) bytes && beq entry.bits.script script)
 
--- what stands at a place is what was told
+-- what is at a place is what was planned
 abbrev pub holds : Option Entry → Content → Bool
 holds None content = false
 holds (Some entry) Directory = is_directory entry
 holds (Some entry) (File bytes script) = holds_file entry bytes script
 
--- it stands in the files as it was told
+-- it is in the files as planned
 abbrev pub is_as_told : Files → Told → Bool
 is_as_told files told = holds (map.get files (key_of told.place)) told.content

@@ -1,4 +1,4 @@
--- Texts as words of a typed line: how a word is written so that the Shell reads just this text.
+-- Texts as words of a typed line: how a word is written so that the Shell reads exactly this text.
 use Rattle.std.specs.Prelude.{ℕ, ◌≡◌, ◌+◌, ◌-◌, List, [], ◌∷◌, ◌++◌, Bool, true, false, ◌==◌, ◌||◌, ◌&&◌, not, nat_le, nat_lt, length, slice_index, codes, filter, if◌then◌else◌}
 use Rattle.std.specs.List.{list_all, list_any}
 use Rattle.ados_text.specs.Text.{Bytes, Text}
@@ -6,11 +6,11 @@ use Rattle.ados_items.specs.declared.items.Item.{Item}
 use Rattle.ados_items.specs.declared.items.Item.TheVariants.{Word, Quoted, Equal, End, Unmatched}
 use Rattle.ados_items.specs.Items.{is_blank, item_at, value_of}
 
--- the byte means something of its own inside quotes: a quote, a star, the sign of a variable, a back-tick
+-- the byte has a special meaning inside quotes: a quote, a star, the sign of a variable, a back-tick
 abbrev pub is_starred : ℕ → Bool
 is_starred c = c == 34 || (c == 42 || (c == 36 || c == 96))
 
--- a byte as it is written inside quotes: a newline and the byte 27 have letters of their own
+-- a byte as it is written inside quotes: a newline and the byte 27 are written as letters
 abbrev pub escaped : ℕ → Bytes
 escaped c =
     if c == 10 then 42 ∷ 78 ∷ [] else
@@ -30,15 +30,15 @@ quoted text = 34 ∷ (inside text ++ 34 ∷ [])
 abbrev pub is_letter_or_digit : ℕ → Bool
 is_letter_or_digit c = (nat_le 48 c && nat_lt c 58) || ((nat_le 65 c && nat_lt c 91) || (nat_le 97 c && nat_lt c 123))
 
--- the byte is one of the signs that a line reads as themselves outside quotes
+-- the byte is one of the characters that a line reads as themselves outside quotes
 abbrev pub is_plain_sign : ℕ → Bool
 is_plain_sign c = list_any (λ sign. sign == c) (codes "_.,:/#?%~()|'@!^&+-=")
 
--- the byte means itself outside quotes
+-- the byte stands for itself outside quotes
 abbrev pub is_plain : ℕ → Bool
 is_plain c = is_letter_or_digit c || is_plain_sign c
 
--- a word does not begin with this byte without quotes: the sign that asks for a template, the one by which a line goes on, `=`
+-- a word without quotes cannot begin with this byte: the sign that asks for a template, the one that continues a line, `=`
 abbrev pub is_first_sign : ℕ → Bool
 is_first_sign c = c == 63 || (c == 43 || c == 61)
 
@@ -46,15 +46,15 @@ is_first_sign c = c == 63 || (c == 43 || c == 61)
 abbrev pub has_plain_ends : Text → Bool
 has_plain_ends text = not (length text == 0) && (not (is_first_sign (slice_index text 0)) && not (slice_index text (length text - 1) == 61))
 
--- how many equal signs stand in a text
+-- how many equal signs are in a text
 abbrev pub equal_signs : Text → ℕ
 equal_signs text = length (filter (λ b. b == 61) text)
 
--- The text means itself outside quotes, and may be the name of an option there, or set one by `=`.
+-- The text stands for itself outside quotes, and may be the name of an option there, or set one by `=`.
 abbrev pub is_bare : Text → Bool
 is_bare text = has_plain_ends text && (list_all is_plain text && nat_lt (equal_signs text) 2)
 
--- a text as a word of a typed line; `quotes` says that it is quoted wherever it stands
+-- a text as a word of a typed line; `quotes` says that it is quoted in any case
 abbrev pub word_of : Bool → Text → Bytes
 word_of quotes text = if not quotes && is_bare text then text else quoted text
 
@@ -71,7 +71,7 @@ end_of (Equal place) = place + 1
 end_of (End place) = place
 end_of (Unmatched from) = from
 
--- From one place of a line to another stands one word, which is read as the text; `apart` says that `=` is an item.
+-- Between two places of a line there is one word, which is read as the text; `apart` says that `=` is an item.
 pub record ReadsAs (apart : Bool) (line : Bytes) (from to : ℕ) (text : Text) : Type 0 where
   pub value : value_of line (item_at apart line from) ≡ text
   pub end : end_of (item_at apart line from) ≡ to

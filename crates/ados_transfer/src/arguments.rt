@@ -1,13 +1,13 @@
-//! The words of a line as a command's arguments are read: redirections are passed over.
+//! The words of a line as a command's arguments are read: redirections are skipped.
 
-use ados_items::{Item, next_item, next_word};
+use ados_items::{Item, between, next_item, next_word};
 
 /// A word: a text in quotes, or a touching run of words and equal signs.
 #[derive(Clone, Copy)]
 pub struct Word {
     /// Where it begins, with its quote if it has one.
     pub from: usize,
-    /// Where its first piece ends, up to `=`, which may be the name of an option; of a text in quotes its beginning.
+    /// Where its first piece ends, up to `=`, which may be the name of an option; for a text in quotes its beginning.
     pub name_to: usize,
     /// Where it ends, after its quote if it has one.
     pub to: usize,
@@ -20,7 +20,7 @@ impl Word {
     }
 }
 
-/// The next word from a place on that is no redirection; `None` at the end, at a comment, and where a quote is open.
+/// The next word from a place on that is not a redirection; `None` at the end, at a comment, and if a quote is open.
 pub fn next_argument(line: &[u8], place: usize) -> Option<Word> {
     let mut place = place;
     for _ in 0..line.len() {
@@ -31,12 +31,6 @@ pub fn next_argument(line: &[u8], place: usize) -> Option<Word> {
         }
     }
     None
-}
-
-/// The bytes of a line from one place up to another; none where the places are the other way round.
-pub fn piece(line: &[u8], from: usize, to: usize) -> &[u8] {
-    let to = to.min(line.len());
-    if from >= to { &[] } else { &line[from..to] }
 }
 
 // The word at a place.
@@ -74,10 +68,10 @@ fn run_end(line: &[u8], place: usize) -> usize {
     end
 }
 
-// How many bytes the sign of a redirection has with which a word begins; 0 if it begins with none. What stands as `<name>`
+// How many bytes the redirection sign has with which a word begins; 0 if it begins with none. A word `<name>`
 // is a value of the script's arguments.
 fn sign_width(line: &[u8], word: Word) -> usize {
-    match piece(line, word.from, word.to) {
+    match between(line, word.from, word.to) {
         [b'>', b'>', ..] => 2,
         [b'>', ..] => 1,
         [b'<', rest @ ..] if !rest.contains(&b'>') => 1,

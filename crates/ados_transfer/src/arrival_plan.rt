@@ -1,4 +1,4 @@
-//! The arrivals of one look at the folder of a share, as they are planned.
+//! The planned arrivals of one look at the folder of a share.
 
 use crate::arrivals::{Arrival, Coming};
 use crate::faults::TransferFault;
@@ -22,9 +22,9 @@ pub struct ArrivalPlan<'a> {
     files: &'a Ram,
     room: Room,
     now: SystemTime,
-    // the keys of what is deleted in the Shell's files
+    // The keys of what is deleted in the Shell's files.
     deleted: Vec<String>,
-    // the keys of the directories that are made in them
+    // The keys of the directories that are made in them.
     made: Keys,
     arrivals: Vec<Arrival>,
 }
@@ -57,7 +57,7 @@ impl<'a> ArrivalPlan<'a> {
         &self.now
     }
 
-    /// What stands at a place, unless it is deleted by now.
+    /// What is at a place, unless it is deleted by now.
     pub fn look(&self, key: &str, place: &Place) -> Option<&'a Entry> {
         if self.deletes(key) {
             None
@@ -76,7 +76,7 @@ impl<'a> ArrivalPlan<'a> {
         !self.room.has_place()
     }
 
-    /// Adds the arrival by which an object is deleted; a directory only if all that is in it is.
+    /// Adds the arrival by which an object is deleted; a directory only if everything in it is.
     pub fn add_deletion(
         &mut self,
         mirror: &mut Mirror,
@@ -155,7 +155,7 @@ impl<'a> ArrivalPlan<'a> {
         }
     }
 
-    // Adds the line that deletes what stands in the place of an object of another kind, and gives what is left.
+    // Adds the line that deletes an object of another kind at the place of an object, and gives what is left.
     fn cleared(
         &mut self,
         here: &Here,
@@ -173,7 +173,7 @@ impl<'a> ArrivalPlan<'a> {
         }
     }
 
-    // Adds the lines that make the directories above an object which the Shell has no more.
+    // Adds the lines that make the directories above an object which the Shell no longer has.
     fn add_way(
         &mut self,
         mirror: &Mirror,

@@ -18,9 +18,9 @@ use std::time::Clock;
 /// One change of the folder on its way in.
 #[derive(Drop)]
 pub struct Arrival {
-    /// The lines for it, run one after the other.
+    /// The lines for it, run in order.
     pub lines: Vec<Text>,
-    /// What `amishell-bring` puts out in those lines; it is not called where there is nothing.
+    /// What `amishell-bring` puts out in those lines; it is not called if there is nothing.
     pub bytes: Option<Octets>,
     pub(crate) key: String,
     pub(crate) path: String,
@@ -29,7 +29,7 @@ pub struct Arrival {
     pub(crate) is_fresh: bool,
 }
 
-/// What is to stand in the Shell's files then.
+/// What the Shell's files are to have afterwards.
 #[derive(Drop)]
 pub enum Coming {
     /// Nothing.
@@ -62,7 +62,7 @@ impl Coming {
 }
 
 impl Arrival {
-    /// The arrival of an object of a key and a path, without lines yet.
+    /// The arrival of an object with a key and a path, without lines yet.
     pub(crate) fn new(
         alloc: Global,
         object: (&str, &str),
@@ -87,7 +87,7 @@ impl Arrival {
 pub struct Change<'a> {
     /// Which one.
     pub key: String,
-    /// What is there; nothing where it is gone.
+    /// What is there; nothing if it is gone.
     pub seen: Option<&'a Seen>,
 }
 
@@ -100,8 +100,8 @@ impl Mirror {
         lines.into_lines()
     }
 
-    /// What changed in the folder since the last time, in an order in which it can come in; at first all. Where both sides changed
-    /// this machine's comes in, and a line tells it. Where both are alike there is no arrival.
+    /// What changed in the folder since the last time, in an order in which it can come in; the first time everything. If both
+    /// sides changed, this machine's version comes in, and a line reports it. If both are alike there is no arrival.
     pub fn arrivals<R: AllocGlobal + Files + Clock + Clone + Drop>(
         &mut self,
         rt: &R,
@@ -125,8 +125,8 @@ impl Mirror {
         Ok(plan.into_arrivals())
     }
 
-    /// Looks whether an arrival, whose lines were run, stands in the files as it was to, and keeps that as the last time. Else a
-    /// line tells it, and it is tried again later.
+    /// Checks whether the files have what an arrival, whose lines were run, was to bring in, and keeps that as the last state.
+    /// Otherwise a line reports it, and it is tried again later.
     pub fn settle(&mut self, arrival: Arrival, files: &Ram) -> Result<(), TransferFault> {
         let place = self.place_of(arrival.key.as_str())?;
         let entry = files.look(&place);
@@ -179,7 +179,7 @@ impl Mirror {
         Ok(changes)
     }
 
-    // Adds the objects of records that were not seen, but for those in a folder that could not be read.
+    // Adds the objects of records that were not seen, except for those in a folder that could not be read.
     fn add_gone_records(
         &self,
         look: &Look,
@@ -197,7 +197,7 @@ impl Mirror {
         Ok(())
     }
 
-    // An object has the marks of the last time, and its stand-in stands where it has one.
+    // An object has the marks of the last time, and its stand-in exists if it has one.
     fn is_unchanged(
         &self,
         record: Option<&Record>,
@@ -236,7 +236,7 @@ fn before(records: &[Record], key: &str) -> usize
     records.len()
 }
 
-// What both sides have where an arrival came in as it was to.
+// What both sides have if an arrival came in as planned.
 fn last_of(arrival: &Arrival, entry: Option<&Entry>) -> Result<Option<Last>, TransferFault> {
     let Some(entry) = entry else {
         return Ok(None);

@@ -12,7 +12,7 @@ use std::os::unix::fs::PermissionsExt;
 use std::rt::Files;
 use std::{fs, io};
 
-// A walk looks at no more files and folders than this: the Shell holds 1,024 at most.
+// A walk looks at this many files and folders at most: the Shell holds 1,024 at most.
 const WALK: usize = 4096;
 
 /// Adds what words of `--bring` name, as `PATH` or `PATH=NAME`, to what is brought in.
@@ -30,8 +30,8 @@ pub fn bring<R: AllocGlobal + Files + Clone + Drop>(
     walk(rt, files, path, place, plan)
 }
 
-/// Adds a script of this machine to what is brought in, as a file in S:, and gives its place; with `strikes` without the options
-/// that say nothing which matters here.
+/// Adds a script of this machine to what is brought in, as a file in S:, and gives its place; with `strikes`, without the options
+/// that have no effect which matters here.
 pub fn bring_script<R: AllocGlobal + Files>(
     rt: &R,
     files: &Ram,
@@ -51,7 +51,7 @@ pub fn bring_script<R: AllocGlobal + Files>(
     Ok(place)
 }
 
-/// The path and the name of `PATH=NAME`. A path that is there is a path as a whole.
+/// The path and the name of `PATH=NAME`. A path that exists is taken as a whole.
 pub fn parted<'a, R: Files>(rt: &R, words: &'a str) -> (&'a str, Option<&'a str>) {
     if fs::metadata(rt, words).is_ok() {
         return (words, None);
@@ -62,7 +62,7 @@ pub fn parted<'a, R: Files>(rt: &R, words: &'a str) -> (&'a str, Option<&'a str>
     }
 }
 
-// Where a file or a folder is to stand.
+// Where a file or a folder is to be in the Shell's files.
 fn target<R: AllocGlobal + Files>(
     rt: &R,
     path: &str,
@@ -100,7 +100,7 @@ fn walk<R: AllocGlobal + Files + Clone + Drop>(
     Err(named(rt.alloc(), path, TransferFault::ManyObjects))
 }
 
-// Adds a file, or a folder, of which what is in it is left then.
+// Adds a file, or a folder; the content of a folder is still to be walked.
 fn add_one<R: AllocGlobal + Files + Clone + Drop>(
     rt: &R,
     files: &Ram,
@@ -121,7 +121,7 @@ fn add_one<R: AllocGlobal + Files + Clone + Drop>(
     plan.add_file(files, place, file_of(bytes, is_script), path.as_str())
 }
 
-// Adds what is in a folder to what is left of a walk, the last by its name first.
+// Adds what is in a folder to what is left of a walk, in reverse order of the names.
 fn push_children<R: AllocGlobal + Files + Clone + Drop>(
     rt: &R,
     path: &str,
@@ -162,7 +162,7 @@ fn read_file<R: AllocGlobal + Files>(rt: &R, path: &str) -> Result<Vec<u8>, Tran
     }
 }
 
-/// The bytes of a file, and of a longer one one more than the limit.
+/// The bytes of a file, or one more than the limit if it is longer.
 pub fn bytes_of<R: AllocGlobal + Files>(rt: &R, path: &str, limit: usize) -> io::Result<Vec<u8>> {
     let mut bytes = Vec::new(rt.alloc());
     let most = (limit as u64).saturating_add(1);
@@ -170,7 +170,7 @@ pub fn bytes_of<R: AllocGlobal + Files>(rt: &R, path: &str, limit: usize) -> io:
     Ok(bytes)
 }
 
-// The fault of a file that is not read.
+// The fault of a file that cannot be read.
 fn not_read(alloc: Global, path: &str, error: &io::Error) -> TransferFault {
     if error.kind() == io::ErrorKind::OutOfMemory {
         return TransferFault::NoMemory;

@@ -14,7 +14,7 @@ use ados_ram::{Body, Entry};
 use std::rt::Files;
 
 impl Mirror {
-    /// Plans that an object goes in the Shell's files that is gone on this machine, or that is of another kind there.
+    /// Plans the removal from the Shell's files of an object that is gone on this machine, or is of another kind there.
     pub(crate) fn plan_gone<R: AllocGlobal + Files>(
         &mut self,
         rt: &R,
@@ -57,7 +57,7 @@ impl Mirror {
         }
     }
 
-    /// Plans that an object comes in that is new on this machine, or that changed there.
+    /// Plans the arrival of an object that is new on this machine, or that changed there.
     pub(crate) fn plan_come<R: AllocGlobal + Files>(
         &mut self,
         rt: &R,
@@ -127,7 +127,7 @@ impl Mirror {
     }
 }
 
-// What is there on this machine is of the kind that was there at the last time.
+// The object on this machine is of the kind that it was at the last time.
 fn is_of_kind(record: &Record, kind: Kind) -> bool {
     match (&record.last, kind) {
         (Last::Directory, Kind::Directory) => true,

@@ -12,7 +12,7 @@ pub struct Named {
     pub path: String,
 }
 
-/// In the order of their keys; those that differ in case alone by their paths.
+/// In the order of their keys; those that differ only in case, by their paths.
 pub fn order(a: &Named, b: &Named) -> Ordering {
     match a.key.as_str().cmp(b.key.as_str()) {
         Ordering::Equal => a.path.as_str().cmp(b.path.as_str()),
@@ -20,7 +20,7 @@ pub fn order(a: &Named, b: &Named) -> Ordering {
     }
 }
 
-/// Of the names that differ from this one in case alone it is the one that is taken.
+/// Of the names that differ from this one only in case, this is the one that is taken.
 pub fn is_chosen(below: &[Named], place: usize, records: &Records) -> bool {
     let Some(named) = below.get(place) else {
         return false;

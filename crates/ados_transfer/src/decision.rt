@@ -4,7 +4,7 @@ ghost use Rattle.ados_transfer.specs.Mirror.{decision, is_absent, is_same, is_la
 
 use crate::stamps::Stamp;
 
-/// What stands at a place on one side of a share.
+/// What is at a place on one side of a share.
 #[derive(Clone, Copy)]
 pub enum State<'a> {
     /// Nothing.
@@ -24,11 +24,11 @@ pub enum State<'a> {
 pub enum Deed {
     /// Nothing: both sides are alike.
     Keep,
-    /// What this machine has comes into the Shell's files, where nothing changed.
+    /// What this machine has is copied into the Shell's files, if nothing changed since.
     Bring,
     /// What the Shell has is written to this machine, or deleted there.
     Write,
-    /// Both sides changed, or this machine's is not to be touched: what it has stands.
+    /// Both sides changed, or this machine's object is not to be touched: the one on this machine stays.
     Stand,
 }
 
@@ -55,20 +55,20 @@ impl State<'_> {
     }
 }
 
-/// What is done with an object, by what it was at the last time and what this machine and the Shell have now; `may_delete` says
-/// that a file which the Shell can't hold may be deleted.
+/// What is done with an object, given what it was at the last time and what this machine and the Shell have now; `may_delete`
+/// says that a file which the Shell can't hold may be deleted.
 pub fn decide(last: &State<'_>, here: &State<'_>, there: &State<'_>, may_delete: bool) -> Deed
     ensures deed { result ≡ decision last.now here.now there.now may_delete }
     // Nothing is overwritten or deleted on this machine unless it is what was there at the last time.
     ensures safe { result ≡ Deed.Write → (is_absent here.now ≡ true) ⊎ (is_same here.now last.now ≡ true) }
-    // A file that the Shell can't hold is never written, and deleted by leave alone.
+    // A file that the Shell can't hold is never written, and is deleted only if that is allowed.
     ensures large { result ≡ Deed.Write → is_large here.now ≡ true → (is_absent there.now ≡ true) × (may_delete ≡ true) }
-    // Where neither changed nothing is done.
+    // If neither changed nothing is done.
     ensures kept { is_same here.now last.now ≡ true → is_same there.now last.now ≡ true → result ≡ Deed.Keep }
-    // Where both changed this machine's stands.
+    // If both changed this machine's object stays.
     ensures stands { is_same here.now last.now ≡ false → is_same there.now last.now ≡ false → is_same here.now there.now ≡ false →
         is_absent here.now ≡ false → result ≡ Deed.Stand }
-    // The Shell's own change is not overwritten unasked.
+    // The Shell's own change is never overwritten.
     ensures brought { result ≡ Deed.Bring → is_same there.now last.now ≡ true }
 {
     if here.is_same(there) {

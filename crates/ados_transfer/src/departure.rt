@@ -20,7 +20,7 @@ pub struct Departure<'a> {
     pub key: String,
     /// Its path below the folder.
     pub path: String,
-    /// What is there; nothing where it is gone.
+    /// What is there; nothing if it is gone.
     pub entry: Option<&'a Entry>,
     /// It is a file and was a directory, or the other way round.
     pub is_turned: bool,
@@ -56,7 +56,7 @@ pub fn is_key_left_out(key: &str, all: bool) -> bool {
     key.split('/').any(|name| is_left_out(name, all))
 }
 
-/// Writes an object to this machine in place of what is there, and gives its marks.
+/// Writes an object to this machine in place of what is there, and gives its new marks.
 pub fn write_entry<R: AllocGlobal + Files>(
     rt: &R,
     root: &str,
@@ -81,7 +81,7 @@ pub fn write_entry<R: AllocGlobal + Files>(
     Ok(Stamp::of(&fs::symlink_metadata(rt, whole.as_str())?))
 }
 
-// Who may do what with a file: what they might before; a new script may be executed. One that may not be written is not.
+// The permissions for a file: those it had before; a new script is executable. A file that may not be written is refused.
 fn manner(entry: &Entry, here: &Here) -> io::Result<Manner> {
     match here {
         Here::File { mode, .. } if mode & 0o222 == 0 => {
@@ -110,7 +110,7 @@ pub fn remove<R: AllocGlobal + Files>(
     }
 }
 
-// The folder in which a path ends, and the name in it. Folders on the way are made; one that is a link is refused.
+// The folder of a path's last name, and that name. Folders on the way are made; one that is a link is refused.
 fn way<'a, R: AllocGlobal + Files>(
     rt: &R,
     root: &str,

@@ -16,11 +16,11 @@ use std::rt::Files;
 use std::time::Clock;
 
 impl Mirror {
-    /// Writes what changed below the directory since the last time to the folder: first what is there, then what is gone is
-    /// deleted, the deepest first, but for a file whose bytes are those of one that could not be written: it may have been moved
-    /// there. With `dry` it is only told.
+    /// Writes to the folder what changed below the directory since the last time: first what is there, then what is gone is
+    /// deleted, the deepest first, except for a file whose bytes are those of one that could not be written: it may have been
+    /// moved there. With `dry` the changes are only reported.
     ///
-    /// What can't be written or deleted is told and left. An error is for want of memory alone.
+    /// What can't be written or deleted is reported and left. The only error is that an allocation fails.
     pub fn write_out<R: AllocGlobal + Files + Clock>(
         &mut self,
         rt: &R,
@@ -58,7 +58,7 @@ impl Mirror {
         Ok(())
     }
 
-    // What the Shell's files have otherwise than at the last time, in the order of the keys.
+    // The objects whose state in the Shell's files differs from the last time, in the order of the keys.
     fn departures<'a>(&self, files: &'a Ram) -> Result<Vec<Departure<'a>>, TransferFault> {
         let mut departures = Vec::new(self.alloc);
         let mut known = 0usize;
@@ -103,7 +103,7 @@ impl Mirror {
         Ok(())
     }
 
-    // What a file held that is gone is what one of these entries holds.
+    // One of these entries holds what a file held that is gone.
     fn is_among(&self, entries: &[&Entry], departure: &Departure<'_>) -> bool {
         let record = self.records.find(departure.key.as_str());
         match record.map(|record| &record.last) {
@@ -127,7 +127,7 @@ impl Mirror {
         }
     }
 
-    // Deletes an object on this machine that is gone in the Shell's files, or of another kind there, if it is what it was.
+    // Deletes an object on this machine that is gone in the Shell's files, or of another kind there, if it has not changed since.
     fn delete_here<R: AllocGlobal + Files>(
         &mut self,
         rt: &R,
@@ -185,7 +185,7 @@ impl Mirror {
         }
     }
 
-    // Tells that something could not be done.
+    // Reports that something could not be done.
     fn not_done(
         &mut self,
         error: &io::Error,
@@ -198,7 +198,7 @@ impl Mirror {
         self.fail(departure.key.as_str(), text, departure.path.as_str())
     }
 
-    // Writes an object to this machine if it may be; `false` where it could not be written.
+    // Writes an object to this machine if it may be; `false` if it could not be written.
     fn write_here<R: AllocGlobal + Files + Clock>(
         &mut self,
         rt: &R,
@@ -228,7 +228,7 @@ impl Mirror {
         }
     }
 
-    // Writes an object to this machine; `false` where it could not be written.
+    // Writes an object to this machine; `false` if it could not be written.
     fn write<R: AllocGlobal + Files + Clock>(
         &mut self,
         rt: &R,
@@ -269,7 +269,7 @@ impl Mirror {
     }
 }
 
-// An entry that is no stand-in: one that was moved to another object's place is nothing there.
+// An entry that is not a stand-in: one that was moved to another object's place counts as nothing there.
 fn own(entry: Option<&Entry>) -> Option<&Entry> {
     match entry {
         Some(entry) if !is_stand_in(entry) => Some(entry),

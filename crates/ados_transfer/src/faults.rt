@@ -8,16 +8,16 @@ pub enum TransferFault {
     /// The file or folder of this name cannot be read.
     #[error("cannot read {0}")]
     CannotRead(String),
-    /// The words have a byte past ASCII.
+    /// The words have a byte above ASCII.
     #[error("not ASCII: {0}")]
     NotAscii(String),
     /// The words of a typed line hold a newline.
     #[error("more than one line: {0}")]
     ManyLines(String),
-    /// The name is none of the Shell's files.
+    /// The name cannot be a name in the Shell's files.
     #[error("bad name for the Shell: {0}")]
     BadName(String),
-    /// A file or folder would have the name of another one, where case is ignored.
+    /// A file or folder would have the name of another one, if case is ignored.
     #[error("name is taken twice: {0}")]
     Twice(String),
     /// The file has more bytes than one may have.
@@ -26,7 +26,7 @@ pub enum TransferFault {
     /// With this file there are more bytes than all may have.
     #[error("more than 1048576 bytes in all, with {0}")]
     ManyBytes(String),
-    /// With this one there are more files and folders than there may be.
+    /// With this object there are more files and folders than there may be.
     #[error("more than 1024 files and folders, with {0}")]
     ManyObjects(String),
     /// The line that is typed for this would have more bytes than one may have.

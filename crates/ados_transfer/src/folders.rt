@@ -54,13 +54,13 @@ pub struct Look {
     pub seen: Vec<Seen>,
     /// The keys of folders that could not be read.
     pub unread: Vec<String>,
-    /// The lines that tell what is left alone.
+    /// The lines that report what is left alone.
     pub lines: Vec<String>,
 }
 
 impl Look {
-    /// Looks at all that is in a folder. Names that begin with a dot are left out unless `all`. Where two names differ in case
-    /// alone that of the records is taken, or else the first.
+    /// Looks at everything in a folder. Names that begin with a dot are left out unless `all`. If two names differ only in case,
+    /// the one of the records is taken, otherwise the first.
     pub fn new<R: AllocGlobal + Files + Clone + Drop>(
         rt: &R,
         folder: &str,
@@ -87,7 +87,7 @@ impl Look {
         Err(named(alloc, folder, TransferFault::CannotRead))
     }
 
-    /// The object of a key is in a folder that could not be read.
+    /// The object with this key is in a folder that could not be read.
     pub fn is_hidden(&self, key: &str) -> bool {
         self.unread
             .iter()
@@ -184,7 +184,7 @@ impl Look {
         Ok(below)
     }
 
-    // Adds an object; a folder is one that is to be gone through too.
+    // Adds an object; a folder is also kept to be gone through.
     fn add<R: AllocGlobal + Files>(
         &mut self,
         rt: &R,
@@ -236,7 +236,7 @@ fn kind_of(found: &Metadata) -> Kind {
     }
 }
 
-/// The name is left out: it begins with a dot, or is that of a file that is written beside its place, or leads elsewhere.
+/// The name is left out: it begins with a dot, is that of a temporary file that is written beside its place, or leads elsewhere.
 pub fn is_left_out(name: &str, all: bool) -> bool {
     (name.starts_with('.') && !all) || name.starts_with(BESIDE) || matches!(name, "." | "..")
 }

@@ -1,4 +1,4 @@
-//! What this machine has in the place of one object of a share.
+//! What this machine has at the place of one object of a share.
 
 use crate::bringing::bytes_of;
 use crate::decision::{Deed, State, decide};
@@ -70,7 +70,7 @@ impl Here {
         }
     }
 
-    /// What it is, where a record may say that it has a stand-in.
+    /// Its state, given a record that may say that it has a stand-in.
     pub fn state(&self, record: Option<&Record>) -> State<'_> {
         match (self, record) {
             (Here::Absent, _) => State::Absent,
@@ -83,7 +83,7 @@ impl Here {
         }
     }
 
-    /// What is done with an object of which the Shell has this entry.
+    /// What is done with an object for which the Shell has this entry.
     pub fn deed(&self, record: Option<&Record>, entry: Option<&Entry>) -> Deed {
         let state = self.state(record);
         match record {

@@ -28,7 +28,7 @@ impl Keys {
         self.place(key).is_ok()
     }
 
-    /// Adds a text; `false` where it is there already.
+    /// Adds a text; `false` if it is there already.
     pub fn add(&mut self, key: &str) -> Result<bool, NoMemory> {
         match self.place(key) {
             Ok(_) => Ok(false),
@@ -40,7 +40,7 @@ impl Keys {
         }
     }
 
-    /// Takes a text away.
+    /// Removes a text.
     pub fn remove(&mut self, key: &str) {
         if let Ok(place) = self.place(key) {
             let _ = self.sorted.remove(place);

@@ -1,14 +1,15 @@
-//! The lines of a script that give a command an option of Release 2 which the Shell leaves out, and so takes as a plain word.
+//! The lines of a script that give a command an option of Release 2 which the Shell leaves out, and so takes for a plain word.
 ghost use Rattle.ados_transfer.specs.LeftOut.{IsBlanked};
 
-use crate::arguments::{Word, next_argument, piece};
+use crate::arguments::{Word, next_argument};
 use crate::release_two::{Command, Naming, Omission, command_of};
-use ados_items::{Item, next_item};
+use ados_items::{Item, between, next_item};
 use ados_text::{NoMemory, lines_of};
 use std::alloc::Global;
 use std::fmt;
 
-// Each byte of a text between back-ticks, and of these, stands as this one in the line around it, so that they are one word.
+// Each byte of a text between back-ticks, and the back-ticks too, become this byte in the line around it, so that they are one
+// word.
 const TICK_BYTE: u8 = b'_';
 
 /// A command of a script with options that the Shell leaves out.
@@ -19,7 +20,7 @@ pub struct LeftOut {
     options: Vec<Given>,
 }
 
-// An option, and the bytes of the script at which it stands, with its value if it takes one.
+// An option, and its place in the bytes of the script, with its value if it takes one.
 #[derive(Clone, Copy)]
 struct Given {
     option: Omission,
@@ -47,9 +48,9 @@ impl fmt::Display for LeftOut {
 
 /// The commands of a script's lines that are given options which the Shell leaves out, in order.
 ///
-/// A line is read as it stands, before its alias, its variables and the script's arguments are put in. A command between
-/// back-ticks, one after Run and one for which an alias is to stand count as any other. No option is what stands in quotes or
-/// in a comment, the name in a redirection, and the value of an option.
+/// A line is read as it is, before its alias, its variables and the script's arguments are put in. A command between
+/// back-ticks, one after Run and one that an alias is to stand for count like any other. What is in quotes or in a
+/// comment, the name in a redirection, and the value of an option are not options.
 pub fn options_left_out(alloc: Global, script: &[u8]) -> Result<Vec<LeftOut>, NoMemory> {
     let mut found = Vec::new(alloc);
     let mut at = Position { line: 0, from: 0 };
@@ -63,9 +64,9 @@ pub fn options_left_out(alloc: Global, script: &[u8]) -> Result<Vec<LeftOut>, No
     Ok(found)
 }
 
-/// Writes blanks over those options in a script that the Shell leaves out and that say nothing which matters here.
+/// Writes blanks over those options in a script that the Shell leaves out and that have no effect which matters here.
 ///
-/// The script stays as long as it is, and each byte is as it was or a blank.
+/// The script keeps its length, and each byte is unchanged or a blank.
 #[tactic(auto, using(crate::proofs::StrikeLemmas::blanked_itself, crate::proofs::StrikeLemmas::blanked_again))]
 pub fn strike(alloc: Global, script: &mut [u8]) -> Result<(), NoMemory>
     ensures { IsBlanked script.old script.new }
@@ -113,7 +114,7 @@ fn look_at_line(
                     line: at.line,
                     from: at.from.saturating_add(from),
                 };
-                look_at(alloc, inside, piece(line, from, place), found)?;
+                look_at(alloc, inside, between(line, from, place), found)?;
                 opened = None;
             }
             _ => {}
@@ -122,7 +123,7 @@ fn look_at_line(
     look_at(alloc, at, around.as_slice(), found)
 }
 
-// What stands before the comment of a line; nothing where a quote is open, since such a line is not run.
+// What comes before the comment of a line; nothing if a quote is open, since such a line is not run.
 fn without_comment(line: &[u8]) -> &[u8] {
     let mut place = 0;
     for _ in 0..line.len() {
@@ -130,7 +131,7 @@ fn without_comment(line: &[u8]) -> &[u8] {
             Item::Word { to, .. } => to,
             Item::Quoted { to, .. } => to + 1,
             Item::Equal(at) => at + 1,
-            Item::End(at) => return piece(line, 0, at),
+            Item::End(at) => return between(line, 0, at),
             Item::Unmatched(_) => return &[],
         };
     }
@@ -163,8 +164,8 @@ fn look_at(
     Ok(())
 }
 
-// The command of a line, if it has options that are left out, and the place after it. After Run stands another command, and
-// so it does after Alias and a name.
+// The command of a line, if it has options that are left out, and the place after it. After Run comes another command, and
+// the same holds after Alias and a name.
 fn command_in(line: &[u8]) -> Option<(&'static Command, usize)> {
     let mut place = 0;
     for _ in 0..line.len() {
@@ -183,7 +184,7 @@ fn command_in(line: &[u8]) -> Option<(&'static Command, usize)> {
 
 // The name of a command: a word may have quotes, and the directory C: before it.
 fn name_in(line: &[u8], word: Word) -> &[u8] {
-    let text = piece(line, word.from, word.to);
+    let text = between(line, word.from, word.to);
     let text = text.strip_prefix(b"\"").unwrap_or(text);
     let text = text.strip_suffix(b"\"").unwrap_or(text);
     match text {
@@ -205,7 +206,7 @@ fn options_from(
         let Some(word) = next_argument(line, place) else {
             break;
         };
-        let naming = command.naming(piece(line, word.from, word.name_to));
+        let naming = command.naming(between(line, word.from, word.name_to));
         place = match naming {
             Some(Naming::Kept) => value_end(line, word),
             Some(Naming::LeftOut(option)) if option.takes_value => value_end(line, word),
@@ -225,16 +226,16 @@ fn options_from(
     Ok(options)
 }
 
-// Where the value of an option ends whose name a word begins with: it stands after `=`, or it is the next word.
+// Where the value of an option ends whose name a word begins with: it follows `=`, or it is the next word.
 fn value_end(line: &[u8], word: Word) -> usize {
-    match piece(line, word.name_to, word.to) {
+    match between(line, word.name_to, word.to) {
         [b'=', _, ..] => word.to,
         [b'='] => next_end(line, word.to),
         _ => {
             let Some(next) = next_argument(line, word.to) else {
                 return word.to;
             };
-            if matches!(piece(line, next.from, next.to), [b'=']) {
+            if matches!(between(line, next.from, next.to), [b'=']) {
                 next_end(line, next.to)
             } else {
                 next.to

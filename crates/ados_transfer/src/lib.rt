@@ -1,6 +1,6 @@
 #![tactic(auto)]
-//! Files of this machine in the Shell's files and back: the typed lines by which they come in, so that each word is read as it
-//! was meant, what is to stand in the files then, and how files are written out.
+//! Files of this machine in the Shell's files and back: the typed lines by which they come in, written so that each word is read
+//! as it was meant; what the files then hold; and how files are written out.
 
 mod arguments;
 mod arrival_plan;

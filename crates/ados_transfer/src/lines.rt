@@ -16,9 +16,9 @@ pub const BRING: &[u8] = b"amishell-bring";
 pub struct Lines {
     /// All of them, in order.
     pub all: Vec<Text>,
-    /// So many of them bring the files in.
+    /// How many of them bring the files in.
     pub bringing: usize,
-    /// So many events they are.
+    /// How many events they take.
     pub events: u64,
 }
 
@@ -57,7 +57,7 @@ fn bringing_lines(alloc: Global, told: &[Told]) -> Result<Lines, TransferFault> 
     Ok(lines)
 }
 
-// How many answers of the launcher a file of these bytes takes.
+// How many answers of the launcher a file with these bytes takes.
 fn pieces(bytes: &[u8]) -> u64 {
     (bytes.len() as u64).div_ceil(4096).saturating_add(3)
 }
@@ -127,7 +127,7 @@ fn protection(alloc: Global, place: &Place) -> Result<Text, NoMemory> {
     Ok(line)
 }
 
-/// The path of a place as a pattern that it alone matches: in the last name each sign of a pattern has a `'` before it.
+/// The path of a place as a pattern that it alone matches: in the last name each pattern character has a `'` before it.
 pub fn literal(alloc: Global, place: &Place) -> Result<Text, NoMemory> {
     let path = place.path(alloc)?;
     let bytes = path.as_bytes();

@@ -22,7 +22,7 @@ const DIRECTORY: &str = "RAM:Work";
 pub struct MirrorOptions {
     /// Names that begin with a dot are shared too.
     pub all: bool,
-    /// Nothing of this machine is changed, but only told.
+    /// Nothing of this machine is changed; changes are only reported.
     pub dry: bool,
 }
 
@@ -30,27 +30,27 @@ pub struct MirrorOptions {
 #[derive(Drop)]
 pub struct Mirror {
     pub(crate) alloc: Global,
-    // the folder's whole path
+    // The folder's whole path.
     pub(crate) folder: String,
     pub(crate) place: Place,
     pub(crate) options: MirrorOptions,
     pub(crate) records: Records,
-    // a file has a stand-in, or had one
+    // A file has a stand-in, or had one.
     pub(crate) has_stand_ins: bool,
-    // the lines that are to be told, and those that were told once for all
+    // The lines that are to be reported, and those that are reported only once in a run.
     lines: Vec<String>,
     told: Keys,
-    // the keys of those of which this machine's stands, and of those that could not be written or brought in
+    // The keys of those for which this machine's object stays, and of those that could not be written or brought in.
     standing: Keys,
     failing: Keys,
-    // the Shell's files had no place for an object
+    // The Shell's files had no place for an object.
     is_full: bool,
 }
 
 impl Mirror {
-    /// A share by the words `FOLDER` or `FOLDER=PATH`; PATH is RAM:Work without. Nothing of it is read yet.
+    /// A share by the words `FOLDER` or `FOLDER=PATH`; PATH defaults to RAM:Work. Nothing of it is read yet.
     ///
-    /// `CannotRead` where FOLDER is none; `BadName` where PATH names no directory, or the root.
+    /// `CannotRead` if FOLDER is not a folder; `BadName` if PATH does not name a directory, or names the root.
     pub fn new<R: AllocGlobal + Files>(
         rt: &R,
         words: &str,
@@ -89,7 +89,7 @@ impl Mirror {
         &self.place
     }
 
-    /// The folder of this machine that fits a directory of the Shell; none outside the share.
+    /// The folder of this machine that corresponds to a directory of the Shell; none outside the share.
     pub fn folder_of(&self, alloc: Global, place: &Place) -> Result<Option<String>, TransferFault> {
         let Some(key) = self.key_of(place)? else {
             return Ok(None);
@@ -101,7 +101,7 @@ impl Mirror {
         Ok(Some(step_into(alloc, self.folder.as_str(), path.as_str())?))
     }
 
-    /// The lines that are to be told since the last call.
+    /// The lines to report since the last call.
     pub fn take_lines(&mut self) -> Vec<String> {
         std::mem::replace(&mut self.lines, Vec::new(self.alloc))
     }
@@ -111,7 +111,7 @@ impl Mirror {
         !self.failing.is_empty()
     }
 
-    // The key of a place, the empty one of the directory itself; none outside of it.
+    // The key of a place, the empty one for the directory itself; none outside it.
     pub(crate) fn key_of(&self, place: &Place) -> Result<Option<String>, TransferFault> {
         if !place.names().starts_with(self.place.names()) {
             return Ok(None);
@@ -171,31 +171,31 @@ impl Mirror {
         })
     }
 
-    // Both sides have no object of this key any more.
+    // Neither side has an object with this key any longer.
     pub(crate) fn forget(&mut self, key: &str) {
         self.settled(key);
         self.records.remove(key);
     }
 
-    // No side of this key stands against the other any more.
+    // The two sides no longer differ at this key.
     fn settled(&mut self, key: &str) {
         self.standing.remove(key);
         self.failing.remove(key);
     }
 
-    // Tells a line about an object.
+    // Reports a line about an object.
     pub(crate) fn tell(&mut self, text: &str, path: &str) -> Result<(), TransferFault> {
         self.lines.push(format!(in self.alloc; "{text}: {path}")?)?;
         Ok(())
     }
 
-    // Tells a line about an object once in a run.
+    // Reports a line about an object once in a run.
     pub(crate) fn tell_once(&mut self, text: &str, path: &str) -> Result<(), TransferFault> {
         let line = format!(in self.alloc; "{text}: {path}")?;
         self.tell_line(line)
     }
 
-    // Tells a line once in a run.
+    // Reports a line once in a run.
     pub(crate) fn tell_line(&mut self, line: String) -> Result<(), TransferFault> {
         if self.told.add(line.as_str())? {
             self.lines.push(line)?;
@@ -203,7 +203,7 @@ impl Mirror {
         Ok(())
     }
 
-    // Tells that what this machine has stands, once until it is settled.
+    // Reports that this machine's object stays, once until that is settled.
     pub(crate) fn tell_standing(
         &mut self,
         key: &str,
@@ -220,7 +220,7 @@ impl Mirror {
         }
     }
 
-    // Tells the first object for which the Shell's files have no place.
+    // Reports the first object for which the Shell's files have no place.
     pub(crate) fn tell_full(&mut self, path: &str) -> Result<(), TransferFault> {
         if self.is_full {
             return Ok(());
@@ -229,7 +229,7 @@ impl Mirror {
         self.tell("more than 1024 files and folders, left alone from", path)
     }
 
-    // Tells that something failed, once until it is settled.
+    // Reports that something failed, once until that is settled.
     pub(crate) fn fail(&mut self, key: &str, text: &str, path: &str) -> Result<(), TransferFault> {
         if !self.failing.add(key)? {
             return Ok(());
@@ -237,7 +237,7 @@ impl Mirror {
         self.tell(text, path)
     }
 
-    // The time; where the clock can't be read, one that is before all others.
+    // The time; if the clock can't be read, one that is before all others.
     pub(crate) fn now<R: Clock>(&self, rt: &R) -> SystemTime {
         SystemTime::now(rt).unwrap_or(SystemTime::UNIX_EPOCH)
     }

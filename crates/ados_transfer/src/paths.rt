@@ -20,7 +20,7 @@ pub fn base_name<R: AllocGlobal + Files>(rt: &R, path: &str) -> Result<String, T
     }
 }
 
-/// What stands after the last slash of a path, but for slashes at its end.
+/// What follows the last slash of a path, except for slashes at its end.
 pub fn last_piece(path: &str) -> &str {
     let path = path.trim_end_matches('/');
     match path.rsplit_once('/') {
@@ -41,7 +41,7 @@ pub fn step_into(alloc: Global, folder: &str, name: &str) -> Result<String, Tran
     Ok(path)
 }
 
-/// A name of this machine as one of the Shell's files; `path` is what a fault names.
+/// A name of this machine as one of the Shell's files; a fault names `path`.
 pub fn name_of(alloc: Global, name: &str, path: &str) -> Result<Name, TransferFault> {
     match Text::of(alloc, name.as_bytes()) {
         Ok(text) if is_name(&text) => Ok(Name::new(text)),
@@ -71,7 +71,7 @@ pub fn place_in(alloc: Global, path: &str) -> Result<Place, TransferFault> {
     Ok(place)
 }
 
-// The directory for which a device stands at the beginning.
+// The directory to which a device leads at the beginning.
 fn first_directory(alloc: Global, device: Option<&Text>) -> Result<Option<Place>, TransferFault> {
     let root = Place::root(alloc);
     let Some(device) = device else {

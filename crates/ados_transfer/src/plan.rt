@@ -12,7 +12,7 @@ pub const FILE_BYTES: usize = 65_536;
 /// How many bytes all files may have.
 pub const ALL_BYTES: usize = 1_048_576;
 
-/// How many objects there may be beside the root.
+/// How many objects there may be besides the root.
 pub const OBJECTS: usize = 1024;
 
 /// The longest path.
@@ -28,7 +28,7 @@ pub struct Plan {
 }
 
 impl Plan {
-    /// Nothing to be brought in yet, beside the files that are there.
+    /// Nothing to be brought in yet; the files that are there count.
     pub fn new(alloc: Global, files: &Ram) -> Result<Plan, TransferFault> {
         let places = files.contents(&Place::root(alloc))?;
         let mut bytes = 0usize;
@@ -63,7 +63,7 @@ impl Plan {
         }
     }
 
-    /// Adds a directory, if it is not there; `path` is what a fault names.
+    /// Adds a directory, if it is not there; a fault names `path`.
     pub fn add_directory(
         &mut self,
         files: &Ram,
@@ -103,7 +103,7 @@ impl Plan {
         }
     }
 
-    // Whether a directory is at a place, or will be; `None` where nothing is.
+    // Whether a directory is at a place, or will be; `None` if nothing is.
     fn kind(&self, files: &Ram, place: &Place) -> Option<bool> {
         if let Some(entry) = files.look(place) {
             return Some(entry.is_directory());

@@ -29,12 +29,12 @@ impl Last {
     }
 }
 
-/// An object that stood on both sides at the last time.
+/// An object that was on both sides at the last time.
 #[derive(Drop)]
 pub struct Record {
     /// Its path below the share in lower case: which object it is.
     pub key: String,
-    /// Its path below the folder, as this machine writes it.
+    /// Its path below the folder, in the spelling of this machine.
     pub path: String,
     /// Its place in the Shell's files.
     pub place: Place,
@@ -42,9 +42,9 @@ pub struct Record {
     pub last: Last,
     /// The marks that it had on this machine.
     pub stamp: Stamp,
-    /// The marks might be the same after a change.
+    /// A later change might leave the same marks.
     pub is_fresh: bool,
-    /// It is a stand-in that was seen with bit d.
+    /// It is a stand-in that had bit d when it was last looked at.
     pub may_delete: bool,
 }
 
@@ -81,7 +81,7 @@ impl Record {
     }
 }
 
-/// What the Shell has at a place where nothing was; a stand-in that was moved there is nothing.
+/// What the Shell has at a place if nothing was there before; a stand-in that was moved there counts as nothing.
 pub fn state_there(entry: Option<&Entry>) -> State<'_> {
     match entry {
         None => State::Absent,
@@ -118,7 +118,7 @@ impl Records {
         }
     }
 
-    /// Notes whether a stand-in was seen with bit d.
+    /// Notes whether a stand-in had bit d.
     pub fn allow(&mut self, key: &str, may_delete: bool) {
         if let Ok(place) = self.place(key) {
             if let Some(record) = self.sorted.get_mut(place) {
@@ -137,7 +137,7 @@ impl Records {
         }
     }
 
-    /// Keeps a record in place of that of the same key.
+    /// Keeps a record instead of the one with the same key.
     pub fn put(&mut self, record: Record) -> Result<(), NoMemory> {
         match self.place(record.key.as_str()) {
             Ok(place) => {
@@ -150,7 +150,7 @@ impl Records {
         Ok(())
     }
 
-    /// Takes the record of a key away.
+    /// Removes the record of a key.
     pub fn remove(&mut self, key: &str) {
         if let Ok(place) = self.place(key) {
             let _ = self.sorted.remove(place);

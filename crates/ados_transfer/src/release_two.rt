@@ -7,13 +7,13 @@ ghost use Rattle.ados_transfer.specs.LeftOut.{first_named};
 pub struct Command {
     /// Its name.
     pub name: &'static str,
-    // Options of both that take the word after their name.
+    // Options in both that take the word after their name.
     kept: &'static [&'static str],
-    // Options of Release 2 alone that stand by themselves.
+    // Options only in Release 2 that take no value.
     switches: &'static [&'static str],
-    // Options of Release 2 alone that take the word after their name.
+    // Options only in Release 2 that take the word after their name.
     values: &'static [&'static str],
-    // Those of the last two that say nothing which matters here.
+    // Those of the last two that have no effect which matters here.
     idle: &'static [&'static str],
 }
 
@@ -144,9 +144,9 @@ pub enum Naming {
 pub struct Omission {
     /// Its name.
     pub name: &'static str,
-    /// It takes the word after its name; else it stands by itself.
+    /// It takes the word after its name; otherwise it takes no value.
     pub takes_value: bool,
-    /// It says nothing which matters here.
+    /// It has no effect which matters here.
     pub is_idle: bool,
 }
 
@@ -165,7 +165,7 @@ impl Command {
         }
     }
 
-    // An option of this name.
+    // The option with this name.
     fn omission(&self, name: &'static str, takes_value: bool) -> Omission {
         Omission {
             name,
@@ -175,7 +175,7 @@ impl Command {
     }
 }
 
-// The first of these names that a word is; case is ignored.
+// The first of these names that is this word; case is ignored.
 fn first_named(names: &'static [&'static str], word: &[u8]) -> Option<&'static str>
     ensures { result ≡ first_named (λ name. name.now) word.now names.now }
 {

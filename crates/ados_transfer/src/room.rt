@@ -25,18 +25,18 @@ impl Room {
         })
     }
 
-    /// One more object can stand in the files.
+    /// There is room for one more object in the files.
     pub fn has_place(&self) -> bool {
         self.objects < OBJECTS
     }
 
-    /// A file of so many bytes can stand in place of what is there.
+    /// There is room for a file with this many bytes in place of what is there.
     pub fn fits(&self, size_now: usize, old: Option<&Entry>) -> bool {
         size_now <= FILE_BYTES
             && size_now <= ALL_BYTES.saturating_sub(self.bytes.saturating_sub(size(old)))
     }
 
-    /// Something of so many bytes stands in place of what is there.
+    /// Something with this many bytes takes the place of what is there.
     pub fn put(&mut self, size_now: usize, old: Option<&Entry>) {
         self.bytes = self
             .bytes

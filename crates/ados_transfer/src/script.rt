@@ -1,11 +1,11 @@
-//! A script of this machine as one of the Shell.
+//! A script of this machine as a script of the Shell.
 
 use std::alloc::{AllocError, Global};
 
 // The program by which a script of the Shell runs on this machine.
 const INTERPRETER: &[u8] = b"amishell-execute";
 
-/// Whether the bytes of a file that may be executed are those of a script of the Shell: they are ASCII without NUL, and a first line
+/// Whether the bytes of an executable file are those of a script of the Shell: they are ASCII without NUL, and a first line
 /// `#!..` names amishell-execute.
 pub fn is_shell_script(bytes: &[u8]) -> bool {
     if bytes.iter().any(|byte| *byte == 0 || !byte.is_ascii()) {
@@ -30,8 +30,8 @@ fn names_interpreter(rest: &[u8]) -> bool {
 
 /// The bytes of a script as the Shell reads it: a first line `#!..` is a comment, and a CR before a newline is left out.
 ///
-/// Where a directive stands in the second line the comment is `. ..`, since a script has directives if its first line
-/// is one; else it is `; ..`.
+/// If there is a directive in the second line the comment is `. ..`, since a script has directives if its first line
+/// is one; otherwise it is `; ..`.
 pub fn shell_script(alloc: Global, bytes: &[u8]) -> Result<Vec<u8>, AllocError> {
     let mut script = Vec::with_capacity(alloc, bytes.len())?;
     let mut rest = bytes;
@@ -43,7 +43,7 @@ pub fn shell_script(alloc: Global, bytes: &[u8]) -> Result<Vec<u8>, AllocError> 
     Ok(script)
 }
 
-// How the comment begins that stands for a line `#!`, by what stands after these two bytes.
+// How the comment begins that replaces a line `#!`, given what follows these two bytes.
 fn comment_sign(rest: &[u8]) -> &'static [u8] {
     let end = rest.iter().position(|byte| *byte == b'\n');
     match end {
@@ -52,7 +52,7 @@ fn comment_sign(rest: &[u8]) -> &'static [u8] {
     }
 }
 
-// Adds bytes without each CR that stands before a newline.
+// Adds bytes without each CR that comes before a newline.
 fn push_lines(script: &mut Vec<u8>, bytes: &[u8]) -> Result<(), AllocError> {
     for place in 0..bytes.len() {
         if !bytes[place..].starts_with(b"\r\n") {

@@ -8,7 +8,8 @@ use ados_ram::{Entry, Place, Ram};
 use ados_text::{LINE_BYTES, Text};
 use std::alloc::Global;
 
-// The commands by the names that the resident list has for the share, which nothing can shadow, and the files in C: that they are of.
+// The commands by the names that the resident list has for the share, which nothing can shadow, and the files in C: from which
+// they come.
 const COMMANDS: [(&[u8], &[u8]); 5] = [
     (b"amishell-bring", b"C:amishell-bring"),
     (b"amishell-makedir", b"C:MakeDir"),
@@ -17,7 +18,7 @@ const COMMANDS: [(&[u8], &[u8]); 5] = [
     (b"amishell-filenote", b"C:Filenote"),
 ];
 
-/// Lines that are run one after the other.
+/// Lines that are run in order.
 #[derive(Drop)]
 pub struct ShareLines {
     alloc: Global,
@@ -33,7 +34,7 @@ impl ShareLines {
         }
     }
 
-    /// The lines; `LongLine` where one of them would be too long, or the path in it.
+    /// The lines; `LongLine` if one of them would be too long, or the path in it.
     pub fn into_lines(self) -> Result<Vec<Text>, TransferFault> {
         match self
             .lines
@@ -83,7 +84,7 @@ impl ShareLines {
         self.add(b"\"amishell-delete\"", &path, b" QUIET")
     }
 
-    /// Adds the lines that write a file over what is there. Its bits and its comment stay, but for those of a stand-in.
+    /// Adds the lines that write a file over what is there. Its bits and its comment are kept, except for those of a stand-in.
     pub fn add_file(
         &mut self,
         place: &Place,

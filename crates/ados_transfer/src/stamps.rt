@@ -1,4 +1,4 @@
-//! Marks of a file of this machine, by which a change of it shows.
+//! Marks of a file of this machine, by which a change of it is noticed.
 ghost use Rattle.std.specs.Prelude.{◌≡◌};
 ghost use Rattle.ados_transfer.specs.Mirror.{is_same_time, is_same_stamp};
 
@@ -15,21 +15,21 @@ pub struct Time {
     pub nanoseconds: u64,
 }
 
-/// What tells a file from a changed one, as long as no two changes come in one tick of the clock.
+/// What distinguishes a file from a changed one, as long as no two changes happen in one tick of the clock.
 #[derive(Clone, Copy)]
 pub struct Stamp {
     /// How many bytes it has.
     pub size: u64,
     /// Its number.
     pub number: u64,
-    /// When its bytes were changed, by what it says.
+    /// When its bytes were changed; programs can set this time.
     pub modified: Time,
-    /// When anything of it was changed, by the system.
+    /// When anything of it was changed, by the clock of the system.
     pub changed: Time,
 }
 
 impl Time {
-    // The two are one time.
+    // The two are the same time.
     fn is_same(&self, other: &Time) -> bool
         ensures { result ≡ is_same_time self.now other.now }
     {
@@ -38,7 +38,7 @@ impl Time {
 }
 
 impl Stamp {
-    /// The marks of what is not there.
+    /// The marks of an object that does not exist.
     pub const NONE: Stamp = Stamp {
         size: 0,
         number: 0,
@@ -79,7 +79,7 @@ impl Stamp {
     }
 
     /// A change right after this look might leave the same marks: the file was changed in the tick of the clock in which it was
-    /// looked at. Where the time has no part of a second the ticks are of up to two seconds.
+    /// looked at. If the time has no fraction of a second, the ticks are assumed to last up to two seconds.
     pub fn is_fresh(&self, now: &SystemTime) -> bool {
         let tick = if self.changed.nanoseconds == 0 {
             Duration::from_secs(2)

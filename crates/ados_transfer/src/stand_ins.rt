@@ -1,4 +1,4 @@
-//! Stand-ins: empty files of the Shell in the place of files of this machine that it can't hold.
+//! Stand-ins: empty files of the Shell in place of files of this machine that it can't hold.
 
 use crate::faults::TransferFault;
 use crate::mirror::Mirror;
@@ -24,7 +24,7 @@ pub fn comment_of(alloc: Global, size: u64) -> Result<String, NoMemory> {
 }
 
 impl Mirror {
-    /// Notes which stand-ins have bit d: only such a one that is then deleted has its file deleted on this machine.
+    /// Notes which stand-ins have bit d: if such a stand-in is then deleted, its file is deleted on this machine too.
     pub fn watch(&mut self, files: &Ram) -> Result<(), TransferFault> {
         if !self.has_stand_ins {
             return Ok(());
@@ -54,7 +54,7 @@ impl Mirror {
         }
     }
 
-    // A stand-in of the same size stands elsewhere: it was moved there.
+    // A stand-in of the same size is elsewhere: it was moved there.
     fn is_moved(&self, files: &Ram, size: u64) -> Result<bool, TransferFault> {
         let comment = comment_of(self.alloc, size)?;
         for place in &files.contents(&Place::root(self.alloc))? {

@@ -45,7 +45,7 @@ fn not_taken(alloc: Global, words: &str) -> TransferFault {
     named(alloc, words, TransferFault::CannotTake)
 }
 
-// The name and the path of `NAME=PATH`. A name that is there is a name as a whole.
+// The name and the path of `NAME=PATH`. A name that exists is taken as a whole.
 fn parted<'a>(
     alloc: Global,
     files: &Ram,
@@ -122,7 +122,7 @@ fn is_folder<R: Files>(rt: &R, path: &str) -> bool {
     }
 }
 
-// Writes what is in a directory into a folder. What cannot be written is left out, and the last fault is told.
+// Writes what is in a directory into a folder. What cannot be written is left out, and the last fault is reported.
 fn take_directory<R: AllocGlobal + Files>(
     rt: &R,
     files: &Ram,

@@ -1,4 +1,4 @@
-//! Files and directories that are to stand in the Shell's world when the script begins.
+//! Files and directories that are to be in the Shell's world when the script begins.
 ghost use Rattle.std.specs.Prelude.{◌≡◌};
 ghost use Rattle.std.specs.List.{list_all};
 ghost use Rattle.std.specs.Option.{option_copied};
@@ -7,7 +7,7 @@ ghost use Rattle.ados_transfer.specs.Told.{is_as_told, holds, holds_file};
 use ados_ram::{Entry, Place, Ram};
 use ados_text::Octets;
 
-/// What is to stand at a place.
+/// What is to be at a place.
 #[derive(Drop)]
 pub struct Told {
     /// Where.
@@ -25,21 +25,21 @@ pub enum Content {
     File { bytes: Octets, is_script: bool },
 }
 
-/// Each of them stands in the files as it was told.
+/// Each of them is in the files as planned.
 pub fn are_as_told(files: &Ram, told: &[Told]) -> bool
     ensures { result ≡ list_all (is_as_told files.now) told.now }
 {
     told.iter().all(|one| is_as_told(files, one))
 }
 
-// It stands in the files as it was told.
+// It is in the files as planned.
 fn is_as_told(files: &Ram, told: &Told) -> bool
     ensures { result ≡ is_as_told files.now told.now }
 {
     holds(files.look(&told.place), &told.content)
 }
 
-// What stands at a place is what was told.
+// What is at a place is what was planned.
 fn holds(entry: Option<&Entry>, content: &Content) -> bool
     ensures { result ≡ holds (option_copied entry.entry) content.now }
 {

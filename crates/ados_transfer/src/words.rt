@@ -6,18 +6,18 @@ ghost use Rattle.ados_transfer.specs.Words.{equal_signs, escaped, has_plain_ends
 
 use ados_text::{NoMemory, Text};
 
-// The signs that a line reads as themselves outside quotes.
+// The characters that a line reads as themselves outside quotes.
 const PLAIN_SIGNS: &[u8] = b"_.,:/#?%~()|'@!^&+-=";
 
-/// Adds a blank to a line, and a text as a word that is read as just this text.
+/// Adds a blank to a line, and a text as a word that is read as exactly this text.
 ///
-/// It is quoted, unless `quotes` is false and it means itself as it stands: so it may be the name of an option of
-/// `.KEY`, or set one by `=`. What comes after it has to begin with a blank.
+/// It is quoted, unless `quotes` is false and it stands for itself unquoted: so it may be the name of an option of
+/// `.KEY`, or set one by `=`. What follows it has to begin with a blank.
 pub fn push_word(line: &mut Text, text: &Text, quotes: bool) -> Result<(), NoMemory>
     ensures line { OnOk result (line.new ≡ line.old ++ 32 ∷ word_of quotes text.now) }
-    // Whatever stands after it: the word is the next one of the line, and its value is the text.
+    // Whatever follows it: the word is the next one of the line, and its value is the text.
     ensures reads { OnOk result ((after : List ℕ) → IsApart after → ReadsAs false (line.new ++ after) (length line.old) (length line.new) text.now) }
-    // In quotes it is one item too where `=` is one of its own.
+    // In quotes it is one item even if `=` is an item of its own.
     ensures item { OnOk result (quotes ≡ true → (after : List ℕ) → ReadsAs true (line.new ++ after) (length line.old) (length line.new) text.now) }
 {
     line.push(b' ')?;
@@ -81,14 +81,14 @@ fn push_printed(line: &mut Text, byte: u8) -> Result<(), NoMemory>
     line.push(byte)
 }
 
-// The byte means something of its own inside quotes.
+// The byte has a special meaning inside quotes.
 fn is_starred(byte: u8) -> bool
     ensures { result ≡ is_starred byte }
 {
     matches!(byte, b'"' | b'*' | b'$' | b'`')
 }
 
-// The text means itself outside quotes.
+// The text stands for itself outside quotes.
 fn is_bare(text: &[u8]) -> bool
     ensures { result ≡ is_bare text.now }
 {
@@ -102,28 +102,28 @@ fn has_plain_ends(text: &[u8]) -> bool
     !text.is_empty() && !is_first_sign(text[0]) && text[text.len() - 1] != b'='
 }
 
-// Each byte means itself outside quotes.
+// Each byte stands for itself outside quotes.
 fn are_plain(text: &[u8]) -> bool
     ensures { result ≡ list_all is_plain text.now }
 {
     text.iter().all(|byte| is_plain(*byte))
 }
 
-// How many equal signs stand in a text.
+// How many equal signs are in a text.
 fn equal_signs(text: &[u8]) -> usize
     ensures { result ≡ equal_signs text.now }
 {
     text.iter().filter(|byte| **byte == b'=').count()
 }
 
-// A word does not begin with this byte without quotes.
+// A word without quotes cannot begin with this byte.
 fn is_first_sign(byte: u8) -> bool
     ensures { result ≡ is_first_sign byte }
 {
     matches!(byte, b'?' | b'+' | b'=')
 }
 
-// The byte means itself outside quotes.
+// The byte stands for itself outside quotes.
 fn is_plain(byte: u8) -> bool
     ensures { result ≡ is_plain byte }
 {

@@ -1,4 +1,5 @@
-//! How files and folders of this machine are written: a file beside its place, which then takes its name. No link is followed.
+//! How files and folders of this machine are written: to a temporary file in the same folder, which then takes the file's
+//! name. No link is followed.
 
 use crate::paths::step_into;
 use ados_text::Name;
@@ -9,20 +10,20 @@ use std::os::unix::fs::PermissionsExt;
 use std::rt::Files;
 use std::{fs, io};
 
-/// The files that are written beside a place have names that begin so.
+/// The names of temporary files begin like this.
 pub const BESIDE: &str = ".amishell-execute.";
 
-// So many names are tried for the file that is written beside.
+// How many names are tried for a temporary file.
 const TRIES: u32 = 100;
 
-/// Who may do what with a file that is written.
+/// The permissions of a file that is written.
 #[derive(Clone, Copy)]
 pub enum Manner {
-    /// What a new file has.
+    /// Those that a new file gets.
     Plain,
-    /// The same, and who may read it may execute it.
+    /// The same, and whoever may read it may execute it.
     Executable,
-    /// As this mode says.
+    /// Those of this mode.
     Mode(u32),
 }
 
@@ -41,7 +42,7 @@ pub fn enter<R: AllocGlobal + Files>(rt: &R, folder: &str, name: &str) -> io::Re
     }
 }
 
-/// A name that leads nowhere else.
+/// A name that does not lead elsewhere.
 pub fn checked(name: &str) -> io::Result<()> {
     if matches!(name, "" | "." | "..") || name.contains('/') {
         return Err(io::Error::from(ErrorKind::InvalidInput));
@@ -65,12 +66,12 @@ pub fn joined(alloc: Global, folder: &str, name: &str) -> io::Result<String> {
     }
 }
 
-/// The error of want of memory.
+/// The error for a failed allocation.
 pub fn no_memory() -> io::Error {
     io::Error::from(ErrorKind::OutOfMemory)
 }
 
-/// Writes a file of a name in a folder, in a manner: a file beside it, which then takes the name.
+/// Writes a file with this name in a folder, with these permissions: a temporary file beside it, which then takes the name.
 pub fn write_whole<R: AllocGlobal + Files>(
     rt: &R,
     folder: &str,
@@ -92,7 +93,7 @@ pub fn write_whole<R: AllocGlobal + Files>(
     moved
 }
 
-// Writes the bytes, and says who may do what.
+// Writes the bytes, and sets the permissions.
 fn fill<F: Write + OpenFile>(file: &mut F, bytes: &[u8], manner: Manner) -> io::Result<()> {
     file.write_all(bytes)?;
     let mode = match manner {
@@ -106,7 +107,7 @@ fn fill<F: Write + OpenFile>(file: &mut F, bytes: &[u8], manner: Manner) -> io::
     file.set_permissions(Permissions::from_mode(mode))
 }
 
-// A new file in a folder, with its path.
+// A new temporary file in a folder, with its path.
 fn open_beside<R: AllocGlobal + Files>(rt: &R, folder: &str) -> io::Result<(String, R::File)> {
     for number in 0..TRIES {
         let name = format!(in rt.alloc(); "{BESIDE}{number}")?;

@@ -1,4 +1,4 @@
--- What is copied of another shell's variables stands behind a shell's own.
+-- The variables that are copied from another shell come after a shell's own.
 use Rattle.std.proofs.Common.{◌≡◌, ◌∙◌, ℕ, [], ◌∷◌, ◌++◌, Bool, true, false, not, ◌||◌, Some, None, ap, sym, refl, subst, cond, append-nil, append_assoc}
 use Rattle.std.proofs.lemmas.Cmp.{on_equiv, nat_list_eq_equiv}
 use Rattle.std.specs.List.{AllByRecursion, IsDistinct, filter}
@@ -8,7 +8,7 @@ use Rattle.ados_vars.specs.Vars.{Pairs, AreDistinct, set_pair, set_all, value_in
 use Rattle.ados_vars.specs.Locals.{process_name, code_name, fault_name, own_pairs, is_other, copied_pairs}
 use Rattle.ados_vars.proofs.VarsLemmas.{value-set}
 
--- a name that is not there goes last
+-- a name that does not exist goes last
 set-new : (pairs : Pairs) (name value : Text) → value_in pairs name ≡ None → set_pair pairs name value ≡ pairs ++ (name, value) ∷ []
 unfolding set_pair value_in
 set-new [] name value e = refl
@@ -19,11 +19,11 @@ set-new (p ∷ ps) name value e = by (is_same name p.0) refl (λ f. set-new ps n
     by true f rest = let there : Some p.1 ≡ None = subst (λ b. cond b (Some p.1) (value_in ps name) ≡ None) f e in cc
     by false f rest = simp f (ap (λ l. p ∷ l) (rest (subst (λ b. cond b (Some p.1) (value_in ps name) ≡ None) f e)))
 
--- the pair is copied only where its name is not there
+-- if the pair is copied, its name does not exist yet
 abbrev IsNew : Pairs → Text × Text → Type 0
 IsNew pairs p = is_other p ≡ true → value_in pairs p.0 ≡ None
 
--- where one more pair was set, names apart from its own are as new as before
+-- after one more pair is set, names other than its own are as new as before
 still-new : (pairs : Pairs) (p : Text × Text) (ps : Pairs) → AllByRecursion (λ name. is_same p.0 name ≡ false) (keys_of ps)
     → AllByRecursion (IsNew pairs) ps → AllByRecursion (IsNew (set_pair pairs p.0 p.1)) ps
 still-new pairs p [] apart new = tt
@@ -47,7 +47,7 @@ all-behind pairs (p ∷ ps) distinct new =
     by true e without behind = simp e (behind ∙ ap (λ l. l ++ filter is_other ps) (set-new pairs p.0 p.1 (new.0 e)) ∙ append_assoc pairs (p ∷ []) (filter is_other ps))
     by false e without behind = simp e without
 
--- a name that is not of a shell's own is none of these
+-- a name that is not one of a shell's own is none of these
 none-of : (a b c : Bool) (x y z : Text) → not (a || (b || c)) ≡ true → cond a (Some x) (cond b (Some y) (cond c (Some z) None)) ≡ None
 none-of true b c x y z e = cc
 none-of false true c x y z e = cc

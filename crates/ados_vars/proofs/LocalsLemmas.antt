@@ -1,4 +1,4 @@
--- the pairs of which RC and Result2 are set at last
+-- the pairs after RC and Result2 are set
 use Rattle.std.proofs.Common.{◌≡◌, ◌∙◌, ℕ, codes, [], true, false, Some, IsSome, ap, sym, refl, cond, inl, inr}
 use Rattle.std.specs.Fmt.{decimal, signed_decimal}
 use Rattle.std.proofs.lemmas.Bool.{cases_Bool, or_parts}
@@ -15,7 +15,7 @@ apart = refl
 apart-too : is_same fault_name code_name ≡ false
 apart-too = refl
 
--- both are there behind it, and stay
+-- both exist after that, and stay
 pub has-codes : (pairs : Pairs) (code fault : Text) → HasCodes (with_codes pairs code fault)
 unfolding with_codes
 has-codes pairs code fault = record {
@@ -36,7 +36,7 @@ without-keeps-codes pairs name e f h = record {
   fault = rw (value-without pairs name fault_name f) h.fault;
 }
 
--- of two settings of both the second one is seen
+-- of two settings of both the second one is shown
 pub codes-again : (pairs : Pairs) (code fault next last : Text) → with_codes (with_codes pairs code fault) next last ≡ with_codes pairs next last
 unfolding with_codes
 codes-again pairs code fault next last =
@@ -45,7 +45,7 @@ codes-again pairs code fault next last =
     ∙ ap (λ ps. set_pair ps fault_name fault) (set-again pairs code_name code next))
     ∙ set-again (set_pair pairs code_name next) fault_name fault last
 
--- two changes of pairs, of which the one sees the values of both, and the other does not, come to the same
+-- a change of pairs gives the same with and without the values of both set before, if they are set after it
 over : (change : Pairs → Pairs) → (pairs : Pairs) (code fault next last : Text) → HasCodes pairs
     → ((ps : Pairs) → IsSome (value_in ps fault_name) → IsSome (value_in (change ps) fault_name))
     → ((ps : Pairs) (own old new : Text) → IsSome (value_in ps own) → set_pair (change (set_pair ps own old)) own new ≡ set_pair (change ps) own new)
@@ -108,7 +108,7 @@ pub other-value : (pairs : Pairs) (code : Code) (result2 : Result2) (name : Text
     → value_in (shown pairs code result2) name ≡ value_in pairs name
 other-value pairs code result2 name e f = value-shown pairs code result2 name ∙ simp (e, f) refl
 
--- what is taken away below an answer
+-- names removed before the end of a command
 without-fault : (pairs : Pairs) (code fault name next last : Text) → is_same name fault_name ≡ true → HasCodes pairs
     → with_codes (without (with_codes pairs code fault) name) next last ≡ with_codes (without pairs name) next last
 unfolding with_codes
@@ -156,7 +156,7 @@ codes-begin number pairs = (record { code = refl; fault = refl }, record { code 
 pub codes-stay : CodesStay
 codes-stay pairs name value h = (set-keeps-codes pairs name value h, unset-keeps-codes pairs name h)
 
--- the variables of a shell at first, set one after another
+-- the initial variables of a shell, set one after another
 pub first-pairs : (number : ℕ) (p0 p1 p2 p3 : Pairs) (process value code empty fault nothing : Text)
     → p0 ≡ [] → process ≡ codes "Process" → value ≡ decimal number → p1 ≡ set_pair p0 process value
     → code ≡ code_name → empty ≡ [] → p2 ≡ set_pair p1 code empty

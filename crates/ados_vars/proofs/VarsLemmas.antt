@@ -1,4 +1,4 @@
--- what is set, taken away and looked up, one after another
+-- names that are set, removed and looked up, one after another
 use Rattle.std.proofs.Common.{◌≡◌, ◌∙◌, [], ◌∷◌, Bool, true, false, Some, IsSome, ap, sym, refl, subst, cond}
 use Rattle.std.proofs.lemmas.Cmp.{on_equiv, nat_list_eq_equiv}
 use Rattle.std.specs.Map.{lookup, lookup_key, remove_entry}
@@ -6,7 +6,7 @@ use Rattle.indexmap.specs.IndexMap.{insert_entry}
 use Rattle.ados_text.specs.Text.{Text, folded, is_same}
 use Rattle.ados_vars.specs.Vars.{Pairs, set_pair, value_in, name_in, without}
 
--- the same in the words of the map
+-- the same with the definitions of the map
 pub insert_entry-is : (pairs : Pairs) (name value : Text) → insert_entry is_same pairs name value ≡ set_pair pairs name value
 unfolding set_pair
 insert_entry-is [] name value = refl
@@ -27,7 +27,7 @@ unfolding without
 remove_entry-is [] name = refl
 remove_entry-is (p ∷ ps) name = ap (λ rest. cond (is_same name p.0) ps (p ∷ rest)) (remove_entry-is ps name)
 
--- two texts that are one name are the same as the same texts
+-- two texts that are the same name match the same texts
 same-name : (name : Text) → is_same name name ≡ true
 same-name name = (on_equiv folded nat_list_eq_equiv).refl name
 
@@ -42,7 +42,7 @@ apart-by a b c e f = (on_equiv folded nat_list_eq_equiv).symm a c ∙ sym (same-
 true-false : true ≡ false → ⊥
 true-false e = cc
 
--- a value behind the setting of one
+-- a value after one is set
 pub value-set : (pairs : Pairs) (name value other : Text)
     → value_in (set_pair pairs name value) other ≡ cond (is_same other name) (Some value) (value_in pairs other)
 unfolding value_in set_pair
@@ -57,7 +57,7 @@ value-set (p ∷ ps) name value other = by (is_same name p.0) (is_same other p.0
     by false true e f rest = let g : is_same other name ≡ false = apart-by other p.0 name f e in simp (e, f, g) refl
     by false false e f rest = simp (e, f) rest
 
--- and behind the taking away of another
+-- and after another is removed
 pub value-without : (pairs : Pairs) (name other : Text) → is_same name other ≡ false → value_in (without pairs name) other ≡ value_in pairs other
 unfolding value_in without
 value-without [] name other apart = refl
@@ -81,7 +81,7 @@ set-keeps pairs name value other there = rw (value-set pairs name value other) (
     by true = refl
     by false = there
 
--- of two values that are set the second one stays
+-- of two values that are set for a name the second one stays
 pub set-again : (pairs : Pairs) (name value other : Text) → set_pair (set_pair pairs name value) name other ≡ set_pair pairs name other
 unfolding set_pair
 set-again [] name value other = rw (same-name name) refl
@@ -92,7 +92,7 @@ set-again (p ∷ ps) name value other = by (is_same name p.0) refl (set-again ps
     by true e rest = simp e refl
     by false e rest = simp e (ap (λ l. p ∷ l) rest)
 
--- a name that is there may be set in front of another
+-- setting an existing name and setting another may be swapped
 pub set-swaps : (pairs : Pairs) (name value other more : Text) → IsSome (value_in pairs name) → is_same name other ≡ false
     → set_pair (set_pair pairs other more) name value ≡ set_pair (set_pair pairs name value) other more
 unfolding set_pair value_in
@@ -107,7 +107,7 @@ set-swaps (p ∷ ps) name value other more there apart = by (is_same name p.0) (
     by false true e f rest = simp (e, f) refl
     by false false e f rest = simp (e, f) (ap (λ l. p ∷ l) (rest (subst (λ it. IsSome (cond it (Some p.1) (value_in ps name))) e there)))
 
--- where a name that is there is set at last, its value before plays no part: not in front of another setting,
+-- if an existing name is set last, its value before does not matter: not before another is set,
 pub set-over : (pairs : Pairs) (own old name value new : Text) → IsSome (value_in pairs own)
     → set_pair (set_pair (set_pair pairs own old) name value) own new ≡ set_pair (set_pair pairs name value) own new
 unfolding set_pair value_in
@@ -122,7 +122,7 @@ set-over (p ∷ ps) own old name value new there = by (is_same own p.0) (is_same
     by false true e f rest = simp (e, f) (ap (λ l. (p.0, value) ∷ l) (set-again ps own old new))
     by false false e f rest = simp (e, f) (ap (λ l. p ∷ l) (rest (subst (λ it. IsSome (cond it (Some p.1) (value_in ps own))) e there)))
 
--- nor in front of a taking away
+-- nor before one is removed
 pub without-over : (pairs : Pairs) (own old name new : Text) → IsSome (value_in pairs own)
     → set_pair (without (set_pair pairs own old) name) own new ≡ set_pair (without pairs name) own new
 unfolding set_pair value_in without
@@ -137,7 +137,7 @@ without-over (p ∷ ps) own old name new there = by (is_same own p.0) (is_same n
     by false true e f rest = simp (e, f) (set-again ps own old new)
     by false false e f rest = simp (e, f) (ap (λ l. p ∷ l) (rest (subst (λ it. IsSome (cond it (Some p.1) (value_in ps own))) e there)))
 
--- what was set is taken away with its name
+-- a value that was set is removed with its name
 pub without-set : (pairs : Pairs) (own name value : Text) → is_same name own ≡ true → without (set_pair pairs own value) name ≡ without pairs name
 unfolding set_pair without
 without-set [] own name value same = simp same refl

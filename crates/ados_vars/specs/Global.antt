@@ -12,7 +12,7 @@ use Rattle.ados_ram.specs.declared.entries.Entry.{Entry}
 use Rattle.ados_assign.specs.Assigns.{AssignMap}
 use Rattle.ados_assign.specs.Resolve.{resolved}
 
--- the value in what stands at a place: a file that may be read
+-- the value in the entry at a place: in a file that may be read
 abbrev pub value_of : Option Entry → Option Text
 value_of None = None
 value_of (Some entry) = if not (is_directory entry) && entry.bits.read then Some (first_line (bytes_of entry)) else None
@@ -25,6 +25,6 @@ abbrev pub value_by : AssignMap → Files → Result PathParts Result2 → Optio
 value_by assigns files (Ok path) = value_at files (resolved assigns files [] path)
 value_by assigns files (Err fault) = None
 
--- the value of a global variable; its path names a device, so that no current directory counts
+-- the value of a global variable; its path names a device, so that the current directory does not matter
 unfoldable pub global_of : AssignMap → Files → Text → Option Text
 global_of assigns files name = value_by assigns files (path_of (codes "ENV:" ++ name))

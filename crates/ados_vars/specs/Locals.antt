@@ -1,5 +1,5 @@
--- The local variables of a shell. RC and Result2 have places among them, and show what its last command answered: the
--- values that stand at these places are not seen.
+-- The local variables of a shell. RC and Result2 have positions among them, and show the results of its last command:
+-- the values stored at these positions are never shown.
 use Rattle.std.specs.Prelude.{◌≡◌, ℕ, [], ◌∷◌, ◌++◌, Bool, not, ◌||◌, IsSome, codes, if◌then◌else◌}
 use Rattle.std.specs.List.{filter}
 use Rattle.std.specs.Fmt.{decimal, signed_decimal}
@@ -21,7 +21,7 @@ fault_name = codes "Result2"
 unfoldable pub with_codes : Pairs → Text → Text → Pairs
 with_codes pairs code fault = set_pair (set_pair pairs code_name code) fault_name fault
 
--- RC and Result2 are set to what a command answered, in decimal
+-- RC and Result2 are set to the results of a command, in decimal
 unfoldable pub shown : Pairs → Code → Result2 → Pairs
 shown pairs code result2 = with_codes pairs (signed_decimal code.0) (decimal result2.0)
 
@@ -29,24 +29,24 @@ shown pairs code result2 = with_codes pairs (signed_decimal code.0) (decimal res
 abbrev pub is_of_codes : Text → Bool
 is_of_codes name = is_same name code_name || is_same name fault_name
 
--- a name is taken away; one of the two is set again by the answer, and so goes last
+-- a name is removed; if it is one of the two, it is set again by the end of the command, and so goes last
 unfoldable pub unset_in : Pairs → Text → Pairs
 unset_in pairs name = if is_of_codes name then with_codes (without pairs name) [] [] else without pairs name
 
--- the variables with which the shell of a number begins: Process, which is the number, RC and Result2
+-- the initial variables of the shell of a number: Process, which is the number, RC and Result2
 abbrev pub own_pairs : ℕ → Pairs
 own_pairs number = (process_name, decimal number) ∷ (code_name, []) ∷ (fault_name, []) ∷ []
 
--- the name is that of a variable of a shell's own
+-- the name is that of one of a shell's own variables
 abbrev pub is_own : Text → Bool
 is_own name = is_same name process_name || is_of_codes name
 
--- the pair is of a variable that is not of a shell's own
+-- the pair is of a variable that is not one of a shell's own
 abbrev pub is_other : Text × Text → Bool
 is_other pair = not (is_own pair.0)
 
--- the variables with which the shell of a number begins that another one makes: its own, and behind them the others of
--- its maker, in their order
+-- the initial variables of a shell that another one creates, by its number: its own, and after them the others of its
+-- creator, in their order
 unfoldable pub copied_pairs : ℕ → Pairs → Pairs
 copied_pairs number pairs = own_pairs number ++ filter is_other pairs
 
@@ -55,8 +55,8 @@ pub record HasCodes (pairs : Pairs) : Type 0 where
   pub code : IsSome (value_in pairs code_name)
   pub fault : IsSome (value_in pairs fault_name)
 
--- What is seen of variables is what commands make of them one after another, each of which sets RC and Result2 by its
--- answer: behind an answer, a name that is set, and a name that is taken away.
+-- The variables that are shown are the same as if each command set RC and Result2 to its results: after a command that
+-- does nothing else, one that sets a name, and one that removes a name.
 abbrev pub AnswerIsSeen : Type 0
 AnswerIsSeen = (pairs : Pairs) (old code : Code) (before result2 : Result2) → shown (shown pairs old before) code result2 ≡ shown pairs code result2
 
@@ -68,7 +68,7 @@ abbrev pub UnsettingIsSeen : Type 0
 UnsettingIsSeen = (pairs : Pairs) (old code : Code) (before result2 : Result2) (name : Text) → HasCodes pairs
     → shown (without (shown pairs old before) name) code result2 ≡ shown (unset_in pairs name) code result2
 
--- they have places at first, whether another shell made it or none,
+-- they have positions at first, whether another shell created it or none,
 abbrev pub CodesBegin : Type 0
 CodesBegin = (number : ℕ) (pairs : Pairs) → HasCodes (own_pairs number) × HasCodes (copied_pairs number pairs)
 

@@ -8,16 +8,16 @@ use Rattle.ados_text.specs.Text.{Text, is_same}
 abbrev pub Pairs : Type 0
 Pairs = List (Text × Text)
 
--- no two of the names are one, case ignored
+-- no two of the names are the same, with case ignored
 abbrev pub AreDistinct : Pairs → Type 0
 AreDistinct pairs = IsDistinct is_same (keys_of pairs)
 
--- a new name goes last; a name that is there keeps its place and its first spelling, and takes the value
+-- a new name goes last; an existing name keeps its position and its first spelling, and takes the value
 unfoldable pub set_pair : Pairs → Text → Text → Pairs
 set_pair [] name value = (name, value) ∷ []
 set_pair (p ∷ ps) name value = if is_same name p.0 then (p.0, value) ∷ ps else p ∷ set_pair ps name value
 
--- each of other pairs is set, one after another
+-- each of the other pairs is set, one after another
 abbrev pub set_all : Pairs → Pairs → Pairs
 set_all pairs [] = pairs
 set_all pairs (p ∷ ps) = set_all (set_pair pairs p.0 p.1) ps

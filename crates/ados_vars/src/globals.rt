@@ -9,10 +9,10 @@ use ados_ram::{Entry, Place, Ram};
 use ados_text::{NoMemory, Text, first_line};
 use std::alloc::Global;
 
-/// The value of a global variable: the first line of the file of its name in `ENV:`, where bit r of that is set. The
-/// file of an output that is open counts too.
+/// The value of a global variable: the first line of the file of its name in `ENV:`, if bit r of that is set. The file
+/// of an output that is open counts too.
 ///
-/// `None` where no such file is there, or its name leads nowhere.
+/// `None` if there is no such file, or if its name leads nowhere.
 #[tactic(auto, unfolding(crate::specs::Global::global_of))]
 pub fn global(
     alloc: Global,
@@ -36,7 +36,7 @@ pub fn global(
     }
 }
 
-// The value in what stands at a place.
+// The value in the entry at a place.
 fn value(alloc: Global, entry: Option<&Entry>) -> Result<Option<Text>, NoMemory>
     ensures { IfOk result (λ value. value ≡ value_of (option_copied entry.entry)) }
 {

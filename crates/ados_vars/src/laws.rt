@@ -2,8 +2,9 @@
 
 ghost use Rattle.ados_vars.specs.Locals.{AnswerIsSeen, CodesBegin, CodesStay, SettingIsSeen, UnsettingIsSeen};
 
-/// A shell's variables are what its commands make of them one after another, each of which sets RC and Result2 by its
-/// answer: that the two show what the last command answered, whatever stands at their places, comes to the same.
+/// The variables that a shell shows are the same as if each of its commands set RC and Result2 to its results: it makes
+/// no difference whether the two are stored at each command, or only filled in when they are shown, whatever is stored
+/// at their positions.
 pub fn variables_show_each_answer()
     ensures answer { AnswerIsSeen }
     ensures set { SettingIsSeen }

@@ -17,15 +17,15 @@ const CODE: &str = "RC";
 
 const FAULT: &str = "Result2";
 
-/// The local variables of a shell. RC and Result2 have places among them, and show what its last command answered: who
-/// asks for them says what that was, so that an answer takes no memory.
+/// The local variables of a shell. RC and Result2 have positions among them, and show the results of its last command: a
+/// caller that reads them passes these results, so that a command's end allocates nothing.
 pub struct Locals {
     alloc: Global,
-    // The values at the places of RC and Result2 are not seen.
+    // The values stored for RC and Result2 are never shown.
     vars: Vars,
 }
 
-// Written out, so that for whoever drops variables it is one step, and not one for each of its parts.
+// Written out, so that dropping variables is one step for the caller, instead of one for each of its parts.
 impl Drop for Locals {
     fn drop(self) {
         let Locals {
@@ -44,7 +44,7 @@ impl Model for Locals {
 }
 
 impl Locals {
-    /// The variables with which the shell of a number begins: Process, which is its number, RC and Result2.
+    /// The initial variables of the shell of a number: Process, which is its number, RC and Result2.
     pub fn first(alloc: Global, number: u8) -> Result<Locals, NoMemory>
         ensures { IfOk result (λ locals. locals ≡ own_pairs number) }
     {
@@ -55,8 +55,8 @@ impl Locals {
         Ok(Locals { alloc, vars })
     }
 
-    /// The variables with which the shell of a number begins that this one's shell makes: its own, and behind them the
-    /// others of these, in their order.
+    /// The initial variables of a shell that this one's shell creates, by its number: its own, and after them the others
+    /// of these, in their order.
     pub fn copied(&self, number: u8) -> Result<Locals, NoMemory>
         ensures { IfOk result (λ locals. locals ≡ copied_pairs number self.now) }
     {
@@ -65,7 +65,7 @@ impl Locals {
         Ok(locals)
     }
 
-    /// Sets the value of a name: a new name goes last, and one that is there keeps its place and its first spelling.
+    /// Sets the value of a name: a new name goes last, and an existing one keeps its position and its first spelling.
     ///
     /// `NoMemory` only for a new name; nothing is changed then.
     pub fn set(&mut self, name: Name, value: Text) -> Result<(), NoMemory>
@@ -76,9 +76,9 @@ impl Locals {
         self.vars.set(name, value)
     }
 
-    /// Takes a name away, where it is there. RC and Result2 are set again by each answer: one of them goes last.
+    /// Removes a name, if it exists. RC and Result2 are set again by the end of each command: one of them goes last.
     ///
-    /// At `NoMemory` nothing is changed; only RC and Result2 ask for memory.
+    /// On `NoMemory` nothing is changed; only RC and Result2 allocate.
     #[tactic(auto, unfolding(crate::specs::Locals::unset_in))]
     pub fn unset(&mut self, name: &Name) -> Result<(), NoMemory>
         ensures ok { OnOk result (self.new ≡ unset_in self.old name.now) }
@@ -96,7 +96,7 @@ impl Locals {
         Ok(())
     }
 
-    /// The value of a name, if it has one, where the last command answered this.
+    /// The value of a name, if it has one, after these results of the last command.
     pub fn get(&self, name: &Name, code: Code, result2: Result2) -> Result<Option<Text>, NoMemory>
         ensures { IfOk result (λ value. value ≡ value_in (shown self.now code result2) name.now) }
     {
@@ -112,7 +112,7 @@ impl Locals {
         }
     }
 
-    /// All names with their values, in order, where the last command answered this.
+    /// All names with their values, in order, after these results of the last command.
     #[tactic(auto, unfolding(crate::specs::Locals::shown))]
     pub fn list(&self, code: Code, result2: Result2) -> Result<Vars, NoMemory>
         ensures { IfOk result (λ vars. vars ≡ shown self.now code result2) }
@@ -133,7 +133,7 @@ impl Locals {
     }
 }
 
-// Sets those of other variables that are no shell's own.
+// Sets those of other variables that are not a shell's own.
 fn set_others(vars: &mut Vars, others: &Vars) -> Result<(), NoMemory>
     ensures set { OnOk result (vars.new ≡ set_all vars.old (filter is_other others.now)) }
     ensures distinct { AreDistinct others.now }
@@ -146,14 +146,14 @@ fn set_others(vars: &mut Vars, others: &Vars) -> Result<(), NoMemory>
     Ok(())
 }
 
-// The name is that of a variable of a shell's own.
+// Whether the name is that of one of a shell's own variables.
 fn is_own(name: &Name) -> bool
     ensures { result ≡ is_own name.now }
 {
     name.text().is(PROCESS) || is_of_codes(name)
 }
 
-// The name is RC or Result2.
+// Whether the name is RC or Result2.
 fn is_of_codes(name: &Name) -> bool
     ensures { result ≡ is_of_codes name.now }
 {

@@ -14,7 +14,7 @@ pub struct Vars {
     map: IndexMap<Name, Text>,
 }
 
-// Written out, so that for whoever drops a list it is one step, and not one for each of its parts.
+// Written out, so that dropping a list is one step for the caller, instead of one for each of its parts.
 impl Drop for Vars {
     fn drop(self) {
         let Vars { map: _map } = self;
@@ -33,7 +33,7 @@ impl Model for Vars {
 }
 
 impl Vars {
-    /// No name.
+    /// No names.
     pub fn new(alloc: Global) -> Vars
         ensures { result ≡ [] }
     {
@@ -42,7 +42,7 @@ impl Vars {
         }
     }
 
-    /// Sets the value of a name. A new name goes last; one that is there keeps its place and its first spelling.
+    /// Sets the value of a name. A new name goes last; an existing one keeps its position and its first spelling.
     ///
     /// `NoMemory` only for a new name; nothing is changed then.
     pub fn set(&mut self, name: Name, value: Text) -> Result<(), NoMemory>
@@ -54,14 +54,14 @@ impl Vars {
         Ok(())
     }
 
-    /// The value of a name. Takes no memory.
+    /// The value of a name. Nothing is allocated.
     pub fn get(&self, name: &Name) -> Option<&Text>
         ensures { option_copied result ≡ value_in self.now name.now }
     {
         self.map.get(name)
     }
 
-    /// A name as it was first spelled, with its value, if it has one. Takes no memory.
+    /// A name as it was first spelled, with its value, if it has one. Nothing is allocated.
     pub fn pair(&self, name: &Name) -> Option<(&Name, &Text)>
         ensures name { option_map (λ p. p.0.now) result ≡ name_in self.now name.now }
         ensures value { option_map (λ p. p.1.now) result ≡ value_in self.now name.now }
@@ -69,14 +69,14 @@ impl Vars {
         self.map.get_key_value(name)
     }
 
-    /// Takes a name away, where it is there; the others keep their order. Takes no memory.
+    /// Removes a name, if it exists; the others keep their order. Nothing is allocated.
     pub fn unset(&mut self, name: &Name)
         ensures { self.new ≡ without self.old name.now }
     {
         self.map.shift_remove(name);
     }
 
-    /// The names with their values, in order. Takes no memory.
+    /// The names with their values, in order. Nothing is allocated.
     pub fn list(&self) -> Slice<'_, Name, Text>
         ensures list { result ≡ self.now }
         ensures distinct { AreDistinct self.now }

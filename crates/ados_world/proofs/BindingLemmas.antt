@@ -14,7 +14,7 @@ use Rattle.ados_machine.proofs.BindingLemmas.{binds-only}
 use Rattle.ados_world.specs.Binding.{BindsWhatItUsed, TurningBinds}
 use Rattle.ados_machine.proofs.StepCases.{of-step}
 
--- so of an answer that accepts it
+-- the same of an answer that accepts it
 abbrev BindsBy : WorldState → Event → Response → Type 0
 BindsBy w event (Refused why) = Unit {0}
 BindsBy w event (Accepted world out items) = BindsWhatItUsed w event world

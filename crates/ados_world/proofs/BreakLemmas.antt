@@ -1,4 +1,4 @@
--- Breaks: that of a place; and the place of the shell whose command broke another one is set before the break or behind it.
+-- Breaks: that of a place; and the place of the shell whose command broke another one is set before or after the break.
 use Rattle.std.proofs.Common.{◌≡◌, ◌≤◌, ◌<◌, ◌-◌, ℕ, zero, suc, List, [], ◌∷◌, length, Option, Some, None, ap, arith, refl, sym, inl, inr}
 use Rattle.std.specs.List.{slice_get, slice_set}
 use Rattle.std.proofs.lemmas.Bool.{cases_eq, eq-eqb, ne_eqb}
@@ -33,7 +33,7 @@ past-broken breaks [] i past = refl
 past-broken breaks (shell ∷ shells) zero past = (let none : ⊥ = omega (arith, past) in absurd none)
 past-broken breaks (shell ∷ shells) (suc i) past = ap (λ l. shell ∷ l) (past-broken breaks shells i (omega (arith, past)))
 
--- so of a number
+-- the same of a number
 pub number-broken : (breaks : Breaks) (shells : List (Option ShellState)) (n : ℕ) → 1 ≤ n
     → slice_set shells (n - 1) (broken_place breaks (flatten (slice_get shells (n - 1)))) ≡ broken_number breaks n shells
 number-broken breaks shells zero one = (let none : ⊥ = omega (arith, one) in absurd none)

@@ -1,4 +1,4 @@
--- Reports tell of a break exactly where a turn finds a flag.
+-- Reports are about a break exactly when a turn finds a flag.
 use Rattle.std.proofs.Common.{◌≡◌, ◌∙◌, ◌++◌, ℕ, zero, suc, List, [], ◌∷◌, length, Bool, true, false, ◌&&◌, Option, Some, None, Result, Ok, Err, refl, sym, ap, inl, inr}
 use Rattle.std.specs.Prelude.{IfOk, nat_lt}
 use Rattle.std.proofs.lemmas.Bool.{and_parts, cases_Bool}
@@ -26,7 +26,7 @@ use Rattle.ados_machine.proofs.BreakLemmas.{breaks-end}
 use Rattle.ados_machine.proofs.Ends.{reports-hold}
 use Rattle.ados_world.specs.Laws.{BreaksEndScriptsIn, tells_break}
 
--- where no frame ended at a break no end tells of one
+-- if no frame ended at a break no end reports one
 ends-whole : (items : List (ℕ × Item)) → has_break items ≡ false → tells_break (ends_in items) ≡ false
 ends-whole [] e = refl
 ends-whole ((k, Began depth kind limit) ∷ items) e = ends-whole items e
@@ -36,7 +36,7 @@ ends-whole ((k, Ended depth Lines line codes early) ∷ items) e = ends-whole it
 ends-whole ((k, Ended depth (Tick before after) line codes early) ∷ items) e = ends-whole items e
 ends-whole ((k, Broke depth kind line) ∷ items) e = cc
 
--- the end of a script at a break is told
+-- the end of a script at a break is reported
 told-first : (k depth : ℕ) (kind : Kind) (line : ℕ) (log : List Item) → is_script kind ≡ true →
     tells_break (reports_of k (Broke depth kind line ∷ log)) ≡ true
 told-first k depth (Script name command) line log e = refl
@@ -49,14 +49,14 @@ told-later k depth (Script name command) line log e = refl
 told-later k depth Lines line log e = e
 told-later k depth (Tick before after) line log e = e
 
--- so where a script runs below a frame
+-- the same if a script runs below a frame
 below-told : (k depth : ℕ) (frame : FrameState) (frames : List FrameState) (said : Said) (n : ℕ) (further : Settled) → nat_lt 0 n ≡ true →
     tells_break (reports_of k further.log) ≡ true →
     tells_break (reports_of k (behind (break_of depth frame ∷ []) (after_break n frame.kind frame.limit further frames said)).log) ≡ true
 below-told k depth frame frames said zero further e told = cc
 below-told k depth frame frames said (suc n) further e told = told-later k depth frame.kind _ further.log told
 
--- a break of frames of which one is a script is told
+-- a break of frames of which one is a script is reported
 broken-told : (k : ℕ) (frames : List FrameState) (said : Said) → has_script frames ≡ true → tells_break (reports_of k (broken_off frames said).log) ≡ true
 broken-told k [] said e = cc
 broken-told k (frame ∷ frames) said e =
@@ -67,7 +67,7 @@ broken-told k (frame ∷ frames) said e =
           below-told k (suc (length frames)) frame frames said (scripts_in frames) (broken_off frames inner) some (broken-told k frames inner some))
     ]
 
--- so a turn that finds a flag tells it, where frames end
+-- so a turn that finds a flag reports it, if frames end
 abbrev Tells : Response → Type 0
 Tells (Refused why) = Unit {0}
 Tells (Accepted world out items) = has_break items ≡ true → tells_break out.reports ≡ true
@@ -108,7 +108,7 @@ reports-are w event world out items is =
     let held = reports-hold w (event ∷ []) (Ok out ∷ []) (world_after w (Ok out) (step_of w event)) (answer, refl) in
     sym (append-nil out.reports) ∙ (rw is at held) ∙ ap ends_in (append-nil items)
 
--- an accepted event tells of a break exactly where it finds a flag
+-- an accepted event reports a break exactly when it finds a flag
 breaks-told : (w : WorldState) (event : Event) (world : WorldState) (out : Out) (items : List (ℕ × Item)) →
     step_of w event ≡ Accepted world out items → tells_break out.reports ≡ finds_flag w event
 breaks-told w event world out items is =

@@ -1,4 +1,4 @@
--- the shells, placed in their directories where what was moved has gone along
+-- the shells, placed in their directories, moved along with what was moved
 use Rattle.std.proofs.Common.{◌≡◌, ◌<◌, ◌+◌, ℕ, zero, suc, List, [], ◌∷◌, Option, Some, None, ◌∙◌, drop, length, take, map, get_or, ap, arith, refl, sym}
 use Rattle.std.specs.Prelude.{slice_set}
 use Rattle.std.proofs.lemmas.List.{drop-drop, drop-set-lt, get_or-drop}
@@ -23,7 +23,7 @@ placed-set moved new (first ∷ shells) zero = ap (λ l. Some (carried_shell mov
 placed-set moved new (None ∷ shells) (suc i) = ap (λ l. None ∷ l) (placed-set moved new shells i)
 placed-set moved new (Some shell ∷ shells) (suc i) = ap (λ l. Some (carried_shell moved shell) ∷ l) (placed-set moved new shells i)
 
--- one shell more is placed
+-- one more shell is placed
 place-suc : (directories : List (Option Place)) (old : List (Option ShellState)) (i : ℕ) (d : Option Place) (s : Option ShellState)
     → i < length directories → i < length old
     → slice_set (all_placed (take i directories) old) i (placed (get_or directories i d) (get_or (all_placed (take i directories) old) i s))
@@ -52,7 +52,7 @@ place-more directories left old new i x d s n l a b e =
     ∙ place-suc directories old i d s a b
     ∙ (let next : suc i ≡ i + 1 = omega arith in ap (λ n. all_placed (take n directories) old) next)
 
--- one directory more is taken
+-- one more directory is taken
 pub left-more : (left all : List (Option Place)) (i : ℕ) (x : Option Place) → drop i left ≡ drop i all
     → drop (i + 1) (slice_set left i x) ≡ drop (i + 1) all
 left-more left all i x h = drop-set-lt (i + 1) left i x (omega arith) ∙ sym (drop-drop 1 i left) ∙ ap (drop 1) h ∙ drop-drop 1 i all

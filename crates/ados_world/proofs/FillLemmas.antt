@@ -1,4 +1,4 @@
--- a list that is filled, one after another, with what a function gives of another list
+-- a list that is filled, item by item, with what a function gives for another list
 use Rattle.std.proofs.Common.{ℕ, ◌+◌, ◌<◌, ◌≤◌, ◌≡◌, ◌∙◌, ◌++◌, ◌∷◌, [], List, length, take, map, get_or, ap, sym}
 use Rattle.std.specs.Prelude.{slice_set}
 use Rattle.std.proofs.lemmas.List.{take_more, take_more_set, take_all, map-append}

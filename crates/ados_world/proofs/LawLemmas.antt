@@ -52,7 +52,7 @@ refused-more [] why refused = tt
 refused-more (Ok out ∷ outs) why refused = absurd refused
 refused-more (Err other ∷ outs) why refused = refused-more outs why refused
 
--- the failure, behind a turn and events that were refused
+-- the failure, after a turn and events that were refused
 leaves-if : (w : WorldState) (k : ℕ) (o : Option ShellState) → shell_at w k ≡ o → (between : List Event) (reply : Reply) (first final : Out)
     (middle : List (Result Out Refusal)) (last : WorldState) →
     Runs w (Turn k ∷ (between ++ Answer k reply ∷ [])) (Ok first ∷ (middle ++ Ok final ∷ [])) last → AllRefused middle → IsFailure reply →
@@ -105,7 +105,7 @@ starts-leave-nothing w (event ∷ events) [] last run = tt
 starts-leave-nothing w (event ∷ events) (out ∷ outs) last run =
     (behind-turn w event out events outs last run.0 run.1, starts-leave-nothing (world_after w out (step_of w event)) events outs last run.1)
 
--- what is given as request is what is pending behind the event
+-- what is given as request is what is pending after the event
 request-given : (w : WorldState) (event : Event) (out : Out) (r : Response) → step_of w event ≡ r → IsSane w → IsAnswer event (Ok out) r →
     out.request ≡ asked_in (world_after w (Ok out) r) event
 request-given w event out (Refused why) is sane answer = absurd answer

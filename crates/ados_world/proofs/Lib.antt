@@ -8,5 +8,6 @@ mod MemoryLemmas
 mod NewShellLemmas
 mod OpenedLemmas
 mod StepLemmas
+mod AnswerLemmas
 mod TakenLemmas
 mod UseLemmas

@@ -1,4 +1,4 @@
--- A turn that goes on may want memory: it leaves something in the trace, or its shell runs on behind it.
+-- A turn that goes on may need memory: it leaves something in the trace, or its shell runs on after it.
 use Rattle.std.proofs.Common.{◌≡◌, ◌∙◌, ℕ, List, [], ◌∷◌, ◌++◌, Bool, true, false, not, ◌&&◌, Option, Some, None, Err, ap, refl}
 use Rattle.std.specs.Prelude.{◌==◌, is_some}
 use Rattle.std.proofs.Common.{inl, inr}
@@ -55,13 +55,13 @@ runs-on w k shell t sane here goes none =
 left-is : (k : ℕ) (moved : Option Renamed) (t : Turned) → is_done k t.frames ≡ false → is_some (left k moved t) ≡ true
 left-is k moved t e = rw e refl
 
--- its shell stands where it stood
+-- its shell is still at its place
 shell-stays : (w : WorldState) (k : ℕ) (shell : ShellState) (t : Turned) → IsSane w → shell_at w k ≡ Some shell → Goes shell.parts shell.frames t → t.log ≡ []
     → is_some (found (shells_behind w.shells k (moved_in w t) t) k) ≡ true
 shell-stays w k shell t sane here goes none =
     ap is_some (found-left w.shells k shell (moved_in w t) t here) ∙ left-is k (moved_in w t) t (runs-on w k shell t sane here goes none)
 
--- a turn behind which the shell runs on may want memory
+-- a turn after which the shell runs on may need memory
 may-want : (k : ℕ) (world : WorldState) (items : List (ℕ × Item)) → is_some (shell_at world k) ≡ true → memory.MayWantMemory (event.Turn k) world items
 may-want k world [] e = e
 may-want k world (item ∷ items) e = tt
@@ -71,7 +71,7 @@ log-wants : (k : ℕ) (world : WorldState) (all log : List Item) (more : List (�
 log-wants k world all [] more e runs = may-want k world more (runs e)
 log-wants k world all (item ∷ log) more e runs = tt
 
--- the world behind a turn
+-- the world after a turn
 abbrev behind : WorldState → ℕ → List (List ℕ) → Turned → WorldState
 behind w k rest t = record w {
   shells = shells_behind w.shells k (moved_in w t) t;
@@ -87,7 +87,7 @@ wants w k shell turning.Ends sane here goes m = absurd m
 wants w k shell (turning.Takes rest t) sane here goes m =
     log-wants k (behind w k rest t) t.log t.log (begun_items t.course.begun (free_number w.shells)) refl (shell-stays w k shell t sane here goes)
 
--- a turn that was accepted may want memory
+-- a turn that was accepted may need memory
 pub turn-may : (w : WorldState) (k : ℕ) (shell : ShellState) → IsSane w → shell_at w k ≡ Some shell
     → MayWantMemory (turning.flagged_turning shell.flagged (input_of w k) shell.frames (unflagged (start w shell)) shell.phase)
     → IsAnswer (event.Turn k) (Err NoMemory) (turned w k (Some shell))

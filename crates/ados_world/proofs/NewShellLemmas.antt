@@ -1,4 +1,4 @@
--- The shells behind a turn: its own, the one that begins, and the end of a background shell.
+-- The shells after a turn: its own, the one that begins, and the end of a background shell.
 use Rattle.std.proofs.Common.{◌≡◌, ◌≢◌, ◌≤◌, ◌+◌, ◌-◌, ℕ, zero, suc, List, [], ◌∷◌, Bool, true, false, Option, Some, None, length, arith, ap, refl, sym}
 use Rattle.std.specs.Prelude.{IfSome, if◌then◌else◌, slice_get, slice_set}
 use Rattle.ados_find.specs.declared.codes.Codes.{Codes}
@@ -13,7 +13,7 @@ use Rattle.ados_world.specs.Endings.{codes_left, ended_left, shells_left}
 use Rattle.ados_world.specs.NewShells.{joined, new_shell}
 use Rattle.ados_world.specs.Shells.{IsShellNumber}
 
--- two places are set in any order
+-- two places can be set in any order
 set-swap : {X : Type 0} (xs : List X) (i j : ℕ) (x y : X) → i ≢ j → slice_set (slice_set xs i x) j y ≡ slice_set (slice_set xs j y) i x
 set-swap [] i j x y ne = refl
 set-swap (first ∷ xs) zero zero x y ne = absurd (ne refl)
@@ -27,7 +27,7 @@ set-over [] i x y = refl
 set-over (first ∷ xs) zero x y = refl
 set-over (first ∷ xs) (suc i) x y = ap (λ l. first ∷ l) (set-over xs i x y)
 
--- the number that is given is one of a shell
+-- the number that is given is that of a shell
 free-within : (n : ℕ) (places : List (Option ShellState)) (m : ℕ) → free_from n places ≡ Some m → (n ≤ m) × (m + 1 ≤ n + length places)
 free-within n [] m e = cc
 free-within n (None ∷ places) m e = (let same : n ≡ m = cc in (omega (arith, same), omega (arith, same)))
@@ -43,13 +43,13 @@ pub numbers_within : (shells : List (Option ShellState)) (number : Option ℕ) �
 numbers_within shells None twenty e = tt
 numbers_within shells (Some m) twenty e = number_within shells m twenty e
 
--- the shell that begins stands among the others as the machine says
+-- the shell that begins is placed among the others as the machine defines it
 pub joined-is : (begun : Option Begun) (number : Option ℕ) (shells : List (Option ShellState)) → joined (new_shell begun number) shells ≡ with_begun begun number shells
 joined-is None number shells = refl
 joined-is (Some begun) None shells = refl
 joined-is (Some begun) (Some number) shells = refl
 
--- where a shell runs none begins
+-- if a shell runs at a place none begins there
 other-place : (shells : List (Option ShellState)) (n k : ℕ) (shell : ShellState) → IsFree shells (Some n) → found shells k ≡ Some shell → n - 1 ≢ k - 1
 other-place shells n zero shell free e = cc
 other-place shells n (suc i) shell free e = λ same.
@@ -58,7 +58,7 @@ other-place shells n (suc i) shell free e = λ same.
     let gone : found shells (suc i) ≡ None = rw none refl in
     cc)
 
--- so the one that runs may be set before it or behind it
+-- so the one that runs may be set before or after it
 pub begun-behind : (begun : Option Begun) (number : Option ℕ) (shells : List (Option ShellState)) (k : ℕ) (shell : ShellState) (now : Option ShellState)
     → IsFree shells number → found shells k ≡ Some shell → with_begun begun number (slice_set shells (k - 1) now) ≡ slice_set (with_begun begun number shells) (k - 1) now
 begun-behind None number shells k shell now free e = refl

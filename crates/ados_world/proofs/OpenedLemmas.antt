@@ -1,4 +1,4 @@
--- The world in which a shell was opened: it is sane as the world before was.
+-- The world in which a shell was opened: it is sane if the world before was.
 use Rattle.std.proofs.Common.{◌≡◌, ◌≢◌, ℕ, List, Some, refl, arith, inl, inr}
 use Rattle.std.proofs.lemmas.Bool.{cases_eq}
 use Rattle.ados_text.specs.Text.{Text}

@@ -1,8 +1,6 @@
--- What a turn changes, moved in, is the machine's world behind the turn.
+-- What a turn changes, moved in, is the machine's world after the turn.
 use Rattle.std.proofs.Common.{◌≡◌, ◌∙◌, ◌-◌, ◌++◌, ℕ, List, [], false, Option, Some, None, Result, Ok, Err, IfErr, OnErr, OnOk, drop, ap, sym, refl, subst}
-use Rattle.std.specs.Prelude.{◌==◌, true, is_some, if◌then◌else◌}
-use Rattle.std.specs.Borrow.{Bor}
-use Rattle.std.specs.Option.{option_copied}
+use Rattle.std.specs.Prelude.{◌==◌, if◌then◌else◌}
 use Rattle.std.proofs.Common.{inl, inr}
 use Rattle.std.proofs.lemmas.Bool.{cases_Bool}
 use Rattle.ados_find.specs.declared.codes.Codes.{Codes}
@@ -11,9 +9,7 @@ use Rattle.ados_machine.specs.declared.events.Event.{Event}
 use Rattle.ados_machine.specs.declared.events.Event.TheVariants as event
 use Rattle.ados_machine.specs.declared.outs.Out.{Out}
 use Rattle.ados_machine.specs.declared.refusals.Refusal.{Refusal}
-use Rattle.ados_machine.specs.declared.refusals.Refusal.TheVariants.{NoMemory, NotReady, Over, WrongAnswer}
-use Rattle.ados_machine.specs.declared.events.Kind.{Kind}
-use Rattle.ados_machine.specs.Breaks.{breaks_by, broken_number}
+use Rattle.ados_machine.specs.declared.refusals.Refusal.TheVariants.{NoMemory, NotReady, Over}
 use Rattle.ados_machine.specs.Items.{Item, reports_of}
 use Rattle.ados_machine.specs.Shells.{ShellState}
 use Rattle.ados_machine.specs.Limits.{IsSane}
@@ -23,10 +19,7 @@ use Rattle.ados_machine.specs.World.{WorldState, input_of, is_over, seen_in, she
 use Rattle.ados_machine.specs.Course.{Course}
 use Rattle.ados_machine.specs.Numbers.{free_number}
 use Rattle.ados_machine.specs.Requests.{request_of}
-use Rattle.ados_machine.specs.declared.answers.Answer.{Answer as Reply}
-use Rattle.ados_shell.specs.declared.answers.Answering.TheVariants as reply
-use Rattle.ados_shell.specs.Answerings.{IsAnswering, answering_in}
-use Rattle.ados_machine.specs.Step.{Response, Refused, Accepted, applied, begun_items, giving, of_shell, queue_behind, start, turned, unflagged, answered as answered_of, broken}
+use Rattle.ados_machine.specs.Step.{Response, Refused, Accepted, applied, begun_items, giving, of_shell, queue_behind, start, turned, unflagged}
 use Rattle.ados_machine.proofs.Sane.{sane-after}
 use Rattle.ados_shell.specs.declared.drafts.Draft.{Draft}
 use Rattle.ados_shell.specs.declared.scenes.Scene.{Scene}
@@ -46,7 +39,7 @@ queue-next : (w : WorldState) (k : ℕ) → queue_behind k w.queue (drop 1 (inpu
 queue-next w k = elim (cases_Bool (k == 1)) [ inl e ↦ rw e refl | inr e ↦ rw e refl ]
 
 -- a turn of a shell begins
-abbrev start_in : SharedState → List (Option ShellState) → ShellState → Course
+abbrev pub start_in : SharedState → List (Option ShellState) → ShellState → Course
 start_in shared shells shell = record {
   parts = shell.parts;
   kept = shell.kept;
@@ -76,7 +69,7 @@ abbrev pub Accepts : Response → WorldState → Out → Type 0
 Accepts response world given = (items : List (ℕ × Item)) × response ≡ Accepted world given items
 
 -- a turn that went on without a line of its input
-goes : (w : WorldState) (k : ℕ) (shell : ShellState) (scene : Scene) (draft : Draft) (turning : turning.Turning)
+pub goes : (w : WorldState) (k : ℕ) (shell : ShellState) (scene : Scene) (draft : Draft) (turning : turning.Turning)
     → Shows w k shell scene
     → IsTurning scene (input_of w k).queue turn.Goes draft turning
     → Accepts (applied w k shell.parts.codes turning) (taken k draft w) (asked_by (shell_at w k) draft)
@@ -118,7 +111,7 @@ ends w k shell scene draft (turning.Refuses why) t = absurd t
 ends w k shell scene draft turning.Ends t = ([], refl)
 ends w k shell scene draft (turning.Takes rest turned) t = absurd t
 
--- a turn that went on may want memory
+-- a turn that went on may need memory
 goes-may : (scene : Scene) (queue : List (List ℕ)) (draft : Draft) (turning : turning.Turning) → IsTurning scene queue turn.Goes draft turning → MayWantMemory turning
 goes-may scene queue draft (turning.Refuses why) t = absurd t
 goes-may scene queue draft turning.Ends t = absurd t
@@ -149,13 +142,13 @@ pub takes-wants : (w : WorldState) (k : ℕ) (shell : ShellState) (scene : Scene
     → IsAnswer (event.Turn k) (Err NoMemory) (turned w k (shell_at w k))
 takes-wants w k shell scene input draft sane s e t = turn-wants w k shell scene input sane s e (takes-may scene _ draft _ t)
 
--- no script runs on behind a failure in the world that an event leaves
+-- no script runs on after a failure in the world that an event leaves
 pub sane-behind : (w world : WorldState) (k : ℕ) (given : Out) → IsSane w → is_over w ≡ false → Accepts (turned w k (shell_at w k)) world given → IsSane world
 sane-behind w world k given sane over (items, e) =
     (let P : Response → Type 0 = λ r. IsSane (world_after w (Ok given) r) in
     subst P (ap (λ b. if b then Refused Over else turned w k (shell_at w k)) over ∙ e) (sane-after w (event.Turn k) (Ok given) sane))
 
--- the event was accepted, unless memory was wanting: what was answered is the step's answer
+-- the event was accepted, unless an allocation failed: the answer is the step's answer
 pub answered : {X : Type 0} (world : WorldState) (e : Event) (given out : Out) (result : Result X Refusal) (response : Response)
     → Accepts response world given → IsAnswer e (Err NoMemory) response → OnOk result (out ≡ given) → IfErr result (λ why. why ≡ NoMemory)
     → IsAnswer e (answering out result) response
@@ -164,7 +157,7 @@ answered world e given out (Ok accepted) response (items, a) wants g n =
 answered world e given out (Err why) response (items, a) wants g n =
     (let Q : Refusal → Type 0 = λ y. IsAnswer e (Err y) response in subst Q (sym n) wants)
 
--- what was answered is the step's answer, and its world is the world behind it
+-- the answer is the step's answer, and its world is the world after it
 pub answers : {X : Type 0} (w world new : WorldState) (given out : Out) (result : Result X Refusal) (response : Response) → Accepts response world given
     → OnOk result (new ≡ world) → OnErr result (new ≡ w) → new ≡ world_after w (answering out result) response
 answers w world new given out (Ok accepted) response (items, e) a b = a ∙ sym (ap (world_after w (Ok out)) e)
@@ -220,90 +213,3 @@ turn-refused w k shell scene input draft s e t =
 -- the same world with other lines that wait
 pub sane-taken : (w : WorldState) (queue : List (List ℕ)) → IsSane (record w { queue = queue }) → IsSane w
 sane-taken w queue sane = record { each = sane.each; background = sane.background; numbered = sane.numbered }
-
--- the machine's answering of a shell, by what the scene shows
-answering-is : (w : WorldState) (k : ℕ) (shell : ShellState) (scene : Scene) (answer : Reply) → Shows w k shell scene
-    → answering_in scene (input_of w k) answer ≡ turning.answering (input_of w k) shell.frames (start w shell) shell.phase answer
-answering-is w k shell scene answer s =
-    ap (λ x. turning.answering (input_of w k) x.frames (start_in scene.shared.now scene.shells.now x) x.phase answer) s.shell_is
-    ∙ ap (λ x. turning.answering (input_of w k) shell.frames (start_in x scene.shells.now shell) shell.phase answer) s.shared_is
-    ∙ ap (λ x. turning.answering (input_of w k) shell.frames (start_in w.shared x shell) shell.phase answer) s.shells_are
-
--- an answer by which a shell goes on is to its world as a turn is
-as-turning : (scene : Scene) (queue : List (List ℕ)) (draft : Draft) (turning : turning.Turning)
-    → IsAnswering scene queue reply.Goes draft turning → IsTurning scene queue turn.Goes draft turning
-as-turning scene queue draft (turning.Refuses why) t = absurd t
-as-turning scene queue draft turning.Ends t = absurd t
-as-turning scene queue draft (turning.Takes rest turned) t = t
-
--- an answer by which the shell went on
-pub answer-goes : (w : WorldState) (k : ℕ) (shell : ShellState) (scene : Scene) (answer : Reply) (draft : Draft) → Shows w k shell scene
-    → IsAnswering scene (input_of w k).queue reply.Goes draft (answering_in scene (input_of w k) answer)
-    → Accepts (answered_of w k answer (shell_at w k)) (taken k draft w) (asked_by (shell_at w k) draft)
-answer-goes w k shell scene answer draft s t =
-    (let P : turning.Turning → Type 0 = λ x. IsAnswering scene (input_of w k).queue reply.Goes draft x in
-    let accepts = goes w k shell scene draft _ s (as-turning scene _ draft _ (subst P (answering-is w k shell scene answer s) t)) in
-    (accepts.0, ap (answered_of w k answer) s.here ∙ accepts.1))
-
--- an answer that is accepted may be refused for want of memory
-pub accepted-wants : (w world : WorldState) (k : ℕ) (answer : Reply) (given : Out) (response : Response) → Accepts response world given
-    → IsAnswer (event.Answer k answer) (Err NoMemory) response
-accepted-wants w world k answer given (Accepted other out items) accepts = tt
-accepted-wants w world k answer given (Refused why) (items, e) = cc
-
--- the machine goes on, for which memory may be wanting
-took-wants : (k : ℕ) (answer : Reply) (w : WorldState) (codes : Codes) (turning : turning.Turning) → MayWantMemory turning
-    → IsAnswer (event.Answer k answer) (Err NoMemory) (applied w k codes turning)
-took-wants k answer w codes (turning.Refuses why) m = absurd m
-took-wants k answer w codes turning.Ends m = absurd m
-took-wants k answer w codes (turning.Takes rest turned) m = tt
-
-pub answer-wants : (w : WorldState) (k : ℕ) (shell : ShellState) (scene : Scene) (answer : Reply) → Shows w k shell scene
-    → MayWantMemory (answering_in scene (input_of w k) answer)
-    → IsAnswer (event.Answer k answer) (Err NoMemory) (answered_of w k answer (shell_at w k))
-answer-wants w k shell scene answer s m =
-    (let P : Response → Type 0 = λ r. IsAnswer (event.Answer k answer) (Err NoMemory) r in
-    subst P (sym (ap (answered_of w k answer) s.here))
-    (took-wants k answer w shell.parts.codes _ (subst MayWantMemory (answering-is w k shell scene answer s) m)))
-
--- an answer of another kind is refused
-refuses-wrong : (scene : Scene) (queue : List (List ℕ)) (draft : Draft) (k : ℕ) (answer : Reply) (w : WorldState) (codes : Codes) (turning : turning.Turning)
-    → IsAnswering scene queue reply.WrongAnswer draft turning → IsAnswer (event.Answer k answer) (Err WrongAnswer) (applied w k codes turning)
-refuses-wrong scene queue draft k answer w codes (turning.Refuses why) t = sym t
-refuses-wrong scene queue draft k answer w codes turning.Ends t = absurd t
-refuses-wrong scene queue draft k answer w codes (turning.Takes rest turned) t = absurd t
-
-pub answer-wrong : (w : WorldState) (k : ℕ) (shell : ShellState) (scene : Scene) (answer : Reply) (draft : Draft) → Shows w k shell scene
-    → IsAnswering scene (input_of w k).queue reply.WrongAnswer draft (answering_in scene (input_of w k) answer)
-    → IsAnswer (event.Answer k answer) (Err WrongAnswer) (answered_of w k answer (shell_at w k))
-answer-wrong w k shell scene answer draft s t =
-    (let P : Response → Type 0 = λ r. IsAnswer (event.Answer k answer) (Err WrongAnswer) r in
-    let Q : turning.Turning → Type 0 = λ x. IsAnswering scene (input_of w k).queue reply.WrongAnswer draft x in
-    subst P (sym (ap (answered_of w k answer) s.here))
-    (refuses-wrong scene (input_of w k).queue draft k answer w shell.parts.codes
-    (turning.answering (input_of w k) shell.frames (start w shell) shell.phase answer) (subst Q (answering-is w k shell scene answer s) t)))
-
--- no script runs on behind a failure in the world that an answer leaves
-pub sane-answered : (w world : WorldState) (k : ℕ) (answer : Reply) (given : Out) → IsSane w → is_over w ≡ false
-    → Accepts (answered_of w k answer (shell_at w k)) world given → IsSane world
-sane-answered w world k answer given sane over (items, e) =
-    (let P : Response → Type 0 = λ r. IsSane (world_after w (Ok given) r) in
-    subst P (ap (λ b. if b then Refused Over else answered_of w k answer (shell_at w k)) over ∙ e) (sane-after w (event.Answer k answer) (Ok given) sane))
-
--- a shell that is shown runs
-pub copied-some : {X : Type 0} (shown : Option (Bor X)) → is_some shown ≡ true → is_some (option_copied shown) ≡ true
-copied-some None e = e
-copied-some (Some shell) e = refl
-
-found-broken : (w : WorldState) (k : ℕ) (kind : Kind) (found : Option ShellState) → shell_at w k ≡ found → is_some found ≡ true → IsSane w → is_over w ≡ false
-    → IsSane (record w { shells = broken_number (breaks_by kind) k w.shells })
-found-broken w k kind None e runs sane over = cc
-found-broken w k kind (Some shell) e runs sane over =
-    (let given : Out = giving [] None [] in
-    let P : Response → Type 0 = λ r. IsSane (world_after w (Ok given) r) in
-    subst P (ap (λ b. if b then Refused Over else broken w k kind (shell_at w k)) over ∙ ap (λ f. broken w k kind f) e) (sane-after w (event.Break k kind) (Ok given) sane))
-
--- no script runs on behind a failure in the world that a break leaves
-pub sane-broken : (w : WorldState) (k : ℕ) (kind : Kind) → IsSane w → is_over w ≡ false → is_some (shell_at w k) ≡ true
-    → IsSane (record w { shells = broken_number (breaks_by kind) k w.shells })
-sane-broken w k kind sane over runs = found-broken w k kind (shell_at w k) refl runs sane over

@@ -1,4 +1,4 @@
--- What a draft holds, moved in part by part, is the machine's world behind the turn.
+-- What a draft holds, moved in one part at a time, is the machine's world after the turn.
 use Rattle.std.proofs.Common.{◌≡◌, ◌∙◌, ◌-◌, ℕ, List, Bool, Option, Some, None, ap, sym}
 use Rattle.std.specs.Prelude.{option_map, slice_set}
 use Rattle.ados_find.specs.declared.codes.Codes.{Codes}
@@ -28,7 +28,7 @@ use Rattle.ados_machine.specs.Breaks.{broken_by}
 use Rattle.ados_world.specs.Breaks.{others_broken}
 use Rattle.ados_world.proofs.BreakLemmas.{others-broken}
 
--- the shells behind what a turn makes of one of them
+-- the shells after what a turn makes of one of them
 shells-placed : (shells : List (Option ShellState)) (k : ℕ) (draft : ShellDraft) (shell : ShellState) (t : Turned) (moved : Option Renamed)
     → found shells k ≡ Some shell → behind draft shell ≡ shell_of_turn t
     → shells_by k draft moved shells ≡ slice_set (carried_shells moved shells) (k - 1) (Some (carried_by moved (shell_of_turn t)))
@@ -38,7 +38,7 @@ shells-placed shells k draft shell t (Some moved) f b =
     ap (λ o. slice_set (carried_shells (Some moved) shells) (k - 1) (option_map (λ s. carried_shell moved (behind draft s)) o)) f
     ∙ ap (λ s. slice_set (carried_shells (Some moved) shells) (k - 1) (Some (carried_shell moved s))) b
 
--- the shells behind the turn, of which another one may be broken then, and its own shell
+-- the shells after the turn, of which another one may then be broken, and its own shell
 abbrev standing : WorldState → Turned → List (Option ShellState)
 standing w t = with_begun t.course.begun (free_number w.shells) (carried_shells (moved_of w t) w.shells)
 
@@ -68,7 +68,7 @@ stood-is w k shell scene draft t s d =
     ∙ begun-behind t.course.begun number (carried_shells moved w.shells) k (carried_by moved shell) (Some (own w t))
     (carried-free moved w.shells number (free-number w.shells)) (still-there w k shell moved s.here)
 
--- its own shell is among those that stand there
+-- its own shell is among these
 own-there : (w : WorldState) (k : ℕ) (shell : ShellState) (t : Turned) → shell_at w k ≡ Some shell
     → found (standing w t) k ≡ Some (carried_by (moved_of w t) shell)
 own-there w k shell t here =
@@ -76,7 +76,7 @@ own-there w k shell t here =
     found-placed_other (carried_shells moved w.shells) t.course.begun (free_number w.shells) k (carried_by moved shell)
     (carried-free moved w.shells (free_number w.shells) (free-number w.shells)) (still-there w k shell moved here)
 
--- the shells behind what a draft holds, before its shell may end
+-- the shells after what a draft holds, before its shell may end
 with-is : (w : WorldState) (k : ℕ) (shell : ShellState) (scene : Scene) (draft : Draft) (t : Turned)
     → Shows w k shell scene → IsDrafted scene draft t
     → shells_with k draft w ≡ slice_set (others w t) (k - 1) (Some (own w t))
@@ -96,7 +96,7 @@ own-found w k shell t here =
 abbrev without : WorldState → ℕ → List (Option ShellState) → SharedState → Option Codes → WorldState
 without w k shells shared codes = record w { shells = shells_left codes k shells; ended = ended_left codes k w.ended; shared = shared }
 
--- the world behind what a draft holds
+-- the world after what a draft holds
 abbrev pub behind_turn : WorldState → ℕ → Turned → WorldState
 behind_turn w k t = record w {
   shells = shells_behind w.shells k (moved_of w t) t;
@@ -104,7 +104,7 @@ behind_turn w k t = record w {
   shared = shared_behind t.course;
 }
 
--- what a turn changes, moved in part by part
+-- what a turn changes, moved in one part at a time
 pub taken-by : (w : WorldState) (k : ℕ) (draft : Draft) (begun : Option ShellState) (moved : Option Renamed) (changed stood all rest : List (Option ShellState)) (ended : List Codes) (queue : List (List ℕ)) (input_ended : Bool) (shared : SharedState)
     → begun ≡ new_shell (option_map (λ b. b.value) draft.begun) (free_number w.shells)
     → moved ≡ moved_by w.shared (version w.shared draft.shared) (option_map (λ r. r.value) draft.renamed)
@@ -136,7 +136,7 @@ taken-is w k shell scene draft t s d =
     ∙ ap (λ l. record w { shells = l; ended = ended_left (codes_of_end done codes) k w.ended; shared = shared_behind t.course }) (shells-left done codes k (others w t) (own w t))
     ∙ ap (λ l. record w { shells = shells_behind w.shells k (moved_of w t) t; ended = l; shared = shared_behind t.course }) (ended-left done codes k w.ended)
 
--- what an event gives that a draft holds
+-- what is given by an event that a draft holds
 pub gives : (w : WorldState) (k : ℕ) (shell : ShellState) (scene : Scene) (draft : Draft) (t : Turned) → Shows w k shell scene → IsDrafted scene draft t
     → asked_by (shell_at w k) draft ≡ giving t.course.printed (request_of t.course.parts.number t.phase) (reports_of k t.log)
 gives w k shell scene draft t s d =

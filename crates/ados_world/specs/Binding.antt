@@ -1,4 +1,4 @@
--- Binding at the calls: what the end of an event makes of assigns.
+-- Binding at the calls: what the end of an event does to assigns.
 use Rattle.std.specs.Prelude.{◌≡◌, ℕ, IfSome}
 use Rattle.ados_find.specs.Shared.{SharedState}
 use Rattle.ados_machine.specs.declared.events.Event.{Event}
@@ -8,13 +8,13 @@ use Rattle.ados_machine.specs.Step.{start, unflagged}
 use Rattle.ados_machine.specs.Turning.{Turning, Takes, answering, flagged_turning}
 use Rattle.ados_machine.specs.World.{WorldState, input_of, shell_at}
 
--- behind what an event of a shell comes to, no assign is changed beyond what its commands did, but that Defers are bound that
--- the event used
+-- after an event of a shell no assign is changed beyond what its commands did, except that Defers are bound that the event
+-- used
 abbrev pub TurningBinds : Turning → SharedState → Type 0
 TurningBinds (Takes queue turned) shared = BindsOnly turned.course.used shared.files turned.course.shared.assigns shared.assigns
 TurningBinds turning shared = Unit {0}
 
--- so it is in the world that a turn leaves, or an answer; another event changes nothing of what all share
+-- the same of the world that a turn or an answer leaves; any other event changes nothing of what all shells share
 abbrev pub BindsWhatItUsed : WorldState → Event → WorldState → Type 0
 BindsWhatItUsed w (Turn k) world = IfSome (shell_at w k) (λ shell.
     TurningBinds (flagged_turning shell.flagged (input_of w k) shell.frames (unflagged (start w shell)) shell.phase) world.shared)

@@ -4,7 +4,7 @@ use Rattle.ados_find.specs.declared.outcomes.Breaking.{Breaking}
 use Rattle.ados_machine.specs.Breaks.{broken_number}
 use Rattle.ados_machine.specs.Shells.{ShellState}
 
--- a command of the shell of a number broke another shell; what it does to its own shell goes with its turn
+-- a command of the shell with this number broke another shell; what it does to its own shell is part of its turn
 abbrev pub others_broken : ℕ → Option Breaking → List (Option ShellState) → List (Option ShellState)
 others_broken number None shells = shells
 others_broken number (Some breaking) shells = if breaking.shell == number then shells else broken_number breaking.breaks breaking.shell shells

@@ -10,7 +10,7 @@ use Rattle.ados_resident.specs.DiskCommands.{disk_named}
 use Rattle.ados_world.specs.declared.hosts.NewFault.{NewFault}
 use Rattle.ados_world.specs.declared.hosts.NewFault.TheVariants.{TooMany, BadName, Double, NoMemory}
 
--- so many a world takes at most
+-- how many of them a world takes at most
 abbrev pub host_limit : ℕ
 host_limit = 64
 
@@ -26,22 +26,22 @@ is_host hosts name = list_any (λ host. is_same name host.name) hosts
 abbrev pub is_taken : List HostEntry → Text → Bool
 is_taken hosts name = is_command name || is_host hosts name
 
--- why a name is refused, which has this place from 1 on and these before it: it is none, or a command's
+-- why a name is refused, given its place (counted from 1) and the entries before it: it is not a name, or it is a command's
 abbrev pub name_fault : List HostEntry → ℕ → Text → Option NewFault
 name_fault before place name =
     if not (is_name name) then Some (BadName place) else (if is_taken before name then Some (Double place) else None)
 
--- the fault of the first of these that has one; so many are before them
+-- the fault of the first of these that has one; the number is that of the entries before them
 abbrev pub faults_from : List HostEntry → ℕ → List HostEntry → Option NewFault
 faults_from hosts before [] = None
 faults_from hosts before (entry ∷ entries) =
     option_or (name_fault (take before hosts) (suc before) entry.name) (faults_from hosts (suc before) entries)
 
--- why a world is not made with these: they are too many, or else the fault of the first that has one
+-- why a world is not made with these: there are too many, or else the fault of the first that has one
 abbrev pub hosts_fault : List HostEntry → Option NewFault
 hosts_fault hosts = if nat_lt host_limit (length hosts) then Some TooMany else faults_from hosts 0 hosts
 
--- a world is made where there is no fault, and else the refusal is the fault; want of memory comes only where there is none
+-- a world is made if there is no fault, and otherwise the refusal is the fault; `NoMemory` is possible only if there is none
 abbrev pub Answers : {X : Type 0} → Result X NewFault → Option NewFault → Type 0
 Answers (Ok x) fault = fault ≡ None
 Answers (Err why) fault = (fault ≡ Some why) ⊎ ((why ≡ NoMemory) × (fault ≡ None))

@@ -1,4 +1,4 @@
--- The laws at the calls: what a start that failed leaves and where scripts end at a break, in one event and in a run, and that
+-- The laws at the calls: what a failed start leaves, at which turns scripts end at a break (in one event and in a run), and
 -- quiet shells are invisible.
 use Rattle.std.specs.Prelude.{◌≡◌, ℕ, List, ◌∷◌, Bool, IfOk, IfSome, Result, Ok, Err}
 use Rattle.std.specs.List.{list_any}
@@ -14,24 +14,24 @@ use Rattle.ados_machine.specs.Runs.{world_after}
 use Rattle.ados_machine.specs.Starts.{IsFailure, StartFails, StartLeavesNothing}
 use Rattle.ados_machine.specs.Quiet.{IsQuiet, CanBeTakenOut}
 
--- where an event that leaves this world is the answer that a start has failed, it changed the codes of the shell that had
--- asked, and what these change
+-- if an event that leaves this world is the answer that a start has failed, it changed the codes of the shell that had
+-- asked, and what depends on these
 abbrev pub FailedStart : WorldState → Event → WorldState → Type 0
 FailedStart w (Answer k reply) world = IsFailure reply → IfSome (shell_at w k) (λ shell. StartFails k shell w world)
 FailedStart w event world = Unit {0}
 
--- the same event, against the world before the turn of a shell: where that turn asked for the start, nothing is left of it
+-- the same event, against the world before the turn of a shell: if that turn asked for the start, nothing is left of it
 abbrev pub LeavesNothing : ℕ → WorldState → Event → WorldState → Type 0
 LeavesNothing k w (Answer j reply) world = j ≡ k → IsFailure reply → IfSome (shell_at w k) (λ shell. StartLeavesNothing k shell w world)
 LeavesNothing k w event world = Unit {0}
 
--- so it is of the next event that is accepted
+-- the same of the next event that is accepted
 abbrev pub NextLeavesNothing : ℕ → WorldState → WorldState → List Event → List (Result Out Refusal) → Type 0
 NextLeavesNothing k w now (event ∷ events) (Ok out ∷ outs) = LeavesNothing k w event (world_after now (Ok out) (step_of now event))
 NextLeavesNothing k w now (event ∷ events) (Err why ∷ outs) = NextLeavesNothing k w now events outs
 NextLeavesNothing k w now _ _ = Unit {0}
 
--- behind a turn that was accepted
+-- after a turn that was accepted
 abbrev pub BehindTurn : WorldState → Event → Result Out Refusal → WorldState → List Event → List (Result Out Refusal) → Type 0
 BehindTurn w (Turn k) (Ok out) now events outs = NextLeavesNothing k w now events outs
 BehindTurn w event out now events outs = Unit {0}
@@ -43,11 +43,11 @@ FailedStartsLeaveNothingIn w (event ∷ events) (out ∷ outs) =
     × FailedStartsLeaveNothingIn (world_after w out (step_of w event)) events outs
 FailedStartsLeaveNothingIn w _ _ = Unit {0}
 
--- one of these reports tells of a break
+-- one of these reports is about a break
 abbrev pub tells_break : List EndReport → Bool
 tells_break reports = list_any (λ report. report.broken) reports
 
--- each accepted event of a run ends scripts at a break exactly where it is a turn that finds the flag of its shell, in which a
+-- each accepted event of a run ends scripts at a break exactly when it is a turn that finds the flag of its shell, in which a
 -- script runs
 abbrev pub BreaksEndScriptsIn : WorldState → List Event → List (Result Out Refusal) → Type 0
 BreaksEndScriptsIn w (event ∷ events) (out ∷ outs) =

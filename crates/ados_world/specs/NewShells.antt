@@ -2,13 +2,13 @@
 use Rattle.std.specs.Prelude.{◌-◌, ℕ, List, Option, Some, None, slice_set}
 use Rattle.ados_machine.specs.Shells.{Begun, begun_shell, ShellState}
 
--- a shell begins where there is a number for it
+-- a shell begins if there is a number for it
 abbrev pub new_shell : Option Begun → Option ℕ → Option ShellState
 new_shell (Some begun) (Some number) = Some (begun_shell number begun)
 new_shell (Some begun) None = None
 new_shell None number = None
 
--- it stands among the others at its number
+-- it is placed among the others at its number
 abbrev pub joined : Option ShellState → List (Option ShellState) → List (Option ShellState)
 joined None shells = shells
 joined (Some shell) shells = slice_set shells (shell.parts.number - 1) (Some shell)

@@ -1,4 +1,4 @@
--- Opening a shell for a line: the refusals, and the world behind it.
+-- Opening a shell for a line: the refusals, and the world after it.
 use Rattle.std.specs.Prelude.{◌≡◌, ℕ, [], ◌∷◌, length, nat_lt, Option, Some, None, Result, Ok, Err, if◌then◌else◌}
 use Rattle.ados_text.specs.Text.{Text}
 use Rattle.ados_text.specs.declared.lines.TheConstants.{LINE_BYTES}
@@ -11,14 +11,14 @@ use Rattle.ados_machine.specs.World.{WorldState, is_over}
 abbrev pub opening_fault : WorldState → Text → Option Refusal
 opening_fault w line = if is_over w then Some Over else (if nat_lt LINE_BYTES (length line) then Some LineTooLong else None)
 
--- a refusal is the fault; where there is none, want of memory may stand in place of a number that is free
+-- a refusal is the fault; if there is none, `NoMemory` may take the place of a free number
 abbrev pub Refuses : Result (Option ℕ) Refusal → Option Refusal → Option ℕ → Type 0
 Refuses (Ok number) fault free = fault ≡ None
 Refuses (Err why) (Some fault) free = why ≡ fault
 Refuses (Err why) None (Some number) = why ≡ NoMemory
 Refuses (Err why) None None = ⊥
 
--- the world behind an opening: a refusal keeps it, and so it does that no number is free
+-- the world after an opening: it is unchanged after a refusal, and if no number is free
 abbrev pub behind_opening : WorldState → Text → Result (Option ℕ) Refusal → WorldState
 behind_opening w line (Ok (Some k)) = opened w k (line ∷ [])
 behind_opening w line _ = w

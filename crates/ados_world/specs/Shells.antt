@@ -13,25 +13,25 @@ pub record IsShellNumber (number : ℕ) : Type 0 where
   pub first : 1 ≤ number
   pub last : number ≤ 20
 
--- what stands at a number is replaced by what a function makes of it
+-- the shell at a number is replaced by what a function makes of it
 abbrev pub with_shell : ℕ → (ShellState → ShellState) → List (Option ShellState) → List (Option ShellState) → List (Option ShellState)
 with_shell number change shells others = slice_set others (number - 1) (option_map change (flatten (numbered shells number)))
 
--- the shells behind what a turn makes of one of them
+-- the shells after what a turn makes of one of them
 abbrev pub moved_in : ℕ → ShellDraft → List (Option ShellState) → List (Option ShellState)
 moved_in number draft shells = with_shell number (behind draft) shells shells
 
--- the same where an object was moved
+-- the same if an object was moved
 abbrev pub carried_in : ℕ → Renamed → ShellDraft → List (Option ShellState) → List (Option ShellState)
 carried_in number moved draft shells =
     with_shell number (λ shell. carried_shell moved (behind draft shell)) shells (carried_shells (Some moved) shells)
 
--- the same where an object may have been moved
+-- the same if an object may have been moved
 abbrev pub shells_by : ℕ → ShellDraft → Option Renamed → List (Option ShellState) → List (Option ShellState)
 shells_by number draft None shells = moved_in number draft shells
 shells_by number draft (Some moved) shells = carried_in number moved draft shells
 
--- a shell runs from the resident entry of a name
+-- a shell runs from the resident entry with this name
 abbrev pub is_entry : Option Text → Text → Bool
 is_entry None name = false
 is_entry (Some entry) name = is_same entry name
@@ -40,11 +40,11 @@ abbrev pub runs_from : Option ShellState → Text → Bool
 runs_from None name = false
 runs_from (Some shell) name = is_entry (entry_in shell.phase) name
 
--- the current directories of all shells, where what was moved has gone along
+-- the current directories of all shells, after they moved along with what was moved
 abbrev pub carried_directories : Renamed → List (Option ShellState) → List (Option Place)
 carried_directories moved shells = map (option_map (carried_directory moved)) shells
 
--- a shell is in the directory that is there for it
+-- a shell is in the directory that is given for it, if one is
 abbrev pub placed : Option Place → Option ShellState → Option ShellState
 placed None shell = shell
 placed (Some directory) shell = option_map (in_directory directory) shell

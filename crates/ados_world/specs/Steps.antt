@@ -1,4 +1,4 @@
--- What a step moves in, and what it is answered.
+-- What a step moves in, and its answer.
 use Rattle.std.specs.Prelude.{◌-◌, ℕ, List, [], ◌∷◌, ◌++◌, Option, Some, None, Result, Ok, Err, option_map, slice_set}
 use Rattle.ados_find.specs.declared.codes.Codes.{Codes}
 use Rattle.ados_find.specs.Shared.{version}
@@ -17,17 +17,17 @@ use Rattle.ados_world.specs.Endings.{codes_left, ended_left, shells_left}
 use Rattle.ados_world.specs.NewShells.{joined, new_shell}
 use Rattle.ados_world.specs.Shells.{shells_by}
 
--- the shells behind what a turn makes of one of them, with the one that begins, at the lowest free number
+-- the shells after what a turn makes of one of them, with the one that begins at the lowest free number
 abbrev pub shells_standing : ℕ → Draft → WorldState → List (Option ShellState)
 shells_standing number draft w =
     joined (new_shell (option_map (λ b. b.value) draft.begun) (free_number w.shells))
     (shells_by number draft.shell (moved_by w.shared (version w.shared draft.shared) (option_map (λ r. r.value) draft.renamed)) w.shells)
 
--- the same where another one may be broken
+-- the same when another one may be broken
 abbrev pub shells_with : ℕ → Draft → WorldState → List (Option ShellState)
 shells_with number draft w = others_broken number draft.breaking (shells_standing number draft w)
 
--- the world behind what a turn changes: a background shell that runs no frame any more is gone, and its codes stay
+-- the world after what a turn changes: a background shell that no longer runs a frame is removed, and its codes are kept
 abbrev pub taken : ℕ → Draft → WorldState → WorldState
 taken number draft w =
     (let shells = shells_with number draft w in
@@ -43,7 +43,7 @@ abbrev pub asked_by : Option ShellState → Draft → Out
 asked_by None draft = out_of draft
 asked_by (Some shell) draft = giving draft.printed.items (request_of shell.parts.number (phase_in draft.shell)) draft.reports.items
 
--- the world behind the end of a shell, whose codes stay
+-- the world after the end of a shell, whose codes are kept
 abbrev pub ended_world : ℕ → Codes → WorldState → WorldState
 ended_world number codes w = record w { shells = slice_set w.shells (number - 1) None; ended = slice_set w.ended (number - 1) codes }
 
@@ -51,7 +51,7 @@ ended_world number codes w = record w { shells = slice_set w.shells (number - 1)
 abbrev pub with_line : List ℕ → WorldState → WorldState
 with_line line w = record w { queue = w.queue ++ line ∷ [] }
 
--- the answer to an event that gives this, where it was accepted
+-- the answer to an event with this output, if it was accepted
 abbrev pub answering : {X : Type 0} → Out → Result X Refusal → Result Out Refusal
 answering out (Ok accepted) = Ok out
 answering out (Err why) = Err why

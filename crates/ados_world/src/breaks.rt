@@ -19,7 +19,7 @@ pub fn breaks_by(kind: Kind) -> Breaks
     }
 }
 
-/// The shell of a number is broken, where one runs.
+/// The shell with this number is broken, if one runs.
 pub fn break_number(shells: &mut [Option<Shell>; 20], number: usize, breaks: Breaks)
     ensures { shells.new ≡ broken_number breaks number shells.old }
 {
@@ -29,7 +29,7 @@ pub fn break_number(shells: &mut [Option<Shell>; 20], number: usize, breaks: Bre
     }
 }
 
-/// The shell at a place is broken, where one runs.
+/// The shell at a place is broken, if one runs.
 fn break_place(shells: &mut [Option<Shell>; 20], place: usize, breaks: Breaks)
     requires { place < 20 }
     ensures { shells.new ≡ slice_set shells.old place (broken_place breaks (flatten (slice_get shells.old place))) }

@@ -10,7 +10,7 @@ use ados_ram::Place;
 use ados_shell::Shell;
 use ados_text::NoMemory;
 
-/// What a turn moved: what it renamed, where that was at its old place and is there no more.
+/// What a turn moved: what it renamed, if that was at its old place and is no longer there.
 pub fn moved_by<'a>(
     old: &Shared,
     new: Option<&Shared>,
@@ -30,7 +30,7 @@ fn has_moved(old: &Shared, new: &Shared, renamed: &Renamed) -> bool
     old.ram.look(&renamed.from).is_some() && new.ram.look(&renamed.from).is_none()
 }
 
-/// The current directories of all shells, where what was moved has gone along; none for a number without a shell.
+/// The current directories of all shells, moved along with what was moved; none for a number without a shell.
 pub fn carried_directories(
     shells: &[Option<Shell>; 20],
     moved: &Renamed,

@@ -9,7 +9,7 @@ use crate::shells::find_shell;
 use ados_find::Codes;
 use ados_shell::Shell;
 
-/// The shell of a number ends, if it is a background shell that runs no frame any more; its codes stay.
+/// The shell with this number ends, if it is a background shell that no longer runs a frame; its codes are kept.
 pub fn end_done(shells: &mut [Option<Shell>; 20], ended: &mut [Codes; 20], number: u8)
     requires { IsShellNumber number }
     ensures shells { shells.new ≡ shells_left (codes_left number (flatten (numbered shells.old number))) number shells.old }
@@ -20,7 +20,7 @@ pub fn end_done(shells: &mut [Option<Shell>; 20], ended: &mut [Codes; 20], numbe
     }
 }
 
-/// The shell of a number ends, and these codes of it stay.
+/// The shell with this number ends, and these codes of it are kept.
 pub fn end(shells: &mut [Option<Shell>; 20], ended: &mut [Codes; 20], number: u8, codes: Codes)
     requires { IsShellNumber number }
     ensures shells { shells.new ≡ slice_set shells.old (number - 1) None }
@@ -31,7 +31,7 @@ pub fn end(shells: &mut [Option<Shell>; 20], ended: &mut [Codes; 20], number: u8
     ended[place] = codes;
 }
 
-/// The codes that the shell of a number leaves, if it is a background shell that runs no frame any more.
+/// The codes that the shell with this number leaves, if it is a background shell that no longer runs a frame.
 fn codes_left(shells: &[Option<Shell>; 20], number: u8) -> Option<Codes>
     ensures { result ≡ codes_left number (flatten (numbered shells.now number)) }
 {

@@ -8,7 +8,7 @@ use ados_resident::{DiskCommand, HostEntry, InternalCommand};
 use ados_text::Text;
 use thiserror::Error;
 
-/// So many commands of the host a world takes at most.
+/// How many commands of the host a world takes at most.
 const HOST_LIMIT: usize = 64;
 
 /// Why a world can't be made.
@@ -17,7 +17,7 @@ pub enum NewFault {
     /// More than 64 commands of the host.
     #[error("too many hosts")]
     TooMany,
-    /// The name of this one, counted from 1, is no name: 1 to 30 printable characters without colon and slash.
+    /// The name of this one, counted from 1, is not a name: 1 to 30 printable characters without colon and slash.
     #[error("host {0} has no name")]
     BadName(usize),
     /// The name of this one, counted from 1, is that of a command, or of an earlier one.
@@ -51,7 +51,7 @@ fn first_fault(hosts: &[HostEntry]) -> Option<NewFault>
     None
 }
 
-/// Why a name is refused, which has this place from 1 on and these before it.
+/// Why a name is refused, given its place (counted from 1) and the entries before it.
 fn name_fault(before: &[HostEntry], place: usize, name: &Text) -> Option<NewFault>
     ensures { result ≡ name_fault before.now place name.now }
 {

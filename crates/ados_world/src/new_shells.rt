@@ -8,7 +8,7 @@ use ados_shell::{Begun, Shell, free_number};
 use ados_text::NoMemory;
 use std::alloc::Global;
 
-/// The lowest free number of 2 to 20; `None` where all are taken.
+/// The lowest free number of 2 to 20; `None` if all are taken.
 pub fn next_number(shells: &[Option<Shell>; 20]) -> Option<u8>
     ensures number { result ≡ free_number shells.now }
     ensures within { IfSome result (λ number. IsShellNumber number) }
@@ -16,9 +16,9 @@ pub fn next_number(shells: &[Option<Shell>; 20]) -> Option<u8>
     free_number(shells)
 }
 
-/// The shell that a turn makes, with the lowest free number; `None` where it makes none, or no number is free.
+/// The shell that a turn makes, with the lowest free number; `None` if it makes none, or no number is free.
 ///
-/// `NoMemory` where there is none for the shell.
+/// `NoMemory` if there is none for the shell.
 pub fn new_shell(
     alloc: Global,
     shells: &[Option<Shell>; 20],
@@ -39,7 +39,7 @@ pub fn new_shell(
     }
 }
 
-/// A shell that begins stands at its number from now on.
+/// A shell that begins is placed at its number.
 pub fn join(shells: &mut [Option<Shell>; 20], shell: Option<Shell>)
     requires { IfSome shell (λ new. IsShellNumber new.parts.number) }
     ensures { shells.new ≡ joined shell shells.old }

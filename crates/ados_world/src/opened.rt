@@ -20,14 +20,14 @@ use ados_text::{LINE_BYTES, NoMemory, Text};
 use std::alloc::Global;
 
 impl World {
-    /// Opens a shell for one line and gives its number, the lowest of 2 to 20 that is free; `None` where all are taken.
+    /// Opens a shell for one line and gives its number, the lowest of 2 to 20 that is free; `None` if all are taken.
     ///
     /// The shell is a fresh one: its current directory is RAM:, and it has no path and no aliases. The line is its one
-    /// frame, and the shell ends behind it. Where it alone is given turns and answers, its scripts report what the direct meaning
+    /// frame, and the shell ends after it. If it alone is given turns and answers, its scripts report what the direct meaning
     /// of the line says.
     ///
-    /// `Over` where no shell is left, then `LineTooLong` for a line of more than 512 bytes, then `NoMemory`, which comes
-    /// only where a number is free. At a refusal, and at `None`, the world is as it was.
+    /// `Over` if no shell is left, then `LineTooLong` for a line of more than 512 bytes, then `NoMemory`, which is possible
+    /// only if a number is free. At a refusal, and at `None`, the world is unchanged.
     pub fn open_shell(&mut self, line: &Text) -> Result<Option<u8>, Refusal>
         ensures number { IfOk result (λ number. number ≡ free_number self.old.shells) }
         // Its number has a place for the codes that it leaves.
@@ -56,7 +56,7 @@ impl World {
         }
     }
 
-    /// A shell stands at its number from now on.
+    /// Places a shell at its number.
     fn place(&mut self, number: u8, shell: Shell)
         requires number { IsShellNumber number }
         requires sane { IsSane (record self.old { shells = slice_set self.old.shells (number - 1) (Some shell) }) }
@@ -66,7 +66,7 @@ impl World {
     }
 }
 
-/// A fresh shell of a number, with one line.
+/// A fresh shell with this number and one line.
 fn opened_shell(alloc: Global, number: u8, line: &Text) -> Result<Shell, NoMemory>
     ensures { IfOk result (λ shell. shell ≡ opened_shell number (line.now ∷ [])) }
 {

@@ -28,7 +28,7 @@ impl World {
         }
     }
 
-    /// A line may join the queue, but for want of memory.
+    /// A line may join the queue, unless an allocation fails.
     pub(crate) fn admit(&self, line: &Text) -> Result<(), Refusal>
         ensures ok { OnOk result (typed self.now line.now ≡ Accepted (with_line line.now self.now) (giving [] None []) []) }
         ensures err { IfErr result (λ why. typed self.now line.now ≡ Refused why) }
@@ -57,7 +57,7 @@ impl World {
         }
     }
 
-    /// No further line will be typed.
+    /// No more lines will be typed.
     pub(crate) fn end_input(&mut self) -> Result<(), Refusal>
         ensures answer { IsAnswer Event.EndOfInput (answering (giving [] None []) result) (end_of_input self.old) }
         ensures world { self.new ≡ world_after self.old (answering (giving [] None []) result) (end_of_input self.old) }

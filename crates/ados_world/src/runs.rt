@@ -14,7 +14,7 @@ use crate::worlds::World;
 use ados_machine::{Event, Out, Refusal};
 use std::marker::Model;
 
-/// What each event of a run was answered, in order.
+/// The answer to each event of a run, in order.
 #[derive(Drop)]
 pub struct Outs {
     items: Vec<Result<Out, Refusal>>,
@@ -31,14 +31,14 @@ impl Model for Outs {
 }
 
 impl Outs {
-    /// The answers of a vector, taken over without memory.
+    /// The answers of a vector, taken over without allocation.
     pub fn from_vec(items: Vec<Result<Out, Refusal>>) -> Outs
         ensures { result ≡ items.items }
     {
         Outs { items }
     }
 
-    /// The vector of the answers, given back without memory.
+    /// The vector of the answers, given back without allocation.
     pub fn into_vec(self) -> Vec<Result<Out, Refusal>>
         ensures { result.items ≡ self }
     {
@@ -56,7 +56,7 @@ impl Outs {
 /// What a run leaves.
 #[derive(Drop)]
 pub struct Run {
-    /// The world behind its last event.
+    /// The world after its last event.
     pub world: World,
     /// One answer for each event.
     pub outs: Outs,
@@ -65,17 +65,17 @@ pub struct Run {
 impl World {
     /// Takes the events one after another.
     ///
-    /// Each entry of the outs is the step's answer; a refused event keeps the world. Where the list
-    /// of outs finds no memory the world comes back unchanged.
+    /// Each entry of `outs` is the step's answer; a refused event keeps the world. If there is no memory for the list
+    /// of answers, the world is returned unchanged.
     ///
     /// Whatever the events, each script ends early exactly at its first command whose code reaches
     /// its limit, unless it is broken first, and the reports of the outs are the ends of scripts, in their order. Each end is
-    /// that of the newest frame of its shell, told once by the frame's own name and last record. Scripts end at a break exactly at
-    /// a turn that finds the flag of its shell, in which a script runs. Where a program could not be started, and
-    /// that is the next event accepted behind the turn that asked, nothing is left of the attempt. A shell whose events
+    /// that of the newest frame of its shell, reported once with the frame's own name and last record. Scripts end at a break
+    /// exactly at a turn that finds the flag of its shell, in which a script runs. If a program could not be started, and
+    /// that is the next event accepted after the turn that asked, nothing is left of the attempt. A shell whose events
     /// leave what is seen of it as it was can be taken out: the others are answered the same without it. What waited and was
-    /// typed is what shell 1 took, in order, followed by what waits. Each report tells the last record of its script, and the
-    /// last codes of each number, also of a shell that has ended, are those of its last command.
+    /// typed is what shell 1 took, in order, followed by what waits. Each report gives the last record of its script, and the
+    /// last codes of each number, even if its shell has ended, are those of its last command.
     pub fn run(mut self, events: &[Event]) -> Result<Run, World>
         ensures run { IfOk result (λ run. Runs self events.now run.outs run.world) }
         ensures limits { IfOk result (λ run. LimitsHold self events.now run.outs) }

@@ -27,7 +27,7 @@ pub fn any_runs(shells: &[Option<Shell>]) -> bool
     shells.iter().any(Option::is_some)
 }
 
-// A shell runs at this place, from the resident entry of a name.
+// A shell runs at this place, from the resident entry with this name.
 fn runs_from(place: &Option<Shell>, name: &Text) -> bool
     ensures { result ≡ runs_from place.now name.now }
 {
@@ -37,7 +37,7 @@ fn runs_from(place: &Option<Shell>, name: &Text) -> bool
     }
 }
 
-/// How many shells run from the resident entry of a name.
+/// How many shells run from the resident entry with this name.
 pub fn count_uses(shells: &[Option<Shell>; 20], name: &Text) -> usize
     ensures { result ≡ length (filter (λ place. runs_from place name.now) shells.now) }
 {
@@ -65,7 +65,7 @@ pub fn taken(shells: &[Option<Shell>; 20]) -> [bool; 20]
     taken
 }
 
-/// The shell of a number, which counts from 1.
+/// The shell with this number, counted from 1.
 pub fn find_shell(shells: &[Option<Shell>; 20], number: u8) -> Option<&Shell>
     ensures shell { option_copied result ≡ flatten (numbered shells.now number) }
     ensures number { OnSome result (IsShellNumber number) }
@@ -79,10 +79,10 @@ pub fn find_shell(shells: &[Option<Shell>; 20], number: u8) -> Option<&Shell>
     }
 }
 
-/// Moves in what a turn makes of the shell of a number that runs; where an object was moved, the current directories of
+/// Moves in what a turn makes of the shell with this number, which runs; if an object was moved, the current directories of
 /// all shells are carried.
 ///
-/// `NoMemory` where there is no room for its frames or a directory; the shells are then as they were.
+/// `NoMemory` if there is no room for its frames or a directory; the shells are then as they were.
 pub fn change_shell(
     shells: &mut [Option<Shell>; 20],
     number: u8,
@@ -100,9 +100,9 @@ pub fn change_shell(
     }
 }
 
-/// Moves in what a turn makes of the shell of a number; where that has no shell, nothing is done.
+/// Moves in what a turn makes of the shell with this number; if there is no such shell, nothing is done.
 ///
-/// `NoMemory` where there is no room for its frames; the shells are then as they were.
+/// `NoMemory` if there is no room for its frames; the shells are then as they were.
 fn move_in(
     shells: &mut [Option<Shell>; 20],
     number: u8,
@@ -118,7 +118,7 @@ fn move_in(
     }
 }
 
-/// The same of a shell that runs, where an object was moved: the current directories of all shells are carried.
+/// The same of a shell that runs, if an object was moved: the current directories of all shells are carried.
 fn carry_in(
     shells: &mut [Option<Shell>; 20],
     number: u8,

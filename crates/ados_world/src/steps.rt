@@ -28,13 +28,13 @@ use ados_text::{NoMemory, Text};
 use std::alloc::Global;
 
 impl World {
-    /// Takes one event, or refuses it and stays as it was.
+    /// Takes one event, or refuses it and stays unchanged.
     ///
     /// Refusals come in the order of their enum; the first six, an accepted end of input, a break and the end of a shell take
-    /// no memory. A break is refused by `Over` and `NoSuchShell` alone. An answer that a start has failed changes the codes of
-    /// the shell that asked, and what these change: what all shells share, the other shells and the input stay. What is given as
-    /// request is what the event's shell waits for then, and none behind a typed line, the end of input or a break. The end of
-    /// the event binds only assigns of Defer that it used. A report tells of a break exactly where the event is a turn that finds
+    /// no memory. A break is refused by `Over` and `NoSuchShell` alone. The answer that a start has failed changes the codes of
+    /// the shell that asked, and what depends on these: what all shells share, the other shells and the input stay. The request
+    /// given is what the event's shell waits for then, and none after a typed line, the end of input or a break. The end of
+    /// the event binds only assigns of Defer that it used. A report is about a break exactly when the event is a turn that finds
     /// the flag of its shell, in which a script runs. A resident entry stays in use from the start of its program to the answer
     /// that ends it.
     pub fn step(&mut self, event: &Event) -> Result<Out, Refusal>
@@ -51,7 +51,7 @@ impl World {
         Ok(draft.into_out())
     }
 
-    /// The same with a draft that is lent, which holds then what the event gives. What it held before is forgotten: one
+    /// The same with a draft that is lent; it then holds what the event gives. What it held before is forgotten: one
     /// draft serves for a whole run, and its buffers live on.
     pub fn step_into(&mut self, event: &Event, draft: &mut Draft) -> Result<(), Refusal>
         ensures answer { IsAnswer event.now (answering (out_of draft.new) result) (step_of self.old event.now) }
@@ -95,7 +95,7 @@ impl World {
         ensures answer { IsAnswer (Event.Turn number) (answering (out_of draft.new) result) (turned self.old number (shell_at self.old number)) }
         ensures world { self.new ≡ world_after self.old (answering (out_of draft.new) result) (turned self.old number (shell_at self.old number)) }
     {
-        // By this a turn knows what holds of every world: no script runs on behind a failure, each background shell runs a
+        // This lets a turn use what holds of every world: no script runs on after a failure, each background shell runs a
         // frame, and each shell has the number of its place.
         let _ = &self.alloc;
         let Some(shell) = self.shell(number) else {
@@ -120,7 +120,7 @@ impl World {
         ensures answer { IsAnswer (Event.Answer number answer.now) (answering (out_of draft.new) result) (answered self.old number answer.now (shell_at self.old number)) }
         ensures world { self.new ≡ world_after self.old (answering (out_of draft.new) result) (answered self.old number answer.now (shell_at self.old number)) }
     {
-        // By this an answer knows what holds of every world, as a turn does.
+        // This lets an answer use what holds of every world, as a turn does.
         let _ = &self.alloc;
         let Some(shell) = self.shell(number) else {
             return Err(Refusal::NoSuchShell);
@@ -137,7 +137,7 @@ impl World {
         ensures answer { IsAnswer (Event.Break number kind) (answering (giving [] None []) result) (broken self.old number kind (shell_at self.old number)) }
         ensures world { self.new ≡ world_after self.old (answering (giving [] None []) result) (broken self.old number kind (shell_at self.old number)) }
     {
-        // By this a break knows what holds of every world, as a turn does.
+        // This lets a break use what holds of every world, as a turn does.
         let _ = &self.alloc;
         if self.shell(number).is_none() {
             return Err(Refusal::NoSuchShell);
@@ -146,7 +146,7 @@ impl World {
         Ok(())
     }
 
-    /// Moves in what a turn changes that took the first line of its input.
+    /// Moves in what is changed by a turn that took the first line of its input.
     fn take_typed(&mut self, number: u8, draft: &mut Draft) -> Result<(), Refusal>
         requires number { IsShellNumber number }
         requires runs { is_some (shell_at self.old number) ≡ true }
@@ -163,8 +163,8 @@ impl World {
         Ok(())
     }
 
-    /// Moves in what a turn, or an answer, changes: the shell that it makes stands at its number, the shell that it broke is broken,
-    /// and the turn's own shell ends where it is a background shell that runs no frame any more.
+    /// Moves in what a turn, or an answer, changes: the shell that it makes is placed at its number, the shell that it broke is
+    /// broken, and the turn's own shell ends if it is a background shell that no longer runs a frame.
     fn take(&mut self, number: u8, draft: &mut Draft) -> Result<(), Refusal>
         requires number { IsShellNumber number }
         requires runs { is_some (shell_at self.old number) ≡ true }
@@ -200,7 +200,7 @@ impl World {
         Ok(())
     }
 
-    /// The launcher is asked for what the shell of this number waits for behind the event.
+    /// The launcher is asked for what the shell of this number waits for after the event.
     fn ask(&self, number: u8, draft: &mut Draft) -> Result<(), NoMemory>
         ensures out { OnOk result (out_of draft.new ≡ asked_by (shell_at self.now number) draft.old) }
         ensures same { OnOk result (draft.new ≡ record draft.old { request = draft.new.request }) }
@@ -211,7 +211,7 @@ impl World {
         }
     }
 
-    /// The shell of this number ends; its codes stay.
+    /// The shell of this number ends; its codes are kept.
     fn end_shell(&mut self, number: u8, codes: Codes)
         requires number { IsShellNumber number }
         requires sane { IsSane (ended_world number codes self.old) }
@@ -221,7 +221,7 @@ impl World {
     }
 }
 
-// The shared parts become new ones, where there are any; else their cache learns what was asked.
+// The shared parts become new ones, if there are any; otherwise their cache learns what was asked.
 fn renew(alloc: Global, shared: &mut Shared, new: Option<Shared>, asked: Option<Box<Question>>)
     ensures { shared.new ≡ version shared.old new }
 {

@@ -53,12 +53,12 @@ impl Model for World {
 }
 
 impl World {
-    /// A world with shell 1 alone, in which nothing was typed, with these commands that are programs of the host, and the
-    /// files of the beginning.
+    /// A world with shell 1 alone, in which nothing was typed, with these commands that are programs of the host, and the initial
+    /// files.
     ///
-    /// `TooMany` for more than 64 commands; else, of the first of them that is refused, `BadName` where its name is none,
-    /// and `Double` where a command has it, or an earlier one of these; `NoMemory`, where nothing is refused, for want of
-    /// memory.
+    /// `TooMany` for more than 64 commands; otherwise, for the first of them that is refused, `BadName` if its name is not one,
+    /// and `Double` if a command has it, or an earlier one of these; `NoMemory`, if nothing is refused and an allocation
+    /// fails.
     pub fn new(alloc: Global, hosts: &[HostEntry]) -> Result<World, NewFault>
         ensures world { IfOk result (λ world. world ≡ fresh_world hosts.now) }
         ensures fault { Answers result (hosts_fault hosts.now) }
@@ -92,7 +92,7 @@ impl World {
         })
     }
 
-    /// The shell of this number, where one runs: what it holds, by a name for each part.
+    /// The shell of this number, if one runs: what it holds, by a name for each part.
     pub fn shell(&self, number: u8) -> Option<&Shell>
         ensures shell { option_copied result ≡ shell_at self.now number }
         ensures number { OnSome result (IsShellNumber number) }
@@ -107,7 +107,7 @@ impl World {
         taken(&self.shells)
     }
 
-    /// The last codes of a number: an ended shell's stay until its number is given again; 0 and 0
+    /// The last codes of a number: an ended shell's are kept until its number is given again; 0 and 0
     /// for a number that was never given.
     pub fn codes(&self, number: u8) -> Codes
         ensures { result ≡ codes_at self.now number }
@@ -118,9 +118,10 @@ impl World {
         }
     }
 
-    /// The shell of this number can take a turn: it is ready and runs a frame, a line of it goes on behind its tick, or it
-    /// takes of its input and a line waits there or it has ended. One that waits for the answer to a prompt, or whose
-    /// Run gathers, takes of its input alone, and one that waits for a launcher takes nothing. The input of a background shell is at its end.
+    /// The shell of this number can take a turn: it is ready and runs a frame, a line of it goes on after its tick, or it
+    /// reads its input and a line waits there or it has ended. One that waits for the answer to a prompt, or whose
+    /// Run gathers, only reads its input, and one that waits for a launcher takes nothing.
+    /// The input of a background shell is at its end.
     pub fn ready(&self, number: u8) -> bool
         ensures { result ≡ is_ready self.now number }
     {
@@ -130,13 +131,13 @@ impl World {
         }
     }
 
-    /// What the shell of this number asked a launcher for, and waits for. By what holds of every world a request names its
+    /// What the shell of this number asked a launcher for, and waits for. By the invariant of a world a request names its
     /// shell.
     pub fn pending(&self, number: u8) -> Option<&Request>
         ensures request { option_copied result ≡ pending_of self.now number }
         ensures sane { IsSane self.now }
     {
-        // By this it is known what holds of every world.
+        // This makes use of the invariant of a world.
         let _ = &self.alloc;
         match self.shell(number) {
             None => None,
@@ -144,7 +145,7 @@ impl World {
         }
     }
 
-    /// How far the program of the host is that the shell of this number started.
+    /// The state of the program of the host that the shell of this number started.
     pub fn child(&self, number: u8) -> ChildState
         ensures { result ≡ child_in self.now number }
     {
@@ -154,7 +155,7 @@ impl World {
         }
     }
 
-    /// Shell 1 takes of its input next, and nothing is there, and a line can still be typed.
+    /// Shell 1 reads its input next, and nothing is there, and a line can still be typed.
     pub fn wants_line(&self) -> bool
         ensures { result ≡ wants_line self.now }
     {
@@ -164,21 +165,21 @@ impl World {
         }
     }
 
-    /// The files as they stand.
+    /// The files as they are now.
     pub fn files(&self) -> &Ram
         ensures { result.now ≡ self.now.shared.files }
     {
         &self.shared.ram
     }
 
-    /// The assigns as they stand.
+    /// The assigns as they are now.
     pub fn assigns(&self) -> &Assigns
         ensures { result.now ≡ self.now.shared.assigns }
     {
         &self.shared.assigns
     }
 
-    /// The resident list as it stands.
+    /// The resident list as it is now.
     pub fn residents(&self) -> &Residents
         ensures { result.now ≡ self.now.shared.residents }
     {

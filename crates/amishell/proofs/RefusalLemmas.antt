@@ -13,7 +13,7 @@ use Rattle.amishell.specs.declared.request.Asked.TheVariants.{Run, Replay}
 use Rattle.amishell.specs.declared.request.Refused.{Refused}
 use Rattle.amishell.specs.declared.request.Refused.TheVariants.{BadLine, Help, NoMemory}
 
--- want of memory is no request
+-- out of memory is not a request
 no_request : (k : ErrorKind) → k ≡ OutOfMemory → IsRequest k → ⊥
 no_request k m (inl h) = let e : DisplayHelp ≡ OutOfMemory = sym h ∙ m in cc
 no_request k m (inr h) = let e : DisplayVersion ≡ OutOfMemory = sym h ∙ m in cc
@@ -47,13 +47,13 @@ asks_for_a_run : (entered : Option (Text × List Row)) → entered ≡ None → 
 asks_for_a_run None e nothing = nothing (Run None 1_000_000) (refl, refl)
 asks_for_a_run (Some p) e nothing = cc
 
--- and no other than that
+-- and nothing else
 only_a_run : (entered : Option (Text × List Row)) (a : Asked) → entered ≡ None → AsksFor entered a → a ≡ Run None 1_000_000
 only_a_run None (Run hosts turns) e h = rw (h.0, h.1) refl
 only_a_run None (Replay file) e h = absurd h
 only_a_run (Some p) a e h = cc
 
--- no words are refused for want of memory alone
+-- an empty list of words is refused only if an allocation fails
 none_refused : (r : Refused) → IsRefusal [] r → r ≡ NoMemory
 none_refused BadLine (inl m) = absurd (not_a_mistake _ no_fault m)
 none_refused BadLine (inr h) = absurd (asks_for_a_run _ no_command h.1)
@@ -63,6 +63,6 @@ none_refused NoMemory h = refl
 pub no_words_refused : (words : List Text) (r : Refused) → words ≡ [] → IsRefusal words r → r ≡ NoMemory
 no_words_refused words r e h = none_refused r (subst (λ w. IsRefusal w r) e h)
 
--- no words ask for a run without hosts and with a million turns
+-- an empty list of words asks for a run without hosts and with a million turns
 pub no_words_asked : (words : List Text) (a : Asked) → words ≡ [] → IsAsked words a → a ≡ Run None 1_000_000
 no_words_asked words a e h = only_a_run _ a no_command (subst (λ w. AsksFor (subcommand_of amishell w) a) e h.1)

@@ -1,4 +1,4 @@
--- What the words behind the program's name ask for.
+-- What the words after the program's name ask for.
 use Rattle.std.specs.Prelude.{ℕ, pos, ◌≡◌, ◌≢◌, ◌≤◌, ◌⊎◌, List, [], Option, Some, None, option_map, codes}
 use Rattle.clap.specs.Walk.{Row, Text, first_of}
 use Rattle.clap.specs.Simple.{subcommand_of}
@@ -17,7 +17,7 @@ use Rattle.amishell.specs.declared.request.Refused.TheVariants.{BadLine, Help, N
 abbrev pub IsInRange : ℕ → Type 0
 IsInRange turns = (1 ≤ turns) × (turns ≤ 1_000_000_000)
 
--- the turns that are written, a million where none are
+-- the turns that are given, a million if none are
 abbrev pub AreTurns : Option Text → ℕ → Type 0
 AreTurns None turns = turns ≡ 1_000_000
 AreTurns (Some text) turns = IsNumber text × (value_of text ≡ pos turns)
@@ -37,11 +37,11 @@ AsksFor (Some p) (Replay file) = (p.0 ≡ codes "replay") × (Some file.now ≡ 
 abbrev pub AsksNothing : Option (Text × List Row) → Type 0
 AsksNothing entered = (a : Asked) → AsksFor entered a → ⊥
 
--- what is asked, by the matches of words in which `clap` finds no fault
+-- what is asked for, by the matches of words in which `clap` finds no fault
 abbrev pub IsAsked : List Text → Asked → Type 0
 IsAsked words a = (fault_of amishell words ≡ []) × AsksFor (subcommand_of amishell words) a
 
--- an error of this kind is no fault: it is answered with a text
+-- an error of this kind is not a fault: it is answered with a text
 abbrev pub IsRequest : ErrorKind → Type 0
 IsRequest k = (k ≡ kind.DisplayHelp) ⊎ (k ≡ kind.DisplayVersion)
 
@@ -53,7 +53,7 @@ HasMistake kinds = (k : ErrorKind) × IsAmong k kinds × (IsRequest k → ⊥)
 abbrev pub HasRequest : Kinds → Type 0
 HasRequest kinds = (k : ErrorKind) × IsAmong k kinds × IsRequest k
 
--- what an error of this kind comes to
+-- the refusal for an error of this kind
 abbrev pub IsRefusalOf : ErrorKind → Refused → Type 0
 IsRefusalOf k BadLine = (IsRequest k → ⊥) × (k ≢ kind.OutOfMemory)
 IsRefusalOf k (Help text) = IsRequest k

@@ -28,10 +28,10 @@ run_app = with_rule hosts_app turns_rule
 abbrev pub replay_app : App
 replay_app = with_rule (new_app (codes "replay")) file_rule
 
--- `amishell` alone, with a version to tell
+-- `amishell` alone, with a version to print
 abbrev pub bare_app : App
 bare_app = on_top (λ s. record s { no_binary_name = true; has_version = true }) (new_app (codes "amishell"))
 
--- what stands behind the program's name
+-- what follows the program's name
 abbrev pub amishell : App
 amishell = with_subcommand (with_subcommand bare_app run_app.top) replay_app.top

@@ -33,7 +33,7 @@ const FILE: &str =
     "The recording: its first line is 'amishell 1', and each other one is 'host NAME', 'line TEXT' or
 'answer ANSWER'; it is run for 1000000 events and long lines at most";
 
-/// The matches of the words behind the program's name, or `clap`'s error.
+/// The matches of the words after the program's name, or `clap`'s error.
 pub fn matches_of_words<'a, S: AsStr>(
     alloc: Global,
     words: &'a [S],

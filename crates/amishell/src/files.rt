@@ -40,7 +40,7 @@ pub fn recording_in<R: AllocGlobal + Files>(rt: &R, file: &str) -> Result<Record
     }
 }
 
-// The bytes of a file, of which there may be so many.
+// The bytes of a file, at most as many as the limit.
 fn bytes_of<R: AllocGlobal + Files>(rt: &R, file: &str, limit: usize) -> Result<Vec<u8>, Fault>
     ensures { IfOk result (λ bytes. vec_len bytes ≤ limit) }
 {
@@ -52,7 +52,7 @@ fn bytes_of<R: AllocGlobal + Files>(rt: &R, file: &str, limit: usize) -> Result<
     }
 }
 
-// The bytes of a file, and of a longer one some more than the limit.
+// The bytes of a file, and some more than the limit if it is longer.
 fn bytes_up_to<R: AllocGlobal + Files>(rt: &R, file: &str, limit: usize) -> io::Result<Vec<u8>> {
     let mut bytes = Vec::new(rt.alloc());
     let most = (limit as u64).saturating_add(1);
@@ -60,7 +60,7 @@ fn bytes_up_to<R: AllocGlobal + Files>(rt: &R, file: &str, limit: usize) -> io::
     Ok(bytes)
 }
 
-// The fault of a file that is not read.
+// The fault of a file that cannot be read.
 fn cannot_read(alloc: Global, file: &str) -> Fault {
     match String::from_str(alloc, file) {
         Ok(name) => Fault::CannotRead(name),

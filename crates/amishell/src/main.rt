@@ -21,14 +21,14 @@ use std::io::Write;
 use std::process::{ExitCode, Processes};
 use std::rt::{Env, Files};
 
-// The status after a fault, and after a code that is no status.
+// The exit status after a fault, and after a code that is not an exit status.
 const FAILED: u8 = 20;
 
 fn main(rt: HostRuntime) -> ExitCode {
     match run(&rt) {
         Ok(status) => ExitCode::from(status),
         Err(fault) => {
-            // where even this line cannot be written, the status tells
+            // If even this line cannot be written, the exit status reports it.
             let _ = rt.eprintln(format_args!("amishell: {fault}"));
             ExitCode::from(FAILED)
         }
@@ -55,7 +55,7 @@ fn show<R: Print>(rt: &R, text: &Text) -> Result<u8, Fault> {
     }
 }
 
-// The words behind the program's name.
+// The words after the program's name.
 fn words<R: Env + AllocGlobal>(rt: &R) -> Result<Vec<String>, Fault> {
     let all = match std::env::args(rt) {
         Ok(all) => all,
@@ -126,7 +126,7 @@ fn play<R: AllocGlobal + Print, L: Launcher, S: Source>(
     let mut world = match World::new(rt.alloc(), hosts) {
         Ok(world) => world,
         Err(NewFault::NoMemory) => return Err(Fault::Memory),
-        // a file of hosts and a recording are refused where no world can be made with their hosts
+        // A file of hosts and a recording are refused if no world can be made with their hosts.
         Err(_) => unreachable!(),
     };
     let mut writer = Counted::new(io::writer(rt));
@@ -134,7 +134,7 @@ fn play<R: AllocGlobal + Print, L: Launcher, S: Source>(
     Ok(status(end.code))
 }
 
-// The exit status that a code gives.
+// The exit status for a code.
 fn status(code: Code) -> u8
     ensures { pos result ≡ status_of code.0 }
 {

@@ -1,4 +1,4 @@
-//! What the words behind the program's name ask for.
+//! What the words after the program's name ask for.
 ghost use Rattle.std.specs.Prelude.{◌≡◌, ◌≢◌, [], map, IfOk, IfErr, IfSome, IfNone, MatchResult, option_map, Some, None, ℕ, codes};
 ghost use Rattle.clap.specs.Walk.{first_of, rows_of};
 ghost use Rattle.clap.specs.Matches.{found_of};
@@ -15,13 +15,13 @@ use clap::{ArgMatches, Error};
 use std::alloc::Global;
 use std::convert::AsStr;
 
-/// The turns of a run that names none, and of a recording.
+/// The turns of a run for which none are given, and of a recording.
 pub const TURNS: u64 = 1_000_000;
 
-/// What the words behind the program's name ask for.
+/// What the words after the program's name ask for.
 ///
-/// `Help` where `clap` answers them with its help or the version; `BadLine` where it finds another fault in them, or
-/// their turns are no number from 1 to 1,000,000,000.
+/// `Help` if `clap` answers them with its help or the version; `BadLine` if it finds another fault in them, or
+/// their turns are not a number from 1 to 1,000,000,000.
 pub fn asked<'a, S: AsStr>(alloc: Global, words: &'a [S]) -> Result<Asked<'a>, Refused>
     ensures asked { IfOk result (IsAsked (map S.text words.entry.now)) }
     ensures refused { IfErr result (IsRefusal (map S.text words.entry.now)) }
@@ -96,14 +96,14 @@ fn entered<'a, 'b>(matches: &'b ArgMatches<'a>) -> Option<(&'a str, &'b ArgMatch
     matches.subcommand()
 }
 
-// What is written for an option or a word of a command.
+// What is given for an option or a word of a command.
 fn written<'a>(inner: &ArgMatches<'a>, name: &str) -> Option<&'a str>
     ensures { option_map (λ s. s.now) result ≡ first_of name.now (rows_of (found_of inner.now)) }
 {
     inner.get_str(name)
 }
 
-// The turns that a word writes, where they are in their range.
+// The turns that a word gives, if they are in their range.
 fn turns_written(word: Option<&str>) -> Option<u64>
     ensures turns { IfSome result (AreTurns (option_map (λ s. s.now) word.entry)) }
     ensures range { IfSome result IsInRange }
@@ -118,7 +118,7 @@ fn turns_written(word: Option<&str>) -> Option<u64>
     }
 }
 
-// What `clap`'s error comes to.
+// The refusal for `clap`'s error.
 fn refusal(alloc: Global, error: &Error) -> Refused
     ensures { IsRefusalOf (kind_of error.now) result }
 {

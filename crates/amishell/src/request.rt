@@ -9,7 +9,7 @@ pub enum Asked<'a> {
     Run {
         /// The file of the programs of the host that are commands; without one there are none.
         hosts: Option<&'a str>,
-        /// So many events and long lines are taken at most: 1 to 1,000,000,000.
+        /// The most events and long lines that are taken: 1 to 1,000,000,000.
         turns: u64,
     },
     /// To run a recording.
@@ -22,7 +22,7 @@ pub enum Asked<'a> {
 /// Why the words ask for nothing.
 #[derive(Drop)]
 pub enum Refused {
-    /// They are no command line of the program.
+    /// They are not a command line of the program.
     BadLine,
     /// They ask for help or for the version, which is this text.
     Help(Text),

@@ -17,6 +17,6 @@ bare_pair w calls none agrees = rw none at agrees
 pub table_looked : (w : WorldState) (calls : List Call) (table : List Bool) → Agrees w calls → ((k : ℕ) → get_or table k false ≡ asks_further (pending_of w k)) → IsOpenTable table calls
 table_looked w calls table agrees looked = table-begins w calls table agrees looked
 
--- where a launcher and a world agree no call is out of place
+-- if a launcher and a world agree no call is out of place
 pub whole_pair : (w : WorldState) (calls : List Call) → Agrees w calls → AreWhole calls
 whole_pair w calls agrees = agrees-whole w calls agrees

@@ -1,12 +1,12 @@
--- What shows of the reader that gives the prepared lines.
+-- What is visible of the reader that gives the prepared lines.
 use Rattle.std.specs.Prelude.{◌≡◌, ℕ, Bool, true, false, List}
 use Rattle.std.specs.List.{list_all}
 use Rattle.ados_machine.specs.World.{WorldState}
 use Rattle.ados_transfer.specs.declared.told.Told.{Told}
 use Rattle.ados_transfer.specs.Told.{is_as_told}
 
--- what is to be brought in; how many lines bring it in, and how many lines were given; the files were looked at, and are as they
--- were told; how many reads failed
+-- what is to be brought in; how many lines bring it in, and how many lines were given; whether the files were checked, and are
+-- as planned; how many reads failed
 pub record PrompterView : Type 0 where
   pub told : List Told
   pub bringing : ℕ
@@ -14,6 +14,6 @@ pub record PrompterView : Type 0 where
   pub is_ready : Bool
   pub faults : ℕ
 
--- each file and directory stands in the world as it was told
+-- each file and directory is in the world as planned
 abbrev pub IsBrought : WorldState → List Told → Type 0
 IsBrought w told = list_all (is_as_told w.shared.files) told ≡ true

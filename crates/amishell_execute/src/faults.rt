@@ -11,19 +11,19 @@ use thiserror::Error;
 /// What that line says.
 #[derive(Debug, Drop, Error)]
 pub enum Fault {
-    /// The words are no command line of the program.
+    /// The words are not a command line of the program.
     #[error("bad command line")]
     BadLine,
     /// The file of this name cannot be read.
     #[error("cannot read {0}")]
     CannotRead(String),
-    /// The line of this number, from 1, is the first at fault in the file of hosts.
+    /// The line of this number, from 1, is the first invalid one in the file of hosts.
     #[error("bad host at line {0}")]
     BadHost(usize),
-    /// These are words of `--host` that name no program, or a command that is there already; or there are too many.
+    /// These are words of `--host` that do not name a program, or name a command that is there already; or there are too many.
     #[error("bad host {0}")]
     BadHostWords(String),
-    /// There are more commands that are programs of the host than there may be beside the one that brings files in.
+    /// There are more commands that are programs of the host than there may be besides the one that brings files in.
     #[error("more than 63 hosts")]
     ManyHosts,
     /// A command has the name of the one that brings files in.
@@ -32,7 +32,7 @@ pub enum Fault {
     /// A file is not brought in or not taken, or a line is not typed.
     #[error("{0}")]
     Transfer(#[from] TransferFault),
-    /// The files do not stand in the Shell's world as they were brought.
+    /// The files are not in the Shell's world as they were brought.
     #[error("the files cannot be brought in")]
     NotBrought,
     /// There was no memory.
@@ -72,7 +72,7 @@ pub fn cannot_read(alloc: Global, path: &str) -> Fault {
     }
 }
 
-/// The fault of words that name no program of the host.
+/// The fault of words that do not name a program of the host.
 pub fn bad_host(alloc: Global, words: &str) -> Fault {
     match String::from_str(alloc, words) {
         Ok(words) => Fault::BadHostWords(words),
@@ -80,7 +80,7 @@ pub fn bad_host(alloc: Global, words: &str) -> Fault {
     }
 }
 
-/// Writes a line on standard error. Where even this line cannot be written, the status tells.
+/// Writes a line on standard error. If even this line cannot be written, the exit status reports it.
 pub fn tell<R: Eprint, T: Display>(rt: &R, line: &T) {
     let _ = rt.eprintln(format_args!("amishell-execute: {line}"));
 }

@@ -20,7 +20,7 @@ const VARIABLE: &str = "AMISHELL_HOSTS";
 // The file of the stand-ins, in a folder above the program's folder.
 const COMMON: &str = "share/amishell/common";
 
-// So many folders above the program's are looked at.
+// How many folders above the program's are looked at.
 const FOLDERS_ABOVE: usize = 4;
 
 /// The commands that the options name: the one that brings in, those of the file of hosts, those of `--host`, and those
@@ -50,7 +50,7 @@ pub fn hosts_for<R: AllocGlobal + Files + Env>(
     Ok(hosts)
 }
 
-// Adds a command; `false` where a world can't be made with it, and then it is left out.
+// Adds a command; `false` if a world can't be made with it, and then it is left out.
 fn add(hosts: &mut Vec<HostEntry>, host: HostEntry) -> Result<bool, Fault> {
     hosts.push(host)?;
     if hosts_fault(hosts.as_slice()).is_some() {

@@ -1,4 +1,4 @@
-//! The launcher: it hands the files out that are brought in, and starts programs of this machine.
+//! The launcher: it hands out the files that are brought in, and starts programs of this machine.
 ghost use Rattle.std.specs.Prelude.{◌≡◌, ◌≤◌, [], length, true, false, IfOk};
 ghost use Rattle.ados_machine.specs.Children.{answers_start, answers_read, answers_wait};
 
@@ -14,37 +14,37 @@ use std::process::Processes;
 // The longest piece of an output.
 const PIECE_BYTES: usize = 4096;
 
-/// A launcher whose command that brings in puts out the files one by one, and which starts real programs for all others.
+/// A launcher whose command `amishell-bring` puts out the files one by one, and which starts real programs for all others.
 #[derive(Drop)]
 pub struct Bringer<'a, R: Processes> {
     children: Children<'a, R>,
     log: Log,
 }
 
-// What runs: the command that brings in, and the programs that were started.
+// What runs: `amishell-bring`, and the programs that were started.
 #[derive(Drop)]
 struct Children<'a, R: Processes> {
     alloc: Global,
-    // what is left to be brought in
+    // What is left to be brought in.
     left: &'a [Told],
-    // what comes in before that
+    // What is brought in before that.
     offered: Option<Octets>,
-    // what the command that brings in has left to put out of a file that was told, and its shell
+    // What `amishell-bring` has left to put out of a planned file, and its shell.
     open: Option<(u8, &'a [u8])>,
-    // what it puts out of a file that was offered
-    handed: Option<Handed>,
-    // how the program of a number ended, for the wait that comes
+    // What it puts out of a file that was offered.
+    delivery: Option<Delivery>,
+    // How the program with this number ended, for the wait that follows.
     ended: Option<(u8, Answer)>,
     programs: Programs<'a, R>,
 }
 
-// A file that was offered, on its way.
+// A file that was offered and is being put out.
 #[derive(Drop)]
-struct Handed {
-    // the shell of the command that puts it out
+struct Delivery {
+    // The shell of the command that puts it out.
     shell: u8,
     bytes: Octets,
-    // so many of the bytes were put out
+    // How many of the bytes were put out.
     from: usize,
 }
 
@@ -72,7 +72,7 @@ impl<'a, R: Processes> Bringer<'a, R> {
                 left: told,
                 offered: None,
                 open: None,
-                handed: None,
+                delivery: None,
                 ended: None,
                 programs: Programs::new(alloc, processes)?,
             },
@@ -80,21 +80,21 @@ impl<'a, R: Processes> Bringer<'a, R> {
         })
     }
 
-    /// The command that brings in puts out this the next time, and with `None` again what is left to be brought in.
+    /// `amishell-bring` puts this out the next time; with `None` again what is left to be brought in.
     pub fn offer(&mut self, bytes: Option<Octets>)
         ensures { self.new ≡ self.old }
     {
         self.children.offered = bytes;
     }
 
-    /// From now on programs start in this folder; with `None` in this process's directory.
+    /// From now on programs start in this folder; with `None` in this process's current directory.
     pub fn set_folder(&mut self, folder: Option<StartFolder>)
         ensures { self.new ≡ self.old }
     {
         self.children.programs.set_folder(folder);
     }
 
-    /// Waits for the end of a program before the world asks for it. It answers at once then.
+    /// Waits for the end of a program before the world asks for it. The answer to the world is then given at once.
     pub fn await_end(&mut self, child: u8)
         ensures { self.new ≡ self.old }
     {
@@ -104,13 +104,13 @@ impl<'a, R: Processes> Bringer<'a, R> {
 }
 
 impl<R: Processes> Children<'_, R> {
-    // Starts the program of a job; the command that brings in takes the next file.
+    // Starts the program of a job; `amishell-bring` takes the next file.
     fn begin(&mut self, job: &Job) -> Answer
         ensures { answers_start result ≡ true }
     {
         if job.program.as_bytes() == BRING {
             if let Some(bytes) = self.offered.take() {
-                self.handed = Some(Handed {
+                self.delivery = Some(Delivery {
                     shell: job.shell,
                     bytes,
                     from: 0,
@@ -126,7 +126,7 @@ impl<R: Processes> Children<'_, R> {
         self.programs.start(job)
     }
 
-    // A piece of the output of the program of a number.
+    // A piece of the output of the program with this number.
     fn piece(&mut self, child: u8) -> Answer
         ensures { answers_read result ≡ true }
     {
@@ -145,13 +145,13 @@ impl<R: Processes> Children<'_, R> {
         ensures { answers_read result ≡ true }
     {
         let alloc = self.alloc;
-        match &mut self.handed {
-            Some(handed) if handed.shell == child => handed.next(alloc),
+        match &mut self.delivery {
+            Some(delivery) if delivery.shell == child => delivery.next(alloc),
             _ => self.programs.read(child),
         }
     }
 
-    // How the program of a number ended.
+    // How the program with this number ended.
     fn end(&mut self, child: u8) -> Answer
         ensures { answers_wait result ≡ true }
     {
@@ -169,17 +169,17 @@ impl<R: Processes> Children<'_, R> {
         ensures { answers_wait result ≡ true }
     {
         if self
-            .handed
+            .delivery
             .as_ref()
-            .is_some_and(|handed| handed.shell == child)
+            .is_some_and(|delivery| delivery.shell == child)
         {
-            self.handed = None;
+            self.delivery = None;
             return Answer::Exit(0);
         }
         self.program_end(child)
     }
 
-    // How a program ended: as it was told before, or now.
+    // How a program ended: what was found before, or what is found now.
     fn program_end(&mut self, child: u8) -> Answer
         ensures { answers_wait result ≡ true }
     {
@@ -193,7 +193,7 @@ impl<R: Processes> Children<'_, R> {
     }
 }
 
-impl Handed {
+impl Delivery {
     // The next piece, or the end.
     fn next(&mut self, alloc: Global) -> Answer
         ensures { answers_read result ≡ true }
@@ -206,7 +206,7 @@ impl Handed {
     }
 }
 
-// An answer to a wait as it is.
+// The answer if it is the end of a program, otherwise `WaitFault`.
 fn how_it_ended(answer: Answer) -> Answer
     ensures { answers_wait result ≡ true }
 {
@@ -217,7 +217,7 @@ fn how_it_ended(answer: Answer) -> Answer
     }
 }
 
-// The bytes of the first file, and what comes after it.
+// The bytes of the first file, and what follows it.
 fn next_file(told: &[Told]) -> Option<(&[u8], &[Told])> {
     for place in 0..told.len() {
         if let Content::File { bytes, .. } = &told[place].content {
@@ -227,7 +227,7 @@ fn next_file(told: &[Told]) -> Option<(&[u8], &[Told])> {
     None
 }
 
-// The answer with these bytes of an output, or its end where there are none.
+// The answer with these bytes of an output, or its end if there are none.
 fn piece_of(alloc: Global, bytes: &[u8]) -> Answer
     requires { length bytes.now ≤ 4096 }
     ensures { answers_read result ≡ true }

@@ -32,7 +32,7 @@ use std::rt::{Env, Files};
 use std::time::Clock;
 use warnings::warn;
 
-// The status after a fault, and after a code that is no status.
+// The exit status after a fault, and after a code that is not an exit status.
 const FAILED: u8 = 20;
 
 fn main(rt: HostRuntime) -> ExitCode {
@@ -138,7 +138,7 @@ fn run_script<R: AllocGlobal + Files + Input + Print + Eprint + Processes + Clon
     })
 }
 
-// Brings the shared folder up to date, if there is one; whether all was done.
+// Brings the shared folder up to date, if there is one; gives whether all was done.
 fn close<R: AllocGlobal + Files + Eprint + Clone + Drop + Clock>(
     rt: &R,
     world: &World,
@@ -150,7 +150,7 @@ fn close<R: AllocGlobal + Files + Eprint + Clone + Drop + Clock>(
     }
 }
 
-// Takes what is asked for; whether all was taken.
+// Takes what is asked for; gives whether all was taken.
 fn take_all<R: AllocGlobal + Files + Eprint>(rt: &R, options: &Options<'_>, world: &World) -> bool {
     let mut is_taken = true;
     for words in &options.take {
@@ -181,7 +181,7 @@ fn lines_for<R: AllocGlobal>(
     Ok(lines)
 }
 
-// The exit status that a code gives.
+// The exit status for a code.
 fn status(code: Code) -> u8
     ensures { pos result ≡ status_of code.0 }
 {

@@ -2,6 +2,7 @@
 
 ghost use Rattle.std.specs.Prelude.{◌≡◌, ◌<◌, ◌^◌, ◌-◌, []};
 ghost use Rattle.ados_launch.specs.Agreement.{Agrees};
+ghost use Rattle.ados_launch.specs.Leads.{Reaches};
 
 use crate::faults::Fault;
 use crate::launcher::Bringer;
@@ -18,6 +19,9 @@ use std::rt::Files;
 use std::time::Clock;
 
 /// Runs the lines in a new world, with standard input for what asks.
+///
+/// However it ends, the world is one that events which the machine accepts and shells opened for lines lead to: nothing else
+/// brings a file in, and nothing else changes one.
 #[tactic(auto, using(crate::proofs::Pairs::kept_pair))]
 pub fn play<R: AllocGlobal + Files + Input + Print + Eprint + Processes + Clone + Drop + Clock>(
     rt: &R,
@@ -28,6 +32,7 @@ pub fn play<R: AllocGlobal + Files + Input + Print + Eprint + Processes + Clone 
     share: Option<&mut Share>,
 ) -> Result<End, Fault>
     requires { Agrees world.old [] }
+    ensures leads { Reaches world.old world.new }
 {
     let mut launcher = Bringer::new(rt.alloc(), rt, plan.told())?;
     let mut reader = Prompter::new(
@@ -77,6 +82,7 @@ fn drive<L: Launcher, S: Source, K: Sink>(
     requires reader { S.faults reader.old < 2 ^ 64 - 1 }
     requires writer { K.faults writer.old < 2 ^ 64 - 1 }
     requires agrees { Agrees world.old (L.calls launcher.old) }
+    ensures leads { Reaches world.old world.new }
 {
     let drive = Drive {
         alloc,
@@ -86,7 +92,7 @@ fn drive<L: Launcher, S: Source, K: Sink>(
     Ok(drive.run(world, launcher, reader, writer)?)
 }
 
-// The same, with a folder that is looked after before each event.
+// The same, with a shared folder that is attended to before each event.
 #[tactic(auto, using(crate::proofs::Pairs::table_looked, crate::proofs::Pairs::whole_pair))]
 fn drive_shared<
     R: AllocGlobal + Files + Eprint + Processes + Clone + Drop + Clock,
@@ -104,6 +110,7 @@ fn drive_shared<
     requires reader { reader.old.faults < 2 ^ 64 - 1 }
     requires writer { K.faults writer.old < 2 ^ 64 - 1 }
     requires agrees { Agrees world.old launcher.old.calls }
+    ensures leads { Reaches world.old world.new }
 {
     let mut session = Session::new(rt.alloc(), world, &[]);
     for _ in 0..turns {

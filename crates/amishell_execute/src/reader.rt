@@ -22,13 +22,13 @@ enum Next<'a> {
     Newline,
     // A line of standard input.
     Input,
-    // Nothing, since all is read.
+    // Nothing, since everything was read.
     End,
-    // An error, since the files are not as they were told.
+    // An error, since the files are not as planned.
     Refused,
 }
 
-/// A reader that chooses by the world what it gives.
+/// A reader that looks at the world to choose what it gives.
 #[derive(Drop)]
 pub struct Prompter<'a, I: Read> {
     told: &'a [Told],
@@ -49,12 +49,12 @@ impl<'a, I: Read> Model for Prompter<'a, I> {
 
     ghost view = { λ p. record { told = p.told.now; bringing = p.bringing; given = p.given; is_ready = p.is_ready; faults = p.faults } };
 
-    // no line after those that bring in was given before the files were looked at
+    // No line after those that bring in was given before the files were checked.
     ghost invariant = { λ p. p.is_ready ≡ false → p.given ≤ p.bringing };
 }
 
 impl<'a, I: Read> Prompter<'a, I> {
-    /// A reader of these lines, of which so many bring these files in, and of this input.
+    /// A reader of these lines, of which this many bring these files in, and of this input.
     pub fn new(told: &'a [Told], lines: &'a [Text], bringing: usize, input: I) -> Prompter<'a, I>
         ensures told { result.told ≡ told.entry.now }
         ensures ready { result.is_ready ≡ false }
@@ -73,20 +73,20 @@ impl<'a, I: Read> Prompter<'a, I> {
         }
     }
 
-    /// The files were not as they were told when the script was to begin.
+    /// The files were not as planned when the script was to begin.
     pub fn is_refused(&self) -> bool {
         matches!(self.next, Next::Refused)
     }
 
-    /// All lines were given that bring the files in.
+    /// All lines that bring the files in were given.
     pub fn has_brought(&self) -> bool {
         self.given >= self.bringing
     }
 
-    /// Chooses by the world that is about to take a line what comes next: a line of standard input where the Shell asks, or
-    /// the next prepared line, or the end.
+    /// Chooses what comes next, by the world that is about to take a line: a line of standard input if the Shell asks for one,
+    /// otherwise the next prepared line, or the end.
     pub fn choose(&mut self, world: &World)
-        // The first line after those that bring in is given only once each file and directory is there as it was told.
+        // The first line after those that bring in is given only if each file and directory is there as planned.
         ensures begins { self.old.is_ready ≡ false → self.new.is_ready ≡ true → IsBrought world.now self.old.told }
         ensures waits { self.new.is_ready ≡ false → self.new.given ≤ self.new.bringing }
         ensures told { self.new.told ≡ self.old.told }
@@ -101,7 +101,7 @@ impl<'a, I: Read> Prompter<'a, I> {
         self.take_line();
     }
 
-    // Looks whether the files are as they were told, once all lines were given that bring them in.
+    // Checks whether the files are as planned, once all lines that bring them in were given.
     fn look(&mut self, world: &World)
         ensures begins { self.old.is_ready ≡ false → self.new.is_ready ≡ true → IsBrought world.now self.old.told }
         ensures stays { self.old.is_ready ≡ true → self.new.is_ready ≡ true }
@@ -162,8 +162,8 @@ impl<'a, I: Read> Prompter<'a, I> {
         }
     }
 
-    // Reads standard input up to a newline. At its end an empty line is read where prepared lines are left, since the
-    // end of the Shell's input would be before them.
+    // Reads standard input up to a newline. At its end an empty line is read if prepared lines are left, since the
+    // end of the Shell's input would come before them.
     fn give_input(&mut self, buffer: &mut [u8]) -> io::Result<usize>
         ensures bound { ReadsAtMost result buffer.new }
         ensures told { self.new.told ≡ self.old.told }

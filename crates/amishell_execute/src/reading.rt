@@ -10,13 +10,13 @@ use clap::{ArgMatches, Error};
 use std::alloc::{AllocError, Global};
 use std::convert::AsStr;
 
-// The turns of a run that names none.
+// The turns of a run for which none are given.
 const TURNS: u64 = 1_000_000;
 
 /// What the words after the program's name ask for.
 ///
-/// `Help` where `clap` answers them with its help or the version; `BadLine` where it finds another fault in them, or
-/// their turns are no number from 1 to 1,000,000,000.
+/// `Help` if `clap` answers them with its help or the version; `BadLine` if it finds another fault in them, or
+/// their turns are not a number from 1 to 1,000,000,000.
 pub fn asked<'a, S: AsStr>(alloc: Global, words: &'a [S]) -> Result<Options<'a>, Refused> {
     let matches = match matches_of_words(alloc, words) {
         Ok(matches) => matches,
@@ -72,7 +72,7 @@ fn list<'a>(
     matches.get_strs(name).unwrap_or(&[]).to_vec(alloc)
 }
 
-// The turns that a word writes, where they are in their range.
+// The turns that a word gives, if they are in their range.
 fn turns_written(word: Option<&str>) -> Option<u64>
     ensures { IfSome result (λ turns. turns ≤ 1_000_000_000) }
 {
@@ -85,7 +85,7 @@ fn turns_written(word: Option<&str>) -> Option<u64>
     }
 }
 
-// What `clap`'s error comes to.
+// The refusal for `clap`'s error.
 fn refusal(alloc: Global, error: &Error) -> Refused {
     match error.kind() {
         ErrorKind::OutOfMemory => Refused::NoMemory,

@@ -8,7 +8,7 @@ use ados_transfer::MirrorOptions;
 pub struct Options<'a> {
     /// The file of the programs of the host that are commands.
     pub hosts: Option<&'a str>,
-    /// Further commands, each as `NAME` or `NAME=PROGRAM`.
+    /// More commands, each as `NAME` or `NAME=PROGRAM`.
     pub host: Vec<&'a str>,
     /// The stand-ins are commands too.
     pub common: bool,
@@ -24,11 +24,11 @@ pub struct Options<'a> {
     pub mirror: MirrorOptions,
     /// Each argument is quoted.
     pub quote: bool,
-    /// Options that the Shell leaves out, and that say nothing which matters here, are struck out of the script.
+    /// Options that the Shell leaves out, and that have no effect which matters here, are struck out of the script.
     pub strike: bool,
     /// The script runs only if it has no option that the Shell leaves out.
     pub strict: bool,
-    /// So many events and long lines are taken at most.
+    /// The most events and long lines that are taken.
     pub turns: u64,
     /// The script's file.
     pub script: &'a str,
@@ -39,7 +39,7 @@ pub struct Options<'a> {
 /// Why the words ask for nothing.
 #[derive(Drop)]
 pub enum Refused {
-    /// They are no command line of the program.
+    /// They are not a command line of the program.
     BadLine,
     /// They ask for help or for the version, which is this text.
     Help(Text),

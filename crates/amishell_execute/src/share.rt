@@ -1,6 +1,7 @@
 //! A folder of this machine that is shared with the Shell.
 ghost use Rattle.std.specs.Prelude.{◌≡◌, ◌<◌, ◌^◌, ◌-◌, [], IsOk, OnOk};
 ghost use Rattle.ados_launch.specs.Agreement.{Agrees, IsOpenTable};
+ghost use Rattle.ados_launch.specs.Leads.{Reaches};
 
 use crate::faults::{Fault, cannot_read, tell};
 use crate::launcher::Bringer;
@@ -17,31 +18,31 @@ use std::process::Processes;
 use std::rt::{Env, Files};
 use std::time::Clock;
 
-// So many events a line that brings something in takes at most: the longest file comes in 16 pieces.
+// The most events that a line takes which brings something in: the longest file comes in 16 pieces.
 const EVENTS: u64 = 100;
 
-/// The mirror of the folder, and how far it is.
+/// The mirror of the folder, and its state.
 #[derive(Drop)]
 pub struct Share {
     mirror: Mirror,
-    // the directory of this process
+    // The current directory of this process.
     home: String,
-    // what was in the folder at the beginning has come in
+    // What was in the folder at the beginning was brought in.
     is_filled: bool,
 }
 
-// What the event that comes next asks for.
+// What the next event asks for.
 enum Due {
-    // the start of a program, by this shell
+    // The start of a program, by this shell.
     Start(u8),
-    // the end of the program of this shell
+    // The end of the program of this shell.
     Wait(u8),
-    // anything else
+    // Anything else.
     Other,
 }
 
 impl Due {
-    // What the event that comes next asks for.
+    // What the next event asks for.
     fn next(session: &Session<'_>, world: &World) -> Due
         requires count { session.now.standing.taken < 2 ^ 64 - 1 }
     {
@@ -54,7 +55,7 @@ impl Due {
 }
 
 impl Share {
-    /// Makes the directory in a new world that the words name, and the commands by which files come in.
+    /// Makes in a new world the directory that the words name, and the commands by which files are brought in.
     pub fn open<R: Env + AllocGlobal + Files + Clone + Drop + Clock>(
         rt: &R,
         words: &str,
@@ -63,6 +64,7 @@ impl Share {
     ) -> Result<Share, Fault>
         requires agrees { Agrees world.old [] }
         ensures agrees { OnOk result (Agrees world.new []) }
+        ensures leads { Reaches world.old world.new }
     {
         let alloc = rt.alloc();
         let Ok(home) = env::current_dir(rt) else {
@@ -91,8 +93,8 @@ impl Share {
         Ok(line)
     }
 
-    /// Before an event: at a program's start what changed is written to the folder, and before its end is told to the world
-    /// what changed in the folder comes in. `is_ready`: the lines were given that bring files in.
+    /// Before an event: at a program's start, what changed is written to the folder; before its end is reported to the world,
+    /// what changed in the folder is brought in. `is_ready`: the lines that bring files in were given.
     pub fn attend<R: AllocGlobal + Files + Eprint + Processes + Clone + Drop + Clock>(
         &mut self,
         rt: &R,
@@ -107,6 +109,7 @@ impl Share {
         ensures agrees { OnOk result (Agrees world.new launcher.new.calls) }
         ensures children { OnOk result (IsOpenTable session.new.children launcher.new.calls) }
         ensures standing { session.new.standing ≡ session.old.standing }
+        ensures leads { Reaches world.old world.new }
     {
         self.mirror.watch(world.files())?;
         if !self.is_filled {
@@ -132,7 +135,7 @@ impl Share {
         Ok(())
     }
 
-    /// Writes what changed to the folder at the end. `false` where something could not be written, or had not come in.
+    /// Writes what changed to the folder at the end. `false` if something could not be written, or was not brought in.
     pub fn close<R: AllocGlobal + Files + Eprint + Clone + Drop + Clock>(
         &mut self,
         rt: &R,
@@ -144,7 +147,7 @@ impl Share {
         Ok(!self.mirror.has_failed())
     }
 
-    // Has what changed in the folder come in.
+    // Brings in what changed in the folder.
     fn bring_in<R: AllocGlobal + Files + Eprint + Processes + Clone + Drop + Clock>(
         &mut self,
         rt: &R,
@@ -153,6 +156,7 @@ impl Share {
     ) -> Result<(), Fault>
         requires agrees { Agrees world.old launcher.old.calls }
         ensures agrees { OnOk result (Agrees world.new launcher.new.calls) }
+        ensures leads { Reaches world.old world.new }
     {
         for arrival in self.mirror.arrivals(rt, world.files())? {
             let arrival = take_in(rt.alloc(), world, launcher, arrival)?;
@@ -173,7 +177,7 @@ impl Share {
         Ok(())
     }
 
-    // The folder that fits the current directory of a shell.
+    // The folder that corresponds to the current directory of a shell.
     fn folder_of(
         &self,
         alloc: Global,
@@ -192,7 +196,7 @@ impl Share {
         }))
     }
 
-    // Writes the lines on standard error that the mirror has to tell.
+    // Writes to standard error the lines that the mirror has to report.
     fn tell_lines<R: Eprint>(&mut self, rt: &R) {
         for line in &self.mirror.take_lines() {
             tell(rt, line);
@@ -209,6 +213,7 @@ fn take_in<R: Processes>(
 ) -> Result<Arrival, Fault>
     requires agrees { Agrees world.old launcher.old.calls }
     ensures agrees { OnOk result (Agrees world.new launcher.new.calls) }
+    ensures leads { Reaches world.old world.new }
 {
     launcher.offer(arrival.bytes.take());
     run_lines(alloc, world, arrival.lines.as_slice(), launcher)?;
@@ -216,7 +221,7 @@ fn take_in<R: Processes>(
     Ok(arrival)
 }
 
-// Runs lines one after another, each alone in a shell of its own.
+// Runs lines in order, each alone in a shell of its own.
 fn run_lines<L: Launcher>(
     alloc: Global,
     world: &mut World,
@@ -225,6 +230,7 @@ fn run_lines<L: Launcher>(
 ) -> Result<(), Fault>
     requires agrees { Agrees world.old (L.calls launcher.old) }
     ensures agrees { OnOk result (Agrees world.new (L.calls launcher.new)) }
+    ensures leads { Reaches world.old world.new }
 {
     for line in lines {
         run_alone(alloc, world, line, launcher)?;
@@ -232,7 +238,7 @@ fn run_lines<L: Launcher>(
     Ok(())
 }
 
-// Runs a line alone, whose output nobody wants. Where no shell is free it is not run.
+// Runs a line alone, whose output is ignored. If no shell is free it is not run.
 fn run_alone<L: Launcher>(
     alloc: Global,
     world: &mut World,
@@ -241,13 +247,14 @@ fn run_alone<L: Launcher>(
 ) -> Result<(), Fault>
     requires agrees { Agrees world.old (L.calls launcher.old) }
     ensures agrees { OnOk result (Agrees world.new (L.calls launcher.new)) }
+    ensures leads { Reaches world.old world.new }
 {
     let mut printed = Vec::new(alloc);
     let ran = system(alloc, world, line, launcher, EVENTS, &mut printed);
     outcome(&ran)
 }
 
-// What it comes to that a line ran alone.
+// The result of a line that ran alone.
 fn outcome(ran: &Result<SystemEnd, SystemFault>) -> Result<(), Fault>
     ensures { OnOk result (IsOk ran.now) }
 {

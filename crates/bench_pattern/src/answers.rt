@@ -6,7 +6,7 @@ use ados_text::Text;
 use std::alloc::Global;
 use std::slice;
 
-/// Whether the pattern in front of a line's first blank matches the name behind it.
+/// Whether the pattern before a line's first blank matches the name after it.
 pub fn is_matched(alloc: Global, line: &str) -> Result<bool, PatternFault> {
     let (pattern, name) = line.split_once(' ').unwrap_or((line, ""));
     let name = Text::from_bytes(alloc, name.as_bytes())?;

@@ -2,11 +2,11 @@
 //! What patterns match: a table of all short patterns, answers to lines of a pattern and a name, or
 //! many matches to be timed from outside.
 //!
-//! With no argument: for each length of pattern up to four bytes a line that counts, over all
-//! patterns of some signs, what is refused, literal and matched, with a digest of every answer;
+//! With no argument: for each length of pattern up to four bytes, a line that counts, over all
+//! patterns of some characters, what is refused, literal and matched, with a digest of every answer;
 //! then each line of standard input, `PATTERN NAME`, with its answer.
-//! `PATTERN NAME ROUNDS`: the match of a name, so many times. `PATTERN - ROUNDS`: the matches of
-//! 1,000 names, so many times.
+//! `PATTERN NAME ROUNDS`: the match of a name, ROUNDS times. `PATTERN - ROUNDS`: the matches of
+//! 1,000 names, ROUNDS times.
 
 mod answers;
 mod rounds;

@@ -5,7 +5,7 @@ use ados_pattern::{Pattern, PatternFault};
 use ados_text::{NoMemory, Text};
 use std::alloc::Global;
 
-/// How many matches held over all rounds. The name `-` stands for 1,000 names.
+/// How many matches succeeded over all rounds. The name `-` stands for 1,000 names.
 pub fn matched(alloc: Global, pattern: &str, name: &str, rounds: u32) -> Result<u32, PatternFault> {
     let names = if name == "-" {
         many_names(alloc)?
@@ -15,7 +15,7 @@ pub fn matched(alloc: Global, pattern: &str, name: &str, rounds: u32) -> Result<
     matches_of(alloc, pattern, &names, rounds)
 }
 
-/// How many matches of these names held over all rounds.
+/// How many matches of these names succeeded over all rounds.
 pub fn matches_of(
     alloc: Global,
     pattern: &str,

@@ -86,7 +86,7 @@ impl Tally {
     }
 }
 
-/// The tally of all patterns of so many signs.
+/// The tally of all patterns with this many characters.
 pub fn of_length(alloc: Global, length: u32) -> Result<Tally, PatternFault> {
     let texts = texts_of(alloc, &TEXTS)?;
     tally_over(alloc, length, &texts)
@@ -101,7 +101,7 @@ fn tally_over(alloc: Global, length: u32, texts: &[Text]) -> Result<Tally, Patte
     Ok(tally)
 }
 
-// The text of so many signs whose places in the list of signs are the digits of the index.
+// The text with this many characters whose places in the list of characters are the digits of the index.
 fn written(alloc: Global, signs: &[u8], length: u32, index: u32) -> Result<Text, NoMemory> {
     let mut bytes = Vec::new(alloc);
     let mut left = index as usize;

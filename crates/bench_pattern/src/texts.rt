@@ -3,7 +3,7 @@
 use ados_text::{NoMemory, Text};
 use std::alloc::Global;
 
-/// The texts that are written so.
+/// The texts with these bytes.
 pub fn texts_of(alloc: Global, written: &[&str]) -> Result<Vec<Text>, NoMemory> {
     let mut texts = Vec::new(alloc);
     for text in written {

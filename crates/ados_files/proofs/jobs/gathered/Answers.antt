@@ -6,7 +6,7 @@ use Rattle.ados_files.specs.Names.{FoundPlaces}
 use Rattle.ados_files.specs.Jobs.{in_front}
 use Rattle.ados_files.proofs.jobs.gathered.Goals as goal
 
--- what stands in front of what is in front
+-- places put before those that were put before others
 in_front-twice : (a b : List (List (List ℕ))) (more : Result FoundPlaces Codes) → in_front a (in_front b more) ≡ in_front (a ++ b) more
 in_front-twice a b (Err codes) = refl
 in_front-twice a b (Ok more) = simp append_assoc

@@ -3,7 +3,7 @@ use Rattle.ados_flow.specs.Gathering.{gathered, run_limit}
 use Rattle.ados_flow.proofs.GatheringLemmas.{led}
 use Rattle.ados_flow.proofs.gathering.gather.Given as goal
 
--- what is gathered so far, before what is left gathers; the lines that are left are those not taken
+-- what is gathered so far, and then what the rest gathers; the lines that are left are those not taken
 abbrev pub invariant-loop-line : goal.invariant-loop-line
 invariant-loop-line l =
     (led l.commands (gathered (31 - length l.commands) l.last l.rest) ≡ gathered 31 l.text l.lines)

@@ -5,7 +5,8 @@ use Rattle.ados_machine.specs.World.{codes_at, shell_at}
 use Rattle.ados_machine.proofs.Systems.{free-two}
 use Rattle.ados_world.specs.Opened.{opening_fault}
 use Rattle.ados_shell.specs.Drafts.{out_of}
-use Rattle.ados_launch.proofs.AloneLemmas.{going-ended, going-late, going-more, going-none, opened-agrees, stands-untaken, stands-unwritten}
+use Rattle.ados_launch.proofs.AloneLemmas.{going-none, opened-agrees}
+use Rattle.ados_launch.proofs.AloneRuns.{going-ended, going-late, going-more, stands-untaken, stands-unwritten}
 use Rattle.ados_launch.proofs.alone.system.Goals as goal
 
 pub loop-events-init : goal.loop-events-init

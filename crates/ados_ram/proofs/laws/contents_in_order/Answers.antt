@@ -1,4 +1,5 @@
-use Rattle.ados_ram.proofs.ContentsLemmas.{children-law, contents-law, files-law, inside-first, name-first}
+use Rattle.ados_ram.proofs.ContentsLemmas.{inside-first, name-first}
+use Rattle.ados_ram.proofs.ContentsLaws.{children-law, contents-law, files-law}
 use Rattle.ados_ram.proofs.laws.contents_in_order.Goals as goal
 
 pub returns-clause-contents : goal.returns-clause-contents

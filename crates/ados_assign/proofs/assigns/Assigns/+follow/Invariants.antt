@@ -1,7 +1,7 @@
 use Rattle.std.proofs.Common.{◌+◌, ◌*◌}
 use Rattle.ados_assign.proofs.assigns.Assigns.+follow.Given as goal
 
--- a text is led by a path, which may be led by a text in turn, one level deeper
+-- a text's path is resolved, which may lead to another text, one level deeper
 abbrev pub decreases-follow_by : goal.decreases-follow_by
 decreases-follow_by l = 3 * l.levels
 

@@ -2,7 +2,7 @@ use Rattle.std.proofs.Common.{◌≡◌, ℕ, List, None, sym, ap, ◌∙◌, su
 use Rattle.ados_ram.specs.Place.{key_of, last_name}
 use Rattle.ados_ram.specs.Files.{AreFiles}
 use Rattle.ados_ram.specs.FileOperations.{rename_of, rename_fault}
-use Rattle.ados_ram.proofs.RenameLemmas.{renamed_files}
+use Rattle.ados_ram.proofs.RenamedFiles.{renamed_files}
 use Rattle.ados_ram.proofs.InsideLemmas.{may_move}
 use Rattle.ados_ram.specs.Tree.{MayMove}
 use Rattle.ados_ram.proofs.files.Ram.rename.Goals as goal

@@ -3,7 +3,8 @@ use Rattle.ados_machine.specs.World.{input_of}
 use Rattle.ados_machine.specs.declared.events.Event.TheVariants as event
 use Rattle.ados_shell.specs.declared.answers.Answering.{Answering}
 use Rattle.ados_shell.specs.Answerings.{GivesReply}
-use Rattle.ados_world.proofs.StepLemmas.{accepted-wants, answer-goes, answer-wants, answer-wrong, answered, answers, sane-answered}
+use Rattle.ados_world.proofs.StepLemmas.{answered, answers}
+use Rattle.ados_world.proofs.AnswerLemmas.{accepted-wants, answer-goes, answer-wants, answer-wrong, sane-answered}
 use Rattle.ados_world.proofs.worlds.World.answer.Goals as goal
 
 pub take-requires-clause-sane : goal.take-requires-clause-sane

@@ -4,7 +4,7 @@ use Rattle.ados_machine.specs.Breaks.{breaks_by, broken_number}
 use Rattle.ados_machine.specs.Limits.{IsSane}
 use Rattle.ados_machine.specs.Shells.{ShellState}
 use Rattle.ados_machine.specs.World.{WorldState, shell_at}
-use Rattle.ados_world.proofs.StepLemmas.{copied-some, sane-broken}
+use Rattle.ados_world.proofs.AnswerLemmas.{copied-some, sane-broken}
 use Rattle.ados_world.proofs.worlds.World.break_shell.Goals as goal
 
 pub invariant_of-self : goal.invariant_of-self

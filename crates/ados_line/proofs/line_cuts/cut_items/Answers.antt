@@ -2,7 +2,7 @@ use Rattle.std.proofs.Common.{suc, ◌-◌, length, arith, sym, inr}
 use Rattle.std.proofs.lemmas.Result.{err_from_is_err_and}
 use Rattle.ados_line.specs.Cut.{cut_from}
 use Rattle.ados_line.proofs.CutLemmas.{cut-onward, cut-done, cut-fault}
-use Rattle.ados_line.proofs.cuts.cut_items.Goals as goal
+use Rattle.ados_line.proofs.line_cuts.cut_items.Goals as goal
 
 pub returns-in_err-to : goal.returns-in_err-to
 returns-in_err-to c =

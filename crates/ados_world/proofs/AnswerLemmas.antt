@@ -1,0 +1,115 @@
+-- What an answer or a break changes is the machine's world after it.
+use Rattle.std.proofs.Common.{◌≡◌, ◌∙◌, ◌-◌, ℕ, List, [], false, Option, Some, None, Ok, Err, ap, sym, refl, subst}
+use Rattle.std.specs.Prelude.{true, is_some, if◌then◌else◌}
+use Rattle.std.specs.Borrow.{Bor}
+use Rattle.std.specs.Option.{option_copied}
+use Rattle.ados_find.specs.declared.codes.Codes.{Codes}
+use Rattle.ados_machine.specs.declared.events.Event.TheVariants as event
+use Rattle.ados_machine.specs.declared.outs.Out.{Out}
+use Rattle.ados_machine.specs.declared.refusals.Refusal.TheVariants.{NoMemory, Over, WrongAnswer}
+use Rattle.ados_machine.specs.declared.events.Kind.{Kind}
+use Rattle.ados_machine.specs.Breaks.{breaks_by, broken_number}
+use Rattle.ados_machine.specs.Shells.{ShellState}
+use Rattle.ados_machine.specs.Limits.{IsSane}
+use Rattle.ados_machine.specs.Runs.{IsAnswer, world_after}
+use Rattle.ados_machine.specs.Turning as turning
+use Rattle.ados_machine.specs.World.{WorldState, input_of, is_over, shell_at}
+use Rattle.ados_machine.specs.declared.answers.Answer.{Answer as Reply}
+use Rattle.ados_shell.specs.declared.answers.Answering.TheVariants as reply
+use Rattle.ados_shell.specs.Answerings.{IsAnswering, answering_in}
+use Rattle.ados_machine.specs.Step.{Response, Refused, Accepted, applied, giving, start, turned, answered as answered_of, broken}
+use Rattle.ados_machine.proofs.Sane.{sane-after}
+use Rattle.ados_shell.specs.declared.drafts.Draft.{Draft}
+use Rattle.ados_shell.specs.declared.scenes.Scene.{Scene}
+use Rattle.ados_shell.specs.declared.turnings.Turning.TheVariants as turn
+use Rattle.ados_shell.specs.Turnings.{IsTurning, MayWantMemory}
+use Rattle.ados_world.specs.Scenes.{Shows}
+use Rattle.ados_world.specs.Steps.{answering, asked_by, taken}
+use Rattle.ados_world.proofs.StepLemmas.{start_in, Accepts, goes}
+
+-- the machine's answering of a shell, by what the scene shows
+answering-is : (w : WorldState) (k : ℕ) (shell : ShellState) (scene : Scene) (answer : Reply) → Shows w k shell scene
+    → answering_in scene (input_of w k) answer ≡ turning.answering (input_of w k) shell.frames (start w shell) shell.phase answer
+answering-is w k shell scene answer s =
+    ap (λ x. turning.answering (input_of w k) x.frames (start_in scene.shared.now scene.shells.now x) x.phase answer) s.shell_is
+    ∙ ap (λ x. turning.answering (input_of w k) shell.frames (start_in x scene.shells.now shell) shell.phase answer) s.shared_is
+    ∙ ap (λ x. turning.answering (input_of w k) shell.frames (start_in w.shared x shell) shell.phase answer) s.shells_are
+
+-- an answer by which a shell goes on has the same effect on its world as a turn
+as-turning : (scene : Scene) (queue : List (List ℕ)) (draft : Draft) (turning : turning.Turning)
+    → IsAnswering scene queue reply.Goes draft turning → IsTurning scene queue turn.Goes draft turning
+as-turning scene queue draft (turning.Refuses why) t = absurd t
+as-turning scene queue draft turning.Ends t = absurd t
+as-turning scene queue draft (turning.Takes rest turned) t = t
+
+-- an answer by which the shell went on
+pub answer-goes : (w : WorldState) (k : ℕ) (shell : ShellState) (scene : Scene) (answer : Reply) (draft : Draft) → Shows w k shell scene
+    → IsAnswering scene (input_of w k).queue reply.Goes draft (answering_in scene (input_of w k) answer)
+    → Accepts (answered_of w k answer (shell_at w k)) (taken k draft w) (asked_by (shell_at w k) draft)
+answer-goes w k shell scene answer draft s t =
+    (let P : turning.Turning → Type 0 = λ x. IsAnswering scene (input_of w k).queue reply.Goes draft x in
+    let accepts = goes w k shell scene draft _ s (as-turning scene _ draft _ (subst P (answering-is w k shell scene answer s) t)) in
+    (accepts.0, ap (answered_of w k answer) s.here ∙ accepts.1))
+
+-- an answer that is accepted may still be refused if an allocation fails
+pub accepted-wants : (w world : WorldState) (k : ℕ) (answer : Reply) (given : Out) (response : Response) → Accepts response world given
+    → IsAnswer (event.Answer k answer) (Err NoMemory) response
+accepted-wants w world k answer given (Accepted other out items) accepts = tt
+accepted-wants w world k answer given (Refused why) (items, e) = cc
+
+-- the machine goes on, but an allocation may fail
+took-wants : (k : ℕ) (answer : Reply) (w : WorldState) (codes : Codes) (turning : turning.Turning) → MayWantMemory turning
+    → IsAnswer (event.Answer k answer) (Err NoMemory) (applied w k codes turning)
+took-wants k answer w codes (turning.Refuses why) m = absurd m
+took-wants k answer w codes turning.Ends m = absurd m
+took-wants k answer w codes (turning.Takes rest turned) m = tt
+
+pub answer-wants : (w : WorldState) (k : ℕ) (shell : ShellState) (scene : Scene) (answer : Reply) → Shows w k shell scene
+    → MayWantMemory (answering_in scene (input_of w k) answer)
+    → IsAnswer (event.Answer k answer) (Err NoMemory) (answered_of w k answer (shell_at w k))
+answer-wants w k shell scene answer s m =
+    (let P : Response → Type 0 = λ r. IsAnswer (event.Answer k answer) (Err NoMemory) r in
+    subst P (sym (ap (answered_of w k answer) s.here))
+    (took-wants k answer w shell.parts.codes _ (subst MayWantMemory (answering-is w k shell scene answer s) m)))
+
+-- an answer of another kind is refused
+refuses-wrong : (scene : Scene) (queue : List (List ℕ)) (draft : Draft) (k : ℕ) (answer : Reply) (w : WorldState) (codes : Codes) (turning : turning.Turning)
+    → IsAnswering scene queue reply.WrongAnswer draft turning → IsAnswer (event.Answer k answer) (Err WrongAnswer) (applied w k codes turning)
+refuses-wrong scene queue draft k answer w codes (turning.Refuses why) t = sym t
+refuses-wrong scene queue draft k answer w codes turning.Ends t = absurd t
+refuses-wrong scene queue draft k answer w codes (turning.Takes rest turned) t = absurd t
+
+pub answer-wrong : (w : WorldState) (k : ℕ) (shell : ShellState) (scene : Scene) (answer : Reply) (draft : Draft) → Shows w k shell scene
+    → IsAnswering scene (input_of w k).queue reply.WrongAnswer draft (answering_in scene (input_of w k) answer)
+    → IsAnswer (event.Answer k answer) (Err WrongAnswer) (answered_of w k answer (shell_at w k))
+answer-wrong w k shell scene answer draft s t =
+    (let P : Response → Type 0 = λ r. IsAnswer (event.Answer k answer) (Err WrongAnswer) r in
+    let Q : turning.Turning → Type 0 = λ x. IsAnswering scene (input_of w k).queue reply.WrongAnswer draft x in
+    subst P (sym (ap (answered_of w k answer) s.here))
+    (refuses-wrong scene (input_of w k).queue draft k answer w shell.parts.codes
+    (turning.answering (input_of w k) shell.frames (start w shell) shell.phase answer) (subst Q (answering-is w k shell scene answer s) t)))
+
+-- no script runs on after a failure in the world that an answer leaves
+pub sane-answered : (w world : WorldState) (k : ℕ) (answer : Reply) (given : Out) → IsSane w → is_over w ≡ false
+    → Accepts (answered_of w k answer (shell_at w k)) world given → IsSane world
+sane-answered w world k answer given sane over (items, e) =
+    (let P : Response → Type 0 = λ r. IsSane (world_after w (Ok given) r) in
+    subst P (ap (λ b. if b then Refused Over else answered_of w k answer (shell_at w k)) over ∙ e) (sane-after w (event.Answer k answer) (Ok given) sane))
+
+-- a shell that is shown runs
+pub copied-some : {X : Type 0} (shown : Option (Bor X)) → is_some shown ≡ true → is_some (option_copied shown) ≡ true
+copied-some None e = e
+copied-some (Some shell) e = refl
+
+found-broken : (w : WorldState) (k : ℕ) (kind : Kind) (found : Option ShellState) → shell_at w k ≡ found → is_some found ≡ true → IsSane w → is_over w ≡ false
+    → IsSane (record w { shells = broken_number (breaks_by kind) k w.shells })
+found-broken w k kind None e runs sane over = cc
+found-broken w k kind (Some shell) e runs sane over =
+    (let given : Out = giving [] None [] in
+    let P : Response → Type 0 = λ r. IsSane (world_after w (Ok given) r) in
+    subst P (ap (λ b. if b then Refused Over else broken w k kind (shell_at w k)) over ∙ ap (λ f. broken w k kind f) e) (sane-after w (event.Break k kind) (Ok given) sane))
+
+-- no script runs on after a failure in the world that a break leaves
+pub sane-broken : (w : WorldState) (k : ℕ) (kind : Kind) → IsSane w → is_over w ≡ false → is_some (shell_at w k) ≡ true
+    → IsSane (record w { shells = broken_number (breaks_by kind) k w.shells })
+sane-broken w k kind sane over runs = found-broken w k kind (shell_at w k) refl runs sane over
