@@ -5,11 +5,11 @@ use Rattle.std.specs.List.{list_all}
 use Rattle.std.specs.FinMap as files_map
 use Rattle.std.proofs.lemmas.Bool.Decides.{nat_tests}
 use Rattle.std.proofs.lemmas.List.{length-map, map-append}
-use Rattle.ados_text.specs.Text.{fold_of, folded}
+use Rattle.ados_text.specs.Text.{fold_of, folded_text}
 use Rattle.ados_text.specs.Name.{Name}
 use Rattle.ados_text.specs.declared.codes.TheConstants.Result2.{WRONG_TYPE}
 use Rattle.ados_names.specs.Names.{is_name, is_name_byte}
-use Rattle.ados_names.specs.Path.{PathParts, IsPath, behind_name, is_step, path_limit, path_of, text_of, written}
+use Rattle.ados_names.specs.Path.{PathParts, IsPath, text_after_name, is_step, path_limit, path_of, text_of, steps_text}
 use Rattle.ados_names.specs.declared.steps.Step.{Step}
 use Rattle.ados_names.specs.declared.steps.Step.TheVariants as step
 use Rattle.ados_names.proofs.PathLemmas.{path-text}
@@ -17,9 +17,9 @@ use Rattle.ados_ram.specs.declared.entries.Entry.{Entry}
 use Rattle.ados_ram.specs.Place.{Key, Place, key_of, last_name}
 use Rattle.ados_ram.specs.Files.{AreFiles, Files, is_some_directory}
 use Rattle.ados_ram.specs.Named.{AreNamed}
-use Rattle.ados_ram.specs.Written.{slash_before, slashed, spelled, spelled_path, written_below, written_place}
+use Rattle.ados_ram.specs.Written.{slash_before, slash_joined, spelled_name, spelled_path, written_names, written_place}
 use Rattle.ados_ram.proofs.ChangeLemmas.{last-deeper}
-use Rattle.ados_assign.specs.Resolve.{Resolved, by_path, on_entry, resolved, walked}
+use Rattle.ados_assign.specs.Resolve.{Resolved, by_path, on_entry, resolve_path, walk_steps}
 use Rattle.ados_assign.specs.FullPaths.{FullPathsLeadBack, IsThere, SpelledPathsLeadBack, WrittenPlacesAreTheirs}
 
 -- the steps into names
@@ -31,14 +31,14 @@ abbrev path_to : Place → PathParts
 path_to place = record { device = Some (codes "RAM"); steps = steps_into place }
 
 -- its text
-behind-slash : (rest : Place) → written (steps_into rest) ≡ slashed rest → behind_name (steps_into rest) (written (steps_into rest)) ≡ slash_before rest ++ slashed rest
+behind-slash : (rest : Place) → steps_text (steps_into rest) ≡ slash_joined rest → text_after_name (steps_into rest) (steps_text (steps_into rest)) ≡ slash_before rest ++ slash_joined rest
 behind-slash [] h = h
 behind-slash (name ∷ rest) h = ap (λ (t : List ℕ). 47 ∷ t) h
 
-written-slashed : (names : Place) → written (steps_into names) ≡ slashed names
+written-slashed : (names : Place) → steps_text (steps_into names) ≡ slash_joined names
 written-slashed [] = refl
 written-slashed (name ∷ rest) =
-    ap (λ (t : List ℕ). name ++ t) (behind-slash rest (written-slashed rest)) ∙ sym (append_assoc name (slash_before rest) (slashed rest))
+    ap (λ (t : List ℕ). name ++ t) (behind-slash rest (written-slashed rest)) ∙ sym (append_assoc name (slash_before rest) (slash_joined rest))
 
 text-spelled : (place : Place) → text_of (path_to place) ≡ spelled_path place
 text-spelled place = ap (λ (t : List ℕ). codes "RAM:" ++ t) (written-slashed place)
@@ -58,7 +58,7 @@ goes-on : (o : Option Entry) (next : Resolved) → IsTrue (is_some_directory o) 
 goes-on None next h = cc
 goes-on (Some e) next h = ap (λ b. if b then next else Err WRONG_TYPE) h
 
-walks : (files : Files) (from rest : Place) → AreFiles files → IsSome (files_map.get files (key_of (from ++ rest))) → walked files from (steps_into rest) ≡ Ok (from ++ rest)
+walks : (files : Files) (from rest : Place) → AreFiles files → IsSome (files_map.get files (key_of (from ++ rest))) → walk_steps files from (steps_into rest) ≡ Ok (from ++ rest)
 walks files from [] are there = ap Ok (sym (append-nil from))
 walks files from (name ∷ []) are there = refl
 walks files from (name ∷ next ∷ more) are there =
@@ -66,14 +66,14 @@ walks files from (name ∷ next ∷ more) are there =
     let one : from ++ name ∷ next ∷ more ≡ here ++ next ∷ more = sym (append_assoc from (name ∷ []) (next ∷ more)) in
     let below : IsSome (files_map.get files (key_of (here ++ next ∷ more))) = subst (λ (p : Place). IsSome (files_map.get files (key_of p))) one there in
     let above : IsTrue (is_some_directory (files_map.get files (key_of here))) =
-    are.above (key_of here) (folded next) (key_of more) (subst (λ (k : Key). IsSome (files_map.get files k)) (map-append folded here (next ∷ more)) below) in
-    goes-on (files_map.get files (key_of here)) (walked files here (steps_into (next ∷ more))) above
+    are.above (key_of here) (folded_text next) (key_of more) (subst (λ (k : Key). IsSome (files_map.get files k)) (map-append folded_text here (next ∷ more)) below) in
+    goes-on (files_map.get files (key_of here)) (walk_steps files here (steps_into (next ∷ more))) above
     ∙ walks files here (next ∷ more) are below
     ∙ ap Ok (sym one)
 
 pub spelled-back : SpelledPathsLeadBack
 spelled-back files place are is fits assigns current =
-    ap (by_path (resolved assigns files current)) (names-path place is.names fits) ∙ walks files [] place are is.there
+    ap (by_path (resolve_path assigns files current)) (names-path place is.names fits) ∙ walks files [] place are is.there
 
 -- the name of an object is that of its place, except for case
 last-of : (above : Key) (name : Name) → last_name (above ++ name ∷ []) ≡ name
@@ -81,18 +81,18 @@ last-of [] name = refl
 last-of (x ∷ []) name = refl
 last-of (x ∷ y ∷ ys) name = last-deeper x y (ys ++ name ∷ []) ∙ last-of (y ∷ ys) name
 
-spelled-same : (files : Files) (above : Place) (name : Name) (o : Option Entry) → AreNamed files → files_map.get files (key_of (above ++ name ∷ [])) ≡ o → folded (spelled o name) ≡ folded name
+spelled-same : (files : Files) (above : Place) (name : Name) (o : Option Entry) → AreNamed files → files_map.get files (key_of (above ++ name ∷ [])) ≡ o → folded_text (spelled_name o name) ≡ folded_text name
 spelled-same files above name None are h = refl
 spelled-same files above name (Some e) are h =
     let named = are (key_of (above ++ name ∷ [])) e h in
-    named.own ∙ ap last_name (map-append folded above (name ∷ [])) ∙ last-of (key_of above) (folded name)
+    named.own ∙ ap last_name (map-append folded_text above (name ∷ [])) ∙ last-of (key_of above) (folded_text name)
 
-below-same : (files : Files) (above rest : Place) → AreNamed files → key_of (written_below files above rest) ≡ key_of rest
+below-same : (files : Files) (above rest : Place) → AreNamed files → key_of (written_names files above rest) ≡ key_of rest
 below-same files above [] are = refl
 below-same files above (name ∷ rest) are =
     let here = above ++ name ∷ [] in
-    ap (λ (n : Name). n ∷ key_of (written_below files here rest)) (spelled-same files above name (files_map.get files (key_of here)) are refl)
-    ∙ ap (λ (k : Key). folded name ∷ k) (below-same files here rest are)
+    ap (λ (n : Name). n ∷ key_of (written_names files here rest)) (spelled-same files above name (files_map.get files (key_of here)) are refl)
+    ∙ ap (λ (k : Key). folded_text name ∷ k) (below-same files here rest are)
 
 pub written-same : WrittenPlacesAreTheirs
 written-same files place are = below-same files [] place are
@@ -101,13 +101,13 @@ written-same files place are = below-same files [] place are
 byte-folded : (byte : ℕ) → is_name_byte (fold_of byte) ≡ is_name_byte byte
 byte-folded byte = grind (arith, nat_tests)
 
-bytes-folded : (text : List ℕ) → list_all is_name_byte (folded text) ≡ list_all is_name_byte text
+bytes-folded : (text : List ℕ) → list_all is_name_byte (folded_text text) ≡ list_all is_name_byte text
 bytes-folded [] = refl
-bytes-folded (c ∷ cs) = ap (λ b. b && list_all is_name_byte (folded cs)) (byte-folded c) ∙ ap (λ b. is_name_byte c && b) (bytes-folded cs)
+bytes-folded (c ∷ cs) = ap (λ b. b && list_all is_name_byte (folded_text cs)) (byte-folded c) ∙ ap (λ b. is_name_byte c && b) (bytes-folded cs)
 
-name-folded : (name : Name) → is_name (folded name) ≡ is_name name
+name-folded : (name : Name) → is_name (folded_text name) ≡ is_name name
 name-folded name =
-    ap (λ n. nat_lt 0 n && nat_le n 30 && list_all is_name_byte (folded name)) (length-map name fold_of)
+    ap (λ n. nat_lt 0 n && nat_le n 30 && list_all is_name_byte (folded_text name)) (length-map name fold_of)
     ∙ ap (λ b. nat_lt 0 (length name) && nat_le (length name) 30 && b) (bytes-folded name)
 
 names-folded : (names : Place) → list_all is_name (key_of names) ≡ list_all is_name names

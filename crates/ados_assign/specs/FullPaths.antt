@@ -10,11 +10,11 @@ use Rattle.ados_ram.specs.Files.{Files, AreFiles}
 use Rattle.ados_ram.specs.Named.{AreNamed}
 use Rattle.ados_ram.specs.Written.{full_path, spelled_path, written_place}
 use Rattle.ados_assign.specs.Assigns.{AssignMap}
-use Rattle.ados_assign.specs.Resolve.{by_path, resolved}
+use Rattle.ados_assign.specs.Resolve.{by_path, resolve_path}
 
 -- a text leads to a place, whatever the assigns and the current directory are
 abbrev pub LeadsTo : Files → Text → Place → Type 0
-LeadsTo files text place = (assigns : AssignMap) (current : Place) → by_path (resolved assigns files current) (path_of text) ≡ Ok place
+LeadsTo files text place = (assigns : AssignMap) (current : Place) → by_path (resolve_path assigns files current) (path_of text) ≡ Ok place
 
 -- there is an object at a place, and each name that leads there is one that a path may have
 pub record IsThere (files : Files) (place : Place) : Type 0 where

@@ -5,7 +5,7 @@ use Rattle.ados_text.specs.Text.{Text}
 use Rattle.ados_text.specs.declared.codes.TheConstants.Result2.{OBJECT_NOT_FOUND}
 use Rattle.ados_ram.specs.Place.{Place, is_same_place}
 use Rattle.ados_find.specs.declared.codes.Codes.{Codes}
-use Rattle.ados_find.specs.Codes.{erred}
+use Rattle.ados_find.specs.Codes.{error_codes}
 use Rattle.ados_find.specs.SearchPath.{with_entry, without_entry}
 use Rattle.ados_find.specs.Shared.{SharedState}
 use Rattle.ados_find.specs.Views.{View}
@@ -15,28 +15,28 @@ use Rattle.ados_env.specs.declared.assign_list.ListWork.{ListWork}
 use Rattle.ados_env.specs.declared.assign_request.Request.{Request}
 
 -- ADD and REMOVE begin with the directories as they are, and every other request with none
-abbrev pub begun_with : Request → List Place → ListWork
-begun_with r before = record { removes = r.removes; before = before; list = if changes_list r then before else [] }
+abbrev pub first_list_work : Request → List Place → ListWork
+first_list_work r before = record { removes = r.removes; before = before; list = if changes_list r then before else [] }
 
 -- a directory that TARGET names is added at the end, unless it is there; or it is removed, and then it has to be one of those
 -- that were there before
-abbrev pub worked_place : ListWork → Place → Result ListWork Codes
-worked_place work place =
+abbrev pub list_work_on_place : ListWork → Place → Result ListWork Codes
+list_work_on_place work place =
     if work.removes then
     (if list_any (λ entry. is_same_place entry place) work.before then Ok (record work { list = without_entry work.list place })
-    else Err (erred OBJECT_NOT_FOUND))
+    else Err (error_codes OBJECT_NOT_FOUND))
     else Ok (record work { list = with_entry work.list place })
 
-abbrev pub worked_at : ListWork → Result Place Codes → Result ListWork Codes
-worked_at work (Err codes) = Err codes
-worked_at work (Ok place) = worked_place work place
+abbrev pub list_work_on_result : ListWork → Result Place Codes → Result ListWork Codes
+list_work_on_result work (Err codes) = Err codes
+list_work_on_result work (Ok place) = list_work_on_place work place
 
 -- the work after the texts of TARGET in order, unless one of them is refused
 abbrev pub and_then : Result ListWork Codes → (ListWork → Result ListWork Codes) → Result ListWork Codes
 and_then (Err codes) further = Err codes
 and_then (Ok work) further = further work
 
-abbrev pub all_worked : SharedState → View → ListWork → List Text → Result ListWork Codes
-all_worked shared view work [] = Ok work
-all_worked shared view work (text ∷ texts) =
-    and_then (worked_at work (directory_of shared view text)) (λ next. all_worked shared view next texts)
+abbrev pub list_work_on_all : SharedState → View → ListWork → List Text → Result ListWork Codes
+list_work_on_all shared view work [] = Ok work
+list_work_on_all shared view work (text ∷ texts) =
+    and_then (list_work_on_result work (directory_of shared view text)) (λ next. list_work_on_all shared view next texts)

@@ -6,7 +6,7 @@ use Rattle.ados_text.specs.declared.codes.TheConstants.Result2.{ARGUMENT_MISSING
 use Rattle.ados_readargs.specs.declared.args.Arg.{Arg}
 use Rattle.ados_readargs.specs.Args.{texts_at, is_on}
 use Rattle.ados_find.specs.declared.codes.Codes.{Codes}
-use Rattle.ados_find.specs.Codes.{failed}
+use Rattle.ados_find.specs.Codes.{fail_codes}
 use Rattle.ados_env.specs.declared.assign_request.Request.{Request}
 
 -- EXISTS prints; DEFER and PATH keep TARGET as a text; ADD and REMOVE change the directories of an assign
@@ -41,11 +41,11 @@ fault_if wrong codes = if wrong then Some codes else None
 -- before the name is judged: two switches, or EXISTS with TARGET; TARGET, or a switch other than EXISTS, without NAME
 abbrev pub request_fault : Request → Bool → Option Codes
 request_fault r has_name =
-    option_or (fault_if (are_two r || (r.tells && has_target r)) (failed TOO_MANY_ARGUMENTS))
-    (fault_if (not has_name && (has_target r || (keeps_text r || changes_list r))) (failed ARGUMENT_MISSING))
+    option_or (fault_if (are_two r || (r.tells && has_target r)) (fail_codes TOO_MANY_ARGUMENTS))
+    (fault_if (not has_name && (has_target r || (keeps_text r || changes_list r))) (fail_codes ARGUMENT_MISSING))
 
 -- and after it: ADD, PATH and DEFER need TARGET, and PATH and DEFER only one
 abbrev pub targets_fault : Request → Option Codes
 targets_fault r =
-    option_or (fault_if ((r.adds || keeps_text r) && not (has_target r)) (failed ARGUMENT_MISSING))
-    (fault_if (keeps_text r && nat_lt 1 (length r.targets)) (failed TOO_MANY_ARGUMENTS))
+    option_or (fault_if ((r.adds || keeps_text r) && not (has_target r)) (fail_codes ARGUMENT_MISSING))
+    (fault_if (keeps_text r && nat_lt 1 (length r.targets)) (fail_codes TOO_MANY_ARGUMENTS))

@@ -5,7 +5,7 @@ use Rattle.ados_text.specs.Text.{Text}
 use Rattle.ados_readargs.specs.declared.args.Arg.{Arg}
 use Rattle.ados_readargs.specs.Args.{is_on, text_at, texts_at}
 use Rattle.ados_find.specs.Parts.{Parts}
-use Rattle.ados_find.specs.Search.{device_named, searched}
+use Rattle.ados_find.specs.Search.{device_named, searched_devices}
 use Rattle.ados_find.specs.Shared.{SharedState}
 use Rattle.ados_env.specs.declared.commands.Command.{Command}
 use Rattle.ados_env.specs.declared.commands.Command.TheVariants.{Assign, Cd, GetEnv, Path, Resident, SetEnv, UnsetEnv, Which}
@@ -24,14 +24,14 @@ paths_in Resident args = program_paths (is_on args 2) (text_at args 1) (texts_at
 paths_in command args = []
 
 -- the devices of the search for a word as a command
-abbrev pub sought : SharedState → Parts → Option Text → List Text
-sought shared parts None = []
-sought shared parts (Some word) = searched shared parts.directory parts.settings.path word
+abbrev pub search_devices : SharedState → Parts → Option Text → List Text
+search_devices shared parts None = []
+search_devices shared parts (Some word) = searched_devices shared parts.directory parts.settings.path word
 
 -- the devices that it uses: those of its paths; ENV: for global variables; and those that the search of Which reaches
 abbrev pub devices_of : Command → SharedState → Parts → List Arg → List Text
 devices_of SetEnv shared parts args = codes "ENV" ∷ []
 devices_of GetEnv shared parts args = codes "ENV" ∷ []
 devices_of UnsetEnv shared parts args = codes "ENV" ∷ []
-devices_of Which shared parts args = sought shared parts (text_at args 0)
+devices_of Which shared parts args = search_devices shared parts (text_at args 0)
 devices_of command shared parts args = flat_map device_named (paths_in command args)

@@ -1,7 +1,7 @@
 // The directories of an assign, as Assign changes them.
 ghost use Rattle.std.specs.Prelude.{◌≡◌, IfOk};
 ghost use Rattle.ados_find.specs.Paths.{Gives};
-ghost use Rattle.ados_env.specs.AssignList.{all_worked, begun_with, worked_place};
+ghost use Rattle.ados_env.specs.AssignList.{list_work_on_all, first_list_work, list_work_on_place};
 
 use crate::assign_request::Request;
 use crate::directories::directory_of;
@@ -25,7 +25,7 @@ pub struct ListWork {
 impl ListWork {
     /// The work as it begins, on an assign that has these directories.
     pub fn new(alloc: Global, request: &Request, before: &[Place]) -> Result<ListWork, NoMemory>
-        ensures { IfOk result (λ work. work ≡ begun_with request.now before.now) }
+        ensures { IfOk result (λ work. work ≡ first_list_work request.now before.now) }
     {
         let before = SearchPath::from_vec(Places::from_slice(alloc, before)?.into_vec());
         let list = if request.changes_list() {
@@ -50,7 +50,7 @@ impl ListWork {
         view: &ShellView,
         texts: &[Text],
     ) -> Result<ListWork, Refusal>
-        ensures { Gives result (all_worked shared.now view.now self texts.now) }
+        ensures { Gives result (list_work_on_all shared.now view.now self texts.now) }
     {
         let Some((text, further)) = texts.split_first() else {
             return Ok(self);
@@ -61,7 +61,7 @@ impl ListWork {
 
     // A directory is added, or removed.
     fn work(mut self, place: Place) -> Result<ListWork, Refusal>
-        ensures { Gives result (worked_place self place) }
+        ensures { Gives result (list_work_on_place self place) }
     {
         if !self.removes {
             self.list.add(place)?;

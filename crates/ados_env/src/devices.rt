@@ -1,11 +1,11 @@
 // The devices that the arguments of a command use.
 ghost use Rattle.std.specs.Prelude.{◌≡◌, ◌++◌, OnOk};
 ghost use Rattle.std.specs.List.{flat_map};
-ghost use Rattle.ados_assign.specs.Uses.{reached};
+ghost use Rattle.ados_assign.specs.Uses.{reached_devices};
 ghost use Rattle.ados_readargs.specs.Args.{is_on, text_at, texts_at};
 ghost use Rattle.ados_find.specs.Search.{device_named};
 ghost use Rattle.ados_env.specs.declared.commands.Command.TheVariants.{Assign};
-ghost use Rattle.ados_env.specs.Devices.{devices_of, paths_in, program_paths, sought};
+ghost use Rattle.ados_env.specs.Devices.{devices_of, paths_in, program_paths, search_devices};
 
 use crate::commands::Command;
 use ados_find::{Shared, ShellView, find};
@@ -23,7 +23,7 @@ pub fn push_devices(
     args: &Args,
     used: &mut Vec<Name>,
 ) -> Result<(), NoMemory>
-    ensures { OnOk result (used.new.items ≡ used.old.items ++ flat_map (reached shared.now.assigns) (devices_of command shared.now view.now.parts args.now)) }
+    ensures { OnOk result (used.new.items ≡ used.old.items ++ flat_map (reached_devices shared.now.assigns) (devices_of command shared.now view.now.parts args.now)) }
 {
     match command {
         Command::SetEnv | Command::GetEnv | Command::UnsetEnv => {
@@ -45,7 +45,7 @@ fn push_of(
     place: usize,
     used: &mut Vec<Name>,
 ) -> Result<(), NoMemory>
-    ensures { OnOk result (used.new.items ≡ used.old.items ++ flat_map (reached shared.now.assigns) (flat_map device_named (texts_at args.now place))) }
+    ensures { OnOk result (used.new.items ≡ used.old.items ++ flat_map (reached_devices shared.now.assigns) (flat_map device_named (texts_at args.now place))) }
 {
     let texts = args.made_texts(alloc, place)?;
     shared.push_devices_of(used, texts.as_slice())
@@ -58,7 +58,7 @@ fn push_targets(
     args: &Args,
     used: &mut Vec<Name>,
 ) -> Result<(), NoMemory>
-    ensures { OnOk result (used.new.items ≡ used.old.items ++ flat_map (reached shared.now.assigns) (flat_map device_named (paths_in Assign args.now))) }
+    ensures { OnOk result (used.new.items ≡ used.old.items ++ flat_map (reached_devices shared.now.assigns) (flat_map device_named (paths_in Assign args.now))) }
 {
     if args.is_on(3) || args.is_on(4) {
         Ok(())
@@ -74,7 +74,7 @@ fn push_program(
     args: &Args,
     used: &mut Vec<Name>,
 ) -> Result<(), NoMemory>
-    ensures { OnOk result (used.new.items ≡ used.old.items ++ flat_map (reached shared.now.assigns)
+    ensures { OnOk result (used.new.items ≡ used.old.items ++ flat_map (reached_devices shared.now.assigns)
         (flat_map device_named (program_paths (is_on args.now 2) (text_at args.now 1) (texts_at args.now 0)))) }
 {
     match args.made_text(alloc, 1)? {
@@ -92,7 +92,7 @@ fn push_sought(
     args: &Args,
     used: &mut Vec<Name>,
 ) -> Result<(), NoMemory>
-    ensures { OnOk result (used.new.items ≡ used.old.items ++ flat_map (reached shared.now.assigns) (sought shared.now view.now.parts (text_at args.now 0))) }
+    ensures { OnOk result (used.new.items ≡ used.old.items ++ flat_map (reached_devices shared.now.assigns) (search_devices shared.now view.now.parts (text_at args.now 0))) }
 {
     let Some(word) = args.made_text(alloc, 0)? else {
         return Ok(());

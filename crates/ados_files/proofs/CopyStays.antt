@@ -14,14 +14,14 @@ use Rattle.ados_ram.specs.InUse.{is_output}
 use Rattle.ados_ram.specs.FileOperations.{write_fault, make_dir_fault}
 use Rattle.ados_ram.proofs.StayLemmas.{insert-stays, place-outside}
 use Rattle.ados_find.specs.declared.codes.Codes.{Codes}
-use Rattle.ados_find.specs.Done.{Done, fresh, refused_or, each}
+use Rattle.ados_find.specs.Done.{Done, fresh_work, refused_or, act_on_each}
 use Rattle.ados_find.specs.Shared.{SharedState}
 use Rattle.ados_find.specs.Views.{View}
 use Rattle.ados_find.specs.Paths.{place_of}
 use Rattle.ados_files.specs.declared.jobs.Job.{Job}
-use Rattle.ados_files.specs.Copy.{between, made_at, make_missing, copy_fault, copy_written, copy_unless, copy_entry, copy_one, one_entry, directory_for, copy_into, is_onto, copy_found, copied_to, copied_from, copied_texts, copy_row}
-use Rattle.ados_files.specs.Jobs.{all_jobs, jobs_onto, sources_of}
-use Rattle.ados_files.specs.MakeDir.{made}
+use Rattle.ados_files.specs.Copy.{middle_directories, ensure_directory, make_missing, copy_fault, copy_written, copy_unless, copy_entry, copy_one, one_entry, directory_for, copy_into, is_onto, copy_found, copy_into_target, copy_of_sources, copy_by_texts, copy_row}
+use Rattle.ados_files.specs.Jobs.{all_jobs, target_jobs, sources_of}
+use Rattle.ados_files.specs.MakeDir.{make_one}
 use Rattle.ados_files.specs.Names.{FoundPlaces}
 use Rattle.ados_files.specs.MayChange.{is_under, is_under_path, copy_may_change}
 use Rattle.ados_files.proofs.Stays.{Stay, kept-each, kept-refused, kept-unless, stay-kept}
@@ -35,12 +35,12 @@ record IsBelow (to place : Place) : Type 0 where
 apart : (to place : Place) (key : Key) → IsBelow to place → is_at_or_below (key_of to) key ≡ false → is_same_key (key_of place) key ≡ false
 apart to place key below out = subst (λ (p : Place). is_same_key (key_of p) key ≡ false) (sym below.is) (place-outside to below.way key out)
 
-made-stays : (to : Place) (done : Done) (place : Place) → IsBelow to place → Stay (is_at_or_below (key_of to)) done.shared (made done place).shared
+made-stays : (to : Place) (done : Done) (place : Place) → IsBelow to place → Stay (is_at_or_below (key_of to)) done.shared (make_one done place).shared
 made-stays to done place below =
     kept-refused (stay-kept (is_at_or_below (key_of to))) (make_dir_fault done.shared.files (key_of place) (last_name place)) done _
     (λ key out. insert-stays done.shared.files (key_of place) _ key (apart to place key below out))
 
-at-stays : (to : Place) (done : Done) (place : Place) (there : Option Entry) → IsBelow to place → Stay (is_at_or_below (key_of to)) done.shared (made_at done place there).shared
+at-stays : (to : Place) (done : Done) (place : Place) (there : Option Entry) → IsBelow to place → Stay (is_at_or_below (key_of to)) done.shared (ensure_directory done place there).shared
 at-stays to done place None below = made-stays to done place below
 at-stays to done place (Some e) below =
     elim (is_directory e) as (λ b. Stay (is_at_or_below (key_of to)) done.shared (cond b done (refused_or (Some WRONG_TYPE) done done)).shared) [ true ↦ λ key out. refl | false ↦ λ key out. refl ]
@@ -51,7 +51,7 @@ missing-stays to done place below = at-stays to done place (map.get done.shared.
 one-further : (to above : Place) (name : List ℕ) → IsBelow to above → IsBelow to (above ++ name ∷ [])
 one-further to above name below = record { way = below.way ++ name ∷ []; is = ap (λ p. p ++ name ∷ []) below.is ∙ append_assoc to below.way (name ∷ []) }
 
-between-below : (to above names : Place) → IsBelow to above → AllByRecursion (IsBelow to) (between above names)
+between-below : (to above names : Place) → IsBelow to above → AllByRecursion (IsBelow to) (middle_directories above names)
 between-below to above [] below = tt
 between-below to above (name ∷ []) below = tt
 between-below to above (name ∷ next ∷ rest) below = (one-further to above name below, between-below to (above ++ name ∷ []) (next ∷ rest) (one-further to above name below))
@@ -67,9 +67,9 @@ written-stays view quiet source to names e done =
 entry-stays : (view : View) (quiet : Bool) (to : Place) (done : Done) (job : Job) (there : Option Entry) → Stay (is_at_or_below (key_of to)) done.shared (copy_entry view quiet to done job there).shared
 entry-stays view quiet to done job None = λ key out. refl
 entry-stays view quiet to done job (Some e) =
-    let ready = each make_missing done (between to job.names) in
+    let ready = act_on_each make_missing done (middle_directories to job.names) in
     (stay-kept (is_at_or_below (key_of to))).joined done.shared ready.shared (copy_unless view quiet job.source (to ++ job.names) e ready).shared
-    (kept-each (stay-kept (is_at_or_below (key_of to))) make_missing (IsBelow to) (missing-stays to) done (between to job.names) (between-below to to job.names (itself to)))
+    (kept-each (stay-kept (is_at_or_below (key_of to))) make_missing (IsBelow to) (missing-stays to) done (middle_directories to job.names) (between-below to to job.names (itself to)))
     (kept-unless (stay-kept (is_at_or_below (key_of to))) ready.stopped ready (copy_written view quiet job.source (to ++ job.names) e ready) (written-stays view quiet job.source to job.names e ready))
 
 one-stays : (view : View) (quiet : Bool) (to : Place) (done : Done) (job : Job) → Unit {0} → Stay (is_at_or_below (key_of to)) done.shared (copy_one view quiet to done job).shared
@@ -81,7 +81,7 @@ all-free : {X : Type 0} (xs : List X) → AllByRecursion (λ _. Unit {0}) xs
 all-free [] = tt
 all-free (x ∷ xs) = (tt, all-free xs)
 
-jobs-stay : (view : View) (quiet : Bool) (to : Place) (done : Done) (jobs : List Job) → Stay (is_at_or_below (key_of to)) done.shared (each (copy_one view quiet to) done jobs).shared
+jobs-stay : (view : View) (quiet : Bool) (to : Place) (done : Done) (jobs : List Job) → Stay (is_at_or_below (key_of to)) done.shared (act_on_each (copy_one view quiet to) done jobs).shared
 jobs-stay view quiet to done jobs = kept-each (stay-kept (is_at_or_below (key_of to))) (copy_one view quiet to) (λ _. Unit {0}) (one-stays view quiet to) done jobs (all-free jobs)
 
 directory-stays : (one : Bool) (to : Place) (done : Done) (there : Option Entry) → Stay (is_at_or_below (key_of to)) done.shared (directory_for one to done there).shared
@@ -93,26 +93,26 @@ into-stays : (view : View) (all quiet : Bool) (found : FoundPlaces) (done : Done
 into-stays view all quiet found done to =
     let ready = directory_for (is_some_directory (one_entry done.shared.files found)) to done (map.get done.shared.files (key_of to)) in
     let jobs = all_jobs all done.shared.files found.places in
-    (stay-kept (is_at_or_below (key_of to))).joined done.shared ready.shared (each (copy_one view quiet to) ready jobs).shared
+    (stay-kept (is_at_or_below (key_of to))).joined done.shared ready.shared (act_on_each (copy_one view quiet to) ready jobs).shared
     (directory-stays (is_some_directory (one_entry done.shared.files found)) to done (map.get done.shared.files (key_of to)))
     (jobs-stay view quiet to ready jobs)
 
 found-stays : (view : View) (all quiet : Bool) (found : FoundPlaces) (done : Done) (to : Place) → Stay (is_at_or_below (key_of to)) done.shared (copy_found view all quiet found done to).shared
 found-stays view all quiet found done to =
-    elim (is_onto done.shared.files found to) as (λ b. Stay (is_at_or_below (key_of to)) done.shared (if b then each (copy_one view quiet to) done (jobs_onto found.places) else copy_into view all quiet found done to).shared) [
-      | true ↦ jobs-stay view quiet to done (jobs_onto found.places)
+    elim (is_onto done.shared.files found to) as (λ b. Stay (is_at_or_below (key_of to)) done.shared (if b then act_on_each (copy_one view quiet to) done (target_jobs found.places) else copy_into view all quiet found done to).shared) [
+      | true ↦ jobs-stay view quiet to done (target_jobs found.places)
       | false ↦ into-stays view all quiet found done to
     ]
 
-to-stays : (shared : SharedState) (view : View) (all quiet : Bool) (found : FoundPlaces) (to : Result Place Codes) → OthersStay (is_under to) shared.files (copied_to shared view all quiet found to).shared.files
+to-stays : (shared : SharedState) (view : View) (all quiet : Bool) (found : FoundPlaces) (to : Result Place Codes) → OthersStay (is_under to) shared.files (copy_into_target shared view all quiet found to).shared.files
 to-stays shared view all quiet found (Err codes) = λ key out. refl
-to-stays shared view all quiet found (Ok to) = found-stays view all quiet found (fresh shared) to
+to-stays shared view all quiet found (Ok to) = found-stays view all quiet found (fresh_work shared) to
 
-from-stays : (shared : SharedState) (view : View) (all quiet : Bool) (found : Result FoundPlaces Codes) (to : List ℕ) → OthersStay (is_under_path shared view (Some to)) shared.files (copied_from shared view all quiet found to).shared.files
+from-stays : (shared : SharedState) (view : View) (all quiet : Bool) (found : Result FoundPlaces Codes) (to : List ℕ) → OthersStay (is_under_path shared view (Some to)) shared.files (copy_of_sources shared view all quiet found to).shared.files
 from-stays shared view all quiet (Err codes) to = λ key out. refl
 from-stays shared view all quiet (Ok found) to = to-stays shared view all quiet found (place_of shared view.parts.directory to)
 
-texts-stay : (shared : SharedState) (view : View) (all quiet : Bool) (texts : List (List ℕ)) (to : Option (List ℕ)) → OthersStay (is_under_path shared view to) shared.files (copied_texts shared view all quiet texts to).shared.files
+texts-stay : (shared : SharedState) (view : View) (all quiet : Bool) (texts : List (List ℕ)) (to : Option (List ℕ)) → OthersStay (is_under_path shared view to) shared.files (copy_by_texts shared view all quiet texts to).shared.files
 texts-stay shared view all quiet texts None = λ key out. refl
 texts-stay shared view all quiet [] (Some to) = λ key out. refl
 texts-stay shared view all quiet (text ∷ texts) (Some to) = from-stays shared view all quiet (sources_of shared view.parts.directory (text ∷ texts)) to

@@ -6,7 +6,7 @@ use Rattle.ados_ram.specs.Place.{Key}
 use Rattle.ados_ram.specs.Files.{OthersStay}
 use Rattle.ados_find.specs.declared.codes.Codes.{Codes}
 use Rattle.ados_find.specs.Shared.{SharedState}
-use Rattle.ados_find.specs.Done.{Done, refused_or, unless, each}
+use Rattle.ados_find.specs.Done.{Done, refused_or, unless_stopped, act_on_each}
 
 -- a relation between the shared parts and those before some work: it holds if there is no work, and for one work after
 -- another if for both
@@ -18,16 +18,16 @@ pub kept-refused : {R : SharedState → SharedState → Type 0} → IsKept R →
 kept-refused kept None done next h = h
 kept-refused kept (Some fault) done next h = kept.same done.shared
 
-pub kept-unless : {R : SharedState → SharedState → Type 0} → IsKept R → (stopped : Option Codes) (done next : Done) → R done.shared next.shared → R done.shared (unless stopped done next).shared
+pub kept-unless : {R : SharedState → SharedState → Type 0} → IsKept R → (stopped : Option Codes) (done next : Done) → R done.shared next.shared → R done.shared (unless_stopped stopped done next).shared
 kept-unless kept None done next h = h
 kept-unless kept (Some codes) done next h = kept.same done.shared
 
 -- an act on each item in turn, if the relation holds for the act on each
-pub kept-each : {R : SharedState → SharedState → Type 0} → IsKept R → {X : Type 0} (act : Done → X → Done) (P : X → Type 0) → ((done : Done) (x : X) → P x → R done.shared (act done x).shared) → (done : Done) (xs : List X) → AllByRecursion P xs → R done.shared (each act done xs).shared
+pub kept-each : {R : SharedState → SharedState → Type 0} → IsKept R → {X : Type 0} (act : Done → X → Done) (P : X → Type 0) → ((done : Done) (x : X) → P x → R done.shared (act done x).shared) → (done : Done) (xs : List X) → AllByRecursion P xs → R done.shared (act_on_each act done xs).shared
 kept-each kept act P h done [] all = kept.same done.shared
 kept-each kept act P h done (x ∷ xs) all =
-    kept-unless kept done.stopped done (each act (act done x) xs)
-    (kept.joined done.shared (act done x).shared (each act (act done x) xs).shared (h done x all.0) (kept-each kept act P h (act done x) xs all.1))
+    kept-unless kept done.stopped done (act_on_each act (act done x) xs)
+    (kept.joined done.shared (act done x).shared (act_on_each act (act done x) xs).shared (h done x all.0) (kept-each kept act P h (act done x) xs all.1))
 
 -- all that may not change stays
 abbrev pub Stay : (Key → Bool) → SharedState → SharedState → Type 0

@@ -6,9 +6,9 @@ use Rattle.ados_ram.specs.Written.{full_path}
 use Rattle.ados_find.specs.declared.codes.Codes.{Codes}
 use Rattle.ados_find.specs.Views.{View}
 use Rattle.ados_find.specs.Shared.{with_files}
-use Rattle.ados_find.specs.Done.{Done, stopped_by, refused_or, each}
+use Rattle.ados_find.specs.Done.{Done, stop_with_codes, refused_or, act_on_each}
 use Rattle.ados_find.specs.Paths.{place_of}
-use Rattle.ados_files.specs.Names.{FoundPlaces, named}
+use Rattle.ados_files.specs.Names.{FoundPlaces, named_places}
 use Rattle.ados_files.specs.Lines.{say}
 
 -- the files are the new ones, or the work stops at a fault
@@ -23,7 +23,7 @@ in_files_saying fault files quiet place words done =
 
 -- an act with the place, or the work stops
 abbrev pub at_place : (Done → List (List ℕ) → Done) → Done → Result (List (List ℕ)) Codes → Done
-at_place act done (Err codes) = stopped_by codes done
+at_place act done (Err codes) = stop_with_codes codes done
 at_place act done (Ok place) = act done place
 
 -- an act with the place to which a path leads, in the files at that time
@@ -32,9 +32,9 @@ at_path act view done text = at_place act done (place_of done.shared view.parts.
 
 -- an act with each of the objects, or the work stops
 abbrev pub at_places : (Done → List (List ℕ) → Done) → Done → Result FoundPlaces Codes → Done
-at_places act done (Err codes) = stopped_by codes done
-at_places act done (Ok found) = each act done found.places
+at_places act done (Err codes) = stop_with_codes codes done
+at_places act done (Ok found) = act_on_each act done found.places
 
 -- an act with each of the objects that an argument names, in the files at that time
 abbrev pub at_names : (Done → List (List ℕ) → Done) → View → Done → List ℕ → Done
-at_names act view done text = at_places act done (named done.shared view.parts.directory text)
+at_names act view done text = at_places act done (named_places done.shared view.parts.directory text)

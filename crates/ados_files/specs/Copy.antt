@@ -14,31 +14,31 @@ use Rattle.ados_ram.specs.FileOperations.{read_fault, write_as_of, write_fault}
 use Rattle.ados_ram.specs.Written.{full_path}
 use Rattle.ados_ram.specs.declared.entries.Entry.{Entry}
 use Rattle.ados_find.specs.declared.codes.Codes.{Codes}
-use Rattle.ados_find.specs.Codes.{failed}
+use Rattle.ados_find.specs.Codes.{fail_codes}
 use Rattle.ados_find.specs.Shared.{SharedState, with_files}
 use Rattle.ados_find.specs.Views.{View}
-use Rattle.ados_find.specs.Effects.{Effect, answering}
-use Rattle.ados_find.specs.Done.{Done, fresh, refused_or, unless, each, ended}
+use Rattle.ados_find.specs.Effects.{Effect, codes_effect}
+use Rattle.ados_find.specs.Done.{Done, fresh_work, refused_or, unless_stopped, act_on_each, end_effect}
 use Rattle.ados_find.specs.Paths.{place_of}
 use Rattle.ados_files.specs.Names.{FoundPlaces}
-use Rattle.ados_files.specs.MakeDir.{made}
+use Rattle.ados_files.specs.MakeDir.{make_one}
 use Rattle.ados_files.specs.Lines.{say}
-use Rattle.ados_files.specs.Jobs.{sources_of, all_jobs, jobs_onto}
+use Rattle.ados_files.specs.Jobs.{sources_of, all_jobs, target_jobs}
 use Rattle.ados_files.specs.declared.jobs.Job.{Job}
 
 -- the directories between a place and one below it, from the top down
-abbrev pub between : List (List ℕ) → List (List ℕ) → List (List (List ℕ))
-between above [] = []
-between above (name ∷ []) = []
-between above (name ∷ next ∷ rest) = (above ++ name ∷ []) ∷ between (above ++ name ∷ []) (next ∷ rest)
+abbrev pub middle_directories : List (List ℕ) → List (List ℕ) → List (List (List ℕ))
+middle_directories above [] = []
+middle_directories above (name ∷ []) = []
+middle_directories above (name ∷ next ∷ rest) = (above ++ name ∷ []) ∷ middle_directories (above ++ name ∷ []) (next ∷ rest)
 
 -- a directory is created if there is nothing; a file in its place is refused
-abbrev pub made_at : Done → List (List ℕ) → Option Entry → Done
-made_at done place None = made done place
-made_at done place (Some e) = cond (is_directory e) done (refused_or (Some WRONG_TYPE) done done)
+abbrev pub ensure_directory : Done → List (List ℕ) → Option Entry → Done
+ensure_directory done place None = make_one done place
+ensure_directory done place (Some e) = cond (is_directory e) done (refused_or (Some WRONG_TYPE) done done)
 
 abbrev pub make_missing : Done → List (List ℕ) → Done
-make_missing done place = made_at done place (map.get done.shared.files (key_of place))
+make_missing done place = ensure_directory done place (map.get done.shared.files (key_of place))
 
 -- a file copied onto itself is refused
 abbrev pub itself_fault : List (List ℕ) → List (List ℕ) → Option Result2
@@ -62,13 +62,13 @@ copy_written view quiet source target e done =
     })
 
 abbrev pub copy_unless : View → Bool → List (List ℕ) → List (List ℕ) → Entry → Done → Done
-copy_unless view quiet source target e done = unless done.stopped done (copy_written view quiet source target e done)
+copy_unless view quiet source target e done = unless_stopped done.stopped done (copy_written view quiet source target e done)
 
 -- the source, if it exists, is copied to a place below TO: missing directories are created, and it is written
 abbrev pub copy_entry : View → Bool → List (List ℕ) → Done → Job → Option Entry → Done
 copy_entry view quiet to done job None = done
 copy_entry view quiet to done job (Some e) =
-    copy_unless view quiet job.source (to ++ job.names) e (each make_missing done (between to job.names))
+    copy_unless view quiet job.source (to ++ job.names) e (act_on_each make_missing done (middle_directories to job.names))
 
 -- one file is copied, unless it is refused
 abbrev pub copy_one : View → Bool → List (List ℕ) → Done → Job → Done
@@ -86,14 +86,14 @@ one_entry files found = if found.literal then first_entry files found.places els
 
 -- TO has to be a directory: a missing one is created only for a single directory, and otherwise refused, as is a file
 abbrev pub directory_for : Bool → List (List ℕ) → Done → Option Entry → Done
-directory_for true to done there = made_at done to there
+directory_for true to done there = ensure_directory done to there
 directory_for false to done None = refused_or (Some DIRECTORY_NOT_FOUND) done done
-directory_for false to done (Some e) = made_at done to (Some e)
+directory_for false to done (Some e) = ensure_directory done to (Some e)
 
 -- files are copied into a directory; the list of them is made before the first write
 abbrev pub copy_into : View → Bool → Bool → FoundPlaces → Done → List (List ℕ) → Done
 copy_into view all quiet found done to = (let files = done.shared.files in
-    each (copy_one view quiet to) (directory_for (is_some_directory (one_entry files found)) to done (map.get files (key_of to))) (all_jobs all files found.places))
+    act_on_each (copy_one view quiet to) (directory_for (is_some_directory (one_entry files found)) to done (map.get files (key_of to))) (all_jobs all files found.places))
 
 -- just one file, and a TO that is not a directory: TO itself is written
 abbrev pub is_onto : Files → FoundPlaces → List (List ℕ) → Bool
@@ -101,23 +101,23 @@ is_onto files found to = is_some_file (one_entry files found) && not (is_some_di
 
 abbrev pub copy_found : View → Bool → Bool → FoundPlaces → Done → List (List ℕ) → Done
 copy_found view all quiet found done to =
-    if is_onto done.shared.files found to then each (copy_one view quiet to) done (jobs_onto found.places)
+    if is_onto done.shared.files found to then act_on_each (copy_one view quiet to) done (target_jobs found.places)
     else copy_into view all quiet found done to
 
 -- first the sources are looked up, then TO
-abbrev pub copied_to : SharedState → View → Bool → Bool → FoundPlaces → Result (List (List ℕ)) Codes → Effect
-copied_to shared view all quiet found (Err codes) = answering shared codes
-copied_to shared view all quiet found (Ok to) = ended (copy_found view all quiet found (fresh shared) to)
+abbrev pub copy_into_target : SharedState → View → Bool → Bool → FoundPlaces → Result (List (List ℕ)) Codes → Effect
+copy_into_target shared view all quiet found (Err codes) = codes_effect shared codes
+copy_into_target shared view all quiet found (Ok to) = end_effect (copy_found view all quiet found (fresh_work shared) to)
 
-abbrev pub copied_from : SharedState → View → Bool → Bool → Result FoundPlaces Codes → List ℕ → Effect
-copied_from shared view all quiet (Err codes) to = answering shared codes
-copied_from shared view all quiet (Ok found) to = copied_to shared view all quiet found (place_of shared view.parts.directory to)
+abbrev pub copy_of_sources : SharedState → View → Bool → Bool → Result FoundPlaces Codes → List ℕ → Effect
+copy_of_sources shared view all quiet (Err codes) to = codes_effect shared codes
+copy_of_sources shared view all quiet (Ok found) to = copy_into_target shared view all quiet found (place_of shared view.parts.directory to)
 
 -- without FROM an argument is missing; the template ensures that TO is not
-abbrev pub copied_texts : SharedState → View → Bool → Bool → List (List ℕ) → Option (List ℕ) → Effect
-copied_texts shared view all quiet texts None = answering shared (failed ARGUMENT_MISSING)
-copied_texts shared view all quiet [] (Some to) = answering shared (failed ARGUMENT_MISSING)
-copied_texts shared view all quiet (text ∷ texts) (Some to) = copied_from shared view all quiet (sources_of shared view.parts.directory (text ∷ texts)) to
+abbrev pub copy_by_texts : SharedState → View → Bool → Bool → List (List ℕ) → Option (List ℕ) → Effect
+copy_by_texts shared view all quiet texts None = codes_effect shared (fail_codes ARGUMENT_MISSING)
+copy_by_texts shared view all quiet [] (Some to) = codes_effect shared (fail_codes ARGUMENT_MISSING)
+copy_by_texts shared view all quiet (text ∷ texts) (Some to) = copy_of_sources shared view all quiet (sources_of shared view.parts.directory (text ∷ texts)) to
 
 abbrev pub copy_row : SharedState → View → List Arg → Effect
-copy_row shared view args = copied_texts shared view (is_on args 2) (is_on args 3) (texts_at args 0) (text_at args 1)
+copy_row shared view args = copy_by_texts shared view (is_on args 2) (is_on args 3) (texts_at args 0) (text_at args 1)

@@ -11,7 +11,7 @@ use Rattle.ados_ram.specs.Written.{full_path}
 use Rattle.ados_find.specs.Shared.{SharedState, with_files}
 use Rattle.ados_find.specs.Views.{View}
 use Rattle.ados_find.specs.Effects.{Effect}
-use Rattle.ados_find.specs.Done.{Done, fresh, refused_or, each, ended}
+use Rattle.ados_find.specs.Done.{Done, fresh_work, refused_or, act_on_each, end_effect}
 use Rattle.ados_files.specs.Lines.{say}
 use Rattle.ados_files.specs.Acts.{at_names}
 
@@ -33,8 +33,8 @@ targets true files place = contents (key_of place) (map.entries files) ++ place 
 targets false files place = place ∷ []
 
 abbrev pub delete_place : View → Bool → Bool → Done → List (List ℕ) → Done
-delete_place view all quiet done place = each (delete_one view quiet) done (targets all done.shared.files place)
+delete_place view all quiet done place = act_on_each (delete_one view quiet) done (targets all done.shared.files place)
 
 abbrev pub delete_row : SharedState → View → List Arg → Effect
 delete_row shared view args =
-    ended (each (at_names (delete_place view (is_on args 1) (is_on args 2)) view) (fresh shared) (texts_at args 0))
+    end_effect (act_on_each (at_names (delete_place view (is_on args 1) (is_on args 2)) view) (fresh_work shared) (texts_at args 0))

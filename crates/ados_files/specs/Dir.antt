@@ -10,10 +10,10 @@ use Rattle.ados_ram.specs.Files.{Files}
 use Rattle.ados_ram.specs.FileOperations.{list_fault}
 use Rattle.ados_ram.specs.declared.entries.Entry.{Entry}
 use Rattle.ados_find.specs.declared.codes.Codes.{Codes}
-use Rattle.ados_find.specs.Codes.{erred}
+use Rattle.ados_find.specs.Codes.{error_codes}
 use Rattle.ados_find.specs.Shared.{SharedState}
 use Rattle.ados_find.specs.Views.{View}
-use Rattle.ados_find.specs.Effects.{Effect, answering, putting}
+use Rattle.ados_find.specs.Effects.{Effect, codes_effect, output_effect}
 use Rattle.ados_find.specs.Paths.{bases_of}
 use Rattle.ados_files.specs.Bases.{all_children, entry_at}
 use Rattle.ados_files.specs.Lines.{keeps, lines_by}
@@ -40,12 +40,12 @@ abbrev pub dir_text : Bool → Bool → Files → List (List (List ℕ)) → Lis
 dir_text dirs files ram places = directories_text (keeps dirs files) ram places ++ files_text (keeps files dirs) ram places
 
 abbrev pub dir_unless : Option Result2 → SharedState → List ℕ → Effect
-dir_unless None shared text = putting shared text
-dir_unless (Some fault) shared text = answering shared (erred fault)
+dir_unless None shared text = output_effect shared text
+dir_unless (Some fault) shared text = codes_effect shared (error_codes fault)
 
 -- the directories for which a path stands
 abbrev pub dir_at : SharedState → Bool → Bool → Result (List Place) Codes → Effect
-dir_at shared dirs files (Err codes) = answering shared codes
+dir_at shared dirs files (Err codes) = codes_effect shared codes
 dir_at shared dirs files (Ok bases) =
     dir_unless (list_fault (entry_at shared.files bases)) shared (dir_text dirs files shared.files (all_children shared.files bases))
 

@@ -7,7 +7,7 @@ use Rattle.ados_ram.specs.FileOperations.{comment_of, comment_fault}
 use Rattle.ados_find.specs.Shared.{SharedState, with_files}
 use Rattle.ados_find.specs.Views.{View}
 use Rattle.ados_find.specs.Effects.{Effect}
-use Rattle.ados_find.specs.Done.{Done, fresh, refused_or, each, ended}
+use Rattle.ados_find.specs.Done.{Done, fresh_work, refused_or, act_on_each, end_effect}
 use Rattle.ados_files.specs.Texts.{text_or_empty}
 use Rattle.ados_files.specs.Acts.{at_names}
 
@@ -18,8 +18,8 @@ note_one comment done place =
     (record done { shared = with_files done.shared (comment_of done.shared.files (key_of place) comment) })
 
 -- without COMMENT the comment is cleared
-abbrev pub noted : SharedState → View → List ℕ → List (List ℕ) → Effect
-noted shared view comment texts = ended (each (at_names (note_one comment) view) (fresh shared) texts)
+abbrev pub note_all : SharedState → View → List ℕ → List (List ℕ) → Effect
+note_all shared view comment texts = end_effect (act_on_each (at_names (note_one comment) view) (fresh_work shared) texts)
 
 abbrev pub filenote_row : SharedState → View → List Arg → Effect
-filenote_row shared view args = noted shared view (text_or_empty (text_at args 1)) (texts_at args 0)
+filenote_row shared view args = note_all shared view (text_or_empty (text_at args 1)) (texts_at args 0)

@@ -9,49 +9,49 @@ use Rattle.ados_ram.specs.Written.{written_place}
 use Rattle.ados_ram.specs.declared.entries.Entry.{Entry}
 use Rattle.ados_find.specs.declared.codes.Codes.{Codes}
 use Rattle.ados_find.specs.Shared.{SharedState}
-use Rattle.ados_files.specs.Names.{FoundPlaces, named}
+use Rattle.ados_files.specs.Names.{FoundPlaces, named_places}
 use Rattle.ados_files.specs.declared.jobs.Job.{Job}
 
 -- the objects of several arguments, one after the other, or the first refusal
-abbrev pub in_front : List (List (List ℕ)) → Result FoundPlaces Codes → Result FoundPlaces Codes
-in_front places (Err codes) = Err codes
-in_front places (Ok more) = Ok (record more { places = places ++ more.places })
+abbrev pub prepend_places : List (List (List ℕ)) → Result FoundPlaces Codes → Result FoundPlaces Codes
+prepend_places places (Err codes) = Err codes
+prepend_places places (Ok more) = Ok (record more { places = places ++ more.places })
 
-abbrev pub in_turn : Result FoundPlaces Codes → Result FoundPlaces Codes → Result FoundPlaces Codes
-in_turn (Err codes) more = Err codes
-in_turn (Ok found) more = in_front found.places more
+abbrev pub found_in_order : Result FoundPlaces Codes → Result FoundPlaces Codes → Result FoundPlaces Codes
+found_in_order (Err codes) more = Err codes
+found_in_order (Ok found) more = prepend_places found.places more
 
-abbrev pub gathered : SharedState → List (List ℕ) → List (List ℕ) → Result FoundPlaces Codes
-gathered shared directory [] = Ok (record { literal = false; places = [] })
-gathered shared directory (text ∷ texts) = in_turn (named shared directory text) (gathered shared directory texts)
+abbrev pub gathered_places : SharedState → List (List ℕ) → List (List ℕ) → Result FoundPlaces Codes
+gathered_places shared directory [] = Ok (record { literal = false; places = [] })
+gathered_places shared directory (text ∷ texts) = found_in_order (named_places shared directory text) (gathered_places shared directory texts)
 
 -- what the arguments name: just one object by its path only if there is one argument
 abbrev pub sources_of : SharedState → List (List ℕ) → List (List ℕ) → Result FoundPlaces Codes
-sources_of shared directory [] = gathered shared directory []
-sources_of shared directory (text ∷ []) = named shared directory text
-sources_of shared directory (text ∷ next ∷ texts) = gathered shared directory (text ∷ next ∷ texts)
+sources_of shared directory [] = gathered_places shared directory []
+sources_of shared directory (text ∷ []) = named_places shared directory text
+sources_of shared directory (text ∷ next ∷ texts) = gathered_places shared directory (text ∷ next ∷ texts)
 
 -- a file below a directory keeps its path below it, with its names as they are written
-abbrev pub job_below : Files → List (List ℕ) → List (List ℕ) → Job
-job_below files directory place = record { source = place; names = drop (length directory) (written_place files place) }
+abbrev pub directory_job : Files → List (List ℕ) → List (List ℕ) → Job
+directory_job files directory place = record { source = place; names = drop (length directory) (written_place files place) }
 
-abbrev pub jobs_below : Files → List (List ℕ) → List (List (List ℕ)) → List Job
-jobs_below files directory [] = []
-jobs_below files directory (place ∷ places) = job_below files directory place ∷ jobs_below files directory places
+abbrev pub directory_jobs : Files → List (List ℕ) → List (List (List ℕ)) → List Job
+directory_jobs files directory [] = []
+directory_jobs files directory (place ∷ places) = directory_job files directory place ∷ directory_jobs files directory places
 
 -- a directory stands for its files, with ALL for all that are below it; a file keeps its name
-abbrev pub jobs_there : Bool → Files → List (List ℕ) → Option Entry → List Job
-jobs_there all files place None = []
-jobs_there all files place (Some e) =
-    cond (is_directory e) (jobs_below files place (files_below all (key_of place) (map.entries files)))
+abbrev pub source_jobs : Bool → Files → List (List ℕ) → Option Entry → List Job
+source_jobs all files place None = []
+source_jobs all files place (Some e) =
+    cond (is_directory e) (directory_jobs files place (files_below all (key_of place) (map.entries files)))
     (record { source = place; names = e.name ∷ [] } ∷ [])
 
 -- the files that sources stand for
 abbrev pub all_jobs : Bool → Files → List (List (List ℕ)) → List Job
 all_jobs all files [] = []
-all_jobs all files (place ∷ places) = jobs_there all files place (map.get files (key_of place)) ++ all_jobs all files places
+all_jobs all files (place ∷ places) = source_jobs all files place (map.get files (key_of place)) ++ all_jobs all files places
 
 -- files that are copied to TO itself
-abbrev pub jobs_onto : List (List (List ℕ)) → List Job
-jobs_onto [] = []
-jobs_onto (place ∷ places) = record { source = place; names = [] } ∷ jobs_onto places
+abbrev pub target_jobs : List (List (List ℕ)) → List Job
+target_jobs [] = []
+target_jobs (place ∷ places) = record { source = place; names = [] } ∷ target_jobs places

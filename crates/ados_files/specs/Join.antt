@@ -6,11 +6,11 @@ use Rattle.ados_readargs.specs.Args.{texts_at, text_at}
 use Rattle.ados_ram.specs.Place.{key_of, last_name}
 use Rattle.ados_ram.specs.InUse.{is_output}
 use Rattle.ados_ram.specs.FileOperations.{write_of, write_fault}
-use Rattle.ados_find.specs.Codes.{failed}
+use Rattle.ados_find.specs.Codes.{fail_codes}
 use Rattle.ados_find.specs.Shared.{SharedState, with_files}
 use Rattle.ados_find.specs.Views.{View}
-use Rattle.ados_find.specs.Effects.{Effect, answering}
-use Rattle.ados_find.specs.Done.{Done, fresh, refused_or, unless, each, ended}
+use Rattle.ados_find.specs.Effects.{Effect, codes_effect}
+use Rattle.ados_find.specs.Done.{Done, fresh_work, refused_or, unless_stopped, act_on_each, end_effect}
 use Rattle.ados_files.specs.Acts.{at_path}
 use Rattle.ados_files.specs.TypeFiles.{type_one}
 
@@ -21,21 +21,21 @@ write_one view bytes done place =
     (record done { shared = with_files done.shared (write_of done.shared.files (key_of place) (last_name place) bytes) })
 
 -- what was read is not output
-abbrev pub silent : Done → Done
-silent done = record done { output = [] }
+abbrev pub without_output : Done → Done
+without_output done = record done { output = [] }
 
 -- all that was read is written, if nothing was refused
-abbrev pub written_to : View → List ℕ → Done → Done
-written_to view to read = unless read.stopped (silent read) (at_path (write_one view read.output) view (silent read) to)
+abbrev pub write_read : View → List ℕ → Done → Done
+write_read view to read = unless_stopped read.stopped (without_output read) (at_path (write_one view read.output) view (without_output read) to)
 
 -- all files are read first
-abbrev pub joined_to : View → List (List ℕ) → Done → List ℕ → Done
-joined_to view texts done to = written_to view to (each (at_path (type_one view) view) done texts)
+abbrev pub join_to_target : View → List (List ℕ) → Done → List ℕ → Done
+join_to_target view texts done to = write_read view to (act_on_each (at_path (type_one view) view) done texts)
 
 -- the template ensures that TO is not missing
-abbrev pub joined : SharedState → View → List (List ℕ) → Option (List ℕ) → Effect
-joined shared view texts None = answering shared (failed ARGUMENT_MISSING)
-joined shared view texts (Some to) = ended (joined_to view texts (fresh shared) to)
+abbrev pub join_by_texts : SharedState → View → List (List ℕ) → Option (List ℕ) → Effect
+join_by_texts shared view texts None = codes_effect shared (fail_codes ARGUMENT_MISSING)
+join_by_texts shared view texts (Some to) = end_effect (join_to_target view texts (fresh_work shared) to)
 
 abbrev pub join_row : SharedState → View → List Arg → Effect
-join_row shared view args = joined shared view (texts_at args 0) (text_at args 1)
+join_row shared view args = join_by_texts shared view (texts_at args 0) (text_at args 1)

@@ -1,7 +1,7 @@
 -- Lines of a listing.
 use Rattle.std.specs.Prelude.{ℕ, Bool, true, false, not, ◌||◌, List, [], ◌∷◌, ◌++◌, Option, codes, decimal, length}
 use Rattle.std.specs.FinMap as map
-use Rattle.ados_text.specs.Columns.{left_in, right_in}
+use Rattle.ados_text.specs.Columns.{left_aligned_text, right_aligned_text}
 use Rattle.ados_ram.specs.Place.{key_of}
 use Rattle.ados_ram.specs.Files.{Files}
 use Rattle.ados_ram.specs.declared.entries.Bits.{Bits}
@@ -46,4 +46,4 @@ comment_line (c ∷ cs) = codes ": " ++ ((c ∷ cs) ++ 10 ∷ [])
 -- the line of an object: the name in 30 places, the size or `Dir` in 7, and the bits
 abbrev pub list_line : Entry → List ℕ
 list_line e =
-    left_in 30 e.name ++ (32 ∷ (right_in 7 (size_text e.body) ++ (32 ∷ (bits_text e.bits ++ (10 ∷ comment_line e.comment)))))
+    left_aligned_text 30 e.name ++ (32 ∷ (right_aligned_text 7 (size_text e.body) ++ (32 ∷ (bits_text e.bits ++ (10 ∷ comment_line e.comment)))))

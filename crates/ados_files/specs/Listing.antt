@@ -13,8 +13,8 @@ use Rattle.ados_ram.specs.declared.entries.Entry.{Entry}
 use Rattle.ados_find.specs.declared.codes.Codes.{Codes}
 use Rattle.ados_find.specs.Shared.{SharedState}
 use Rattle.ados_find.specs.Views.{View}
-use Rattle.ados_find.specs.Effects.{Effect, answering}
-use Rattle.ados_find.specs.Done.{Done, fresh, stopped_by, refused_or, each, ended}
+use Rattle.ados_find.specs.Effects.{Effect, codes_effect}
+use Rattle.ados_find.specs.Done.{Done, fresh_work, stop_with_codes, refused_or, act_on_each, end_effect}
 use Rattle.ados_pattern.specs.Matching.{is_match}
 use Rattle.ados_files.specs.Bases.{all_children, entry_at}
 use Rattle.ados_files.specs.Names.{FoundPlaces, pattern_of, named_bases}
@@ -38,9 +38,9 @@ shown_line false e = list_line e
 abbrev pub kept_line : Shape → Entry → List ℕ
 kept_line shape e = if is_kept shape e && passes shape.pattern e then shown_line shape.quick e else []
 
-abbrev pub line_there : Shape → Option Entry → List ℕ
-line_there shape None = []
-line_there shape (Some e) = kept_line shape e
+abbrev pub line_by_shape : Shape → Option Entry → List ℕ
+line_by_shape shape None = []
+line_by_shape shape (Some e) = kept_line shape e
 
 -- what places that are named by a path stand for: directories for the objects in them
 abbrev pub entries_of : Files → List Place → Option Entry → List Place
@@ -48,15 +48,15 @@ entries_of files places None = []
 entries_of files places (Some e) = cond (is_directory e) (all_children files places) places
 
 -- a match of a pattern stands for itself
-abbrev pub listed : Files → FoundPlaces → List Place
-listed files found = if found.literal then entries_of files found.places (entry_at files found.places) else found.places
+abbrev pub listed_places : Files → FoundPlaces → List Place
+listed_places files found = if found.literal then entries_of files found.places (entry_at files found.places) else found.places
 
 abbrev pub list_places : Shape → Done → List (List (List ℕ)) → Done
-list_places shape done places = record done { output = done.output ++ lines_by (line_there shape) done.shared.files places }
+list_places shape done places = record done { output = done.output ++ lines_by (line_by_shape shape) done.shared.files places }
 
 abbrev pub list_found : Shape → Done → Result FoundPlaces Codes → Done
-list_found shape done (Err codes) = stopped_by codes done
-list_found shape done (Ok found) = list_places shape done (listed done.shared.files found)
+list_found shape done (Err codes) = stop_with_codes codes done
+list_found shape done (Ok found) = list_places shape done (listed_places done.shared.files found)
 
 abbrev pub list_text : Shape → View → Done → List ℕ → Done
 list_text shape view done text = list_found shape done (named_bases done.shared view.parts.directory text)
@@ -70,7 +70,7 @@ list_at shape done place =
 -- without arguments the current directory
 abbrev pub list_texts : Shape → View → Done → List (List ℕ) → Done
 list_texts shape view done [] = list_at shape done view.parts.directory
-list_texts shape view done (text ∷ texts) = each (list_text shape view) done (text ∷ texts)
+list_texts shape view done (text ∷ texts) = act_on_each (list_text shape view) done (text ∷ texts)
 
 -- the pattern of PAT, if it is given
 abbrev pub some_pattern : Result Meaning Codes → Result (Option Meaning) Codes
@@ -82,10 +82,10 @@ pattern_given None = Ok None
 pattern_given (Some text) = some_pattern (pattern_of text)
 
 abbrev pub list_by : SharedState → View → List Arg → Result (Option Meaning) Codes → Effect
-list_by shared view args (Err codes) = answering shared codes
+list_by shared view args (Err codes) = codes_effect shared codes
 list_by shared view args (Ok pattern) =
-    ended
-    (list_texts (record { pattern = pattern; quick = is_on args 2; files = is_on args 3; dirs = is_on args 4 }) view (fresh shared) (texts_at args 0))
+    end_effect
+    (list_texts (record { pattern = pattern; quick = is_on args 2; files = is_on args 3; dirs = is_on args 4 }) view (fresh_work shared) (texts_at args 0))
 
 abbrev pub list_row : SharedState → View → List Arg → Effect
 list_row shared view args = list_by shared view args (pattern_given (text_at args 1))

@@ -5,23 +5,23 @@ use Rattle.ados_readargs.specs.declared.args.Arg.{Arg}
 use Rattle.ados_readargs.specs.Args.{texts_at}
 use Rattle.ados_ram.specs.Place.{key_of, last_name}
 use Rattle.ados_ram.specs.FileOperations.{make_dir_of, make_dir_fault}
-use Rattle.ados_find.specs.Codes.{failed}
+use Rattle.ados_find.specs.Codes.{fail_codes}
 use Rattle.ados_find.specs.Shared.{SharedState, with_files}
 use Rattle.ados_find.specs.Views.{View}
-use Rattle.ados_find.specs.Effects.{Effect, answering}
-use Rattle.ados_find.specs.Done.{Done, fresh, refused_or, each, ended}
+use Rattle.ados_find.specs.Effects.{Effect, codes_effect}
+use Rattle.ados_find.specs.Done.{Done, fresh_work, refused_or, act_on_each, end_effect}
 use Rattle.ados_files.specs.Acts.{at_path}
 
 -- one directory is created
-abbrev pub made : Done → List (List ℕ) → Done
-made done place =
+abbrev pub make_one : Done → List (List ℕ) → Done
+make_one done place =
     refused_or (make_dir_fault done.shared.files (key_of place) (last_name place)) done
     (record done { shared = with_files done.shared (make_dir_of done.shared.files (key_of place) (last_name place)) })
 
 -- without a name an argument is missing
-abbrev pub all_made : SharedState → View → List (List ℕ) → Effect
-all_made shared view [] = answering shared (failed ARGUMENT_MISSING)
-all_made shared view (text ∷ texts) = ended (each (at_path made view) (fresh shared) (text ∷ texts))
+abbrev pub make_all : SharedState → View → List (List ℕ) → Effect
+make_all shared view [] = codes_effect shared (fail_codes ARGUMENT_MISSING)
+make_all shared view (text ∷ texts) = end_effect (act_on_each (at_path make_one view) (fresh_work shared) (text ∷ texts))
 
 abbrev pub make_dir_row : SharedState → View → List Arg → Effect
-make_dir_row shared view args = all_made shared view (texts_at args 0)
+make_dir_row shared view args = make_all shared view (texts_at args 0)

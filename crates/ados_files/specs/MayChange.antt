@@ -5,13 +5,13 @@ use Rattle.ados_readargs.specs.declared.args.Arg.{Arg}
 use Rattle.ados_readargs.specs.Args.{texts_at, text_at, is_on}
 use Rattle.ados_ram.specs.Place.{Place, Key, key_of, is_at_or_below}
 use Rattle.ados_find.specs.declared.codes.Codes.{Codes}
-use Rattle.ados_find.specs.Done.{Done, fresh}
+use Rattle.ados_find.specs.Done.{Done, fresh_work}
 use Rattle.ados_find.specs.Shared.{SharedState}
 use Rattle.ados_find.specs.Views.{View}
 use Rattle.ados_find.specs.Paths.{place_of}
 use Rattle.ados_files.specs.Acts.{at_names}
 use Rattle.ados_files.specs.Delete.{delete_place}
-use Rattle.ados_files.specs.Names.{FoundPlaces, named}
+use Rattle.ados_files.specs.Names.{FoundPlaces, named_places}
 
 -- the key is at a place or below it, if there is one
 abbrev pub is_under : Result Place Codes → Key → Bool
@@ -37,7 +37,7 @@ is_under_found (Ok found) key = is_under_any found.places key
 abbrev pub is_under_worked : (Done → Text → Done) → View → Done → List Text → Key → Bool
 is_under_worked act view done [] key = false
 is_under_worked act view done (text ∷ texts) key =
-    is_under_found (named done.shared view.parts.directory text) key || is_under_worked act view (act done text) texts key
+    is_under_found (named_places done.shared view.parts.directory text) key || is_under_worked act view (act done text) texts key
 
 -- Copy: TO, and what is below it
 abbrev pub copy_may_change : SharedState → View → List Arg → Key → Bool
@@ -46,7 +46,7 @@ copy_may_change shared view args key = is_under_path shared view (text_at args 1
 -- Delete: the objects that its arguments name when the turn of each comes, and what is below them
 abbrev pub delete_may_change : SharedState → View → List Arg → Key → Bool
 delete_may_change shared view args key =
-    is_under_worked (at_names (delete_place view (is_on args 1) (is_on args 2)) view) view (fresh shared) (texts_at args 0) key
+    is_under_worked (at_names (delete_place view (is_on args 1) (is_on args 2)) view) view (fresh_work shared) (texts_at args 0) key
 
 -- Rename: FROM and TO, and what is below them
 abbrev pub rename_may_change : SharedState → View → List Arg → Key → Bool

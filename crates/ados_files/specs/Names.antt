@@ -15,7 +15,7 @@ use Rattle.ados_ram.specs.Entry.{is_directory}
 use Rattle.ados_ram.specs.Files.{Files}
 use Rattle.ados_ram.specs.declared.entries.Entry.{Entry}
 use Rattle.ados_find.specs.declared.codes.Codes.{Codes}
-use Rattle.ados_find.specs.Codes.{erred, warned}
+use Rattle.ados_find.specs.Codes.{error_codes, warning_codes}
 use Rattle.ados_find.specs.Shared.{SharedState}
 use Rattle.ados_find.specs.Paths.{place_of, bases_of}
 use Rattle.ados_pattern.specs.Matching.{is_match}
@@ -23,9 +23,9 @@ use Rattle.ados_files.specs.Bases.{all_children, entry_at}
 
 -- what a command returns for a text that is not a pattern
 abbrev pub pattern_codes : PatternFault → Codes
-pattern_codes (BadPattern place) = erred INVALID_NAME
-pattern_codes TooLong = erred LINE_TOO_LONG
-pattern_codes NoMemory = erred NO_FREE_STORE
+pattern_codes (BadPattern place) = error_codes INVALID_NAME
+pattern_codes TooLong = error_codes LINE_TOO_LONG
+pattern_codes NoMemory = error_codes NO_FREE_STORE
 
 -- what a pattern says, unless it has a fault
 abbrev pub pattern_unless : Option PatternFault → Meaning → Result Meaning Codes
@@ -41,30 +41,30 @@ pub record FoundPlaces : Type 0 where
   pub places : List (List (List ℕ))
 
 -- there is an entry, and its name matches
-abbrev pub wants : Form → Option Entry → Bool
-wants form None = false
-wants form (Some e) = is_match form e.name
+abbrev pub matches_form : Form → Option Entry → Bool
+matches_form form None = false
+matches_form form (Some e) = is_match form e.name
 
 -- those of the places whose names match
-abbrev pub matching : Form → Files → List (List (List ℕ)) → List (List (List ℕ))
-matching form files [] = []
-matching form files (place ∷ places) =
-    cond (wants form (map.get files (key_of place))) (place ∷ matching form files places) (matching form files places)
+abbrev pub matching_places : Form → Files → List (List (List ℕ)) → List (List (List ℕ))
+matching_places form files [] = []
+matching_places form files (place ∷ places) =
+    cond (matches_form form (map.get files (key_of place))) (place ∷ matching_places form files places) (matching_places form files places)
 
 -- if nothing matches, there is a warning
 abbrev pub some_matches : List (List (List ℕ)) → Result FoundPlaces Codes
-some_matches [] = Err (warned OBJECT_NOT_FOUND)
+some_matches [] = Err (warning_codes OBJECT_NOT_FOUND)
 some_matches (place ∷ places) = Ok (record { literal = false; places = place ∷ places })
 
 -- the objects in directories that match, in order
 abbrev pub matches_in : Form → Files → List Place → Option Entry → Result FoundPlaces Codes
-matches_in form files bases None = Err (erred DIRECTORY_NOT_FOUND)
+matches_in form files bases None = Err (error_codes DIRECTORY_NOT_FOUND)
 matches_in form files bases (Some e) =
-    cond (is_directory e) (some_matches (matching form files (all_children files bases))) (Err (erred WRONG_TYPE))
+    cond (is_directory e) (some_matches (matching_places form files (all_children files bases))) (Err (error_codes WRONG_TYPE))
 
 -- the one object, if it exists
 abbrev pub the_one : List (List ℕ) → Option Entry → Result FoundPlaces Codes
-the_one place None = Err (erred OBJECT_NOT_FOUND)
+the_one place None = Err (error_codes OBJECT_NOT_FOUND)
 the_one place (Some e) = Ok (record { literal = true; places = place ∷ [] })
 
 -- the same, given the directories for which a path stands, and the place to which it leads
@@ -77,13 +77,13 @@ one_at files (Err codes) = Err codes
 one_at files (Ok place) = the_one place (map.get files (key_of place))
 
 -- a literal piece is a name after the path before it; a pattern stands for its matches in the directories of that path
-abbrev pub named_by : SharedState → List (List ℕ) → List ℕ → Form → Option (List ℕ) → Result FoundPlaces Codes
-named_by shared directory head form (Some name) = one_at shared.files (place_of shared directory (head ++ name))
-named_by shared directory head form None = matches_at form shared.files (bases_of shared directory head)
+abbrev pub places_by_form : SharedState → List (List ℕ) → List ℕ → Form → Option (List ℕ) → Result FoundPlaces Codes
+places_by_form shared directory head form (Some name) = one_at shared.files (place_of shared directory (head ++ name))
+places_by_form shared directory head form None = matches_at form shared.files (bases_of shared directory head)
 
-abbrev pub named_with : SharedState → List (List ℕ) → List ℕ → Result Meaning Codes → Result FoundPlaces Codes
-named_with shared directory head (Err codes) = Err codes
-named_with shared directory head (Ok pattern) = named_by shared directory head pattern.form pattern.name
+abbrev pub places_by_meaning : SharedState → List (List ℕ) → List ℕ → Result Meaning Codes → Result FoundPlaces Codes
+places_by_meaning shared directory head (Err codes) = Err codes
+places_by_meaning shared directory head (Ok pattern) = places_by_form shared directory head pattern.form pattern.name
 
 -- the path before the last piece of a text, and that piece
 abbrev pub head_of : List ℕ → List ℕ
@@ -93,12 +93,12 @@ abbrev pub piece_of : List ℕ → List ℕ
 piece_of text = drop (last_piece_of text) text
 
 -- the objects that an argument names
-abbrev pub named : SharedState → List (List ℕ) → List ℕ → Result FoundPlaces Codes
-named shared directory text = named_with shared directory (head_of text) (pattern_of (piece_of text))
+abbrev pub named_places : SharedState → List (List ℕ) → List ℕ → Result FoundPlaces Codes
+named_places shared directory text = places_by_meaning shared directory (head_of text) (pattern_of (piece_of text))
 
 -- the same, with all directories of a literal path that stands for several, as a device alone does
 abbrev pub bases_there : List Place → Option Entry → Result FoundPlaces Codes
-bases_there bases None = Err (erred OBJECT_NOT_FOUND)
+bases_there bases None = Err (error_codes OBJECT_NOT_FOUND)
 bases_there bases (Some e) = Ok (record { literal = true; places = bases })
 
 abbrev pub bases_at : Files → Result (List Place) Codes → Result FoundPlaces Codes

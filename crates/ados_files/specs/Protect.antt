@@ -12,11 +12,11 @@ use Rattle.ados_ram.specs.Entry.{fresh_bits}
 use Rattle.ados_ram.specs.FileOperations.{protect_of, protect_fault}
 use Rattle.ados_ram.specs.declared.entries.Bits.{Bits}
 use Rattle.ados_ram.specs.declared.entries.Entry.{Entry}
-use Rattle.ados_find.specs.Codes.{failed}
+use Rattle.ados_find.specs.Codes.{fail_codes}
 use Rattle.ados_find.specs.Shared.{SharedState, with_files}
 use Rattle.ados_find.specs.Views.{View}
-use Rattle.ados_find.specs.Effects.{Effect, answering}
-use Rattle.ados_find.specs.Done.{Done, fresh, refused_or, each, ended}
+use Rattle.ados_find.specs.Effects.{Effect, codes_effect}
+use Rattle.ados_find.specs.Done.{Done, fresh_work, refused_or, act_on_each, end_effect}
 use Rattle.ados_files.specs.Texts.{text_or_empty}
 use Rattle.ados_files.specs.Acts.{at_names}
 use Rattle.ados_files.specs.declared.protect.Way.{Way}
@@ -105,10 +105,10 @@ protect_one change done place = (let bits = changed_bits change (bits_at (map.ge
     refused_or (protect_fault done.shared.files (key_of place)) done
     (record done { shared = with_files done.shared (protect_of done.shared.files (key_of place) bits) }))
 
-abbrev pub protected_by : SharedState → View → Result Change Result2 → List (List ℕ) → Effect
-protected_by shared view (Err fault) texts = answering shared (failed fault)
-protected_by shared view (Ok change) texts = ended (each (at_names (protect_one change) view) (fresh shared) texts)
+abbrev pub protect_all : SharedState → View → Result Change Result2 → List (List ℕ) → Effect
+protect_all shared view (Err fault) texts = codes_effect shared (fail_codes fault)
+protect_all shared view (Ok change) texts = end_effect (act_on_each (at_names (protect_one change) view) (fresh_work shared) texts)
 
 abbrev pub protect_row : SharedState → View → List Arg → Effect
 protect_row shared view args =
-    protected_by shared view (change_of (text_or_empty (text_at args 1)) (is_on args 2) (is_on args 3)) (texts_at args 0)
+    protect_all shared view (change_of (text_or_empty (text_at args 1)) (is_on args 2) (is_on args 3)) (texts_at args 0)

@@ -10,7 +10,7 @@ use Rattle.ados_ram.specs.FileOperations.{read_fault}
 use Rattle.ados_find.specs.Shared.{SharedState}
 use Rattle.ados_find.specs.Views.{View}
 use Rattle.ados_find.specs.Effects.{Effect}
-use Rattle.ados_find.specs.Done.{Done, fresh, refused_or, each, ended}
+use Rattle.ados_find.specs.Done.{Done, fresh_work, refused_or, act_on_each, end_effect}
 use Rattle.ados_files.specs.Acts.{at_names}
 
 -- the bytes of one file are output
@@ -20,4 +20,4 @@ type_one view done place =
     (record done { output = done.output ++ bytes_at (map.get done.shared.files (key_of place)) })
 
 abbrev pub type_row : SharedState → View → List Arg → Effect
-type_row shared view args = ended (each (at_names (type_one view) view) (fresh shared) (texts_at args 0))
+type_row shared view args = end_effect (act_on_each (at_names (type_one view) view) (fresh_work shared) (texts_at args 0))

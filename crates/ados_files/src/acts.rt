@@ -3,7 +3,7 @@ ghost use Rattle.std.specs.Prelude.{◌≡◌, Option, Err, IfOk, OnOk};
 ghost use Rattle.ados_text.specs.declared.codes.Result2.{Result2};
 ghost use Rattle.ados_ram.specs.Files.{Files};
 ghost use Rattle.ados_ram.specs.FileOperations.{Answers};
-ghost use Rattle.ados_find.specs.Done.{Done, done_of, fresh, refused_or, each, ended};
+ghost use Rattle.ados_find.specs.Done.{Done, done_of, fresh_work, refused_or, act_on_each, end_effect};
 ghost use Rattle.ados_find.specs.Shared.{SharedState};
 ghost use Rattle.ados_find.specs.Effects.{effect_of};
 ghost use Rattle.ados_files.specs.Acts.{at_path, at_names, in_files, in_files_saying};
@@ -23,7 +23,7 @@ pub fn done_with<X, A: Act<X>>(
     act: &A,
     items: &[X],
 ) -> Result<Outcome, NoMemory>
-    ensures { IfOk result (λ outcome. effect_of shared.now outcome ≡ ended (each (A.act act.now) (fresh shared.now) items.now)) }
+    ensures { IfOk result (λ outcome. effect_of shared.now outcome ≡ end_effect (act_on_each (A.act act.now) (fresh_work shared.now) items.now)) }
 {
     let mut work = Work::new(alloc);
     each(act, shared, &mut work, items)?;
@@ -38,7 +38,7 @@ pub fn done_with_named<A: Act<Place>>(
     act: &A,
     texts: &[Text],
 ) -> Result<Outcome, NoMemory>
-    ensures { IfOk result (λ outcome. effect_of shared.now outcome ≡ ended (each (at_names (A.act act.now) view.now) (fresh shared.now) texts.now)) }
+    ensures { IfOk result (λ outcome. effect_of shared.now outcome ≡ end_effect (act_on_each (at_names (A.act act.now) view.now) (fresh_work shared.now) texts.now)) }
 {
     done_with(alloc, shared, view, &Names { act, view }, texts)
 }

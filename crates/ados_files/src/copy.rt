@@ -7,7 +7,7 @@ ghost use Rattle.ados_find.specs.Done.{done_of};
 ghost use Rattle.ados_find.specs.Shared.{version};
 ghost use Rattle.ados_find.specs.Effects.{effect_of};
 ghost use Rattle.ados_find.specs.Paths.{place_of};
-ghost use Rattle.ados_files.specs.Copy.{directory_for, copy_into, is_onto, one_entry, copy_found, copied_to, copy_row};
+ghost use Rattle.ados_files.specs.Copy.{directory_for, copy_into, is_onto, one_entry, copy_found, copy_into_target, copy_row};
 
 use crate::acts::done_with;
 use crate::copy_one::{Copying, make_missing};
@@ -72,7 +72,7 @@ impl<'a> Act<Place> for Copy<'a> {
 
 fn copied_to(alloc: Global, shared: &Shared, copy: &Copy, to: &Text) -> Result<Outcome, NoMemory>
     ensures { IfOk result (λ outcome. effect_of shared.now outcome ≡
-        copied_to shared.now copy.now.view.now copy.now.all copy.now.quiet copy.now.found (place_of shared.now copy.now.view.now.parts.directory to.now)) }
+        copy_into_target shared.now copy.now.view.now copy.now.all copy.now.quiet copy.now.found (place_of shared.now copy.now.view.now.parts.directory to.now)) }
 {
     let view = copy.view;
     match place_of(alloc, shared, view.directory, to) {

@@ -2,9 +2,9 @@
 ghost use Rattle.std.specs.Prelude.{◌≡◌, ◌++◌, OnOk};
 ghost use Rattle.std.specs.FinMap as map;
 ghost use Rattle.ados_ram.specs.Place.{key_of};
-ghost use Rattle.ados_find.specs.Done.{done_of, each};
+ghost use Rattle.ados_find.specs.Done.{done_of, act_on_each};
 ghost use Rattle.ados_find.specs.Shared.{version};
-ghost use Rattle.ados_files.specs.Copy.{between, make_missing, copy_fault, copy_written, copy_unless, copy_entry, copy_one};
+ghost use Rattle.ados_files.specs.Copy.{middle_directories, make_missing, copy_fault, copy_written, copy_unless, copy_entry, copy_one};
 
 use crate::acts::go_on_saying;
 use crate::jobs::Job;
@@ -90,7 +90,7 @@ fn copy_below(
 ) -> Result<(), NoMemory>
     ensures { OnOk result (done_of shared.now work.new ≡
         copy_unless copying.now.view.now copying.now.quiet job.now.source target.now entry.now
-        (each make_missing (done_of shared.now work.old) (between copying.now.to.now job.now.names))) }
+        (act_on_each make_missing (done_of shared.now work.old) (middle_directories copying.now.to.now job.now.names))) }
 {
     make_between(copying.to, shared, work, job)?;
     match work.stopped {
@@ -101,7 +101,7 @@ fn copy_below(
 
 // Creates the missing directories between TO and a file.
 fn make_between(to: &Place, shared: &Shared, work: &mut Work, job: &Job) -> Result<(), NoMemory>
-    ensures { OnOk result (done_of shared.now work.new ≡ each make_missing (done_of shared.now work.old) (between to.now job.now.names)) }
+    ensures { OnOk result (done_of shared.now work.new ≡ act_on_each make_missing (done_of shared.now work.old) (middle_directories to.now job.now.names)) }
 {
     let mut places = Vec::new(*work.output.allocator());
     push_between(&mut places, to, job.names.names())?;
@@ -110,7 +110,7 @@ fn make_between(to: &Place, shared: &Shared, work: &mut Work, job: &Job) -> Resu
 
 // Appends the directories between a place and one below it.
 fn push_between(places: &mut Vec<Place>, above: &Place, names: &[Name]) -> Result<(), NoMemory>
-    ensures { OnOk result (places.new.items ≡ places.old.items ++ between above.now names.now) }
+    ensures { OnOk result (places.new.items ≡ places.old.items ++ middle_directories above.now names.now) }
 {
     let Some((name, rest)) = names.split_first() else {
         return Ok(());

@@ -1,7 +1,7 @@
 // The devices that the arguments of a command use.
 ghost use Rattle.std.specs.Prelude.{◌≡◌, ◌++◌, OnOk};
 ghost use Rattle.std.specs.List.{flat_map};
-ghost use Rattle.ados_assign.specs.Uses.{reached};
+ghost use Rattle.ados_assign.specs.Uses.{reached_devices};
 ghost use Rattle.ados_readargs.specs.Args.{texts_at};
 ghost use Rattle.ados_find.specs.Search.{device_named};
 ghost use Rattle.ados_files.specs.Devices.{devices_of};
@@ -22,7 +22,7 @@ pub fn push_devices(
     args: &Args,
     used: &mut Vec<Name>,
 ) -> Result<(), NoMemory>
-    ensures { OnOk result (used.new.items ≡ used.old.items ++ flat_map (reached shared.now.assigns) (devices_of command args.now)) }
+    ensures { OnOk result (used.new.items ≡ used.old.items ++ flat_map (reached_devices shared.now.assigns) (devices_of command args.now)) }
 {
     push_of(alloc, shared, args, 0, used)?;
     match command {
@@ -39,7 +39,7 @@ fn push_of(
     place: usize,
     used: &mut Vec<Name>,
 ) -> Result<(), NoMemory>
-    ensures { OnOk result (used.new.items ≡ used.old.items ++ flat_map (reached shared.now.assigns) (flat_map device_named (texts_at args.now place))) }
+    ensures { OnOk result (used.new.items ≡ used.old.items ++ flat_map (reached_devices shared.now.assigns) (flat_map device_named (texts_at args.now place))) }
 {
     let texts = args.made_texts(alloc, place)?;
     shared.push_devices_of(used, texts.as_slice())

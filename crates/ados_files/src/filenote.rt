@@ -1,7 +1,7 @@
 ghost use Rattle.std.specs.Prelude.{◌≡◌, IfOk, OnOk};
 ghost use Rattle.ados_find.specs.Done.{done_of};
 ghost use Rattle.ados_find.specs.Effects.{effect_of};
-ghost use Rattle.ados_files.specs.Filenote.{note_one, noted, filenote_row};
+ghost use Rattle.ados_files.specs.Filenote.{note_one, note_all, filenote_row};
 
 use crate::acts::{done_with_named, go_on};
 use ados_find::{Act, Outcome, Shared, ShellView, Work, current};
@@ -33,7 +33,7 @@ fn noted(
     comment: &Text,
     texts: &[Text],
 ) -> Result<Outcome, NoMemory>
-    ensures { IfOk result (λ outcome. effect_of shared.now outcome ≡ noted shared.now view.now comment.now texts.now) }
+    ensures { IfOk result (λ outcome. effect_of shared.now outcome ≡ note_all shared.now view.now comment.now texts.now) }
 {
     done_with_named(alloc, shared, view, &Noting { comment }, texts)
 }

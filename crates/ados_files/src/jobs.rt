@@ -30,7 +30,7 @@ impl Job {
     }
 }
 
-ghost use Rattle.ados_files.specs.Jobs.{gathered, sources_of, job_below, jobs_below, jobs_there, all_jobs, jobs_onto};
+ghost use Rattle.ados_files.specs.Jobs.{gathered_places, sources_of, directory_job, directory_jobs, source_jobs, all_jobs, target_jobs};
 
 /// The objects that the arguments of FROM name.
 pub fn sources_of(
@@ -53,7 +53,7 @@ fn gathered(
     directory: &Place,
     texts: &[Text],
 ) -> Result<Found, Refusal>
-    ensures { Gives result (gathered shared.now directory.now texts.now) }
+    ensures { Gives result (gathered_places shared.now directory.now texts.now) }
 {
     let mut places = Vec::new(alloc);
     for text in texts {
@@ -76,7 +76,7 @@ pub fn all_jobs(alloc: Global, all: bool, ram: &Ram, places: &[Place]) -> Result
 
 // Appends the files that a source stands for.
 fn push_jobs(jobs: &mut Vec<Job>, all: bool, ram: &Ram, place: &Place) -> Result<(), NoMemory>
-    ensures { OnOk result (jobs.new.items ≡ jobs.old.items ++ jobs_there all ram.now place.now (map.get ram.now (key_of place.now))) }
+    ensures { OnOk result (jobs.new.items ≡ jobs.old.items ++ source_jobs all ram.now place.now (map.get ram.now (key_of place.now))) }
 {
     match ram.look(place) {
         None => Ok(()),
@@ -93,7 +93,7 @@ fn push_below(
     directory: &Place,
     places: &[Place],
 ) -> Result<(), NoMemory>
-    ensures { OnOk result (jobs.new.items ≡ jobs.old.items ++ jobs_below ram.now directory.now places.now) }
+    ensures { OnOk result (jobs.new.items ≡ jobs.old.items ++ directory_jobs ram.now directory.now places.now) }
 {
     for place in places {
         jobs.push(job_below(*jobs.allocator(), ram, directory, place)?)?;
@@ -103,7 +103,7 @@ fn push_below(
 
 // A file below a directory keeps its path below it.
 fn job_below(alloc: Global, ram: &Ram, directory: &Place, place: &Place) -> Result<Job, NoMemory>
-    ensures { IfOk result (λ job. job ≡ job_below ram.now directory.now place.now) }
+    ensures { IfOk result (λ job. job ≡ directory_job ram.now directory.now place.now) }
 {
     Job::new(place, names_below(alloc, ram, directory, place)?)
 }
@@ -132,7 +132,7 @@ fn push_named(jobs: &mut Vec<Job>, place: &Place, entry: &Entry) -> Result<(), N
 
 /// Files that are copied to TO itself.
 pub fn jobs_onto(alloc: Global, places: &[Place]) -> Result<Vec<Job>, NoMemory>
-    ensures { IfOk result (λ jobs. jobs.items ≡ jobs_onto places.now) }
+    ensures { IfOk result (λ jobs. jobs.items ≡ target_jobs places.now) }
 {
     let mut jobs = Vec::new(alloc);
     for place in places {

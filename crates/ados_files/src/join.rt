@@ -1,7 +1,7 @@
 ghost use Rattle.std.specs.Prelude.{◌≡◌, IfOk, OnOk};
 ghost use Rattle.ados_find.specs.Done.{done_of};
 ghost use Rattle.ados_find.specs.Effects.{effect_of};
-ghost use Rattle.ados_files.specs.Join.{write_one, written_to, joined_to, join_row};
+ghost use Rattle.ados_files.specs.Join.{write_one, write_read, join_to_target, join_row};
 
 use crate::acts::{Paths, at_path, done_with, go_on};
 use crate::type_files::Typing;
@@ -41,7 +41,7 @@ pub struct Joining<'a> {
 }
 
 impl<'a> Act<Text> for Joining<'a> {
-    ghost act = { λ s. joined_to s.view.now s.texts.now };
+    ghost act = { λ s. join_to_target s.view.now s.texts.now };
 
     fn act(&self, shared: &Shared, work: &mut Work, item: &Text) -> Result<(), NoMemory> {
         joined_to(self.view, self.texts, shared, work, item)
@@ -56,7 +56,7 @@ fn joined_to(
     work: &mut Work,
     to: &Text,
 ) -> Result<(), NoMemory>
-    ensures { OnOk result (done_of shared.now work.new ≡ joined_to view.now texts.now (done_of shared.now work.old) to.now) }
+    ensures { OnOk result (done_of shared.now work.new ≡ join_to_target view.now texts.now (done_of shared.now work.old) to.now) }
 {
     let act = Typing { view: &*view };
     each(
@@ -73,7 +73,7 @@ fn joined_to(
 
 // Writes all that was read, if nothing was refused.
 fn written_to(view: &ShellView, shared: &Shared, work: &mut Work, to: &Text) -> Result<(), NoMemory>
-    ensures { OnOk result (done_of shared.now work.new ≡ written_to view.now to.now (done_of shared.now work.old)) }
+    ensures { OnOk result (done_of shared.now work.new ≡ write_read view.now to.now (done_of shared.now work.old)) }
 {
     let none = Vec::new(*work.output.allocator());
     let read = mem::replace(&mut work.output, none);

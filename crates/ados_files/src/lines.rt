@@ -1,7 +1,7 @@
 // Lines of a listing.
 ghost use Rattle.std.specs.Prelude.{◌≡◌, ℕ, List, Option, ◌++◌, ◌∷◌, [], OnOk};
 ghost use Rattle.std.specs.Option.{option_copied};
-ghost use Rattle.ados_text.specs.Columns.{right_in};
+ghost use Rattle.ados_text.specs.Columns.{right_aligned_text};
 ghost use Rattle.ados_ram.specs.Written.{full_path};
 ghost use Rattle.ados_ram.specs.declared.entries.Entry.{Entry};
 ghost use Rattle.ados_files.specs.Lines.{say, keeps, lines_by, letter, bits_text, size_text, comment_line, list_line};
@@ -86,7 +86,7 @@ pub fn push_line(output: &mut Vec<u8>, entry: &Entry) -> Result<(), NoMemory>
 }
 
 fn push_size(output: &mut Vec<u8>, body: &Body) -> Result<(), NoMemory>
-    ensures { OnOk result (output.new.items ≡ output.old.items ++ right_in 7 (size_text body.now)) }
+    ensures { OnOk result (output.new.items ≡ output.old.items ++ right_aligned_text 7 (size_text body.now)) }
 {
     match body {
         Body::Directory => push_right(output, 7, b"Dir"),

@@ -1,7 +1,7 @@
 ghost use Rattle.std.specs.Prelude.{◌≡◌, ◌++◌, IfOk, OnOk, Some};
 ghost use Rattle.std.specs.Option.{option_copied};
 ghost use Rattle.ados_files.specs.Bases.{entry_at};
-ghost use Rattle.ados_find.specs.Done.{done_of, fresh, ended};
+ghost use Rattle.ados_find.specs.Done.{done_of, fresh_work, end_effect};
 ghost use Rattle.ados_find.specs.Effects.{effect_of};
 ghost use Rattle.ados_find.specs.Paths.{Gives};
 
@@ -26,7 +26,7 @@ pub struct Shape {
     pub dirs: bool,
 }
 
-ghost use Rattle.ados_files.specs.Listing.{passes, is_kept, shown_line, kept_line, line_there, entries_of, listed};
+ghost use Rattle.ados_files.specs.Listing.{passes, is_kept, shown_line, kept_line, line_by_shape, entries_of, listed_places};
 ghost use Rattle.ados_files.specs.Listing.{list_text, list_at, list_texts, pattern_given, list_row};
 
 /// List shows lines of objects, and of what is in directories.
@@ -73,7 +73,7 @@ fn list_texts(
     texts: &[Text],
 ) -> Result<Outcome, NoMemory>
     ensures { IfOk result (λ outcome. effect_of shared.now outcome ≡
-        ended (list_texts shape.now view.now (fresh shared.now) texts.now)) }
+        end_effect (list_texts shape.now view.now (fresh_work shared.now) texts.now)) }
 {
     if texts.is_empty() {
         let here = slice::from_ref(view.directory);
@@ -154,7 +154,7 @@ fn list_at(shape: &Shape, shared: &Shared, work: &mut Work, place: &Place) -> Re
 
 // What is listed for an argument.
 fn listed(alloc: Global, ram: &Ram, found: &Found) -> Result<Vec<Place>, NoMemory>
-    ensures { IfOk result (λ places. places.items ≡ listed ram.now found.now) }
+    ensures { IfOk result (λ places. places.items ≡ listed_places ram.now found.now) }
 {
     if found.is_literal() {
         return entries_of(alloc, ram, found.places());
@@ -180,7 +180,7 @@ fn entries_of(alloc: Global, ram: &Ram, places: &[Place]) -> Result<Vec<Place>, 
 }
 
 impl Line for Shape {
-    ghost line = { λ s. line_there s };
+    ghost line = { λ s. line_by_shape s };
 
     fn push(&self, output: &mut Vec<u8>, there: Option<&Entry>) -> Result<(), NoMemory> {
         push_there(output, self, there)
@@ -188,7 +188,7 @@ impl Line for Shape {
 }
 
 fn push_there(output: &mut Vec<u8>, shape: &Shape, there: Option<&Entry>) -> Result<(), NoMemory>
-    ensures { OnOk result (output.new.items ≡ output.old.items ++ line_there shape.now (option_copied there.entry)) }
+    ensures { OnOk result (output.new.items ≡ output.old.items ++ line_by_shape shape.now (option_copied there.entry)) }
 {
     match there {
         None => Ok(()),

@@ -1,7 +1,7 @@
 ghost use Rattle.std.specs.Prelude.{◌≡◌, IfOk, OnOk};
 ghost use Rattle.ados_find.specs.Done.{done_of};
 ghost use Rattle.ados_find.specs.Effects.{effect_of};
-ghost use Rattle.ados_files.specs.MakeDir.{made, make_dir_row};
+ghost use Rattle.ados_files.specs.MakeDir.{make_one, make_dir_row};
 
 use crate::acts::{Paths, done_with, go_on};
 use ados_find::{Act, Codes, Outcome, Shared, ShellView, Work, current};
@@ -33,7 +33,7 @@ pub fn make_dir(
 pub struct Making;
 
 impl Act<Place> for Making {
-    ghost act = { λ s. made };
+    ghost act = { λ s. make_one };
 
     fn act(&self, shared: &Shared, work: &mut Work, item: &Place) -> Result<(), NoMemory> {
         made(shared, work, item)
@@ -42,7 +42,7 @@ impl Act<Place> for Making {
 
 /// Creates a directory.
 pub fn made(shared: &Shared, work: &mut Work, place: &Place) -> Result<(), NoMemory>
-    ensures { OnOk result (done_of shared.now work.new ≡ made (done_of shared.now work.old) place.now) }
+    ensures { OnOk result (done_of shared.now work.new ≡ make_one (done_of shared.now work.old) place.now) }
 {
     let change = current(shared, &work.shared).ram.make_dir(place);
     go_on(shared, work, change)

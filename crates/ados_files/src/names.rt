@@ -28,7 +28,7 @@ impl Model for Found {
     ghost view = { λ n. record { literal = n.literal; places = n.places.items } };
 }
 
-ghost use Rattle.ados_files.specs.Names.{pattern_of, wants, matching, some_matches, matches_in, matches_at, the_one, one_at, bases_at, named_by, head_of, piece_of, named, named_bases};
+ghost use Rattle.ados_files.specs.Names.{pattern_of, matches_form, matching_places, some_matches, matches_in, matches_at, the_one, one_at, bases_at, places_by_form, head_of, piece_of, named_places, named_bases};
 
 impl Found {
     /// Several objects.
@@ -68,7 +68,7 @@ pub fn named(
     directory: &Place,
     text: &Text,
 ) -> Result<Found, Refusal>
-    ensures { Gives result (named shared.now directory.now text.now) }
+    ensures { Gives result (named_places shared.now directory.now text.now) }
 {
     let head = head_of(text)?;
     let pattern = pattern_of(alloc, &piece_of(text)?)?;
@@ -128,7 +128,7 @@ fn named_by(
     head: &Text,
     pattern: &Pattern,
 ) -> Result<Found, Refusal>
-    ensures { Gives result (named_by shared.now directory.now head.now pattern.now.form pattern.now.name) }
+    ensures { Gives result (places_by_form shared.now directory.now head.now pattern.now.form pattern.now.name) }
 {
     match pattern.literal() {
         Some(name) => one_at(alloc, shared, directory, &head.join(name)?),
@@ -237,7 +237,7 @@ fn matching(
     ram: &Ram,
     places: &[Place],
 ) -> Result<Vec<Place>, NoMemory>
-    ensures { IfOk result (λ found. found.items ≡ matching pattern.now.form ram.now places.now) }
+    ensures { IfOk result (λ found. found.items ≡ matching_places pattern.now.form ram.now places.now) }
 {
     let mut found = Vec::new(alloc);
     for place in places {
@@ -250,7 +250,7 @@ fn matching(
 
 // Whether there is an entry, and its name matches.
 fn wants(pattern: &Pattern, there: Option<&Entry>) -> Result<bool, NoMemory>
-    ensures { IfOk result (λ wanted. wanted ≡ wants pattern.now.form (option_copied there.entry)) }
+    ensures { IfOk result (λ wanted. wanted ≡ matches_form pattern.now.form (option_copied there.entry)) }
 {
     match there {
         None => Ok(false),

@@ -26,7 +26,7 @@ pub struct Change {
 }
 
 ghost use Rattle.ados_files.specs.Protect.{begins_with, letters_of, has_letter, bits_of, is_letter, are_letters, way_of, change_of};
-ghost use Rattle.ados_files.specs.Protect.{changed_bit, changed_bits, bits_at, protect_one, protected_by, protect_row};
+ghost use Rattle.ados_files.specs.Protect.{changed_bit, changed_bits, bits_at, protect_one, protect_all, protect_row};
 ghost use Rattle.ados_files.specs.Texts.{text_or_empty};
 
 /// Protect changes the bits of objects.
@@ -50,7 +50,7 @@ fn protected_by(
     change: Result<Change, Result2>,
     texts: &[Text],
 ) -> Result<Outcome, NoMemory>
-    ensures { IfOk result (λ outcome. effect_of shared.now outcome ≡ protected_by shared.now view.now change texts.now) }
+    ensures { IfOk result (λ outcome. effect_of shared.now outcome ≡ protect_all shared.now view.now change texts.now) }
 {
     match change {
         Err(fault) => Ok(Outcome::answering(alloc, Codes::failed(fault))),

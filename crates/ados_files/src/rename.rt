@@ -4,10 +4,10 @@ ghost use Rattle.std.specs.Option.{option_copied};
 ghost use Rattle.ados_ram.specs.Place.{key_of};
 ghost use Rattle.ados_ram.specs.Files.{is_some_directory};
 ghost use Rattle.ados_text.specs.declared.codes.TheConstants.Result2.{ARGUMENT_MISSING};
-ghost use Rattle.ados_find.specs.Codes.{failed};
-ghost use Rattle.ados_find.specs.Effects.{DoesTo, answering, effect_of};
+ghost use Rattle.ados_find.specs.Codes.{fail_codes};
+ghost use Rattle.ados_find.specs.Effects.{DoesTo, codes_effect, effect_of};
 ghost use Rattle.ados_find.specs.Paths.{place_of};
-ghost use Rattle.ados_files.specs.Rename.{target_of, renamed_to, renamed_from, renamed_at, rename_row};
+ghost use Rattle.ados_files.specs.Rename.{target_of, rename_to_place, rename_entry, rename_places, rename_row};
 
 use ados_find::{Codes, Outcome, Renamed, Shared, ShellView, place_of};
 use ados_ram::{Entry, FsFault, Place, Ram};
@@ -39,7 +39,7 @@ pub fn rename_object(
 
 // An argument is missing.
 fn missing(alloc: Global) -> Outcome
-    ensures { DoesTo result (λ shared. answering shared (failed ARGUMENT_MISSING)) }
+    ensures { DoesTo result (λ shared. codes_effect shared (fail_codes ARGUMENT_MISSING)) }
 {
     Outcome::answering(alloc, Codes::failed(Result2::ARGUMENT_MISSING))
 }
@@ -51,7 +51,7 @@ fn renamed_at(
     from: &Place,
     to: &Text,
 ) -> Result<Outcome, NoMemory>
-    ensures { IfOk result (λ outcome. effect_of shared.now outcome ≡ renamed_at shared.now view.now (Ok from.now) (place_of shared.now view.now.parts.directory to.now)) }
+    ensures { IfOk result (λ outcome. effect_of shared.now outcome ≡ rename_places shared.now view.now (Ok from.now) (place_of shared.now view.now.parts.directory to.now)) }
 {
     match place_of(alloc, shared, view.directory, to) {
         Err(refusal) => Ok(Outcome::answering(alloc, refusal.codes()?)),
@@ -66,7 +66,7 @@ fn renamed_from(
     from: &Place,
     to: &Place,
 ) -> Result<Outcome, NoMemory>
-    ensures { IfOk result (λ outcome. effect_of shared.now outcome ≡ renamed_from shared.now view.now from.now (map.get shared.now.files (key_of from.now)) to.now) }
+    ensures { IfOk result (λ outcome. effect_of shared.now outcome ≡ rename_entry shared.now view.now from.now (map.get shared.now.files (key_of from.now)) to.now) }
 {
     match shared.ram.look(from) {
         None => Ok(Outcome::answering(alloc, Codes::erred(Result2::OBJECT_NOT_FOUND))),
@@ -104,7 +104,7 @@ fn renamed_to(
     view: &ShellView,
     renamed: Renamed,
 ) -> Result<Outcome, NoMemory>
-    ensures { IfOk result (λ outcome. effect_of shared.now outcome ≡ renamed_to shared.now view.now renamed.from renamed.to) }
+    ensures { IfOk result (λ outcome. effect_of shared.now outcome ≡ rename_to_place shared.now view.now renamed.from renamed.to) }
 {
     match shared.renamed(&view.busy, &renamed.from, &renamed.to) {
         Err(FsFault::NoMemory) => Err(NoMemory),

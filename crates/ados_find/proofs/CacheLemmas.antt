@@ -13,10 +13,10 @@ use Rattle.ados_names.specs.Path.{PathParts, path_of}
 use Rattle.ados_ram.specs.Place.{Place}
 use Rattle.ados_find.specs.declared.cache.Known.{Known}
 use Rattle.ados_find.specs.Cache.{AreResolved, IsKept, IsResolved, text_resolved}
-use Rattle.ados_find.specs.Paths.{or_erred, place_by, place_of}
+use Rattle.ados_find.specs.Paths.{or_error_codes, place_by, place_of}
 use Rattle.ados_find.specs.Shared.{SharedState}
 use Rattle.ados_assign.specs.Assigns.{AssignMap}
-use Rattle.ados_assign.specs.Resolve.{by_path, resolved}
+use Rattle.ados_assign.specs.Resolve.{by_path, resolve_path}
 use Rattle.ados_ram.specs.Files.{Files}
 
 pair_there : (old : List Known) (pair : Known) → Contains (pair ∷ old) pair
@@ -45,7 +45,7 @@ all_resolved assigns files old new pair all is kept =
     (λ x there. All-contains (IsResolved assigns files) (pair ∷ old) x (All-cons (IsResolved assigns files) pair old is all) there) new kept
 
 place_resolved : (s : SharedState) (directory : Place) (path : Result PathParts Result2) →
-    place_by s directory path ≡ or_erred (by_path (resolved s.assigns s.files directory) path)
+    place_by s directory path ≡ or_error_codes (by_path (resolve_path s.assigns s.files directory) path)
 place_resolved s directory (Ok path) = refl
 place_resolved s directory (Err fault) = refl
 

@@ -6,12 +6,12 @@ use Rattle.ados_names.specs.Path.{path_of}
 use Rattle.ados_ram.specs.Place.{Place}
 use Rattle.ados_ram.specs.Files.{Files}
 use Rattle.ados_assign.specs.Assigns.{AssignMap}
-use Rattle.ados_assign.specs.Resolve.{Resolved, by_path, resolved}
+use Rattle.ados_assign.specs.Resolve.{Resolved, by_path, resolve_path}
 use Rattle.ados_find.specs.declared.cache.Known.{Known}
 
 -- where the path of a text leads from a directory
 abbrev pub text_resolved : AssignMap → Files → Place → Text → Resolved
-text_resolved assigns files directory text = by_path (resolved assigns files directory) (path_of text)
+text_resolved assigns files directory text = by_path (resolve_path assigns files directory) (path_of text)
 
 -- a pair is what resolving gives
 abbrev pub IsResolved : AssignMap → Files → Known → Type 0

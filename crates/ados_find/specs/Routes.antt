@@ -5,7 +5,7 @@ use Rattle.ados_find.specs.declared.routes.Route.{Route}
 use Rattle.ados_find.specs.declared.routes.Route.TheVariants.{Listed, ByPath, ToC}
 use Rattle.ados_find.specs.Search.{device_named}
 
-abbrev pub devices_by : Route → Text → List Text
-devices_by Listed word = []
-devices_by ByPath word = device_named word
-devices_by ToC word = codes "C" ∷ []
+abbrev pub route_devices : Route → Text → List Text
+route_devices Listed word = []
+route_devices ByPath word = device_named word
+route_devices ToC word = codes "C" ∷ []

@@ -1,9 +1,9 @@
 // The devices that paths and searches use.
 ghost use Rattle.std.specs.Prelude.{◌≡◌, ◌++◌, ◌∷◌, [], OnOk, map as each};
 ghost use Rattle.std.specs.List.{flat_map};
-ghost use Rattle.ados_assign.specs.Uses.{reached};
+ghost use Rattle.ados_assign.specs.Uses.{reached_devices};
 ghost use Rattle.ados_text.specs.Text.{to_ascii};
-ghost use Rattle.ados_find.specs.Routes.{devices_by};
+ghost use Rattle.ados_find.specs.Routes.{route_devices};
 ghost use Rattle.ados_find.specs.Search.{device_named};
 
 use crate::routes::Route;
@@ -16,7 +16,7 @@ impl Shared {
     /// Appends the device of a path's text, if it names one, to those that are used, and then each device to which the
     /// texts of assigns lead from it.
     pub fn push_device_of(&self, used: &mut Vec<Name>, text: &Text) -> Result<(), NoMemory>
-        ensures { OnOk result (used.new.items ≡ used.old.items ++ flat_map (reached self.now.assigns) (device_named text.now)) }
+        ensures { OnOk result (used.new.items ≡ used.old.items ++ flat_map (reached_devices self.now.assigns) (device_named text.now)) }
     {
         match device_in(text)? {
             None => Ok(()),
@@ -26,7 +26,7 @@ impl Shared {
 
     /// The same for each of these texts in turn.
     pub fn push_devices_of(&self, used: &mut Vec<Name>, texts: &[Text]) -> Result<(), NoMemory>
-        ensures { OnOk result (used.new.items ≡ used.old.items ++ flat_map (reached self.now.assigns) (flat_map device_named texts.now)) }
+        ensures { OnOk result (used.new.items ≡ used.old.items ++ flat_map (reached_devices self.now.assigns) (flat_map device_named texts.now)) }
     {
         for text in texts {
             self.push_device_of(used, text)?;
@@ -41,7 +41,7 @@ impl Shared {
         used: &mut Vec<Name>,
         name: &[u8],
     ) -> Result<(), NoMemory>
-        ensures { OnOk result (used.new.items ≡ used.old.items ++ flat_map (reached self.now.assigns) (each to_ascii name.now ∷ [])) }
+        ensures { OnOk result (used.new.items ≡ used.old.items ++ flat_map (reached_devices self.now.assigns) (each to_ascii name.now ∷ [])) }
     {
         let device = Name::new(Text::from_bytes(alloc, name)?);
         self.assigns.push_reached(used, device)
@@ -55,7 +55,7 @@ impl Shared {
         route: Route,
         word: &Text,
     ) -> Result<(), NoMemory>
-        ensures { OnOk result (used.new.items ≡ used.old.items ++ flat_map (reached self.now.assigns) (devices_by route word.now)) }
+        ensures { OnOk result (used.new.items ≡ used.old.items ++ flat_map (reached_devices self.now.assigns) (route_devices route word.now)) }
     {
         match route {
             Route::Listed => Ok(()),

@@ -7,7 +7,7 @@ use Rattle.std.proofs.lemmas.Bool.{and_right}
 use Rattle.std.proofs.lemmas.Bool.Decides.{nat_tests}
 use Rattle.ados_text.specs.Text.{IsText, Text, to_ascii}
 use Rattle.ados_items.specs.Items.{is_blank}
-use Rattle.ados_flow.specs.Gathering.{Gathered, alone, before_plus, gathered, goes_on, leading, without_plus}
+use Rattle.ados_flow.specs.Gathering.{Gathered, single_gathered, before_plus, run_gathering, has_plus, prepended_gathered, without_plus}
 
 -- what a byte makes of the text after it: whether that is blank, and what is before its `+`
 abbrev by_first : ℕ → Bool → Option Text → Option Text
@@ -106,7 +106,7 @@ abbrev pub led : List Text → Gathered → Gathered
 led commands rest = record { commands = commands ++ rest.commands; taken = length commands + rest.taken }
 
 -- the last of what was gathered, before the rest
-led-leading : (commands : List Text) (last : Text) (rest : Gathered) → led (commands ++ without_plus last ∷ []) rest ≡ led commands (leading last rest)
+led-leading : (commands : List Text) (last : Text) (rest : Gathered) → led (commands ++ without_plus last ∷ []) rest ≡ led commands (prepended_gathered last rest)
 led-leading commands last rest =
     let count : length (commands ++ without_plus last ∷ []) ≡ length commands + 1 = length-append commands (without_plus last ∷ []) in
     let total : length (commands ++ without_plus last ∷ []) + rest.taken ≡ length commands + suc rest.taken = omega (arith, count) in
@@ -114,28 +114,28 @@ led-leading commands last rest =
     ∙ ap (λ cs. record { commands = cs; taken = length commands + suc rest.taken }) (append_assoc commands (without_plus last ∷ []) rest.commands)
 
 -- a text that continues, with a line after it, while there is room
-pub went_on : (commands : List Text) (last line : Text) (rest : List Text) → length commands < 31 → goes_on last ≡ true
-    → led (commands ++ without_plus last ∷ []) (gathered (31 - length (commands ++ without_plus last ∷ [])) line rest)
-    ≡ led commands (gathered (31 - length commands) last (line ∷ rest))
+pub went_on : (commands : List Text) (last line : Text) (rest : List Text) → length commands < 31 → has_plus last ≡ true
+    → led (commands ++ without_plus last ∷ []) (run_gathering (31 - length (commands ++ without_plus last ∷ [])) line rest)
+    ≡ led commands (run_gathering (31 - length commands) last (line ∷ rest))
 went_on commands last line rest room goes =
     let now = length commands in
     let count : length (commands ++ without_plus last ∷ []) ≡ now + 1 = length-append commands (without_plus last ∷ []) in
     let less : 31 - now ≡ suc (31 - (now + 1)) = omega (arith, room) in
-    ap (λ n. led (commands ++ without_plus last ∷ []) (gathered (31 - n) line rest)) count
-    ∙ led-leading commands last (gathered (31 - (now + 1)) line rest)
-    ∙ ap (λ b. led commands (if b then leading last (gathered (31 - (now + 1)) line rest) else alone last)) (sym goes)
-    ∙ ap (λ n. led commands (gathered n last (line ∷ rest))) (sym less)
+    ap (λ n. led (commands ++ without_plus last ∷ []) (run_gathering (31 - n) line rest)) count
+    ∙ led-leading commands last (run_gathering (31 - (now + 1)) line rest)
+    ∙ ap (λ b. led commands (if b then prepended_gathered last (run_gathering (31 - (now + 1)) line rest) else single_gathered last)) (sym goes)
+    ∙ ap (λ n. led commands (run_gathering n last (line ∷ rest))) (sym less)
 
 -- a text that takes no line
-pub took_none : (commands : List Text) (last : Text) (rest : List Text) → goes_on last ≡ false → gathered (31 - length commands) last rest ≡ alone last
+pub took_none : (commands : List Text) (last : Text) (rest : List Text) → has_plus last ≡ false → run_gathering (31 - length commands) last rest ≡ single_gathered last
 took_none commands last rest stops = by_room (31 - length commands) rest
   where
-    by_room : (room : ℕ) (rest : List Text) → gathered room last rest ≡ alone last
+    by_room : (room : ℕ) (rest : List Text) → run_gathering room last rest ≡ single_gathered last
     by_room zero rest = refl
     by_room (suc room) [] = refl
-    by_room (suc room) (line ∷ rest) = ap (λ b. if b then leading last (gathered room line rest) else alone last) stops
+    by_room (suc room) (line ∷ rest) = ap (λ b. if b then prepended_gathered last (run_gathering room line rest) else single_gathered last) stops
 
-pub none_left : (room : ℕ) (last : Text) (rest : List Text) → length rest ≡ 0 → gathered room last rest ≡ alone last
+pub none_left : (room : ℕ) (last : Text) (rest : List Text) → length rest ≡ 0 → run_gathering room last rest ≡ single_gathered last
 none_left zero last rest e = refl
 none_left (suc room) last [] e = refl
 none_left (suc room) last (line ∷ rest) e = cc

@@ -18,9 +18,9 @@ pub data Action : Type 0 where
   Asks : (prompt : Text) → Action
 
 -- what an action is to the shared parts as they were
-abbrev pub acting : SharedState → code.Action → Action
-acting shared (made.Does outcome) = Does (effect_of shared outcome)
-acting shared (made.Quits codes) = Quits codes
-acting shared (made.Jumps line codes) = Jumps line codes
-acting shared (made.Calls script) = Calls script
-acting shared (made.Asks prompt) = Asks prompt
+abbrev pub action_effect : SharedState → code.Action → Action
+action_effect shared (made.Does outcome) = Does (effect_of shared outcome)
+action_effect shared (made.Quits codes) = Quits codes
+action_effect shared (made.Jumps line codes) = Jumps line codes
+action_effect shared (made.Calls script) = Calls script
+action_effect shared (made.Asks prompt) = Asks prompt

@@ -5,8 +5,8 @@ use Rattle.ados_text.specs.declared.codes.TheConstants.Result2.{ARGUMENT_MISSING
 use Rattle.ados_readargs.specs.declared.args.Arg.{Arg}
 use Rattle.ados_readargs.specs.Args.{text_at}
 use Rattle.ados_find.specs.declared.codes.Codes.{Codes}
-use Rattle.ados_find.specs.Codes.{failed, warned, went_well}
-use Rattle.ados_find.specs.Effects.{answering}
+use Rattle.ados_find.specs.Codes.{fail_codes, warning_codes, went_well}
+use Rattle.ados_find.specs.Effects.{codes_effect}
 use Rattle.ados_find.specs.Shared.{SharedState}
 use Rattle.std.specs.Prelude.{List}
 use Rattle.ados_flow.specs.Actions.{Action, Asks, Does}
@@ -15,11 +15,11 @@ use Rattle.ados_flow.specs.Actions.{Action, Asks, Does}
 -- else is not an answer.
 abbrev pub reply_of : Text → Option Codes
 reply_of line =
-    if is_same line (codes "y") || is_same line (codes "yes") then Some (warned NONE) else
+    if is_same line (codes "y") || is_same line (codes "yes") then Some (warning_codes NONE) else
     (if is_same line [] || (is_same line (codes "n") || is_same line (codes "no")) then Some went_well else None)
 
 abbrev pub asks : SharedState → Option Text → Action
-asks shared None = Does (answering shared (failed ARGUMENT_MISSING))
+asks shared None = Does (codes_effect shared (fail_codes ARGUMENT_MISSING))
 asks shared (Some prompt) = Asks prompt
 
 -- Ask asks with its PROMPT

@@ -8,42 +8,42 @@ use Rattle.ados_script.specs.declared.jumps.Jump.TheVariants.{To, EndSkip, None 
 use Rattle.ados_script.specs.Blocks.{after_if, after_else}
 use Rattle.ados_script.specs.Skips.{skip}
 use Rattle.ados_find.specs.declared.codes.Codes.{Codes}
-use Rattle.ados_find.specs.Codes.{failed, warned, went_well}
-use Rattle.ados_find.specs.Effects.{answering}
+use Rattle.ados_find.specs.Codes.{fail_codes, warning_codes, went_well}
+use Rattle.ados_find.specs.Effects.{codes_effect}
 use Rattle.ados_find.specs.Shared.{SharedState}
 use Rattle.ados_find.specs.Views.{View}
 use Rattle.ados_flow.specs.Actions.{Action, Does, Jumps, Quits}
 use Rattle.ados_flow.specs.Frames.{ScriptLine}
-use Rattle.ados_flow.specs.Tests.{tested}
+use Rattle.ados_flow.specs.Tests.{if_test}
 
 -- a script continues where its jump leads, with 5 after an EndSkip; if nothing is found it ends
-abbrev pub jumped : Jump → Action
-jumped (To line) = Jumps line went_well
-jumped (EndSkip line) = Jumps line (warned NONE)
-jumped Nowhere = Quits (failed OBJECT_NOT_FOUND)
+abbrev pub jump_action : Jump → Action
+jump_action (To line) = Jumps line went_well
+jump_action (EndSkip line) = Jumps line (warning_codes NONE)
+jump_action Nowhere = Quits (fail_codes OBJECT_NOT_FOUND)
 
 -- a branch is taken only in a script
 abbrev pub in_script : SharedState → Option ScriptLine → (ScriptLine → Action) → Action
-in_script shared None branch = Does (answering shared (failed WRONG_TYPE))
+in_script shared None branch = Does (codes_effect shared (fail_codes WRONG_TYPE))
 in_script shared (Some here) branch = branch here
 
 -- If whose test is known; NOT inverts it
-abbrev pub decided : SharedState → Bool → ScriptLine → Result Bool Codes → Action
-decided shared turned here (Err codes) = Does (answering shared codes)
-decided shared turned here (Ok held) =
-    if (if turned then not held else held) then Does (answering shared went_well) else jumped (after_if here.lines here.line)
+abbrev pub if_action : SharedState → Bool → ScriptLine → Result Bool Codes → Action
+if_action shared turned here (Err codes) = Does (codes_effect shared codes)
+if_action shared turned here (Ok held) =
+    if (if turned then not held else held) then Does (codes_effect shared went_well) else jump_action (after_if here.lines here.line)
 
 -- If continues, or jumps after its Else or EndIf if its test fails
 abbrev pub if_row : SharedState → Option ScriptLine → View → List Arg → Action
 if_row shared script_line view args =
-    in_script shared script_line (λ here. decided shared (is_on args 0) here (tested shared view args))
+    in_script shared script_line (λ here. if_action shared (is_on args 0) here (if_test shared view args))
 
 -- Else jumps after its EndIf
 abbrev pub else_row : SharedState → Option ScriptLine → Action
-else_row shared script_line = in_script shared script_line (λ here. jumped (after_else here.lines here.line))
+else_row shared script_line = in_script shared script_line (λ here. jump_action (after_else here.lines here.line))
 
 -- Skip jumps after the Lab with its LABEL, sought below it or with BACK from the first line on, or after an EndSkip that
 -- comes before that
 abbrev pub skip_row : SharedState → Option ScriptLine → List Arg → Action
 skip_row shared script_line args =
-    in_script shared script_line (λ here. jumped (skip here.lines here.line (text_at args 0) (is_on args 1)))
+    in_script shared script_line (λ here. jump_action (skip here.lines here.line (text_at args 0) (is_on args 1)))

@@ -13,8 +13,8 @@ use Rattle.ados_ram.specs.Written.{full_path}
 use Rattle.ados_readargs.specs.declared.args.Arg.{Arg}
 use Rattle.ados_readargs.specs.Args.{text_at}
 use Rattle.ados_find.specs.declared.codes.Codes.{Codes}
-use Rattle.ados_find.specs.Codes.{failed, erred}
-use Rattle.ados_find.specs.Effects.{answering}
+use Rattle.ados_find.specs.Codes.{fail_codes, error_codes}
+use Rattle.ados_find.specs.Effects.{codes_effect}
 use Rattle.ados_find.specs.Paths.{place_of}
 use Rattle.ados_find.specs.Shared.{SharedState}
 use Rattle.ados_find.specs.Views.{View}
@@ -37,17 +37,17 @@ script_place shared directory word place =
 
 -- the answer to a fault of arguments, or of substitution; neither is ever out of memory, which has no number
 abbrev pub fault_answer : SharedState → Result Result2 NoMemory → Action
-fault_answer shared (Ok number) = Does (answering shared (failed number))
-fault_answer shared (Err none) = Does (answering shared (failed NO_FREE_STORE))
+fault_answer shared (Ok number) = Does (codes_effect shared (fail_codes number))
+fault_answer shared (Err none) = Does (codes_effect shared (fail_codes NO_FREE_STORE))
 
 -- the call of a script whose lines have its arguments put in
-abbrev pub calls : SharedState → Text → Result (List Text) SubstFault → Action
-calls shared name (Err fault) = fault_answer shared (result2_of fault)
-calls shared name (Ok lines) = Calls (record { name = name; script = lines })
+abbrev pub call_of_lines : SharedState → Text → Result (List Text) SubstFault → Action
+call_of_lines shared name (Err fault) = fault_answer shared (result2_of fault)
+call_of_lines shared name (Ok lines) = Calls (record { name = name; script = lines })
 
 abbrev pub script_read : SharedState → View → Place → Text → Result Bytes Result2 → Action
-script_read shared view place args (Err fault) = Does (answering shared (erred fault))
-script_read shared view place args (Ok bytes) = calls shared (full_path shared.files place) (script_of (lines_of bytes) args (decimal view.parts.number))
+script_read shared view place args (Err fault) = Does (codes_effect shared (error_codes fault))
+script_read shared view place args (Ok bytes) = call_of_lines shared (full_path shared.files place) (script_of (lines_of bytes) args (decimal view.parts.number))
 
 -- the call of the script at a place, with these arguments: it is read, and its arguments are put in
 unfoldable pub script_row : SharedState → View → Place → Text → Action
@@ -55,16 +55,16 @@ script_row shared view place args = script_read shared view place args (read_at 
 
 -- the script at a place, if there is one
 abbrev pub script_at : SharedState → View → Text → Result Place Codes → Action
-script_at shared view args (Err codes) = Does (answering shared codes)
+script_at shared view args (Err codes) = Does (codes_effect shared codes)
 script_at shared view args (Ok place) = script_row shared view place args
 
-abbrev pub script_by : SharedState → View → Text → Text → Result Place Codes → Action
-script_by shared view word args (Err codes) = Does (answering shared codes)
-script_by shared view word args (Ok place) = script_at shared view args (script_place shared view.parts.directory word place)
+abbrev pub script_or_codes : SharedState → View → Text → Text → Result Place Codes → Action
+script_or_codes shared view word args (Err codes) = Does (codes_effect shared codes)
+script_or_codes shared view word args (Ok place) = script_at shared view args (script_place shared view.parts.directory word place)
 
 abbrev pub execute_file : SharedState → View → Option Text → Text → Action
-execute_file shared view None args = Does (answering shared (failed ARGUMENT_MISSING))
-execute_file shared view (Some word) args = script_by shared view word args (place_of shared view.parts.directory word)
+execute_file shared view None args = Does (codes_effect shared (fail_codes ARGUMENT_MISSING))
+execute_file shared view (Some word) args = script_or_codes shared view word args (place_of shared view.parts.directory word)
 
 -- Execute calls the script FILE with ARGS
 abbrev pub execute_row : SharedState → View → List Arg → Action

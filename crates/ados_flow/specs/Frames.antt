@@ -32,35 +32,35 @@ pub record ScriptLine : Type 0 where
   pub lines : List Text
   pub line : ℕ
 
-abbrev pub script_line_by : Kind → FrameState → Option ScriptLine
-script_line_by (Script name command) frame = Some (record { lines = frame.lines; line = frame.line })
-script_line_by Lines frame = None
-script_line_by (Tick before after) frame = None
+abbrev pub kind_script_line : Kind → FrameState → Option ScriptLine
+kind_script_line (Script name command) frame = Some (record { lines = frame.lines; line = frame.line })
+kind_script_line Lines frame = None
+kind_script_line (Tick before after) frame = None
 
 -- where a command of a frame is, if the frame is a script
 abbrev pub script_line_of : Option FrameState → Option ScriptLine
 script_line_of None = None
-script_line_of (Some frame) = script_line_by frame.kind frame
+script_line_of (Some frame) = kind_script_line frame.kind frame
 
 -- a frame that continues at a line
-abbrev pub jumped : ℕ → FrameState → FrameState
-jumped line frame = record frame { position = line - 1 }
+abbrev pub frame_at_line : ℕ → FrameState → FrameState
+frame_at_line line frame = record frame { position = line - 1 }
 
 -- a shell has at most this many frames
 abbrev pub frame_limit : ℕ
 frame_limit = 32
 
 -- a frame that begins
-abbrev pub began : Kind → List Text → Code → Option Target → FrameState
-began kind lines limit output = record { kind = kind; lines = lines; position = 0; line = 0; limit = limit; output = output; last = None }
+abbrev pub new_frame : Kind → List Text → Code → Option Target → FrameState
+new_frame kind lines limit output = record { kind = kind; lines = lines; position = 0; line = 0; limit = limit; output = output; last = None }
 
 -- a frame takes a line: its position moves on before the command runs
-abbrev pub moved : FrameState → FrameState
-moved frame = record frame { position = frame.position + 1; line = frame.position + 1 }
+abbrev pub advanced_frame : FrameState → FrameState
+advanced_frame frame = record frame { position = frame.position + 1; line = frame.position + 1 }
 
 -- the lines of a frame that are not taken yet
-abbrev pub further : FrameState → List Text
-further frame = drop frame.position frame.lines
+abbrev pub untaken_lines : FrameState → List Text
+untaken_lines frame = drop frame.position frame.lines
 
 -- the frame has no line left
 abbrev pub is_over : FrameState → Bool
@@ -77,13 +77,13 @@ first_limit = record { 0 = pos 10 }
 
 -- the limit after the end of a script that began at a limit, with this many scripts below it: that limit, or 10
 -- if no script is left
-abbrev pub limit_for : ℕ → Code → Code
-limit_for zero limit = first_limit
-limit_for (suc n) limit = limit
+abbrev pub limit_above_scripts : ℕ → Code → Code
+limit_above_scripts zero limit = first_limit
+limit_above_scripts (suc n) limit = limit
 
 -- the same with these frames below it
-abbrev pub limit_behind : List FrameState → Code → Code
-limit_behind frames limit = limit_for (scripts_in frames) limit
+abbrev pub limit_above_frames : List FrameState → Code → Code
+limit_above_frames frames limit = limit_above_scripts (scripts_in frames) limit
 
 -- the line at which the command began; 0 on the console
 abbrev pub line_taken : List FrameState → ℕ

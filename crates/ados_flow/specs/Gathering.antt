@@ -19,8 +19,8 @@ before_plus [] = None
 before_plus (c ∷ cs) = if (c == 43) && list_all is_blank cs then Some [] else option_map (λ front. c ∷ front) (before_plus cs)
 
 -- the text continues in the next line
-abbrev pub goes_on : Text → Bool
-goes_on text = is_some (before_plus text)
+abbrev pub has_plus : Text → Bool
+has_plus text = is_some (before_plus text)
 
 -- the text without that `+`
 abbrev pub without_plus : Text → Text
@@ -35,19 +35,19 @@ unfoldable pub asks_nothing : Text → Bool
 asks_nothing text = is_end (item_at true (without_plus text) 0)
 
 -- a text that takes no line after it
-abbrev pub alone : Text → Gathered
-alone text = record { commands = without_plus text ∷ []; taken = 0 }
+abbrev pub single_gathered : Text → Gathered
+single_gathered text = record { commands = without_plus text ∷ []; taken = 0 }
 
 -- a text that took the next line, before what that one gathers
-abbrev pub leading : Text → Gathered → Gathered
-leading text rest = record { commands = without_plus text ∷ rest.commands; taken = suc rest.taken }
+abbrev pub prepended_gathered : Text → Gathered → Gathered
+prepended_gathered text rest = record { commands = without_plus text ∷ rest.commands; taken = suc rest.taken }
 
 -- The commands of a Run by its text and the lines after it, of which it takes at most this many: each text that
 -- continues takes one, and none keeps its `+`.
-abbrev pub gathered : ℕ → Text → List Text → Gathered
-gathered zero text lines = alone text
-gathered (suc room) text [] = alone text
-gathered (suc room) text (line ∷ lines) = if goes_on text then leading text (gathered room line lines) else alone text
+abbrev pub run_gathering : ℕ → Text → List Text → Gathered
+run_gathering zero text lines = single_gathered text
+run_gathering (suc room) text [] = single_gathered text
+run_gathering (suc room) text (line ∷ lines) = if has_plus text then prepended_gathered text (run_gathering room line lines) else single_gathered text
 
 -- what Run prints: the number of its shell
 abbrev pub number_line : ℕ → Bytes

@@ -2,7 +2,7 @@
 use Rattle.std.specs.Prelude.{List, Option}
 use Rattle.ados_readargs.specs.declared.args.Arg.{Arg}
 use Rattle.ados_find.specs.Codes.{went_well}
-use Rattle.ados_find.specs.Effects.{answering}
+use Rattle.ados_find.specs.Effects.{codes_effect}
 use Rattle.ados_find.specs.Shared.{SharedState}
 use Rattle.ados_find.specs.Views.{View}
 use Rattle.ados_flow.specs.declared.commands.Command.{Command}
@@ -16,7 +16,7 @@ use Rattle.ados_flow.specs.Quit.{quit_row}
 
 -- a command that only marks its line
 abbrev pub marks : SharedState → Action
-marks shared = Does (answering shared went_well)
+marks shared = Does (codes_effect shared went_well)
 
 -- what a command does, which is at a line of a script or in none
 abbrev pub row_of : Command → SharedState → Option ScriptLine → View → List Arg → Action

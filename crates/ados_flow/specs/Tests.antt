@@ -4,7 +4,7 @@ use Rattle.std.specs.FinMap as finite
 use Rattle.std.specs.declared.cmp.Ordering.{Ordering}
 use Rattle.std.specs.declared.cmp.Ordering.TheVariants as order
 use Rattle.std.specs.Ordering.{int_cmp}
-use Rattle.ados_text.specs.Text.{Text, folded}
+use Rattle.ados_text.specs.Text.{Text, folded_text}
 use Rattle.ados_text.specs.Name.{name_cmp}
 use Rattle.ados_text.specs.Number.{number_of}
 use Rattle.ados_text.specs.declared.codes.Code.{Code}
@@ -14,7 +14,7 @@ use Rattle.ados_ram.specs.Place.{Place, key_of}
 use Rattle.ados_readargs.specs.declared.args.Arg.{Arg}
 use Rattle.ados_readargs.specs.Args.{is_on, text_at}
 use Rattle.ados_find.specs.declared.codes.Codes.{Codes}
-use Rattle.ados_find.specs.Codes.{failed}
+use Rattle.ados_find.specs.Codes.{fail_codes}
 use Rattle.ados_find.specs.Paths.{place_of}
 use Rattle.ados_find.specs.Shared.{SharedState}
 use Rattle.ados_find.specs.Views.{View}
@@ -34,25 +34,25 @@ is_given args GreaterOrEqual = is_some (text_at args 7)
 is_given args Exists = is_some (text_at args 9)
 
 -- exactly one is asked for
-abbrev pub only : List Test → Result Test Codes
-only [] = Err (failed ARGUMENT_MISSING)
-only (test ∷ []) = Ok test
-only (test ∷ more ∷ tests) = Err (failed TOO_MANY_ARGUMENTS)
+abbrev pub single_test : List Test → Result Test Codes
+single_test [] = Err (fail_codes ARGUMENT_MISSING)
+single_test (test ∷ []) = Ok test
+single_test (test ∷ more ∷ tests) = Err (fail_codes TOO_MANY_ARGUMENTS)
 
 -- the test that the arguments ask for
 abbrev pub test_of : List Arg → Result Test Codes
-test_of args = only (filter (is_given args) ALL)
+test_of args = single_test (filter (is_given args) ALL)
 
 -- the order of two numbers
-abbrev pub by_numbers : Option ℤ → Option ℤ → Result Ordering Codes
-by_numbers None right = Err (failed BAD_NUMBER)
-by_numbers (Some left) None = Err (failed BAD_NUMBER)
-by_numbers (Some left) (Some right) = Ok (int_cmp left right)
+abbrev pub order_of_numbers : Option ℤ → Option ℤ → Result Ordering Codes
+order_of_numbers None right = Err (fail_codes BAD_NUMBER)
+order_of_numbers (Some left) None = Err (fail_codes BAD_NUMBER)
+order_of_numbers (Some left) (Some right) = Ok (int_cmp left right)
 
 -- the order of two words: of their numbers with VAL, else of their bytes in lower case
 abbrev pub order_of : Bool → Text → Text → Result Ordering Codes
 order_of by_value left right =
-    if by_value then by_numbers (number_of left) (number_of right) else Ok (name_cmp (folded left) (folded right))
+    if by_value then order_of_numbers (number_of left) (number_of right) else Ok (name_cmp (folded_text left) (folded_text right))
 
 abbrev pub is_equal : Ordering → Bool
 is_equal order.Equal = true
@@ -66,19 +66,19 @@ abbrev pub is_not_less : Ordering → Bool
 is_not_less order.Less = false
 is_not_less _ = true
 
-abbrev pub judged : (Ordering → Bool) → Result Ordering Codes → Result Bool Codes
-judged holds (Err codes) = Err codes
-judged holds (Ok ordering) = Ok (holds ordering)
+abbrev pub order_result : (Ordering → Bool) → Result Ordering Codes → Result Bool Codes
+order_result holds (Err codes) = Err codes
+order_result holds (Ok ordering) = Ok (holds ordering)
 
 -- the order of two words, if both are there
-abbrev pub order_by : Bool → Option Text → Option Text → Result Ordering Codes
-order_by by_value None right = Err (failed ARGUMENT_MISSING)
-order_by by_value (Some left) None = Err (failed ARGUMENT_MISSING)
-order_by by_value (Some left) (Some right) = order_of by_value left right
+abbrev pub order_if_both : Bool → Option Text → Option Text → Result Ordering Codes
+order_if_both by_value None right = Err (fail_codes ARGUMENT_MISSING)
+order_if_both by_value (Some left) None = Err (fail_codes ARGUMENT_MISSING)
+order_if_both by_value (Some left) (Some right) = order_of by_value left right
 
 -- the order of the unnamed word and the value of the option at a place
 abbrev pub order_at : List Arg → ℕ → Result Ordering Codes
-order_at args place = order_by (is_on args 8) (text_at args 4) (text_at args place)
+order_at args place = order_if_both (is_on args 8) (text_at args 4) (text_at args place)
 
 abbrev pub is_there : SharedState → Result Place Codes → Bool
 is_there shared (Err codes) = false
@@ -98,15 +98,15 @@ abbrev pub holds : SharedState → View → List Arg → Test → Result Bool Co
 holds shared view args Warn = Ok (is_at WARN view)
 holds shared view args Error = Ok (is_at ERROR view)
 holds shared view args Fail = Ok (is_at FAIL view)
-holds shared view args Equal = judged is_equal (order_at args 5)
-holds shared view args Greater = judged is_greater (order_at args 6)
-holds shared view args GreaterOrEqual = judged is_not_less (order_at args 7)
+holds shared view args Equal = order_result is_equal (order_at args 5)
+holds shared view args Greater = order_result is_greater (order_at args 6)
+holds shared view args GreaterOrEqual = order_result is_not_less (order_at args 7)
 holds shared view args Exists = Ok (exists shared view (text_at args 9))
 
-abbrev pub tested_by : SharedState → View → List Arg → Result Test Codes → Result Bool Codes
-tested_by shared view args (Err codes) = Err codes
-tested_by shared view args (Ok test) = holds shared view args test
+abbrev pub test_result : SharedState → View → List Arg → Result Test Codes → Result Bool Codes
+test_result shared view args (Err codes) = Err codes
+test_result shared view args (Ok test) = holds shared view args test
 
 -- the one test that is asked for holds, or what If answers if that can't be decided
-abbrev pub tested : SharedState → View → List Arg → Result Bool Codes
-tested shared view args = tested_by shared view args (test_of args)
+abbrev pub if_test : SharedState → View → List Arg → Result Bool Codes
+if_test shared view args = test_result shared view args (test_of args)

@@ -21,13 +21,13 @@ pub enum Action {
 }
 
 impl Action {
-    ghost use Rattle.ados_find.specs.Effects.{answering};
+    ghost use Rattle.ados_find.specs.Effects.{codes_effect};
     ghost use Rattle.ados_find.specs.Shared.{SharedState};
-    ghost use Rattle.ados_flow.specs.Actions.{Does, acting};
+    ghost use Rattle.ados_flow.specs.Actions.{Does, action_effect};
 
     /// It answers this, changes nothing and prints nothing.
     pub fn answering(alloc: Global, codes: Codes) -> Action
-        ensures { (shared : SharedState) → acting shared result ≡ Does (answering shared codes) }
+        ensures { (shared : SharedState) → action_effect shared result ≡ Does (codes_effect shared codes) }
     {
         Action::Does(Outcome::answering(alloc, codes))
     }

@@ -1,6 +1,6 @@
 // Ask: a question that is answered by yes or no.
 ghost use Rattle.std.specs.Prelude.{◌≡◌, IfOk};
-ghost use Rattle.ados_flow.specs.Actions.{acting};
+ghost use Rattle.ados_flow.specs.Actions.{action_effect};
 ghost use Rattle.ados_flow.specs.Ask.{ask_row, reply_of};
 
 use crate::actions::Action;
@@ -11,7 +11,7 @@ use std::alloc::Global;
 
 /// Ask asks with its PROMPT.
 pub fn ask(alloc: Global, shared: &Shared, args: &Args) -> Result<Action, NoMemory>
-    ensures { IfOk result (λ action. acting shared.now action ≡ ask_row shared.now args.now) }
+    ensures { IfOk result (λ action. action_effect shared.now action ≡ ask_row shared.now args.now) }
 {
     match args.made_text(alloc, 0)? {
         None => Ok(Action::answering(alloc, Codes::failed(Result2::ARGUMENT_MISSING))),

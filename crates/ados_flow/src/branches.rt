@@ -2,13 +2,13 @@
 ghost use Rattle.std.specs.Prelude.{◌≡◌, IfOk};
 ghost use Rattle.std.specs.Option.{option_copied, option_map};
 ghost use Rattle.ados_text.specs.declared.codes.TheConstants.Result2.{WRONG_TYPE};
-ghost use Rattle.ados_find.specs.Codes.{failed};
-ghost use Rattle.ados_find.specs.Effects.{answering};
+ghost use Rattle.ados_find.specs.Codes.{fail_codes};
+ghost use Rattle.ados_find.specs.Effects.{codes_effect};
 ghost use Rattle.ados_find.specs.Shared.{SharedState};
 ghost use Rattle.ados_readargs.specs.Args.{is_on, text_at};
 ghost use Rattle.ados_script.specs.Skips.{skip as skip_of};
-ghost use Rattle.ados_flow.specs.Actions.{Does, acting};
-ghost use Rattle.ados_flow.specs.Branches.{decided, else_row, if_row, jumped, skip_row};
+ghost use Rattle.ados_flow.specs.Actions.{Does, action_effect};
+ghost use Rattle.ados_flow.specs.Branches.{if_action, else_row, if_row, jump_action, skip_row};
 ghost use Rattle.ados_flow.specs.Frames.{script_line_of};
 
 use crate::actions::Action;
@@ -30,7 +30,7 @@ pub fn branch(
     view: &ShellView,
     args: &Args,
 ) -> Result<Action, NoMemory>
-    ensures { IfOk result (λ action. acting shared.now action ≡ if_row shared.now (script_line_of (option_copied frame.entry)) view.now args.now) }
+    ensures { IfOk result (λ action. action_effect shared.now action ≡ if_row shared.now (script_line_of (option_copied frame.entry)) view.now args.now) }
 {
     let Some((script, line)) = script_line(frame) else {
         return Ok(wrong_type(alloc));
@@ -47,7 +47,7 @@ pub fn branch(
 ///
 /// 212 if the newest frame is not a script.
 pub fn pass_block(alloc: Global, frame: Option<&Frame>) -> Action
-    ensures { (shared : SharedState) → acting shared result ≡ else_row shared (script_line_of (option_copied frame.entry)) }
+    ensures { (shared : SharedState) → action_effect shared result ≡ else_row shared (script_line_of (option_copied frame.entry)) }
 {
     match script_line(frame) {
         None => wrong_type(alloc),
@@ -60,7 +60,7 @@ pub fn pass_block(alloc: Global, frame: Option<&Frame>) -> Action
 ///
 /// 212 if the newest frame is not a script.
 pub fn skip(alloc: Global, frame: Option<&Frame>, args: &Args) -> Action
-    ensures { (shared : SharedState) → acting shared result ≡ skip_row shared (script_line_of (option_copied frame.entry)) args.now }
+    ensures { (shared : SharedState) → action_effect shared result ≡ skip_row shared (script_line_of (option_copied frame.entry)) args.now }
 {
     match script_line(frame) {
         None => wrong_type(alloc),
@@ -87,7 +87,7 @@ fn script_line(frame: Option<&Frame>) -> Option<(&Script, usize)>
 
 // A script continues where its jump leads, with 5 after an EndSkip; if nothing is found it ends.
 fn jumped(jump: Jump) -> Action
-    ensures { (shared : SharedState) → acting shared result ≡ jumped jump }
+    ensures { (shared : SharedState) → action_effect shared result ≡ jump_action jump }
 {
     match jump {
         Jump::To(line) => Action::Jumps {
@@ -104,7 +104,7 @@ fn jumped(jump: Jump) -> Action
 
 // What a branch answers outside a script.
 fn wrong_type(alloc: Global) -> Action
-    ensures { (shared : SharedState) → acting shared result ≡ Does (answering shared (failed WRONG_TYPE)) }
+    ensures { (shared : SharedState) → action_effect shared result ≡ Does (codes_effect shared (fail_codes WRONG_TYPE)) }
 {
     Action::answering(alloc, Codes::failed(Result2::WRONG_TYPE))
 }

@@ -1,7 +1,7 @@
 // The devices that the arguments of a command use.
 ghost use Rattle.std.specs.Prelude.{◌≡◌, ◌++◌, Ok, OnOk, IfOk};
 ghost use Rattle.std.specs.List.{flat_map};
-ghost use Rattle.ados_assign.specs.Uses.{reached};
+ghost use Rattle.ados_assign.specs.Uses.{reached_devices};
 ghost use Rattle.ados_readargs.specs.Args.{text_at, texts_at};
 ghost use Rattle.ados_find.specs.Paths.{place_of};
 ghost use Rattle.ados_find.specs.Search.{device_named};
@@ -25,7 +25,7 @@ pub fn push_devices(
     args: &Args,
     used: &mut Vec<Name>,
 ) -> Result<(), NoMemory>
-    ensures { OnOk result (used.new.items ≡ used.old.items ++ flat_map (reached shared.now.assigns) (devices_of command shared.now view.now.parts args.now)) }
+    ensures { OnOk result (used.new.items ≡ used.old.items ++ flat_map (reached_devices shared.now.assigns) (devices_of command shared.now view.now.parts args.now)) }
 {
     match command {
         Command::Execute => push_of_script(alloc, shared, view, args, used),
@@ -46,7 +46,7 @@ fn push_of_script(
     args: &Args,
     used: &mut Vec<Name>,
 ) -> Result<(), NoMemory>
-    ensures { OnOk result (used.new.items ≡ used.old.items ++ flat_map (reached shared.now.assigns) (script_devices shared.now view.now.parts (text_at args.now 0))) }
+    ensures { OnOk result (used.new.items ≡ used.old.items ++ flat_map (reached_devices shared.now.assigns) (script_devices shared.now view.now.parts (text_at args.now 0))) }
 {
     let Some(word) = args.made_text(alloc, 0)? else {
         return Ok(());

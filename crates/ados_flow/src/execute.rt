@@ -5,8 +5,8 @@ ghost use Rattle.ados_text.specs.Lines.{lines_of};
 ghost use Rattle.ados_find.specs.Paths.{place_of, Gives};
 ghost use Rattle.ados_find.specs.Shared.{SharedState};
 ghost use Rattle.ados_subst.specs.Scripts.{script_of};
-ghost use Rattle.ados_flow.specs.Actions.{acting};
-ghost use Rattle.ados_flow.specs.Execute.{is_separator, is_plain, calls, script_place, script_by, script_at, script_row, execute_row};
+ghost use Rattle.ados_flow.specs.Actions.{action_effect};
+ghost use Rattle.ados_flow.specs.Execute.{is_separator, is_plain, call_of_lines, script_place, script_or_codes, script_at, script_row, execute_row};
 
 use crate::actions::Action;
 use crate::called::Called;
@@ -28,7 +28,7 @@ pub fn execute(
     view: &ShellView,
     args: &Args,
 ) -> Result<Action, NoMemory>
-    ensures { IfOk result (λ action. acting shared.now action ≡ execute_row shared.now view.now args.now) }
+    ensures { IfOk result (λ action. action_effect shared.now action ≡ execute_row shared.now view.now args.now) }
 {
     match args.made_text(alloc, 0)? {
         None => Ok(Action::answering(alloc, Codes::failed(Result2::ARGUMENT_MISSING))),
@@ -43,7 +43,7 @@ fn call(
     word: &Text,
     args: &[u8],
 ) -> Result<Action, NoMemory>
-    ensures { IfOk result (λ action. acting shared.now action ≡ script_by shared.now view.now word.now args.now (place_of shared.now view.now.parts.directory word.now)) }
+    ensures { IfOk result (λ action. action_effect shared.now action ≡ script_or_codes shared.now view.now word.now args.now (place_of shared.now view.now.parts.directory word.now)) }
 {
     match place_of(alloc, shared, view.directory, word) {
         Err(Refusal::NoMemory) => Err(NoMemory),
@@ -61,7 +61,7 @@ fn call_found(
     place: Place,
     args: &[u8],
 ) -> Result<Action, NoMemory>
-    ensures { IfOk result (λ action. acting shared.now action ≡ script_at shared.now view.now args.now (script_place shared.now view.now.parts.directory word.now place)) }
+    ensures { IfOk result (λ action. action_effect shared.now action ≡ script_at shared.now view.now args.now (script_place shared.now view.now.parts.directory word.now place)) }
 {
     match script_place(alloc, shared, view.directory, word, place) {
         Err(Refusal::NoMemory) => Err(NoMemory),
@@ -126,7 +126,7 @@ pub fn call_script(
     place: &Place,
     args: &[u8],
 ) -> Result<Action, NoMemory>
-    ensures { IfOk result (λ action. acting shared.now action ≡ script_row shared.now view.now place.now args.now) }
+    ensures { IfOk result (λ action. action_effect shared.now action ≡ script_row shared.now view.now place.now args.now) }
 {
     match shared.ram.read(&view.busy, place) {
         Err(fault) => Ok(Action::answering(alloc, Codes::erred(fault))),
@@ -145,7 +145,7 @@ fn call_lines(
     args: &[u8],
     number: u8,
 ) -> Result<Action, NoMemory>
-    ensures { IfOk result (λ action. (shared : SharedState) → acting shared action ≡ calls shared name (script_of (lines_of bytes.now) args.now (decimal number))) }
+    ensures { IfOk result (λ action. (shared : SharedState) → action_effect shared action ≡ call_of_lines shared name (script_of (lines_of bytes.now) args.now (decimal number))) }
 {
     match ados_subst::script(alloc, bytes, args, number) {
         Err(fault) => Ok(Action::answering(alloc, Codes::failed(fault.result2()?))),

@@ -50,7 +50,7 @@ impl Model for Frame {
 }
 
 impl Frame {
-    ghost use Rattle.ados_flow.specs.Frames.{FrameState, began, moved, further, jumped, script_line_of, answered_frame, is_over, is_ended, is_script, last_line, last_codes, is_early};
+    ghost use Rattle.ados_flow.specs.Frames.{FrameState, new_frame, advanced_frame, untaken_lines, frame_at_line, script_line_of, answered_frame, is_over, is_ended, is_script, last_line, last_codes, is_early};
 
     /// A frame that begins: what it is, its lines, the limit in force, and its own output, if it has one.
     pub fn new(
@@ -60,7 +60,7 @@ impl Frame {
         limit: Code,
         output: Option<Target>,
     ) -> Result<Frame, NoMemory>
-        ensures { IfOk result (λ frame. frame ≡ began kind script limit output) }
+        ensures { IfOk result (λ frame. frame ≡ new_frame kind script limit output) }
     {
         let fixed = Fixed {
             kind,
@@ -100,7 +100,7 @@ impl Frame {
     /// The next line was taken.
     pub fn move_on(&mut self)
         requires { self.old.position + 1 < 2 ^ 64 }
-        ensures { self.new ≡ moved self.old }
+        ensures { self.new ≡ advanced_frame self.old }
     {
         self.position += 1;
         self.line = self.position;
@@ -115,7 +115,7 @@ impl Frame {
 
     /// The lines that are not taken yet.
     pub fn further(&self) -> &[Text]
-        ensures lines { result.now ≡ further self.now }
+        ensures lines { result.now ≡ untaken_lines self.now }
         ensures below { self.now.position + length result.now < 2 ^ 64 }
     {
         let lines = self.fixed.script.lines();
@@ -125,14 +125,14 @@ impl Frame {
     /// This many of the lines that are not taken yet are taken.
     pub fn skip(&mut self, taken: usize)
         requires { self.old.position + taken < 2 ^ 64 }
-        ensures { self.new ≡ jumped (suc (self.old.position + taken)) self.old }
+        ensures { self.new ≡ frame_at_line (suc (self.old.position + taken)) self.old }
     {
         self.position += taken;
     }
 
     /// It continues at a line, counted from 1.
     pub fn jump_to(&mut self, line: usize)
-        ensures { self.new ≡ jumped line self.old }
+        ensures { self.new ≡ frame_at_line line self.old }
     {
         self.position = line.saturating_sub(1);
     }

@@ -1,7 +1,7 @@
 // What a Run takes: the commands of its shell.
 ghost use Rattle.std.specs.Prelude.{◌≡◌, ◌≤◌, ◌+◌, ◌-◌, ◌++◌, [], ◌∷◌, length, IfOk, OnOk};
 ghost use Rattle.std.specs.Option.{option_map};
-ghost use Rattle.ados_flow.specs.Gathering.{asks_nothing, before_plus, gathered, number_line, run_limit, without_plus};
+ghost use Rattle.ados_flow.specs.Gathering.{asks_nothing, before_plus, run_gathering, number_line, run_limit, without_plus};
 
 use ados_items::{Item, next_item};
 use ados_text::{NoMemory, Octets, Text, Texts, push_number};
@@ -60,7 +60,7 @@ pub fn asks_nothing(text: &Text) -> bool
 /// commands.
 #[tactic(auto, using(crate::proofs::GatheringLemmas::went_on, crate::proofs::GatheringLemmas::took_none, crate::proofs::GatheringLemmas::none_left))]
 pub fn gather<'a>(alloc: Global, text: &'a Text, lines: &'a [Text]) -> Result<Gathered, NoMemory>
-    ensures value { IfOk result (λ g. g ≡ gathered (run_limit - 1) text.now lines.now) }
+    ensures value { IfOk result (λ g. g ≡ run_gathering (run_limit - 1) text.now lines.now) }
     ensures within { IfOk result (λ g. g.taken ≤ length lines.now) }
     ensures counted { IfOk result (λ g. length g.commands ≡ g.taken + 1) }
     ensures limited { IfOk result (λ g. length g.commands ≤ run_limit) }

@@ -1,7 +1,7 @@
 // Quit: the end of a script.
 ghost use Rattle.std.specs.Prelude.{◌≡◌};
 ghost use Rattle.ados_find.specs.Shared.{SharedState};
-ghost use Rattle.ados_flow.specs.Actions.{acting};
+ghost use Rattle.ados_flow.specs.Actions.{action_effect};
 ghost use Rattle.ados_flow.specs.Quit.{quit_row};
 
 use crate::actions::Action;
@@ -11,7 +11,7 @@ use ados_text::{Code, Result2};
 
 /// Quit ends its script with the code RC, or 0.
 pub fn quit(args: &Args) -> Action
-    ensures { (shared : SharedState) → acting shared result ≡ quit_row args.now }
+    ensures { (shared : SharedState) → action_effect shared result ≡ quit_row args.now }
 {
     let code = match args.number(0) {
         None => Code::OK,

@@ -2,7 +2,7 @@
 ghost use Rattle.std.specs.Prelude.{◌≡◌, IfOk};
 ghost use Rattle.std.specs.Option.{option_copied};
 ghost use Rattle.ados_find.specs.Views.{IgnoresShells};
-ghost use Rattle.ados_flow.specs.Actions.{acting};
+ghost use Rattle.ados_flow.specs.Actions.{action_effect};
 ghost use Rattle.ados_flow.specs.Frames.{script_line_of};
 ghost use Rattle.ados_flow.specs.Rows.{row_of};
 
@@ -29,7 +29,7 @@ pub fn run(
     view: &ShellView,
     args: &Args,
 ) -> Result<Action, NoMemory>
-    ensures row { IfOk result (λ action. acting shared.now action ≡ row_of command shared.now (script_line_of (option_copied frame.entry)) view.now args.now) }
+    ensures row { IfOk result (λ action. action_effect shared.now action ≡ row_of command shared.now (script_line_of (option_copied frame.entry)) view.now args.now) }
     ensures names { IgnoresShells (λ v. row_of command shared.now (script_line_of (option_copied frame.entry)) v args.now) }
 {
     match command {

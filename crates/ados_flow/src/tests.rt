@@ -2,11 +2,11 @@
 ghost use Rattle.std.specs.Prelude.{◌≡◌, ◌++◌, Err, IfOk, filter, option_to_list};
 ghost use Rattle.std.specs.Option.{option_map};
 ghost use Rattle.ados_text.specs.Name.{name_cmp};
-ghost use Rattle.ados_text.specs.Text.{folded};
-ghost use Rattle.ados_find.specs.Codes.{failed};
+ghost use Rattle.ados_text.specs.Text.{folded_text};
+ghost use Rattle.ados_find.specs.Codes.{fail_codes};
 ghost use Rattle.ados_find.specs.Paths.{Gives, place_of};
 ghost use Rattle.ados_readargs.specs.Args.{text_at};
-ghost use Rattle.ados_flow.specs.Tests.{exists, is_at, is_given, is_there, only, order_at, order_by, order_of, tested};
+ghost use Rattle.ados_flow.specs.Tests.{exists, is_at, is_given, is_there, single_test, order_at, order_if_both, order_of, if_test};
 
 use crate::code_rule::is_reached;
 use ados_find::{Codes, Refusal, Shared, ShellView, place_of};
@@ -98,7 +98,7 @@ impl Test {
 
 // The one test that the arguments ask for, of these and the one that was found before.
 fn only(args: &Args, found: Option<Test>, tests: &[Test]) -> Result<Test, Refusal>
-    ensures { Gives result (only (option_to_list found ++ filter (is_given args.now) tests.now)) }
+    ensures { Gives result (single_test (option_to_list found ++ filter (is_given args.now) tests.now)) }
 {
     match (tests.split_first(), found) {
         (None, None) => refused(Result2::ARGUMENT_MISSING),
@@ -119,7 +119,7 @@ pub fn tested(
     view: &ShellView,
     args: &Args,
 ) -> Result<bool, Refusal>
-    ensures { Gives result (tested shared.now view.now args.now) }
+    ensures { Gives result (if_test shared.now view.now args.now) }
 {
     Test::of(args)?.holds(alloc, shared, view, args)
 }
@@ -139,7 +139,7 @@ fn order_at(args: &Args, place: usize) -> Result<Ordering, Refusal>
 }
 
 fn order_by(by_value: bool, left: Option<&[u8]>, right: Option<&[u8]>) -> Result<Ordering, Refusal>
-    ensures { Gives result (order_by by_value (option_map (λ t. t.now) left.entry) (option_map (λ t. t.now) right.entry)) }
+    ensures { Gives result (order_if_both by_value (option_map (λ t. t.now) left.entry) (option_map (λ t. t.now) right.entry)) }
 {
     match (left, right) {
         (Some(left), Some(right)) => order_of(by_value, left, right),
@@ -162,7 +162,7 @@ fn order_of(by_value: bool, left: &[u8], right: &[u8]) -> Result<Ordering, Refus
 }
 
 fn word_order(left: &[u8], right: &[u8]) -> Ordering
-    ensures { result ≡ name_cmp (folded left.now) (folded right.now) }
+    ensures { result ≡ name_cmp (folded_text left.now) (folded_text right.now) }
 {
     let right = right.iter().map(|byte| fold(*byte));
     left.iter().map(|byte| fold(*byte)).cmp(right)
@@ -190,7 +190,7 @@ fn is_there(alloc: Global, shared: &Shared, view: &ShellView, word: &Text) -> Re
 
 // If answers 20 with a fault of its arguments.
 fn refused<X>(fault: Result2) -> Result<X, Refusal>
-    ensures { Gives result (Err (failed fault)) }
+    ensures { Gives result (Err (fail_codes fault)) }
 {
     Err(Refusal::Stopped(Codes::failed(fault)))
 }

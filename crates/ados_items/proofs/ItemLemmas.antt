@@ -7,7 +7,7 @@ use Rattle.std.proofs.lemmas.Bool.{both_ways, cond_both, false_from_ne_true, not
 use Rattle.std.proofs.lemmas.List.Folds.{list_any_at}
 use Rattle.ados_items.specs.declared.items.Item.{Item}
 use Rattle.ados_items.specs.declared.items.Item.TheVariants.{Word, Quoted, Equal, End, Unmatched}
-use Rattle.ados_items.specs.Items.{is_blank, is_word_byte, closing_from, quoted_of, item_by_first, item_at}
+use Rattle.ados_items.specs.Items.{is_blank, is_word_byte, closing_place, quoted_item, item_by_first, item_at}
 
 -- the item is at or after a place, and ends within n bytes; a word has at least one byte
 abbrev pub StandsBehind : ℕ → ℕ → Item → Type 0
@@ -25,15 +25,15 @@ closes-before : (place end : ℕ) (found : Option ℕ) → Closes (place + 1) en
 closes-before place end (Some to) h = (omega (arith, h.0), h.1)
 closes-before place end None h = tt
 
-closing-within : (place end : ℕ) (escaped : Bool) (bytes : List ℕ) → place + length bytes ≡ end → Closes place end (closing_from place escaped bytes)
+closing-within : (place end : ℕ) (escaped : Bool) (bytes : List ℕ) → place + length bytes ≡ end → Closes place end (closing_place place escaped bytes)
 closing-within place end escaped [] h = tt
 closing-within place end true (c ∷ cs) h = closes-before place end _ (closing-within (place + 1) end false cs (omega arith))
 closing-within place end false (c ∷ cs) h =
-    cond_both (c == 34) (Some place) (closing_from (place + 1) (c == 42) cs) (λ found. Closes place end found)
+    cond_both (c == 34) (Some place) (closing_place (place + 1) (c == 42) cs) (λ found. Closes place end found)
     (λ _. (omega arith, omega arith))
     (λ _. closes-before place end _ (closing-within (place + 1) end (c == 42) cs (omega arith)))
 
-quoted-behind : (place end : ℕ) (found : Option ℕ) → Closes (place + 1) end found → StandsBehind place end (quoted_of (place + 1) found)
+quoted-behind : (place end : ℕ) (found : Option ℕ) → Closes (place + 1) end found → StandsBehind place end (quoted_item (place + 1) found)
 quoted-behind place end (Some to) h = (omega arith, h.0, h.1)
 quoted-behind place end None h = tt
 
@@ -83,7 +83,7 @@ IsAtEnd end (Equal at) = Unit {0}
 IsAtEnd end (End at) = end ≤ at
 IsAtEnd end (Unmatched from) = Unit {0}
 
-quoted-at : (end from : ℕ) (found : Option ℕ) → IsAtEnd end (quoted_of from found)
+quoted-at : (end from : ℕ) (found : Option ℕ) → IsAtEnd end (quoted_item from found)
 quoted-at end from (Some to) = tt
 quoted-at end from None = tt
 

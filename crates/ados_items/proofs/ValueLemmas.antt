@@ -4,7 +4,7 @@ use Rattle.std.specs.List.{list_any}
 use Rattle.std.proofs.lemmas.Bool.Decides.{nat_tests}
 use Rattle.std.proofs.lemmas.List.Elements.{All-map}
 use Rattle.ados_text.specs.Text.{to_ascii, IsText}
-use Rattle.ados_items.specs.Items.{is_star, unescaped, bytes_between, value_of}
+use Rattle.ados_items.specs.Items.{is_star, unescaped_bytes, bytes_between, value_of}
 use Rattle.ados_items.specs.declared.items.Item.{Item}
 use Rattle.ados_items.specs.declared.items.Item.TheVariants.{Word, Quoted, Equal, End, Unmatched}
 
@@ -16,7 +16,7 @@ neither-right : (a b : Bool) → (a || b) ≡ false → b ≡ false
 neither-right true b e = absurd cc
 neither-right false b e = e
 
-pub without_star : (text : List ℕ) → list_any is_star text ≡ false → unescaped false text ≡ text
+pub without_star : (text : List ℕ) → list_any is_star text ≡ false → unescaped_bytes false text ≡ text
 without_star [] e = refl
 without_star (c ∷ cs) e =
     rw (neither-left (c == 42) (list_any is_star cs) e) (ap (λ rest. c ∷ rest) (without_star cs (neither-right (c == 42) (list_any is_star cs) e)))
@@ -29,7 +29,7 @@ ascii-text bytes = All-map (λ b. b < 128) to_ascii bytes (λ k d h. below (slic
 
 pub value_text : (line : List ℕ) (item : Item) → IsText (value_of line item)
 value_text line (Word from to) = ascii-text (bytes_between line from to)
-value_text line (Quoted from to) = ascii-text (unescaped false (bytes_between line from to))
+value_text line (Quoted from to) = ascii-text (unescaped_bytes false (bytes_between line from to))
 value_text line (Equal place) = ascii-text (61 ∷ [])
 value_text line (End place) = ascii-text []
 value_text line (Unmatched from) = ascii-text []

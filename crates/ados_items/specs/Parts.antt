@@ -8,8 +8,8 @@ abbrev pub not_blank : ℕ → Bool
 not_blank c = not (is_blank c)
 
 -- the text without the blanks before and after it
-abbrev pub trimmed : Bytes → Bytes
-trimmed text = let rest = drop (prefix_len is_blank text) text in take (length rest - suffix_len is_blank rest) rest
+abbrev pub trimmed_text : Bytes → Bytes
+trimmed_text text = let rest = drop (prefix_len is_blank text) text in take (length rest - suffix_len is_blank rest) rest
 
 -- the bytes up to the first blank
 abbrev pub first_word : Bytes → Bytes
@@ -17,4 +17,4 @@ first_word text = take (prefix_len not_blank text) text
 
 -- what follows the first word, without the blanks around it
 abbrev pub rest_of : Bytes → Bytes
-rest_of text = trimmed (drop (prefix_len not_blank text) text)
+rest_of text = trimmed_text (drop (prefix_len not_blank text) text)

@@ -3,7 +3,7 @@ ghost use Rattle.std.specs.Prelude.{◌≡◌, ◌≤◌, length};
 ghost use Rattle.std.specs.List.{prefix_len, suffix_len};
 ghost use Rattle.ados_text.specs.Text.{IsText};
 ghost use Rattle.ados_items.specs.Items.{bytes_between, is_blank};
-ghost use Rattle.ados_items.specs.Parts.{first_word, not_blank, rest_of, trimmed};
+ghost use Rattle.ados_items.specs.Parts.{first_word, not_blank, rest_of, trimmed_text};
 
 /// A space or a tab.
 pub fn is_blank(byte: u8) -> bool
@@ -52,7 +52,7 @@ pub fn between(text: &[u8], from: usize, to: usize) -> &[u8]
 /// A text without the blanks before and after it.
 #[tactic(auto, using(ados_text::proofs::TextLemmas::parts))]
 pub fn trimmed(text: &[u8]) -> &[u8]
-    ensures value { result.now ≡ trimmed text.now }
+    ensures value { result.now ≡ trimmed_text text.now }
     ensures ascii { IsText text.now → IsText result.now }
 {
     let rest = &text[blanks(text)..];

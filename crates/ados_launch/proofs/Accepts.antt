@@ -5,7 +5,7 @@ use Rattle.std.proofs.lemmas.Grind.{common_steps}
 use Rattle.std.specs.List.{list_any}
 use Rattle.ados_machine.specs.World.{WorldState, shell_at, is_ready, wants_input, wants_line, is_over, has_input, input_of, flatten}
 use Rattle.ados_machine.specs.Shells.{ShellState}
-use Rattle.ados_machine.specs.Step.{broken, is_accepted, step_of}
+use Rattle.ados_machine.specs.Step.{break_response, is_accepted, step_of}
 use Rattle.ados_machine.specs.declared.events.Event.TheVariants.{Typed, EndOfInput, Turn, Break}
 use Rattle.ados_machine.specs.declared.events.Kind.{Kind}
 use Rattle.ados_machine.proofs.ReadyLemmas.{ready-turned}
@@ -54,7 +54,7 @@ line-accepted w line e h =
 pub turn-accepted : (w : WorldState) (k : ℕ) → is_ready w k ≡ true → is_accepted (step_of w (Turn k)) ≡ true
 turn-accepted w k e = ready-turned w k ∙ e
 
-broken-accepted : (w : WorldState) (k : ℕ) (kind : Kind) (found : Option ShellState) → is_some found ≡ true → is_accepted (broken w k kind found) ≡ true
+broken-accepted : (w : WorldState) (k : ℕ) (kind : Kind) (found : Option ShellState) → is_some found ≡ true → is_accepted (break_response w k kind found) ≡ true
 broken-accepted w k kind None e = cc
 broken-accepted w k kind (Some shell) e = refl
 

@@ -11,7 +11,7 @@ use Rattle.ados_machine.specs.declared.events.Event.TheVariants.{Answer}
 use Rattle.ados_machine.specs.declared.outs.Out.{Out}
 use Rattle.ados_machine.specs.declared.requests.Request.{Request}
 use Rattle.ados_machine.specs.declared.requests.Request.TheVariants.{Start, Read, Wait}
-use Rattle.ados_machine.specs.Children.{behind_answer, child_in, is_asked, is_launchers, is_marked, shell_named}
+use Rattle.ados_machine.specs.Children.{child_after_answer, child_in, is_asked, is_launchers, is_marked, shell_named}
 use Rattle.ados_machine.specs.Items.{Item}
 use Rattle.ados_machine.specs.Limits.{IsSane}
 use Rattle.ados_machine.specs.Runs.{IsAnswer, world_after}
@@ -21,10 +21,10 @@ use Rattle.ados_machine.proofs.KeptChildren.{turns-keep}
 use Rattle.ados_machine.proofs.MovedChildren.{answers-move}
 use Rattle.ados_machine.proofs.ChildLemmas.{request-names, requests-are}
 use Rattle.ados_launcher.specs.declared.calls.Call.{Call}
-use Rattle.ados_launcher.specs.Lives.{Broken, life_of, life_in, life_behind, is_open, state_of}
+use Rattle.ados_launcher.specs.Lives.{Broken, life_of, life_for_state, life_after_call, is_open, state_of}
 use Rattle.ados_launch.specs.Agreement.{Agrees, AreWhole, IsOpenTable}
 use Rattle.ados_launch.specs.Asked.{Answers, Asks, Lists, MayAsk, TakesAnswer, call_of}
-use Rattle.ados_launch.specs.Rounds.{asks_further}
+use Rattle.ados_launch.specs.Rounds.{asks_read_or_wait}
 use Rattle.ados_launch.proofs.Rows.{asked-start, life-more, life-here, life-there, may-ask, unmarked}
 
 -- the response to an event that was accepted
@@ -41,7 +41,7 @@ accepted-is w now event out (Refused why) answer world_is = absurd answer
 event-agrees : (w now : WorldState) (event : Event) (out : Out) (calls : List Call) → Agrees w calls → is_launchers event ≡ false →
     IsAccepted now out (step_of w event) → Agrees now calls
 event-agrees w now event out calls agrees other accepted k =
-    agrees k ∙ ap life_in (sym (turns-keep w event now out accepted.items other accepted.is k))
+    agrees k ∙ ap life_for_state (sym (turns-keep w event now out accepted.items other accepted.is k))
 
 pub given-agrees : {X E : Type 0} (w now : WorldState) (event : Event) (out : Out) (calls : List Call) (result : Result X E) → Agrees w calls → is_launchers event ≡ false →
     OnOk result (IsAnswer event (Ok out) (step_of w event)) → OnOk result (now ≡ world_after w (Ok out) (step_of w event)) → OnOk result (Agrees now calls)
@@ -59,13 +59,13 @@ asked-of w k request asked = subst (λ p. is_asked p (child_in w k) ≡ true) as
 
 -- the row of the child for which a request is made
 row-here : (w : WorldState) (k : ℕ) (is_full : Bool) (request : Request) (reply : Reply) (calls listed : List Call) → Agrees w calls → pending_of w k ≡ Some request →
-    shell_named request ≡ k → Lists is_full request reply listed → life_of k (calls ++ listed) ≡ life_in (behind_answer (is_marked w k) request reply)
+    shell_named request ≡ k → Lists is_full request reply listed → life_of k (calls ++ listed) ≡ life_for_state (child_after_answer (is_marked w k) request reply)
 row-here w k is_full request reply calls listed agrees asked named (fit, inl listed_is) =
     rw listed_is (life-more k calls (call_of request reply)
-    ∙ (ap (λ life. life_behind k life (call_of request reply)) (agrees k)
+    ∙ (ap (λ life. life_after_call k life (call_of request reply)) (agrees k)
     ∙ life-here k (is_marked w k) request reply (child_in w k) named fit (asked-of w k request asked)))
 row-here w k is_full (Start job) reply calls listed agrees asked named (fit, inr none) =
-    rw (none.0, none.2, append-nil) (agrees k ∙ ap life_in (asked-start job (child_in w k) (asked-of w k (Start job) asked)))
+    rw (none.0, none.2, append-nil) (agrees k ∙ ap life_for_state (asked-start job (child_in w k) (asked-of w k (Start job) asked)))
 row-here w k is_full (Read n) reply calls listed agrees asked named (fit, inr none) = let no = none.1 in cc
 row-here w k is_full (Wait n) reply calls listed agrees asked named (fit, inr none) = let no = none.1 in cc
 
@@ -83,9 +83,9 @@ answer-agrees w now k is_full request reply out calls listed sane agrees asked l
     let moves = answers-move w k request reply now out accepted.items sane asked accepted.is in
     let named = request-names w k request sane asked in
     elim (cases_eq j k) [
-      | inl same ↦ subst (λ n. life_of n (calls ++ listed) ≡ life_in (child_in now n)) (sym same)
-          (row-here w k is_full request reply calls listed agrees asked named lists ∙ ap life_in (sym moves.own))
-      | inr apart ↦ row-there k j is_full request reply calls listed named lists apart ∙ (agrees j ∙ ap life_in (sym (moves.children j apart)))
+      | inl same ↦ subst (λ n. life_of n (calls ++ listed) ≡ life_for_state (child_in now n)) (sym same)
+          (row-here w k is_full request reply calls listed agrees asked named lists ∙ ap life_for_state (sym moves.own))
+      | inr apart ↦ row-there k j is_full request reply calls listed named lists apart ∙ (agrees j ∙ ap life_for_state (sym (moves.children j apart)))
     ]
 
 -- if its answer was taken, the world and the list agree
@@ -104,7 +104,7 @@ untaken-agrees w k was_full is_full calls calls_now request reply out sane agree
     rw asks.calls_are (answer-agrees w (world_after w (Ok out) (step_of w (Answer k reply))) k is_full request reply out calls asks.listed sane agrees asked asks.lists
     (accepted-is w (world_after w (Ok out) (step_of w (Answer k reply))) (Answer k reply) out (step_of w (Answer k reply)) is refl))
 
-whole-in : (state : ChildState) → life_in state ≢ Broken
+whole-in : (state : ChildState) → life_for_state state ≢ Broken
 whole-in Closed e = cc
 whole-in Reading e = cc
 whole-in Waiting e = cc
@@ -120,7 +120,7 @@ answers-whole w k was_full is_full calls calls_now outcome sane agrees a j e =
     let named = request-names w k a.request sane a.pending_is in
     let is : life_of j (calls ++ a.asks.listed) ≡ Broken = ap (life_of j) (sym a.asks.calls_are) ∙ e in
     elim (cases_eq j k) [
-      | inl same ↦ whole-in (behind_answer (is_marked w k) a.request a.reply)
+      | inl same ↦ whole-in (child_after_answer (is_marked w k) a.request a.reply)
           (sym (row-here w k is_full a.request a.reply calls a.asks.listed agrees a.pending_is named a.asks.lists) ∙ subst (λ n. life_of n (calls ++ a.asks.listed) ≡ Broken) same is)
       | inr apart ↦ agrees-whole w calls agrees j (sym (row-there k j is_full a.request a.reply calls a.asks.listed named a.asks.lists apart) ∙ is)
     ]
@@ -137,7 +137,7 @@ number-asked w k request sane asked few = rw (request-names w k request sane ask
 -- the table after a call
 pub table-asked : (w : WorldState) (k : ℕ) (was_full is_full b : Bool) (request : Request) (reply : Reply) (calls calls_now : List Call) (table : List Bool) → IsSane w → Agrees w calls →
     IsOpenTable table calls → k < length table → pending_of w k ≡ Some request → Asks request reply was_full is_full calls calls_now →
-    b ≡ is_open (life_in (behind_answer false request reply)) → IsOpenTable (slice_set table k b) calls_now
+    b ≡ is_open (life_for_state (child_after_answer false request reply)) → IsOpenTable (slice_set table k b) calls_now
 table-asked w k was_full is_full b request reply calls calls_now table sane agrees opened few asked asks is j =
     let named = request-names w k request sane asked in
     rw asks.calls_are
@@ -147,14 +147,14 @@ table-asked w k was_full is_full b request reply calls calls_now table sane agre
       | inr apart ↦ get_or-set_other table k j b false apart ∙ (opened j ∙ ap is_open (sym (row-there k j is_full request reply calls asks.listed named asks.lists apart)))
     ])
 
-further-open : (request : Option Request) (state : ChildState) → is_asked request state ≡ true → asks_further request ≡ is_open (life_in state)
+further-open : (request : Option Request) (state : ChildState) → is_asked request state ≡ true → asks_read_or_wait request ≡ is_open (life_for_state state)
 further-open None state asked = grind (arith, common_steps)
 further-open (Some (Start job)) state asked = grind (arith, common_steps)
 further-open (Some (Read n)) state asked = grind (arith, common_steps)
 further-open (Some (Wait n)) state asked = grind (arith, common_steps)
 
 -- the table of the open children according to what the shells ask for
-pub table-begins : (w : WorldState) (calls : List Call) (table : List Bool) → Agrees w calls → ((k : ℕ) → get_or table k false ≡ asks_further (pending_of w k)) → IsOpenTable table calls
+pub table-begins : (w : WorldState) (calls : List Call) (table : List Bool) → Agrees w calls → ((k : ℕ) → get_or table k false ≡ asks_read_or_wait (pending_of w k)) → IsOpenTable table calls
 table-begins w calls table agrees filled k = filled k ∙ (further-open (pending_of w k) (child_in w k) (requests-are w k) ∙ ap is_open (sym (agrees k)))
 
 -- a world that asks for nothing, as a fresh one does, and a launcher without a call

@@ -8,40 +8,40 @@ use Rattle.ados_machine.specs.declared.events.Event.TheVariants.{Typed, EndOfInp
 use Rattle.ados_machine.specs.declared.events.Kind.{Kind}
 use Rattle.ados_machine.specs.declared.outs.Out.{Out}
 use Rattle.ados_machine.specs.declared.requests.Request.{Request}
-use Rattle.ados_machine.specs.Alone.{AreOf, alone, bytes_in}
-use Rattle.ados_machine.specs.Children.{child_by, child_in}
+use Rattle.ados_machine.specs.Alone.{AreOf, exec_alone, bytes_in}
+use Rattle.ados_machine.specs.Children.{child_of_shell, child_in}
 use Rattle.ados_machine.specs.Numbers.{free_number}
 use Rattle.ados_machine.specs.Requests.{request_of}
 use Rattle.ados_machine.specs.Runs.{IsAnswer, Runs, world_after}
 use Rattle.ados_machine.specs.Shells.{ShellState}
 use Rattle.ados_machine.specs.Step.{Response, Accepted, Refused, is_accepted, step_of}
-use Rattle.ados_machine.specs.Whole.{opened, opened_shell}
-use Rattle.ados_machine.specs.World.{WorldState, shell_at, pending_by, pending_of}
+use Rattle.ados_machine.specs.Whole.{world_with_opened, opened_shell}
+use Rattle.ados_machine.specs.World.{WorldState, shell_at, request_of_shell, pending_of}
 use Rattle.ados_machine.proofs.Loops.{IsTaken, alone-turn, alone-reply, pending-hosted, turn-taken}
 use Rattle.ados_machine.proofs.Shells.{IsFree, found, found-set_other, free-number}
 use Rattle.ados_machine.proofs.Systems.{opened-stands}
 use Rattle.ados_launcher.specs.declared.calls.Call.{Call}
-use Rattle.ados_launcher.specs.Lives.{life_in}
+use Rattle.ados_launcher.specs.Lives.{life_for_state}
 use Rattle.ados_launch.specs.Agreement.{Agrees}
 use Rattle.ados_launch.specs.Alone.{IsNextOf, IsUntaken, TakesNext}
 use Rattle.ados_launch.specs.Asked.{AreAsked, Asks}
-use Rattle.ados_launch.specs.Taken.{Taken, Given, LongLine, events_in, outs_in}
+use Rattle.ados_launch.specs.Taken.{TakenItem, Given, LongLine, taken_events, taken_outs}
 
 none-at : (shells : List (Option ShellState)) (k : ℕ) → IsFree shells (Some k) → found shells k ≡ None
 none-at shells k free = rw (free.1, free.2) refl
 
 -- a shell that was just opened has no child, and before it there was none at its number
-opened-child : (w : WorldState) (k : ℕ) (commands : List Text) (j : ℕ) → free_number w.shells ≡ Some k → child_in (opened w k commands) j ≡ child_in w j
+opened-child : (w : WorldState) (k : ℕ) (commands : List Text) (j : ℕ) → free_number w.shells ≡ Some k → child_in (world_with_opened w k commands) j ≡ child_in w j
 opened-child w k commands j free =
     let is : IsFree w.shells (Some k) = rw free at (free-number w.shells) in
     elim (cases_eq j k) [
-      | inl same ↦ rw same (ap child_by (opened-stands w k commands free) ∙ sym (ap child_by (none-at w.shells k is)))
-      | inr apart ↦ ap child_by (found-set_other w.shells k (Some (opened_shell k commands)) j apart (omega (arith, is.1)))
+      | inl same ↦ rw same (ap child_of_shell (opened-stands w k commands free) ∙ sym (ap child_of_shell (none-at w.shells k is)))
+      | inr apart ↦ ap child_of_shell (found-set_other w.shells k (Some (opened_shell k commands)) j apart (omega (arith, is.1)))
     ]
 
 -- so the launcher's list agrees with the world as before
-pub opened-agrees : (w : WorldState) (k : ℕ) (commands : List Text) (calls : List Call) → free_number w.shells ≡ Some k → Agrees w calls → Agrees (opened w k commands) calls
-opened-agrees w k commands calls free agrees j = agrees j ∙ ap life_in (sym (opened-child w k commands j free))
+pub opened-agrees : (w : WorldState) (k : ℕ) (commands : List Text) (calls : List Call) → free_number w.shells ≡ Some k → Agrees w calls → Agrees (world_with_opened w k commands) calls
+opened-agrees w k commands calls free agrees j = agrees j ∙ ap life_for_state (sym (opened-child w k commands j free))
 
 -- the answers in an event
 abbrev pub replies_in : Event → List Reply
@@ -55,7 +55,7 @@ accepted-of : (response : Response) → IsTaken response → is_accepted respons
 accepted-of (Refused why) taken = absurd taken
 accepted-of (Accepted world out items) taken = refl
 
-turn-by : (w : WorldState) (k : ℕ) (o : Option ShellState) → 2 ≤ k → shell_at w k ≡ o → is_some o ≡ true → pending_by o ≡ None → is_accepted (step_of w (Turn k)) ≡ true
+turn-by : (w : WorldState) (k : ℕ) (o : Option ShellState) → 2 ≤ k → shell_at w k ≡ o → is_some o ≡ true → request_of_shell o ≡ None → is_accepted (step_of w (Turn k)) ≡ true
 turn-by w k None above runs some asks = cc
 turn-by w k (Some shell) above runs some asks =
     accepted-of (step_of w (Turn k)) (turn-taken w k shell above runs (sym (pending-hosted shell.parts.number shell.phase) ∙ ap is_some asks))
@@ -104,20 +104,20 @@ turn-untaken w k is_full calls = ([], refl, sym (append-nil calls))
 
 -- this many events were taken, and the steps of the shell that runs alone go on from here, whatever answers come
 pub record Going (k : ℕ) (w : WorldState) (line : Text) (turns n : ℕ) (is_full : Bool) (world : WorldState) (before now : Bytes) (calls calls_now : List Call) : Type 0 where
-  pub taken : List Taken
+  pub taken : List TakenItem
   pub answers : List Reply
   pub listed : List Call
-  pub run : Runs (opened w k (line ∷ [])) (events_in taken) (outs_in taken) world
-  pub events_are : AreOf k (events_in taken) answers []
-  pub asked : AreAsked is_full (opened w k (line ∷ [])) taken listed
+  pub run : Runs (world_with_opened w k (line ∷ [])) (taken_events taken) (taken_outs taken) world
+  pub events_are : AreOf k (taken_events taken) answers []
+  pub asked : AreAsked is_full (world_with_opened w k (line ∷ [])) taken listed
   pub calls_are : calls_now ≡ calls ++ listed
-  pub count : length (events_in taken) ≡ n
-  pub printed : now ≡ before ++ bytes_in (outs_in taken)
+  pub count : length (taken_events taken) ≡ n
+  pub printed : now ≡ before ++ bytes_in (taken_outs taken)
   pub steps : (left : ℕ) → left + n ≡ turns → (rest : List Reply) →
-      alone k turns (answers ++ rest) (opened w k (line ∷ [])) before ≡ alone k left rest world now
+      exec_alone k turns (answers ++ rest) (world_with_opened w k (line ∷ [])) before ≡ exec_alone k left rest world now
 
 pub going-none : (k : ℕ) (w : WorldState) (line : Text) (turns : ℕ) (is_full : Bool) (world : WorldState) (before : Bytes) (calls : List Call) →
-    world ≡ opened w k (line ∷ []) → Going k w line turns 0 is_full world before before calls calls
+    world ≡ world_with_opened w k (line ∷ []) → Going k w line turns 0 is_full world before before calls calls
 going-none k w line turns is_full world before calls is = record {
   taken = [];
   answers = [];
@@ -156,7 +156,7 @@ answer-next (Some request) k j reply is = (refl, is)
 -- one more event of the shell that runs alone
 steps-by : (k n : ℕ) (w : WorldState) (event : Event) (out : Out) (printed : Bytes) (shell : ShellState) → shell_at w k ≡ Some shell →
     IsNextOf k (request_of shell.parts.number shell.phase) event → IsAnswer event (Ok out) (step_of w event) → (rest : List Reply) →
-    alone k (suc n) (replies_in event ++ rest) w printed ≡ alone k n rest (world_after w (Ok out) (step_of w event)) (printed ++ out.bytes)
+    exec_alone k (suc n) (replies_in event ++ rest) w printed ≡ exec_alone k n rest (world_after w (Ok out) (step_of w event)) (printed ++ out.bytes)
 steps-by k n w (Turn j) out printed shell runs is accepted rest =
     let next = turn-next (request_of shell.parts.number shell.phase) k j is in
     rw next.1 (alone-turn k n rest w printed shell out runs
@@ -170,8 +170,8 @@ steps-by k n w EndOfInput out printed shell runs is accepted rest = absurd (end-
 steps-by k n w (Break j kind) out printed shell runs is accepted rest = absurd (break-next (request_of shell.parts.number shell.phase) k j kind is)
 
 pub steps-on : (k n : ℕ) (w : WorldState) (event : Event) (out : Out) (printed : Bytes) (o : Option ShellState) → shell_at w k ≡ o → is_some o ≡ true →
-    IsNextOf k (pending_by o) event → IsAnswer event (Ok out) (step_of w event) → (rest : List Reply) →
-    alone k (suc n) (replies_in event ++ rest) w printed ≡ alone k n rest (world_after w (Ok out) (step_of w event)) (printed ++ out.bytes)
+    IsNextOf k (request_of_shell o) event → IsAnswer event (Ok out) (step_of w event) → (rest : List Reply) →
+    exec_alone k (suc n) (replies_in event ++ rest) w printed ≡ exec_alone k n rest (world_after w (Ok out) (step_of w event)) (printed ++ out.bytes)
 steps-on k n w event out printed None runs some is accepted rest = cc
 steps-on k n w event out printed (Some shell) runs some is accepted rest = steps-by k n w event out printed shell runs is accepted rest
 
@@ -182,8 +182,8 @@ last-are k (Typed line) pending is = absurd (typed-next pending k line is)
 last-are k EndOfInput pending is = absurd (end-next pending k is)
 last-are k (Break j kind) pending is = absurd (break-next pending k j kind is)
 
-pub are-more : (k : ℕ) (taken : List Taken) (answers : List Reply) (event : Event) (out : Out) (pending : Option Request) → AreOf k (events_in taken) answers [] →
-    IsNextOf k pending event → AreOf k (events_in (taken ++ Given event out ∷ [])) (answers ++ replies_in event) []
+pub are-more : (k : ℕ) (taken : List TakenItem) (answers : List Reply) (event : Event) (out : Out) (pending : Option Request) → AreOf k (taken_events taken) answers [] →
+    IsNextOf k pending event → AreOf k (taken_events (taken ++ Given event out ∷ [])) (answers ++ replies_in event) []
 are-more k [] answers event out pending are is = rw (sym are) (last-are k event pending is)
 are-more k (Given (Turn j) given ∷ taken) answers event out pending are is = (are.0, are-more k taken answers event out pending are.1 is)
 are-more k (Given (Answer j reply) given ∷ taken) [] event out pending are is = absurd are
@@ -194,15 +194,15 @@ are-more k (Given EndOfInput given ∷ taken) answers event out pending are is =
 are-more k (Given (Break j kind) given ∷ taken) answers event out pending are is = absurd are
 are-more k (LongLine ∷ taken) answers event out pending are is = are-more k taken answers event out pending are is
 
-pub events-more : (taken : List Taken) (event : Event) (out : Out) → length (events_in (taken ++ Given event out ∷ [])) ≡ length (events_in taken) + 1
+pub events-more : (taken : List TakenItem) (event : Event) (out : Out) → length (taken_events (taken ++ Given event out ∷ [])) ≡ length (taken_events taken) + 1
 events-more [] event out = refl
 pub events-more (Given first given ∷ taken) event out = let more = events-more taken event out in omega (arith, more)
 pub events-more (LongLine ∷ taken) event out = events-more taken event out
 
-pub bytes-more : (taken : List Taken) (event : Event) (out : Out) → bytes_in (outs_in (taken ++ Given event out ∷ [])) ≡ bytes_in (outs_in taken) ++ out.bytes
+pub bytes-more : (taken : List TakenItem) (event : Event) (out : Out) → bytes_in (taken_outs (taken ++ Given event out ∷ [])) ≡ bytes_in (taken_outs taken) ++ out.bytes
 bytes-more [] event out = append-nil out.bytes
 pub bytes-more (Given first given ∷ taken) event out =
-    ap (λ bytes. given.bytes ++ bytes) (bytes-more taken event out) ∙ sym (append_assoc given.bytes (bytes_in (outs_in taken)) out.bytes)
+    ap (λ bytes. given.bytes ++ bytes) (bytes-more taken event out) ∙ sym (append_assoc given.bytes (bytes_in (taken_outs taken)) out.bytes)
 pub bytes-more (LongLine ∷ taken) event out = bytes-more taken event out
 
 pub printed-more : (before mid last bytes more now : Bytes) → mid ≡ before ++ bytes → last ≡ mid ++ more → now ≡ bytes ++ more → last ≡ before ++ now

@@ -4,17 +4,17 @@ use Rattle.ados_text.specs.Text.{Bytes, Text}
 use Rattle.ados_find.specs.declared.codes.Codes.{Codes}
 use Rattle.ados_machine.specs.declared.outs.Out.{Out}
 use Rattle.ados_machine.specs.declared.refusals.Refusal.TheVariants.{NoMemory}
-use Rattle.ados_machine.specs.Alone.{alone, bytes_in}
+use Rattle.ados_machine.specs.Alone.{exec_alone, bytes_in}
 use Rattle.ados_machine.specs.Numbers.{free_number}
 use Rattle.ados_machine.specs.Shells.{ShellState}
-use Rattle.ados_machine.specs.Whole.{opened}
+use Rattle.ados_machine.specs.Whole.{world_with_opened}
 use Rattle.ados_machine.specs.World.{WorldState, shell_at, pending_of, codes_at}
 use Rattle.ados_machine.proofs.Systems.{system-ended, system-late}
 use Rattle.ados_world.specs.Opened.{opening_fault}
 use Rattle.ados_launcher.specs.declared.calls.Call.{Call}
-use Rattle.ados_launch.specs.Alone.{EndedAs, IsUntaken, RunsLine, RunsOn, StandsAt, TakesNext}
+use Rattle.ados_launch.specs.Alone.{EndedAs, IsUntaken, RunsLine, RunsOn, LineProgress, TakesNext}
 use Rattle.ados_launch.specs.declared.alone.SystemFault.{SystemFault}
-use Rattle.ados_launch.specs.Taken.{Given, outs_in}
+use Rattle.ados_launch.specs.Taken.{Given, taken_outs}
 use Rattle.ados_launch.proofs.Sessions.{calls-more}
 use Rattle.ados_launch.proofs.Taken.{run-more, asked-more, asked-full}
 use Rattle.ados_launch.proofs.AloneLemmas.{replies_in, Going, steps-on, are-more, events-more, bytes-more, printed-more}
@@ -27,15 +27,15 @@ going-more k w line turns n was_full is_full world next before mid last calls mi
   taken = g.taken ++ Given t.event out ∷ [];
   answers = g.answers ++ replies_in t.event;
   listed = g.listed ++ t.listed;
-  run = rw t.world_is (run-more (opened w k (line ∷ [])) g.taken world (Given t.event out) g.run t.accepted);
+  run = rw t.world_is (run-more (world_with_opened w k (line ∷ [])) g.taken world (Given t.event out) g.run t.accepted);
   events_are = are-more k g.taken g.answers t.event out (pending_of world k) g.events_are t.is_next;
-  asked = asked-more is_full (opened w k (line ∷ [])) g.taken g.listed world (Given t.event out) t.listed
-      (asked-full was_full is_full (opened w k (line ∷ [])) g.taken g.listed stays g.asked) g.run t.asked t.when_full;
+  asked = asked-more is_full (world_with_opened w k (line ∷ [])) g.taken g.listed world (Given t.event out) t.listed
+      (asked-full was_full is_full (world_with_opened w k (line ∷ [])) g.taken g.listed stays g.asked) g.run t.asked t.when_full;
   calls_are = calls-more calls mid_calls calls_now g.listed t.listed g.calls_are t.calls_are;
   count = events-more g.taken t.event out ∙ ap (λ m. m + 1) g.count;
-  printed = printed-more before mid last (bytes_in (outs_in g.taken)) out.bytes _ g.printed grown (bytes-more g.taken t.event out);
+  printed = printed-more before mid last (bytes_in (taken_outs g.taken)) out.bytes _ g.printed grown (bytes-more g.taken t.event out);
   steps = λ left all rest.
-      ap (λ answers. alone k turns answers (opened w k (line ∷ [])) before) (append_assoc g.answers (replies_in t.event) rest)
+      ap (λ answers. exec_alone k turns answers (world_with_opened w k (line ∷ [])) before) (append_assoc g.answers (replies_in t.event) rest)
       ∙ (g.steps (suc left) (omega (arith, all)) (replies_in t.event ++ rest)
       ∙ rw (t.world_is, grown) (steps-on k left world t.event out mid (shell_at world k) refl runs t.is_next t.accepted rest));
 }
@@ -52,7 +52,7 @@ runs-line k w line turns n was_full is_full world before now calls mid_calls cal
   run = g.run;
   events_are = g.events_are;
   listed = g.listed;
-  asked = asked-full was_full is_full (opened w k (line ∷ [])) g.taken g.listed stays g.asked;
+  asked = asked-full was_full is_full (world_with_opened w k (line ∷ [])) g.taken g.listed stays g.asked;
   calls_are = calls-more calls mid_calls calls_now g.listed others g.calls_are e;
 }
 
@@ -91,7 +91,7 @@ going-late k w line turns is_full world before now calls calls_now shell g good 
 pub stands-untaken : (k : ℕ) (w : WorldState) (line : Text) (turns n : ℕ) (was_full is_full : Bool) (world : WorldState) (before now : Bytes) (calls mid_calls calls_now : List Call) (fault : SystemFault) →
     Going k w line turns n was_full world before now calls mid_calls → opening_fault w line ≡ None → free_number w.shells ≡ Some k → (was_full ≡ true → is_full ≡ true) → is_some (shell_at world k) ≡ true → n < turns →
     (others : List Call) × IsUntaken is_full world k fault.answer others × (calls_now ≡ mid_calls ++ others) →
-    fault.refusal ≡ NoMemory → fault.events ≡ n → fault.unwritten ≡ [] → StandsAt w line turns is_full fault world before now calls calls_now k
+    fault.refusal ≡ NoMemory → fault.events ≡ n → fault.unwritten ≡ [] → LineProgress w line turns is_full fault world before now calls calls_now k
 stands-untaken k w line turns n was_full is_full world before now calls mid_calls calls_now fault g good free stays runs within untaken why count none = record {
   taken = g.taken;
   answers = g.answers;
@@ -108,7 +108,7 @@ pub stands-unwritten : (k : ℕ) (w : WorldState) (line : Text) (turns n : ℕ) 
     (calls mid_calls calls_now : List Call) (out : Out) (fault : SystemFault) →
     Going k w line turns n was_full world before mid calls mid_calls → opening_fault w line ≡ None → free_number w.shells ≡ Some k → (was_full ≡ true → is_full ≡ true) → is_some (shell_at world k) ≡ true → n < turns →
     TakesNext k world is_full mid_calls next calls_now out → fault.refusal ≡ NoMemory → fault.events ≡ n + 1 → fault.answer ≡ None → fault.unwritten ≡ out.bytes → 0 < length fault.unwritten →
-    StandsAt w line turns is_full fault next before mid calls calls_now k
+    LineProgress w line turns is_full fault next before mid calls calls_now k
 stands-unwritten k w line turns n was_full is_full world next before mid calls mid_calls calls_now out fault g good free stays runs within t why count none bytes some =
     let more = going-more k w line turns n was_full is_full world next before mid (mid ++ out.bytes) calls mid_calls calls_now out g stays runs t refl in
     record {

@@ -6,7 +6,7 @@ use Rattle.std.proofs.lemmas.Bool.{cases_Bool}
 use Rattle.std.proofs.lemmas.Grind.{common_steps}
 use Rattle.std.proofs.lemmas.List.{take-append-le, drop-append-le, take-append-drop}
 use Rattle.ados_text.specs.Lines.{is_newline}
-use Rattle.ados_launch.specs.Lines.{ahead, line_of, rest_of, kind_of, kind_of_length, TakesLine}
+use Rattle.ados_launch.specs.Lines.{bytes_ahead, line_of, rest_of, kind_of, kind_of_length, TakesLine}
 use Rattle.ados_launch.specs.declared.lines.LineKind.TheVariants.{Short}
 use Rattle.ados_launch.proofs.Scanning.{kind_of-line}
 
@@ -64,7 +64,7 @@ taken_front front back later kept now i e within few k n =
     }
 
 pub taken_held : (held kept now : List ℕ) (n i : ℕ) → position is_newline (take n held) ≡ Some i → i < length (take n held) → n ≤ 513
-    → kept ≡ take i held → now ≡ drop (i + 1) held → (left : Option (List ℕ)) (bytes : List ℕ) → ahead held left ≡ Some bytes → TakesLine bytes Short kept (ahead now left)
+    → kept ≡ take i held → now ≡ drop (i + 1) held → (left : Option (List ℕ)) (bytes : List ℕ) → bytes_ahead held left ≡ Some bytes → TakesLine bytes Short kept (bytes_ahead now left)
 taken_held held kept now n i e within few k d None bytes known = cc
 taken_held held kept now n i e within few k d (Some later) bytes known =
     let parts : take n held ++ drop n held ≡ held = take-append-drop n held in

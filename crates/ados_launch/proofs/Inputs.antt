@@ -7,20 +7,20 @@ use Rattle.ados_find.specs.declared.codes.Codes.{Codes}
 use Rattle.ados_find.specs.declared.outcomes.Renamed.{Renamed}
 use Rattle.ados_flow.specs.Frames.{FrameState}
 use Rattle.ados_machine.specs.Requests.{request_of}
-use Rattle.ados_machine.specs.World.{WorldState, shell_at, can_take, can_turn, has_input, is_ready, pending_by, pending_of, takes_input as phase_takes, wants_input, wants_line, is_over, input_of, flatten}
+use Rattle.ados_machine.specs.World.{WorldState, shell_at, can_take, can_turn, has_input, is_ready, request_of_shell, pending_of, takes_input as phase_takes, wants_input, wants_line, is_over, input_of, flatten}
 use Rattle.ados_machine.specs.Numbers.{free_number}
-use Rattle.ados_machine.specs.Settle.{Turned}
-use Rattle.ados_machine.specs.Shells.{Begun, begun_shell, ShellState}
+use Rattle.ados_machine.specs.Settle.{TurnResult}
+use Rattle.ados_machine.specs.Shells.{ShellStart, begun_shell, ShellState}
 use Rattle.ados_machine.specs.Course.{Course}
 use Rattle.ados_find.specs.declared.outcomes.Breaking.{Breaking}
 use Rattle.ados_find.specs.declared.outcomes.Breaks.{Breaks}
-use Rattle.ados_machine.specs.Breaks.{breaks_by, broken_at, broken_by, broken_number, broken_place, has_script}
+use Rattle.ados_machine.specs.Breaks.{breaks_by, broken_at, shells_after_break, broken_number, broken_place, has_script}
 use Rattle.ados_machine.specs.Carrying.{carried_shells}
 use Rattle.ados_machine.specs.Answers.{answered_in}
 use Rattle.ados_machine.specs.Sinks.{sink_in}
 use Rattle.ados_machine.specs.Deeds.{Deed}
-use Rattle.ados_machine.specs.Turning.{Input, Turning, Refuses, Ends, Takes, in_place_of, turning, console_turning, ready_turning, input_turning, replied}
-use Rattle.ados_machine.specs.Step.{broken, step_of, turned, applied, left, start, moved_in, answered, unflagged, with_begun}
+use Rattle.ados_machine.specs.Turning.{Input, Turning, Refuses, Ends, Takes, turning_at_break, turning_in_phase, console_turning, ready_turning, input_turning, turning_of_deed}
+use Rattle.ados_machine.specs.Step.{break_response, step_of, turn_response, turning_response, shell_after_turn, start, moved_at_turn, answer_response, course_without_flag, with_begun}
 use Rattle.ados_machine.specs.Runs.{world_after}
 use Rattle.ados_machine.specs.declared.answers.Answer.{Answer as Reply}
 use Rattle.ados_machine.specs.declared.outs.Out.{Out}
@@ -43,7 +43,7 @@ first-set (found ∷ shells) zero shell e = refl
 first-set (found ∷ shells) (suc i) shell e = e
 
 -- a shell that begins is at another number, or is itself the first
-first-begun : (begun : Option Begun) (number : Option ℕ) (shells : List (Option ShellState)) → is_some (flatten (slice_get shells 0)) ≡ true → is_some (flatten (slice_get (with_begun begun number shells) 0)) ≡ true
+first-begun : (begun : Option ShellStart) (number : Option ℕ) (shells : List (Option ShellState)) → is_some (flatten (slice_get shells 0)) ≡ true → is_some (flatten (slice_get (with_begun begun number shells) 0)) ≡ true
 first-begun None number shells e = e
 first-begun (Some begun) None shells e = e
 first-begun (Some begun) (Some number) shells e = first-set shells (number - 1) (begun_shell number begun) e
@@ -62,7 +62,7 @@ first-numbered : (breaks : Breaks) (n : ℕ) (shells : List (Option ShellState))
 first-numbered breaks zero shells e = e
 first-numbered breaks (suc n) shells e = first-at breaks n shells e
 
-first-broken : (breaking : Option Breaking) (shells : List (Option ShellState)) → is_some (flatten (slice_get shells 0)) ≡ true → is_some (flatten (slice_get (broken_by breaking shells) 0)) ≡ true
+first-broken : (breaking : Option Breaking) (shells : List (Option ShellState)) → is_some (flatten (slice_get shells 0)) ≡ true → is_some (flatten (slice_get (shells_after_break breaking shells) 0)) ≡ true
 first-broken None shells e = e
 first-broken (Some breaking) shells e = first-numbered breaking.breaks breaking.shell shells e
 
@@ -74,8 +74,8 @@ first-replaced (found ∷ shells) zero now some e = some refl
 first-replaced (found ∷ shells) (suc i) now some e = e
 
 -- shell 1 runs on after each turn that takes something
-first-left : (k : ℕ) (moved : Option Renamed) (turned : Turned) → k ≡ 1 → is_some (left k moved turned) ≡ true
-first-left k moved turned one = rw one refl
+first-left : (k : ℕ) (moved : Option Renamed) (turn_response : TurnResult) → k ≡ 1 → is_some (shell_after_turn k moved turn_response) ≡ true
+first-left k moved turn_response one = rw one refl
 
 first-unset : (shells : List (Option ShellState)) (i : ℕ) → i ≢ 0 → flatten (slice_get (slice_set shells i None) 0) ≡ flatten (slice_get shells 0)
 first-unset [] i some = refl
@@ -101,7 +101,7 @@ input-ends [] false frames by_line by_end e = cc
 input-ends (line ∷ rest) is_ended frames by_line by_end e = cc
 
 -- a shell ends only at the end of its input
-turning-ends : (input : Input) (frames : List FrameState) (course : Course) (phase : Phase) → turning input frames course phase ≡ Ends → input.is_ended ≡ true
+turning-ends : (input : Input) (frames : List FrameState) (course : Course) (phase : Phase) → turning_in_phase input frames course phase ≡ Ends → input.is_ended ≡ true
 turning-ends input frames course Ready e = ready-ends input frames course e
 turning-ends input frames course (GoingOn parted) e = cc
 turning-ends input frames course (Waiting (ForAnswer asking)) e = input-ends input.queue input.is_ended frames _ _ e
@@ -111,38 +111,38 @@ turning-ends input frames course (Waiting (ForPiece child)) e = cc
 turning-ends input frames course (Waiting (ForEnd child)) e = cc
 
 -- nor if its scripts end at a break
-placed-ends : (t : Turning) (input : Input) (frames : List FrameState) (course : Course) → in_place_of t input frames course ≡ Ends → t ≡ Ends
+placed-ends : (t : Turning) (input : Input) (frames : List FrameState) (course : Course) → turning_at_break t input frames course ≡ Ends → t ≡ Ends
 placed-ends (Refuses why) input frames course e = cc
 placed-ends Ends input frames course e = refl
-placed-ends (Takes queue turned) input frames course e = cc
+placed-ends (Takes queue turn_response) input frames course e = cc
 
 flagged-ends : (b : Bool) (input : Input) (frames : List FrameState) (course : Course) (phase : Phase) →
-    (if b then in_place_of (turning input frames course phase) input frames course else turning input frames course phase) ≡ Ends → input.is_ended ≡ true
-flagged-ends true input frames course phase e = turning-ends input frames course phase (placed-ends (turning input frames course phase) input frames course e)
+    (if b then turning_at_break (turning_in_phase input frames course phase) input frames course else turning_in_phase input frames course phase) ≡ Ends → input.is_ended ≡ true
+flagged-ends true input frames course phase e = turning-ends input frames course phase (placed-ends (turning_in_phase input frames course phase) input frames course e)
 flagged-ends false input frames course phase e = turning-ends input frames course phase e
 
-applied-takes : (w : WorldState) (out : Out) (k : ℕ) (codes : Codes) (t : Turning) → (t ≡ Ends → k ≢ 1) → k ≢ 0 → takes_input w ≡ true → takes_input (world_after w (Ok out) (applied w k codes t)) ≡ true
+applied-takes : (w : WorldState) (out : Out) (k : ℕ) (codes : Codes) (t : Turning) → (t ≡ Ends → k ≢ 1) → k ≢ 0 → takes_input w ≡ true → takes_input (world_after w (Ok out) (turning_response w k codes t)) ≡ true
 applied-takes w out k codes (Refuses why) ends some e = e
 applied-takes w out k codes Ends ends some e = rw (first-unset w.shells (k - 1) (omega (arith, some, ends refl))) e
-applied-takes w out k codes (Takes queue turned) ends some e =
+applied-takes w out k codes (Takes queue turn_response) ends some e =
     let parts = and_parts (is_some (shell_at w 1)) (not w.input_ended) e in
-    let moved = moved_in w turned in
+    let moved = moved_at_turn w turn_response in
     let carried = first-carried moved w.shells parts.0 in
-    let begun = first-begun turned.course.begun (free_number w.shells) (carried_shells moved w.shells) carried in
-    let broke = first-broken turned.course.breaking (with_begun turned.course.begun (free_number w.shells) (carried_shells moved w.shells)) begun in
+    let begun = first-begun turn_response.course.begun (free_number w.shells) (carried_shells moved w.shells) carried in
+    let broke = first-broken turn_response.course.breaking (with_begun turn_response.course.begun (free_number w.shells) (carried_shells moved w.shells)) begun in
     rw (
-      first-replaced (broken_by turned.course.breaking (with_begun turned.course.begun (free_number w.shells) (carried_shells moved w.shells))) (k - 1) (left k moved turned)
-          (λ first. first-left k moved turned (omega (arith, some, first))) broke,
+      first-replaced (shells_after_break turn_response.course.breaking (with_begun turn_response.course.begun (free_number w.shells) (carried_shells moved w.shells))) (k - 1) (shell_after_turn k moved turn_response)
+          (λ first. first-left k moved turn_response (omega (arith, some, first))) broke,
       parts.1,
     ) refl
 
-turned-takes : (w : WorldState) (out : Out) (k : ℕ) (found : Option ShellState) → shell_at w k ≡ found → takes_input w ≡ true → takes_input (world_after w (Ok out) (turned w k found)) ≡ true
+turned-takes : (w : WorldState) (out : Out) (k : ℕ) (found : Option ShellState) → shell_at w k ≡ found → takes_input w ≡ true → takes_input (world_after w (Ok out) (turn_response w k found)) ≡ true
 turned-takes w out k None at e = e
 turned-takes w out k (Some shell) at e =
     let unended : not w.input_ended ≡ true = (and_parts (is_some (shell_at w 1)) (not w.input_ended) e).1 in
     applied-takes w out k shell.parts.codes _
     (λ ends one.
-    let ended : (input_of w k).is_ended ≡ true = flagged-ends (shell.flagged && has_script shell.frames) (input_of w k) shell.frames (unflagged (start w shell)) shell.phase ends in
+    let ended : (input_of w k).is_ended ≡ true = flagged-ends (shell.flagged && has_script shell.frames) (input_of w k) shell.frames (course_without_flag (start w shell)) shell.phase ends in
     let first : w.input_ended ≡ true = rw one at ended in
     true≢false (sym unended ∙ ap not first))
     (λ none. let nothing : None ≡ Some shell = rw none at at in cc)
@@ -157,12 +157,12 @@ turn-takes w out k e =
     ]
 
 -- only a background shell ends by an answer
-replied-never : (input : Input) (frames : List FrameState) (deed : Option Deed) → replied input frames deed ≡ Ends → ⊥
+replied-never : (input : Input) (frames : List FrameState) (deed : Option Deed) → turning_of_deed input frames deed ≡ Ends → ⊥
 replied-never input frames None e = cc
 replied-never input frames (Some deed) e = cc
 
 answered-takes : (w : WorldState) (out : Out) (k : ℕ) (reply : Reply) (found : Option ShellState) → shell_at w k ≡ found → takes_input w ≡ true →
-    takes_input (world_after w (Ok out) (answered w k reply found)) ≡ true
+    takes_input (world_after w (Ok out) (answer_response w k reply found)) ≡ true
 answered-takes w out k reply None at e = e
 answered-takes w out k reply (Some shell) at e =
     applied-takes w out k shell.parts.codes _
@@ -177,7 +177,7 @@ answer-takes w out k reply e =
       | inr running ↦ rw running (answered-takes w out k reply (shell_at w k) refl e)
     ]
 
-broken-takes : (w : WorldState) (out : Out) (k : ℕ) (kind : Kind) (found : Option ShellState) → takes_input w ≡ true → takes_input (world_after w (Ok out) (broken w k kind found)) ≡ true
+broken-takes : (w : WorldState) (out : Out) (k : ℕ) (kind : Kind) (found : Option ShellState) → takes_input w ≡ true → takes_input (world_after w (Ok out) (break_response w k kind found)) ≡ true
 broken-takes w out k kind None e = e
 broken-takes w out k kind (Some shell) e =
     let parts = and_parts (is_some (shell_at w 1)) (not w.input_ended) e in
@@ -203,7 +203,7 @@ due-by-phase input k frames (Waiting (ForStart starting)) none e = cc
 due-by-phase input k frames (Waiting (ForPiece child)) none e = cc
 due-by-phase input k frames (Waiting (ForEnd child)) none e = cc
 
-found-due : (input : Input) (found : Option ShellState) → is_some found ≡ true → pending_by found ≡ None → can_turn input found ≡ false →
+found-due : (input : Input) (found : Option ShellState) → is_some found ≡ true → request_of_shell found ≡ None → can_turn input found ≡ false →
     (wants_input found && not (has_input input)) ≡ true
 found-due input None some none e = cc
 found-due input (Some shell) some none e = due-by-phase input shell.parts.number shell.frames shell.phase none e

@@ -4,14 +4,14 @@ use Rattle.ados_text.specs.Text.{Text, Bytes}
 use Rattle.ados_machine.specs.Numbers.{free_number}
 use Rattle.ados_machine.specs.Runs.{Runs, world_after}
 use Rattle.ados_machine.specs.Step.{step_of}
-use Rattle.ados_machine.specs.Whole.{opened}
+use Rattle.ados_machine.specs.Whole.{world_with_opened}
 use Rattle.ados_machine.specs.World.{WorldState}
 use Rattle.ados_world.specs.Opened.{opening_fault}
 use Rattle.ados_launcher.specs.declared.calls.Call.{Call}
 use Rattle.ados_launch.specs.Leads.{Act, Takes, Opens, ActsLead, Reaches}
 use Rattle.ados_launch.specs.Schedule.{Next}
-use Rattle.ados_launch.specs.Session.{TakesAt}
-use Rattle.ados_launch.specs.Taken.{Taken, Given, LongLine, events_in, outs_in, world_behind, IsAccepted}
+use Rattle.ados_launch.specs.Session.{TakesNextItem}
+use Rattle.ados_launch.specs.Taken.{TakenItem, Given, LongLine, taken_events, taken_outs, world_after_item, IsAccepted}
 
 -- no act leads to the world itself
 pub leads_none : (w now : WorldState) → now ≡ w → Reaches w now
@@ -22,22 +22,22 @@ led_append w mid last [] more led after = subst (λ v. ActsLead v more last) led
 led_append w mid last (Takes event out ∷ acts) more led after =
     (led.0, led_append (world_after w (Ok out) (step_of w event)) mid last acts more led.1 after)
 led_append w mid last (Opens k line ∷ acts) more led after =
-    (led.0, led.1, led_append (opened w k (line ∷ [])) mid last acts more led.2 after)
+    (led.0, led.1, led_append (world_with_opened w k (line ∷ [])) mid last acts more led.2 after)
 
 -- one after another
 pub leads_on : (w mid last : WorldState) → Reaches w mid → Reaches mid last → Reaches w last
 leads_on w mid last led after = (led.0 ++ after.0, led_append w mid last led.0 after.0 led.1 after.1)
 
 -- by what was taken
-pub leads_taken : (w now : WorldState) (item : Taken) → IsAccepted w item → now ≡ world_behind w item → Reaches w now
+pub leads_taken : (w now : WorldState) (item : TakenItem) → IsAccepted w item → now ≡ world_after_item w item → Reaches w now
 leads_taken w now (Given event out) accepted is = (Takes event out ∷ [], (accepted, is))
 leads_taken w now LongLine accepted is = ([], is)
 
 pub leads_at : (w : WorldState) (left : Option (List ℕ)) (is_full : Bool) (calls : List Call) (next : Next) (now : WorldState) (rest : Option (List ℕ)) (calls_now : List Call) (bytes : List ℕ)
-    → TakesAt w left is_full calls next now rest calls_now bytes → Reaches w now
+    → TakesNextItem w left is_full calls next now rest calls_now bytes → Reaches w now
 leads_at w left is_full calls next now rest calls_now bytes t = leads_taken w now t.item t.takes.accepted t.takes.world_is
 
-pub leads_run : (w last : WorldState) (taken : List Taken) → Runs w (events_in taken) (outs_in taken) last → Reaches w last
+pub leads_run : (w last : WorldState) (taken : List TakenItem) → Runs w (taken_events taken) (taken_outs taken) last → Reaches w last
 leads_run w last [] run = ([], run)
 leads_run w last (Given event out ∷ taken) run =
     let more = leads_run (world_after w (Ok out) (step_of w event)) last taken run.1 in
@@ -45,5 +45,5 @@ leads_run w last (Given event out ∷ taken) run =
 leads_run w last (LongLine ∷ taken) run = leads_run w last taken run
 
 -- by a shell that is opened, and then more
-pub leads_opened : (w last : WorldState) (k : ℕ) (line : Text) → free_number w.shells ≡ Some k → opening_fault w line ≡ None → Reaches (opened w k (line ∷ [])) last → Reaches w last
+pub leads_opened : (w last : WorldState) (k : ℕ) (line : Text) → free_number w.shells ≡ Some k → opening_fault w line ≡ None → Reaches (world_with_opened w k (line ∷ [])) last → Reaches w last
 leads_opened w last k line free fault more = (Opens k line ∷ more.0, (free, fault, more.1))

@@ -3,28 +3,28 @@ use Rattle.std.proofs.Common.{◌≡◌, ℕ, List, [], ◌∷◌, Bool, Option,
 use Rattle.std.specs.Prelude.{IfErr, IfNone, IfSome}
 use Rattle.ados_text.specs.Text.{Text, Bytes}
 use Rattle.ados_machine.specs.declared.answers.Answer.{Answer as Reply}
-use Rattle.ados_machine.specs.Whole.{opened}
+use Rattle.ados_machine.specs.Whole.{world_with_opened}
 use Rattle.ados_machine.specs.World.{WorldState}
 use Rattle.ados_launcher.specs.declared.calls.Call.{Call}
 use Rattle.ados_launch.specs.declared.alone.SystemEnd.{SystemEnd}
 use Rattle.ados_launch.specs.declared.alone.SystemEnd.TheVariants.{Ended, NoShell, StillRunning}
 use Rattle.ados_launch.specs.declared.alone.SystemFault.{SystemFault}
-use Rattle.ados_launch.specs.Alone.{EndedAs, IfEnded, IfRunning, IfUnopened, RunsLine, RunsOn, StandsAt}
+use Rattle.ados_launch.specs.Alone.{EndedAs, IfEnded, IfRunning, IfUnopened, RunsLine, RunsOn, LineProgress}
 use Rattle.ados_launch.specs.Leads.{Reaches}
-use Rattle.ados_launch.specs.Taken.{Taken}
+use Rattle.ados_launch.specs.Taken.{TakenItem}
 use Rattle.ados_launch.proofs.Leading.{leads_none, leads_opened, leads_run}
 
-leads_line : (k : ℕ) (w : WorldState) (line : Text) (is_full : Bool) (taken : List Taken) (answers : List Reply) (last : WorldState) (calls calls_now others : List Call)
+leads_line : (k : ℕ) (w : WorldState) (line : Text) (is_full : Bool) (taken : List TakenItem) (answers : List Reply) (last : WorldState) (calls calls_now others : List Call)
     → RunsLine k w line is_full taken answers last calls calls_now others → Reaches w last
 leads_line k w line is_full taken answers last calls calls_now others r =
-    leads_opened w last k line r.free r.no_fault (leads_run (opened w k (line ∷ [])) last taken r.run)
+    leads_opened w last k line r.free r.no_fault (leads_run (world_with_opened w k (line ∷ [])) last taken r.run)
 
 -- by what `system` ensures
 pub leads_alone : (w last : WorldState) (line : Text) (turns : ℕ) (is_full : Bool) (before now : Bytes) (calls calls_now : List Call) (result : Result SystemEnd SystemFault) (rest : Type 0)
     → IfEnded result (EndedAs w line turns is_full last before now calls calls_now)
     → IfRunning result (RunsOn w line turns is_full last before now calls calls_now)
     → IfUnopened result ((last ≡ w) × rest)
-    → IfErr result (λ fault. IfSome fault.shell (StandsAt w line turns is_full fault last before now calls calls_now))
+    → IfErr result (λ fault. IfSome fault.shell (LineProgress w line turns is_full fault last before now calls calls_now))
     → Reaches w last
 leads_alone w last line turns is_full before now calls calls_now (Ok (Ended codes)) rest ended running unopened fault =
     leads_line ended.k w line is_full ended.taken ended.answers last calls calls_now [] ended.runs
@@ -33,6 +33,6 @@ leads_alone w last line turns is_full before now calls calls_now (Ok (StillRunni
 leads_alone w last line turns is_full before now calls calls_now (Ok NoShell) rest ended running unopened fault = leads_none w last unopened.0
 leads_alone w last line turns is_full before now calls calls_now (Err why) rest ended running unopened fault = by-shell why.shell unopened fault
   where
-    by-shell : (shell : Option ℕ) → IfNone shell ((last ≡ w) × rest) → IfSome shell (StandsAt w line turns is_full why last before now calls calls_now) → Reaches w last
+    by-shell : (shell : Option ℕ) → IfNone shell ((last ≡ w) × rest) → IfSome shell (LineProgress w line turns is_full why last before now calls calls_now) → Reaches w last
     by-shell None none some = leads_none w last none.0
     by-shell (Some k) none some = leads_line k w line is_full some.taken some.answers last calls calls_now some.others some.runs

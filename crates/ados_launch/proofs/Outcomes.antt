@@ -9,13 +9,13 @@ use Rattle.ados_launch.specs.declared.driver.End.{End}
 use Rattle.ados_launch.specs.declared.faults.DriveFault.{DriveFault}
 use Rattle.ados_launch.specs.declared.faults.DriveFault.TheVariants.{Read, Write, Turns, Memory}
 use Rattle.ados_launch.specs.Agreement.{Agrees, AreOver, WaitsForOpen}
-use Rattle.ados_launch.specs.Drives.{ComesTo, ComesToEnd, Drives, ReadsWell, StopsAtMemory, StopsAtRead, StopsAtTurns, StopsAtWrite, WritesWell}
+use Rattle.ados_launch.specs.Drives.{HasDriveResult, ComesToEnd, Drives, ReadsWell, StopsAtMemory, StopsAtRead, StopsAtTurns, StopsAtWrite, WritesWell}
 use Rattle.ados_launch.specs.Faults.{one_more}
-use Rattle.ados_launch.specs.Lines.{ahead, IsUnreadable, Known}
+use Rattle.ados_launch.specs.Lines.{bytes_ahead, IsUnreadable, IfKnown}
 use Rattle.ados_launch.specs.NoFurther.{TakesPartAt}
 use Rattle.ados_launch.specs.Rounds.{IsIdle, IsRunning}
-use Rattle.ados_launch.specs.Schedule.{Next, AtLine, Standing, next_in}
-use Rattle.ados_launch.specs.Session.{AreDropped, Moment, Stands, TakesAt}
+use Rattle.ados_launch.specs.Schedule.{Next, AtLine, ScheduleState, next_in}
+use Rattle.ados_launch.specs.Session.{AreDropped, Moment, SessionProgress, TakesNextItem}
 use Rattle.ados_launch.proofs.Coming.{next-running}
 use Rattle.ados_launch.proofs.Over.{calls-over, over}
 use Rattle.ados_launch.proofs.PartLines.{no-further}
@@ -23,11 +23,11 @@ use Rattle.ados_launch.proofs.ReaderEnd.{reader-ended}
 use Rattle.ados_launch.proofs.Sessions.{Driven, driven-cut, next-dropped, next-is, stands, stands-behind, takes-session, why-read}
 use Rattle.ados_launch.proofs.Waits.{none-open}
 
-pub ends : (turns n : ℕ) (breaks : List BreakAt) (before now : Moment) (standing : Standing) (held : List ℕ) (end : End) → Driven before now breaks n standing (ahead held now.left) → n ≤ turns
+pub ends : (turns n : ℕ) (breaks : List BreakAt) (before now : Moment) (standing : ScheduleState) (held : List ℕ) (end : End) → Driven before now breaks n standing (bytes_ahead held now.left) → n ≤ turns
     → end.events ≡ n → end.code ≡ (codes_at now.world 1).code → end.result2 ≡ (codes_at now.world 1).result2 → length now.world.shells ≡ 20 → IsIdle now.world → ReadsWell before now → WritesWell before now
     → ComesToEnd turns breaks before now end
 ends turns n breaks before now standing held end d within count code result2 size idle reads writes = record {
-  stands = subst (λ m. Stands before now breaks m []) (sym count) (stands before now breaks n standing (ahead held now.left) d);
+  stands = subst (λ m. SessionProgress before now breaks m []) (sym count) (stands before now breaks n standing (bytes_ahead held now.left) d);
   within = omega (arith, count, within);
   no_shell = over now.world size idle;
   code = code;
@@ -37,20 +37,20 @@ ends turns n breaks before now standing held end d within count code result2 siz
   reader_ended = λ bytes e. reader-ended before.world bytes d.taken now.world held now.left d.session.run (d.session.lines bytes e) (d.left_is bytes e) idle;
 }
 
-pub stops-turns : (turns n : ℕ) (breaks : List BreakAt) (before now : Moment) (standing : Standing) (held : List ℕ) → Driven before now breaks n standing (ahead held now.left) → n ≡ turns → length held < 4096
+pub stops-turns : (turns n : ℕ) (breaks : List BreakAt) (before now : Moment) (standing : ScheduleState) (held : List ℕ) → Driven before now breaks n standing (bytes_ahead held now.left) → n ≡ turns → length held < 4096
     → IsRunning now.world → ReadsWell before now → WritesWell before now → StopsAtTurns turns breaks before now
 stops-turns turns n breaks before now standing held d count few running reads writes =
     subst (λ m. StopsAtTurns m breaks before now) count (record {
-      stands = stands before now breaks n standing (ahead held now.left) d;
+      stands = stands before now breaks n standing (bytes_ahead held now.left) d;
       running = running;
       unread = λ bytes e. (held, few, d.left_is bytes e);
       reads_well = reads;
       writes_well = writes;
     })
 
-pub stops-memory : (turns n : ℕ) (breaks : List BreakAt) (before mid now : Moment) (standing : Standing) (rest : Option (List ℕ)) (held : List ℕ) (next : Next) (dropped : List Call) → Driven before mid breaks n standing rest → n < turns
+pub stops-memory : (turns n : ℕ) (breaks : List BreakAt) (before mid now : Moment) (standing : ScheduleState) (rest : Option (List ℕ)) (held : List ℕ) (next : Next) (dropped : List Call) → Driven before mid breaks n standing rest → n < turns
     → standing.round.place ≤ 61 → next_in standing mid.world ≡ Some next → (mid.is_full ≡ true → now.is_full ≡ true) → now.world ≡ mid.world → now.contents ≡ mid.contents → now.calls ≡ mid.calls ++ dropped
-    → AreDropped mid.world (Some next) dropped → length held < 4096 → Known rest (λ bytes. TakesPartAt next bytes (ahead held now.left)) → ReadsWell before now → WritesWell before now
+    → AreDropped mid.world (Some next) dropped → length held < 4096 → IfKnown rest (λ bytes. TakesPartAt next bytes (bytes_ahead held now.left)) → ReadsWell before now → WritesWell before now
     → StopsAtMemory turns breaks before now
 stops-memory turns n breaks before mid now standing rest held next dropped d few in_round here stays world written calls one less part reads writes = record {
   n = n;
@@ -64,9 +64,9 @@ stops-memory turns n breaks before mid now standing rest held next dropped d few
   writes_well = writes;
 }
 
-pub stops-read : (turns n : ℕ) (breaks : List BreakAt) (before mid now : Moment) (standing : Standing) (rest : Option (List ℕ)) (held : List ℕ) → Driven before mid breaks n standing rest → n < turns
+pub stops-read : (turns n : ℕ) (breaks : List BreakAt) (before mid now : Moment) (standing : ScheduleState) (rest : Option (List ℕ)) (held : List ℕ) → Driven before mid breaks n standing rest → n < turns
     → next_in standing mid.world ≡ Some AtLine → (mid.is_full ≡ true → now.is_full ≡ true) → now.world ≡ mid.world → now.contents ≡ mid.contents → now.calls ≡ mid.calls → length held < 4096
-    → ReadsWell before mid → IsUnreadable mid.read_faults now.read_faults rest (ahead held now.left)
+    → ReadsWell before mid → IsUnreadable mid.read_faults now.read_faults rest (bytes_ahead held now.left)
     → WritesWell before now → StopsAtRead turns breaks before now
 stops-read turns n breaks before mid now standing rest held d few here stays world written calls less reads cause writes = record {
   n = n;
@@ -77,8 +77,8 @@ stops-read turns n breaks before mid now standing rest held d few here stays wor
   writes_well = writes;
 }
 
-pub stops-write : (turns n m : ℕ) (breaks : List BreakAt) (before mid now : Moment) (standing : Standing) (rest later : Option (List ℕ)) (next : Next) (out : List ℕ) → Driven before mid breaks n standing rest → n < turns
-    → next_in standing mid.world ≡ Some next → (mid.is_full ≡ true → now.is_full ≡ true) → TakesAt mid.world rest now.is_full mid.calls next now.world later now.calls out → Agrees now.world now.calls
+pub stops-write : (turns n m : ℕ) (breaks : List BreakAt) (before mid now : Moment) (standing : ScheduleState) (rest later : Option (List ℕ)) (next : Next) (out : List ℕ) → Driven before mid breaks n standing rest → n < turns
+    → next_in standing mid.world ≡ Some next → (mid.is_full ≡ true → now.is_full ≡ true) → TakesNextItem mid.world rest now.is_full mid.calls next now.world later now.calls out → Agrees now.world now.calls
     → m < length out → Appends mid.contents now.contents (take m out) → ReadsWell before now
     → ((now.write_faults ≡ before.write_faults + 1) × (now.stalls ≡ before.stalls)) ⊎ ((now.write_faults ≡ before.write_faults) × (now.stalls ≡ one_more before.stalls))
     → StopsAtWrite turns breaks before now
@@ -92,7 +92,7 @@ stops-write turns n m breaks before mid now standing rest later next out d few h
 
 -- by its fault
 pub comes-by : (turns : ℕ) (breaks : List BreakAt) (before now : Moment) (result : Result End DriveFault) (P : DriveFault → Type 0) → IsErrAnd result P → (P Memory → StopsAtMemory turns breaks before now)
-    → (P Read → StopsAtRead turns breaks before now) → (P Write → StopsAtWrite turns breaks before now) → (P Turns → StopsAtTurns turns breaks before now) → ComesTo turns breaks before now result
+    → (P Read → StopsAtRead turns breaks before now) → (P Write → StopsAtWrite turns breaks before now) → (P Turns → StopsAtTurns turns breaks before now) → HasDriveResult turns breaks before now result
 comes-by turns breaks before now (Ok end) P is memory read write out = absurd is
 comes-by turns breaks before now (Err Memory) P is memory read write out = memory is
 comes-by turns breaks before now (Err Read) P is memory read write out = read is
@@ -112,7 +112,7 @@ drives-end turns breaks before now end c agrees =
     }
 
 -- a drive that stopped, after which the open children were waited for
-pub drives-fault : (turns : ℕ) (breaks : List BreakAt) (before mid : Moment) (calls : List Call) (is_full : Bool) (fault : DriveFault) → is_full ≡ mid.is_full → ComesTo turns breaks before mid (Err fault)
+pub drives-fault : (turns : ℕ) (breaks : List BreakAt) (before mid : Moment) (calls : List Call) (is_full : Bool) (fault : DriveFault) → is_full ≡ mid.is_full → HasDriveResult turns breaks before mid (Err fault)
     → WaitsForOpen mid.calls calls → AreOver calls → Drives turns breaks before (record mid { calls = calls; is_full = is_full }) (Err fault)
 drives-fault turns breaks before mid calls is_full fault full c waits over =
     rw full (record { called = mid.calls; takes = takes-session turns breaks before mid (Err fault) c; comes_to = c; waits = waits; over = over })

@@ -7,15 +7,15 @@ use Rattle.std.proofs.lemmas.List.{length-map}
 use Rattle.std.proofs.lemmas.Grind.{common_steps}
 use Rattle.ados_flow.specs.Frames.{FrameState}
 use Rattle.ados_machine.specs.Requests.{request_of}
-use Rattle.ados_machine.specs.Children.{child_by}
-use Rattle.ados_machine.specs.World.{WorldState, shell_at, can_take, can_turn, flatten, has_input, input_of, is_over, pending_by, running, takes_input, wants_input}
+use Rattle.ados_machine.specs.Children.{child_of_shell}
+use Rattle.ados_machine.specs.World.{WorldState, shell_at, can_take, can_turn, flatten, has_input, input_of, is_over, request_of_shell, running_numbers, takes_input, wants_input}
 use Rattle.ados_machine.specs.Shells.{ShellState}
 use Rattle.ados_machine.specs.Turning.{Input}
 use Rattle.ados_machine.specs.declared.phases.Phase.{Phase}
 use Rattle.ados_machine.specs.declared.phases.Phase.TheVariants.{Ready, GoingOn, Waiting}
 use Rattle.ados_machine.specs.declared.phases.Wait.TheVariants.{ForAnswer, ForLines, ForStart, ForPiece, ForEnd}
 use Rattle.ados_launcher.specs.declared.calls.Call.{Call}
-use Rattle.ados_launcher.specs.Lives.{life_in}
+use Rattle.ados_launcher.specs.Lives.{life_for_state}
 use Rattle.ados_launch.specs.Agreement.{Agrees, AreOver}
 use Rattle.ados_launch.specs.Rounds.{IsIdle}
 use Rattle.ados_launch.proofs.Places.{idle-line, idle-turn, idle-pending}
@@ -34,7 +34,7 @@ phase-ready k frames (Waiting (ForEnd child)) none = cc
 input-of-background : (w : WorldState) (k : ℕ) → k ≢ 1 → input_of w k ≡ record { queue = []; is_ended = true }
 input-of-background w k other = grind (arith, common_steps)
 
-idle-found : (w : WorldState) (k : ℕ) (found : Option ShellState) → k ≢ 1 → can_turn (input_of w k) found ≡ false → pending_by found ≡ None → found ≡ None
+idle-found : (w : WorldState) (k : ℕ) (found : Option ShellState) → k ≢ 1 → can_turn (input_of w k) found ≡ false → request_of_shell found ≡ None → found ≡ None
 idle-found w k None other e none = refl
 idle-found w k (Some shell) other e none =
     let ready : can_take (input_of w k) shell.frames shell.phase ≡ true =
@@ -53,7 +53,7 @@ first-phase input k frames (Waiting (ForStart starting)) none wants ready = cc
 first-phase input k frames (Waiting (ForPiece child)) none wants ready = cc
 first-phase input k frames (Waiting (ForEnd child)) none wants ready = cc
 
-first-found : (input : Input) (found : Option ShellState) → (wants_input found && not (has_input input)) ≡ false → can_turn input found ≡ false → pending_by found ≡ None → found ≡ None
+first-found : (input : Input) (found : Option ShellState) → (wants_input found && not (has_input input)) ≡ false → can_turn input found ≡ false → request_of_shell found ≡ None → found ≡ None
 first-found input None wants ready none = refl
 first-found input (Some shell) wants ready none = absurd (first-phase input shell.parts.number shell.frames shell.phase none wants ready)
 
@@ -104,8 +104,8 @@ over-none w (suc i) over = none-in w.shells i (unset (list_any is_some w.shells)
 
 -- and then each row of lives is at its end
 pub calls-over : (w : WorldState) (calls : List Call) → Agrees w calls → is_over w ≡ true → AreOver calls
-calls-over w calls agrees over k = agrees k ∙ ap (λ o. life_in (child_by o)) (over-none w k over)
+calls-over w calls agrees over k = agrees k ∙ ap (λ o. life_for_state (child_of_shell o)) (over-none w k over)
 
 -- a view of which numbers have a shell has a place for each
-pub size-of : (w : WorldState) (table : List Bool) → table ≡ running w → length table ≡ 20 → length w.shells ≡ 20
+pub size-of : (w : WorldState) (table : List Bool) → table ≡ running_numbers w → length table ≡ 20 → length w.shells ≡ 20
 size-of w table is size = sym (length-map w.shells is_some) ∙ (ap length (sym is) ∙ size)

@@ -7,11 +7,11 @@ use Rattle.ados_machine.specs.declared.events.BreakAt.{BreakAt}
 use Rattle.ados_text.specs.Lines.{is_newline}
 use Rattle.ados_launch.specs.declared.lines.LineKind.{LineKind}
 use Rattle.ados_launch.specs.declared.lines.LineKind.TheVariants.{Overlong}
-use Rattle.ados_launch.specs.Lines.{ahead, kind_of, Known, line_of, rest_of, TakesLine}
-use Rattle.ados_launch.specs.NoFurther.{ReadsNoFurther, TakesPart, TakesPartAt}
-use Rattle.ados_launch.specs.Schedule.{AtLine, Next, Standing, next_behind, next_in}
+use Rattle.ados_launch.specs.Lines.{bytes_ahead, kind_of, IfKnown, line_of, rest_of, TakesLine}
+use Rattle.ados_launch.specs.NoFurther.{ReadsOnlyDueLine, TakesPart, TakesPartAt}
+use Rattle.ados_launch.specs.Schedule.{AtLine, Next, ScheduleState, next_after_taken, next_in}
 use Rattle.ados_launch.specs.Session.{Moment}
-use Rattle.ados_launch.specs.Taken.{left_after}
+use Rattle.ados_launch.specs.Taken.{rest_after_items}
 use Rattle.ados_launch.proofs.Scanning.{Scanned, overlong_kind}
 use Rattle.ados_launch.proofs.Sessions.{Driven, next-is}
 
@@ -69,12 +69,12 @@ pub part-at-none : (next : Next) (bytes : List ℕ) (now : Option (List ℕ)) �
 part-at-none next bytes now e = record { part = part-none bytes now e; none = λ other. refl }
 
 -- for what comes next nothing was read past the line that is due
-pub no-further : (before mid : Moment) (breaks : List BreakAt) (n : ℕ) (standing : Standing) (rest : Option (List ℕ)) (next : Next) (held : List ℕ) (left : Option (List ℕ)) (d : Driven before mid breaks n standing rest)
-    → next_in standing mid.world ≡ Some next → length held < 4096 → Known rest (λ bytes. TakesPartAt next bytes (ahead held left))
-    → Known before.left (λ bytes. ReadsNoFurther (next_behind breaks before.world d.taken mid.world) (left_after bytes d.taken) left)
+pub no-further : (before mid : Moment) (breaks : List BreakAt) (n : ℕ) (standing : ScheduleState) (rest : Option (List ℕ)) (next : Next) (held : List ℕ) (left : Option (List ℕ)) (d : Driven before mid breaks n standing rest)
+    → next_in standing mid.world ≡ Some next → length held < 4096 → IfKnown rest (λ bytes. TakesPartAt next bytes (bytes_ahead held left))
+    → IfKnown before.left (λ bytes. ReadsOnlyDueLine (next_after_taken breaks before.world d.taken mid.world) (rest_after_items bytes d.taken) left)
 no-further before mid breaks n standing rest next held left d here less part bytes e =
-    let at : TakesPartAt next (left_after bytes d.taken) (ahead held left) = part (left_after bytes d.taken) (d.left_is bytes e) in
-    subst (λ found. ReadsNoFurther found (left_after bytes d.taken) left) (sym (next-is before mid breaks n standing rest next d here))
+    let at : TakesPartAt next (rest_after_items bytes d.taken) (bytes_ahead held left) = part (rest_after_items bytes d.taken) (d.left_is bytes e) in
+    subst (λ found. ReadsOnlyDueLine found (rest_after_items bytes d.taken) left) (sym (next-is before mid breaks n standing rest next d here))
     (record {
       count = at.part.count;
       none = λ other. at.none (λ is. other (ap Some is));

@@ -8,7 +8,7 @@ use Rattle.std.proofs.lemmas.Grind.{common_steps}
 use Rattle.ados_machine.specs.declared.requests.Request.{Request}
 use Rattle.ados_machine.specs.World.{WorldState, is_ready, pending_of, wants_line}
 use Rattle.ados_launch.specs.declared.rounds.Round.{Round}
-use Rattle.ados_launch.specs.Rounds.{asks_further, asks_start, comes, is_due, due, in_this_round, in_next_round, none_answered, place_behind, IsRunning, IsIdle}
+use Rattle.ados_launch.specs.Rounds.{asks_read_or_wait, asks_start, comes, is_due, due_place, in_this_round, in_next_round, none_answered, following_place, IsRunning, IsIdle}
 
 passes_cons : (test : ℕ → Bool) (x : ℕ) (xs : List ℕ) (k : ℕ) (b : Bool) → test x ≡ b → cond b (Some x) (find test xs) ≡ Some k → (find test xs ≡ Some k → test k ≡ true) → test k ≡ true
 passes_cons test x xs k true t f later = let same : x ≡ k = cc in rw (← same) t
@@ -46,22 +46,22 @@ by_option (Some j) next k P e a b = a (sym e)
 by_option None next k P e a b = b (sym e)
 
 -- something may come at the place that is due
-pub due_comes : (round : Round) (k : ℕ) (w : WorldState) → Some k ≡ due round w → comes w k ≡ true
+pub due_comes : (round : Round) (k : ℕ) (w : WorldState) → Some k ≡ due_place round w → comes w k ≡ true
 due_comes round k w e = by_option (in_this_round round w) (in_next_round w) k (comes w k ≡ true) e
     (λ here. first_true (comes w k) _ (find_passes (is_due w round.answered) (range_with_len round.place (61 - round.place)) k here))
     (λ there. first_true (comes w k) _ (find_passes (is_due w none_answered) (range_with_len 0 61) k there))
 
-pub due_below : (round : Round) (k : ℕ) (w : WorldState) → round.place ≤ 61 → Some k ≡ due round w → k < 61
+pub due_below : (round : Round) (k : ℕ) (w : WorldState) → round.place ≤ 61 → Some k ≡ due_place round w → k < 61
 due_below round k w h e = by_option (in_this_round round w) (in_next_round w) k (k < 61) e
     (λ here. range_below (is_due w round.answered) (61 - round.place) round.place 61 k (omega (arith, h)) here)
     (λ there. range_below (is_due w none_answered) 61 0 61 k (omega arith) there)
 
-pub behind_in_round : (k : ℕ) → k < 61 → place_behind k ≤ 61
+pub behind_in_round : (k : ℕ) → k < 61 → following_place k ≤ 61
 behind_in_round zero h = omega arith
 behind_in_round (suc k) h = omega arith
 
 -- if something is due, something may come
-pub running : (round : Round) (k : ℕ) (w : WorldState) → round.place ≤ 61 → Some k ≡ due round w → IsRunning w
+pub running : (round : Round) (k : ℕ) (w : WorldState) → round.place ≤ 61 → Some k ≡ due_place round w → IsRunning w
 running round k w h e =
     let low : k < 61 = due_below round k w h e in
     (k, omega (arith, low), due_comes round k w e)
@@ -83,7 +83,7 @@ not_due w place e =
     ]
 
 -- if nothing is due, nothing may come
-pub idle : (round : Round) (w : WorldState) → None ≡ due round w → IsIdle w
+pub idle : (round : Round) (w : WorldState) → None ≡ due_place round w → IsIdle w
 idle round w e k h = not_due w k (none_range (is_due w none_answered) 61 0 k (none_of (in_this_round round w) (in_next_round w) e) (omega arith) (omega (arith, h)))
 
 comes-line : (w : WorldState) → comes w 0 ≡ wants_line w
@@ -95,7 +95,7 @@ comes-turn w place low high = grind (arith, common_steps)
 pub comes-start : (w : WorldState) (place : ℕ) → 21 ≤ place → place ≤ 40 → comes w place ≡ asks_start (pending_of w (place - 20))
 comes-start w place low high = grind (arith, common_steps)
 
-pub comes-late : (w : WorldState) (place : ℕ) → 40 < place → comes w place ≡ asks_further (pending_of w (place - 40))
+pub comes-late : (w : WorldState) (place : ℕ) → 40 < place → comes w place ≡ asks_read_or_wait (pending_of w (place - 40))
 comes-late w place h = grind (arith, common_steps)
 
 -- then no line is wanted, no shell is ready, and none asks for anything
@@ -110,12 +110,12 @@ starts-none w k i low high =
     let same : k + 20 - 20 ≡ k = omega arith in
     subst (λ n. asks_start (pending_of w n) ≡ false) same (sym (comes-start w (k + 20) (omega (arith, low)) (omega (arith, high))) ∙ i (k + 20) (omega (arith, high)))
 
-further-none : (w : WorldState) (k : ℕ) → IsIdle w → 1 ≤ k → k ≤ 20 → asks_further (pending_of w k) ≡ false
+further-none : (w : WorldState) (k : ℕ) → IsIdle w → 1 ≤ k → k ≤ 20 → asks_read_or_wait (pending_of w k) ≡ false
 further-none w k i low high =
     let same : k + 40 - 40 ≡ k = omega arith in
-    subst (λ n. asks_further (pending_of w n) ≡ false) same (sym (comes-late w (k + 40) (omega (arith, low))) ∙ i (k + 40) (omega (arith, high)))
+    subst (λ n. asks_read_or_wait (pending_of w n) ≡ false) same (sym (comes-late w (k + 40) (omega (arith, low))) ∙ i (k + 40) (omega (arith, high)))
 
-no-request : (request : Option Request) → asks_start request ≡ false → asks_further request ≡ false → request ≡ None
+no-request : (request : Option Request) → asks_start request ≡ false → asks_read_or_wait request ≡ false → request ≡ None
 no-request request a b = grind (arith, common_steps)
 
 pub idle-pending : (w : WorldState) (k : ℕ) → IsIdle w → 1 ≤ k → k ≤ 20 → pending_of w k ≡ None

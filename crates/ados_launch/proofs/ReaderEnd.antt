@@ -6,8 +6,8 @@ use Rattle.ados_machine.specs.World.{WorldState}
 use Rattle.ados_machine.specs.Runs.{Runs}
 use Rattle.ados_machine.specs.declared.events.Event.TheVariants.{Typed, EndOfInput, Turn, Answer, Break}
 use Rattle.ados_launch.specs.declared.lines.LineKind.TheVariants.{End}
-use Rattle.ados_launch.specs.Lines.{line_of, rest_of, kind_of, kind_of_length, ahead}
-use Rattle.ados_launch.specs.Taken.{Taken, Given, LongLine, events_in, outs_in, world_behind, IsNext, left_behind, AreRead, left_after}
+use Rattle.ados_launch.specs.Lines.{line_of, rest_of, kind_of, kind_of_length, bytes_ahead}
+use Rattle.ados_launch.specs.Taken.{TakenItem, Given, LongLine, taken_events, taken_outs, world_after_item, IsNext, rest_after_item, AreRead, rest_after_items}
 use Rattle.ados_launch.specs.Rounds.{IsIdle}
 use Rattle.ados_launch.specs.Schedule.{takes_input}
 use Rattle.ados_launch.proofs.Places.{idle-line, idle-turn, idle-pending}
@@ -25,7 +25,7 @@ end_empty : (left : List ℕ) → kind_of left ≡ End → rest_of left ≡ []
 end_empty [] e = refl
 end_empty (b ∷ bytes) e = absurd (not_end (length (line_of (b ∷ bytes))) e)
 
-item-reads : (w : WorldState) (left : List ℕ) (item : Taken) → IsNext left item → Reads w left → Reads (world_behind w item) (left_behind left item)
+item-reads : (w : WorldState) (left : List ℕ) (item : TakenItem) → IsNext left item → Reads w left → Reads (world_after_item w item) (rest_after_item left item)
 item-reads w left (Given (Typed line) out) next (inl e) = inl (typed-takes w out line e)
 item-reads w left (Given (Typed line) out) next (inr e) = inr (ap rest_of e)
 item-reads w left (Given EndOfInput out) next r = inr (end_empty left next)
@@ -38,13 +38,13 @@ item-reads w left (Given (Break k kind) out) next (inr e) = inr e
 item-reads w left LongLine next (inl e) = inl e
 item-reads w left LongLine next (inr e) = inr (ap rest_of e)
 
-run-reads : (w : WorldState) (left : List ℕ) (taken : List Taken) (last : WorldState) → Runs w (events_in taken) (outs_in taken) last → AreRead left taken → Reads w left
-    → Reads last (left_after left taken)
+run-reads : (w : WorldState) (left : List ℕ) (taken : List TakenItem) (last : WorldState) → Runs w (taken_events taken) (taken_outs taken) last → AreRead left taken → Reads w left
+    → Reads last (rest_after_items left taken)
 run-reads w left [] last run lines r = rw run r
 run-reads w left (Given event out ∷ taken) last run lines r =
-    run-reads (world_behind w (Given event out)) (left_behind left (Given event out)) taken last run.1 lines.1 (item-reads w left (Given event out) lines.0 r)
+    run-reads (world_after_item w (Given event out)) (rest_after_item left (Given event out)) taken last run.1 lines.1 (item-reads w left (Given event out) lines.0 r)
 run-reads w left (LongLine ∷ taken) last run lines r =
-    run-reads w (left_behind left LongLine) taken last run lines.1 (item-reads w left LongLine lines.0 r)
+    run-reads w (rest_after_item left LongLine) taken last run lines.1 (item-reads w left LongLine lines.0 r)
 
 -- if nothing may come shell 1 takes no input
 idle-takes : (w : WorldState) → IsIdle w → takes_input w ≡ true → ⊥
@@ -54,16 +54,16 @@ idle-takes w idle e =
       | inr ready ↦ true≢false (sym ready ∙ idle-turn w 1 idle (omega arith) (omega arith))
     ]
 
-none_ahead : (held : List ℕ) (left : Option (List ℕ)) (xs : List ℕ) → ahead held left ≡ Some xs → xs ≡ [] → left ≡ Some []
+none_ahead : (held : List ℕ) (left : Option (List ℕ)) (xs : List ℕ) → bytes_ahead held left ≡ Some xs → xs ≡ [] → left ≡ Some []
 none_ahead held None xs e h = cc
 none_ahead [] (Some ys) xs e h = cc
 none_ahead (b ∷ held) (Some ys) xs e h = cc
 
 -- if nothing is due any longer, the reader reached its end
-pub reader-ended : (w : WorldState) (bytes : List ℕ) (taken : List Taken) (last : WorldState) (held : List ℕ) (left : Option (List ℕ))
-    → Runs w (events_in taken) (outs_in taken) last → AreRead bytes taken → ahead held left ≡ Some (left_after bytes taken) → IsIdle last → takes_input w ≡ true → left ≡ Some []
+pub reader-ended : (w : WorldState) (bytes : List ℕ) (taken : List TakenItem) (last : WorldState) (held : List ℕ) (left : Option (List ℕ))
+    → Runs w (taken_events taken) (taken_outs taken) last → AreRead bytes taken → bytes_ahead held left ≡ Some (rest_after_items bytes taken) → IsIdle last → takes_input w ≡ true → left ≡ Some []
 reader-ended w bytes taken last held left run lines left_is idle e =
     elim (run-reads w bytes taken last run lines (inl e)) [
       | inl takes ↦ absurd (idle-takes last idle takes)
-      | inr none ↦ none_ahead held left (left_after bytes taken) left_is none
+      | inr none ↦ none_ahead held left (rest_after_items bytes taken) left_is none
     ]

@@ -11,25 +11,25 @@ use Rattle.ados_launch.specs.declared.driver.End.{End}
 use Rattle.ados_launch.specs.declared.faults.DriveFault.{DriveFault}
 use Rattle.ados_launch.specs.declared.faults.DriveFault.TheVariants.{Read, Write, Turns, Memory}
 use Rattle.ados_launch.specs.Agreement.{Agrees}
-use Rattle.ados_launch.specs.Drives.{ComesTo, TakesSession}
-use Rattle.ados_launch.specs.Lines.{ahead, IsUnreadable, Known}
-use Rattle.ados_launch.specs.Taken.{Taken, bytes_of, written_for, left_after}
-use Rattle.ados_launch.specs.Schedule.{Next, Standing, first_standing, next_behind, next_in, next_of, standing_after, standing_behind}
-use Rattle.ados_launch.specs.Session.{AreDropped, LeavesOverlong, Moment, Session, Stands, StandsCut, TakesAt}
+use Rattle.ados_launch.specs.Drives.{HasDriveResult, TakesSession}
+use Rattle.ados_launch.specs.Lines.{bytes_ahead, IsUnreadable, IfKnown}
+use Rattle.ados_launch.specs.Taken.{TakenItem, bytes_of, written_bytes, rest_after_items}
+use Rattle.ados_launch.specs.Schedule.{Next, ScheduleState, first_schedule_state, next_after_taken, next_in, next_of, final_schedule_state, following_schedule_state}
+use Rattle.ados_launch.specs.Session.{AreDropped, LeavesOverlong, Moment, Session, SessionProgress, CutSessionProgress, TakesNextItem}
 use Rattle.ados_launch.proofs.Taken.{run-more, order-more, standing-more, along-full, along-more, asked-more, asked-full, lines-more, left-more, written-more, count-more}
 
 -- this many were taken, and all of their bytes written; the schedule goes on, with this left to read
-pub record Driven (before now : Moment) (breaks : List BreakAt) (n : ℕ) (standing : Standing) (rest : Option (List ℕ)) : Type 0 where
-  pub taken : List Taken
+pub record Driven (before now : Moment) (breaks : List BreakAt) (n : ℕ) (standing : ScheduleState) (rest : Option (List ℕ)) : Type 0 where
+  pub taken : List TakenItem
   pub listed : List Call
   pub count_is : length taken ≡ n
   pub session : Session before.world before.left breaks before.calls now.is_full listed taken now.world
-  pub standing_is : standing ≡ standing_after (first_standing breaks) before.world taken
-  pub left_is : Known before.left (λ bytes. rest ≡ Some (left_after bytes taken))
-  pub written : Appends before.contents now.contents (written_for taken)
+  pub standing_is : standing ≡ final_schedule_state (first_schedule_state breaks) before.world taken
+  pub left_is : IfKnown before.left (λ bytes. rest ≡ Some (rest_after_items bytes taken))
+  pub written : Appends before.contents now.contents (written_bytes taken)
   pub calls_are : now.calls ≡ before.calls ++ listed
 
-pub driven-none : (before : Moment) (breaks : List BreakAt) (standing : Standing) (rest : Option (List ℕ)) → rest ≡ before.left → standing ≡ first_standing breaks → Agrees before.world before.calls
+pub driven-none : (before : Moment) (breaks : List BreakAt) (standing : ScheduleState) (rest : Option (List ℕ)) → rest ≡ before.left → standing ≡ first_schedule_state breaks → Agrees before.world before.calls
     → Driven before before breaks 0 standing rest
 driven-none before breaks standing rest same begins agrees = record {
   taken = [];
@@ -46,14 +46,14 @@ pub calls-more : (calls mid now listed more : List Call) → mid ≡ calls ++ li
 calls-more calls mid now listed more e f = f ∙ (ap (λ xs. xs ++ more) e ∙ append_assoc calls listed more)
 
 -- one more was taken
-session-more : (before mid now : Moment) (breaks : List BreakAt) (n : ℕ) (standing : Standing) (rest later : Option (List ℕ)) (next : Next) (out : List ℕ)
+session-more : (before mid now : Moment) (breaks : List BreakAt) (n : ℕ) (standing : ScheduleState) (rest later : Option (List ℕ)) (next : Next) (out : List ℕ)
     → (d : Driven before mid breaks n standing rest) → next_in standing mid.world ≡ Some next → (mid.is_full ≡ true → now.is_full ≡ true)
-    → (t : TakesAt mid.world rest now.is_full mid.calls next now.world later now.calls out) → Agrees now.world now.calls
+    → (t : TakesNextItem mid.world rest now.is_full mid.calls next now.world later now.calls out) → Agrees now.world now.calls
     → Session before.world before.left breaks before.calls now.is_full (d.listed ++ t.listed) (d.taken ++ t.item ∷ []) now.world
 session-more before mid now breaks n standing rest later next out d here stays t agrees = record {
   run = rw t.takes.world_is (run-more before.world d.taken mid.world t.item d.session.run t.takes.accepted);
-  ordered = order-more (first_standing breaks) before.world d.taken mid.world t.item d.session.ordered d.session.run (rw (← d.standing_is, t.next_is) here);
-  lines = λ bytes e. lines-more bytes d.taken t.item (d.session.lines bytes e) (t.takes.lines (left_after bytes d.taken) (d.left_is bytes e)).0;
+  ordered = order-more (first_schedule_state breaks) before.world d.taken mid.world t.item d.session.ordered d.session.run (rw (← d.standing_is, t.next_is) here);
+  lines = λ bytes e. lines-more bytes d.taken t.item (d.session.lines bytes e) (t.takes.lines (rest_after_items bytes d.taken) (d.left_is bytes e)).0;
   asked = asked-more now.is_full before.world d.taken d.listed mid.world t.item t.listed (asked-full mid.is_full now.is_full before.world d.taken d.listed stays d.session.asked) d.session.run t.asked t.when_full;
   agreed = along-more now.is_full before.world before.calls d.taken d.listed mid.world t.item t.listed now.calls (asked-full mid.is_full now.is_full before.world d.taken d.listed stays d.session.asked) d.session.run t.asked t.when_full
       (along-full mid.is_full now.is_full before.world before.calls d.taken d.listed stays d.session.asked d.session.agreed)
@@ -61,27 +61,27 @@ session-more before mid now breaks n standing rest later next out d here stays t
       (subst (λ world. Agrees world now.calls) t.takes.world_is agrees);
 }
 
-pub driven-more : (before mid now : Moment) (breaks : List BreakAt) (n : ℕ) (standing behind : Standing) (rest later : Option (List ℕ)) (next : Next) (out : List ℕ)
+pub driven-more : (before mid now : Moment) (breaks : List BreakAt) (n : ℕ) (standing behind : ScheduleState) (rest later : Option (List ℕ)) (next : Next) (out : List ℕ)
     → Driven before mid breaks n standing rest → next_in standing mid.world ≡ Some next → (mid.is_full ≡ true → now.is_full ≡ true)
-    → TakesAt mid.world rest now.is_full mid.calls next now.world later now.calls out → Agrees now.world now.calls → Appends mid.contents now.contents out → behind ≡ standing_behind standing mid.world next
+    → TakesNextItem mid.world rest now.is_full mid.calls next now.world later now.calls out → Agrees now.world now.calls → Appends mid.contents now.contents out → behind ≡ following_schedule_state standing mid.world next
     → Driven before now breaks (n + 1) behind later
 driven-more before mid now breaks n standing behind rest later next out d here stays t agrees grown is = record {
   taken = d.taken ++ t.item ∷ [];
   listed = d.listed ++ t.listed;
   count_is = count-more d.taken t.item ∙ ap (λ m. m + 1) d.count_is;
   session = session-more before mid now breaks n standing rest later next out d here stays t agrees;
-  standing_is = is ∙ (ap (standing_behind standing mid.world) (sym t.next_is) ∙ (ap (λ s. standing_behind s mid.world (next_of t.item)) d.standing_is
-      ∙ sym (standing-more (first_standing breaks) before.world d.taken mid.world t.item d.session.run)));
-  left_is = λ bytes e. (t.takes.lines (left_after bytes d.taken) (d.left_is bytes e)).1 ∙ ap Some (sym (left-more bytes d.taken t.item));
-  written = rw written-more (Appends-trans before.contents mid.contents now.contents (written_for d.taken) (bytes_of t.item) d.written (rw t.takes.bytes_are at grown));
+  standing_is = is ∙ (ap (following_schedule_state standing mid.world) (sym t.next_is) ∙ (ap (λ s. following_schedule_state s mid.world (next_of t.item)) d.standing_is
+      ∙ sym (standing-more (first_schedule_state breaks) before.world d.taken mid.world t.item d.session.run)));
+  left_is = λ bytes e. (t.takes.lines (rest_after_items bytes d.taken) (d.left_is bytes e)).1 ∙ ap Some (sym (left-more bytes d.taken t.item));
+  written = rw written-more (Appends-trans before.contents mid.contents now.contents (written_bytes d.taken) (bytes_of t.item) d.written (rw t.takes.bytes_are at grown));
   calls_are = calls-more before.calls mid.calls now.calls d.listed t.listed d.calls_are t.calls_are;
 }
 
 -- a prefix of the last one's bytes was written
-pub driven-cut : (before mid now : Moment) (breaks : List BreakAt) (n m : ℕ) (standing : Standing) (rest later : Option (List ℕ)) (next : Next) (out : List ℕ)
+pub driven-cut : (before mid now : Moment) (breaks : List BreakAt) (n m : ℕ) (standing : ScheduleState) (rest later : Option (List ℕ)) (next : Next) (out : List ℕ)
     → Driven before mid breaks n standing rest → next_in standing mid.world ≡ Some next → (mid.is_full ≡ true → now.is_full ≡ true)
-    → TakesAt mid.world rest now.is_full mid.calls next now.world later now.calls out → Agrees now.world now.calls → m < length out → Appends mid.contents now.contents (take m out)
-    → StandsCut before now breaks (n + 1)
+    → TakesNextItem mid.world rest now.is_full mid.calls next now.world later now.calls out → Agrees now.world now.calls → m < length out → Appends mid.contents now.contents (take m out)
+    → CutSessionProgress before now breaks (n + 1)
 driven-cut before mid now breaks n m standing rest later next out d here stays t agrees some front = record {
   taken = d.taken;
   item = t.item;
@@ -90,11 +90,11 @@ driven-cut before mid now breaks n m standing rest later next out d here stays t
   session = session-more before mid now breaks n standing rest later next out d here stays t agrees;
   length_written = m;
   cut = rw t.takes.bytes_are at some;
-  written = Appends-trans before.contents mid.contents now.contents (written_for d.taken) (take m (bytes_of t.item)) d.written (rw t.takes.bytes_are at front);
+  written = Appends-trans before.contents mid.contents now.contents (written_bytes d.taken) (take m (bytes_of t.item)) d.written (rw t.takes.bytes_are at front);
   calls_are = calls-more before.calls mid.calls now.calls d.listed t.listed d.calls_are t.calls_are;
 }
 
-pub full-session : (was_full is_full : Bool) (before : Moment) (breaks : List BreakAt) (listed : List Call) (taken : List Taken) (last : WorldState) → (was_full ≡ true → is_full ≡ true)
+pub full-session : (was_full is_full : Bool) (before : Moment) (breaks : List BreakAt) (listed : List Call) (taken : List TakenItem) (last : WorldState) → (was_full ≡ true → is_full ≡ true)
     → Session before.world before.left breaks before.calls was_full listed taken last → Session before.world before.left breaks before.calls is_full listed taken last
 full-session was_full is_full before breaks listed taken last stays s = record {
   run = s.run;
@@ -105,44 +105,44 @@ full-session was_full is_full before breaks listed taken last stays s = record {
 }
 
 -- the same with more calls after; the world and what is written are unchanged
-abbrev pub stands-behind : (before mid now : Moment) (breaks : List BreakAt) (n : ℕ) (standing : Standing) (rest : Option (List ℕ)) (others : List Call)
+abbrev pub stands-behind : (before mid now : Moment) (breaks : List BreakAt) (n : ℕ) (standing : ScheduleState) (rest : Option (List ℕ)) (others : List Call)
     → (mid.is_full ≡ true → now.is_full ≡ true) → now.world ≡ mid.world → now.contents ≡ mid.contents → now.calls ≡ mid.calls ++ others → Driven before mid breaks n standing rest
-    → Stands before now breaks n others
+    → SessionProgress before now breaks n others
 stands-behind before mid now breaks n standing rest others stays world written calls d = record {
   taken = d.taken;
   listed = d.listed;
   count_is = d.count_is;
   session = subst (λ w. Session before.world before.left breaks before.calls now.is_full d.listed d.taken w) (sym world)
       (full-session mid.is_full now.is_full before breaks d.listed d.taken mid.world stays d.session);
-  written = subst (λ contents. Appends before.contents contents (written_for d.taken)) (sym written) d.written;
+  written = subst (λ contents. Appends before.contents contents (written_bytes d.taken)) (sym written) d.written;
   calls_are = calls-more before.calls mid.calls now.calls d.listed others d.calls_are calls;
 }
 
-abbrev pub stands : (before now : Moment) (breaks : List BreakAt) (n : ℕ) (standing : Standing) (rest : Option (List ℕ)) → Driven before now breaks n standing rest → Stands before now breaks n []
+abbrev pub stands : (before now : Moment) (breaks : List BreakAt) (n : ℕ) (standing : ScheduleState) (rest : Option (List ℕ)) → Driven before now breaks n standing rest → SessionProgress before now breaks n []
 stands before now breaks n standing rest d = stands-behind before now now breaks n standing rest [] (λ e. e) refl refl (sym (append-nil now.calls)) d
 
 -- a read failed, or none did and the line that is due is too long
-pub why-read : (before mid : Moment) (breaks : List BreakAt) (n : ℕ) (standing : Standing) (rest : Option (List ℕ)) (d : Driven before mid breaks n standing rest) (faults old new : ℕ) (held : List ℕ) (later : Option (List ℕ))
-    → faults ≡ old → length held < 4096 → IsUnreadable faults new rest (ahead held later)
-    → (new ≡ old + 1) ⊎ ((new ≡ old) × Known before.left (λ bytes. LeavesOverlong (left_after bytes d.taken) later))
+pub why-read : (before mid : Moment) (breaks : List BreakAt) (n : ℕ) (standing : ScheduleState) (rest : Option (List ℕ)) (d : Driven before mid breaks n standing rest) (faults old new : ℕ) (held : List ℕ) (later : Option (List ℕ))
+    → faults ≡ old → length held < 4096 → IsUnreadable faults new rest (bytes_ahead held later)
+    → (new ≡ old + 1) ⊎ ((new ≡ old) × IfKnown before.left (λ bytes. LeavesOverlong (rest_after_items bytes d.taken) later))
 why-read before mid breaks n standing rest d faults old new held later same few (inl failed) = inl (failed ∙ ap (λ m. m + 1) same)
 why-read before mid breaks n standing rest d faults old new held later same few (inr long) =
-    inr (long.0 ∙ same, λ bytes e. let begins = long.1 (left_after bytes d.taken) (d.left_is bytes e) in (begins.0, (held, few, begins.1)))
+    inr (long.0 ∙ same, λ bytes e. let begins = long.1 (rest_after_items bytes d.taken) (d.left_is bytes e) in (begins.0, (held, few, begins.1)))
 
 -- after what was taken this comes next
-pub next-is : (before mid : Moment) (breaks : List BreakAt) (n : ℕ) (standing : Standing) (rest : Option (List ℕ)) (next : Next) (d : Driven before mid breaks n standing rest)
-    → next_in standing mid.world ≡ Some next → next_behind breaks before.world d.taken mid.world ≡ Some next
+pub next-is : (before mid : Moment) (breaks : List BreakAt) (n : ℕ) (standing : ScheduleState) (rest : Option (List ℕ)) (next : Next) (d : Driven before mid breaks n standing rest)
+    → next_in standing mid.world ≡ Some next → next_after_taken breaks before.world d.taken mid.world ≡ Some next
 next-is before mid breaks n standing rest next d here = subst (λ s. next_in s mid.world ≡ Some next) d.standing_is here
 
 -- the call whose answer was not taken is for what comes next after what was taken
-pub next-dropped : (before mid : Moment) (breaks : List BreakAt) (n : ℕ) (standing : Standing) (rest : Option (List ℕ)) (next : Next) (dropped : List Call) (d : Driven before mid breaks n standing rest)
-    → next_in standing mid.world ≡ Some next → AreDropped mid.world (Some next) dropped → AreDropped mid.world (next_behind breaks before.world d.taken mid.world) dropped
+pub next-dropped : (before mid : Moment) (breaks : List BreakAt) (n : ℕ) (standing : ScheduleState) (rest : Option (List ℕ)) (next : Next) (dropped : List Call) (d : Driven before mid breaks n standing rest)
+    → next_in standing mid.world ≡ Some next → AreDropped mid.world (Some next) dropped → AreDropped mid.world (next_after_taken breaks before.world d.taken mid.world) dropped
 next-dropped before mid breaks n standing rest next dropped d here one =
     subst (λ found. AreDropped mid.world found dropped) (sym (next-is before mid breaks n standing rest next d here)) one
 
 -- whatever the result of the schedule, a session was taken
-whole-session : (turns n : ℕ) (before now : Moment) (breaks : List BreakAt) (dropped : List Call) → n ≤ turns → (s : Stands before now breaks n dropped)
-    → AreDropped now.world (next_behind breaks before.world s.taken now.world) dropped → TakesSession turns breaks before now
+whole-session : (turns n : ℕ) (before now : Moment) (breaks : List BreakAt) (dropped : List Call) → n ≤ turns → (s : SessionProgress before now breaks n dropped)
+    → AreDropped now.world (next_after_taken breaks before.world s.taken now.world) dropped → TakesSession turns breaks before now
 whole-session turns n before now breaks dropped within s one = record {
   taken = s.taken;
   listed = s.listed;
@@ -151,11 +151,11 @@ whole-session turns n before now breaks dropped within s one = record {
   session = s.session;
   dropped_is = one;
   calls_are = s.calls_are;
-  length_written = length (written_for s.taken);
-  written = rw (take_all (length (written_for s.taken)) (written_for s.taken) (omega arith)) s.written;
+  length_written = length (written_bytes s.taken);
+  written = rw (take_all (length (written_bytes s.taken)) (written_bytes s.taken) (omega arith)) s.written;
 }
 
-cut-session : (turns n : ℕ) (before now : Moment) (breaks : List BreakAt) → n ≤ turns → StandsCut before now breaks n → TakesSession turns breaks before now
+cut-session : (turns n : ℕ) (before now : Moment) (breaks : List BreakAt) → n ≤ turns → CutSessionProgress before now breaks n → TakesSession turns breaks before now
 cut-session turns n before now breaks within s = record {
   taken = s.taken ++ s.item ∷ [];
   listed = s.listed;
@@ -164,11 +164,11 @@ cut-session turns n before now breaks within s = record {
   session = s.session;
   dropped_is = tt;
   calls_are = s.calls_are ∙ ap (λ xs. before.calls ++ xs) (sym (append-nil s.listed));
-  length_written = length (written_for s.taken) + s.length_written;
+  length_written = length (written_bytes s.taken) + s.length_written;
   written = rw (written-more, take-append-add) s.written;
 }
 
-pub takes-session : (turns : ℕ) (breaks : List BreakAt) (before now : Moment) (result : Result End DriveFault) → ComesTo turns breaks before now result → TakesSession turns breaks before now
+pub takes-session : (turns : ℕ) (breaks : List BreakAt) (before now : Moment) (result : Result End DriveFault) → HasDriveResult turns breaks before now result → TakesSession turns breaks before now
 takes-session turns breaks before now (Ok end) c = whole-session turns end.events before now breaks [] c.within c.stands tt
 takes-session turns breaks before now (Err Turns) c = whole-session turns turns before now breaks [] (omega arith) c.stands tt
 takes-session turns breaks before now (Err Memory) c = whole-session turns c.n before now breaks c.dropped (let few = c.few in omega (arith, few)) c.stands c.dropped_is

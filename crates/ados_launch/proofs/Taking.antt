@@ -18,23 +18,23 @@ use Rattle.ados_launcher.specs.declared.calls.Call.{Call}
 use Rattle.ados_launch.specs.declared.lines.LineKind.{LineKind}
 use Rattle.ados_launch.specs.declared.lines.LineKind.TheVariants.{End, Overlong, Short}
 use Rattle.ados_launch.specs.Asked.{Answers, IsAsked, Lists, TakesAnswer}
-use Rattle.ados_launch.specs.Lines.{BeginsOverlong, Known, TakesLine, line_of, rest_of, kind_of}
-use Rattle.ados_launch.specs.Taken.{Taken, Given, LongLine, IsNext, IsOfReader, left_behind, text_of}
-use Rattle.ados_launch.specs.Rounds.{asks_further, asks_start, comes}
+use Rattle.ados_launch.specs.Lines.{BeginsOverlong, IfKnown, TakesLine, line_of, rest_of, kind_of}
+use Rattle.ados_launch.specs.Taken.{TakenItem, Given, LongLine, IsNext, IsOfReader, rest_after_item, text_of}
+use Rattle.ados_launch.specs.Rounds.{asks_read_or_wait, asks_start, comes}
 use Rattle.ados_launch.specs.Schedule.{AtBreak, AtFurther, AtLine, AtStart, AtTurn, next_at, next_of, next_of_event}
-use Rattle.ados_launch.specs.Session.{AreDropped, TakesAt, TakesLineAt}
+use Rattle.ados_launch.specs.Session.{AreDropped, TakesNextItem, TakesLineOrEnd}
 use Rattle.ados_launch.proofs.Places.{comes-start, comes-late}
 
 -- a line of the reader, or its end
 pub took-line : {X E : Type 0} (w now : WorldState) (left rest : Option (List ℕ)) (event : Event) (out : Out) (result : Result X E)
     → OnOk result (IsAnswer event (Ok out) (step_of w event)) → OnOk result (now ≡ world_after w (Ok out) (step_of w event)) → IsOfReader (Given event out)
-    → Known left (λ bytes. IsNext bytes (Given event out) × (rest ≡ Some (left_behind bytes (Given event out))))
-    → OnOk result (TakesLineAt w left now rest out.bytes)
+    → IfKnown left (λ bytes. IsNext bytes (Given event out) × (rest ≡ Some (rest_after_item bytes (Given event out))))
+    → OnOk result (TakesLineOrEnd w left now rest out.bytes)
 took-line w now left rest event out (Ok done) answer world of_reader lines =
     (Given event out, of_reader, record { accepted = answer; world_is = world; lines = lines; bytes_are = refl })
 took-line w now left rest event out (Err fault) answer world of_reader lines = tt
 
-read-place : (item : Taken) → IsOfReader item → next_of item ≡ AtLine
+read-place : (item : TakenItem) → IsOfReader item → next_of item ≡ AtLine
 read-place (Given (Typed line) out) h = refl
 read-place (Given EndOfInput out) h = refl
 read-place (Given (Turn k) out) h = absurd h
@@ -42,7 +42,7 @@ read-place (Given (Answer k reply) out) h = absurd h
 read-place (Given (Break k kind) out) h = absurd h
 read-place LongLine h = refl
 
-read-asks : (is_full : Bool) (w : WorldState) (item : Taken) → IsOfReader item → IsAsked is_full w item []
+read-asks : (is_full : Bool) (w : WorldState) (item : TakenItem) → IsOfReader item → IsAsked is_full w item []
 read-asks is_full w (Given (Typed line) out) h = refl
 read-asks is_full w (Given EndOfInput out) h = refl
 read-asks is_full w (Given (Turn k) out) h = absurd h
@@ -52,7 +52,7 @@ read-asks is_full w LongLine h = refl
 
 -- at place 0 a line is taken, and nothing is asked of the launcher
 pub took-at-lines : {X E : Type 0} (w now : WorldState) (left rest : Option (List ℕ)) (is_full : Bool) (calls : List Call) (place : ℕ) (bytes : List ℕ) (result : Result X E) → place ≡ 0
-    → OnOk result (TakesLineAt w left now rest bytes) → OnOk result (TakesAt w left is_full calls (next_at place) now rest calls bytes)
+    → OnOk result (TakesLineOrEnd w left now rest bytes) → OnOk result (TakesNextItem w left is_full calls (next_at place) now rest calls bytes)
 took-at-lines w now left rest is_full calls place bytes (Ok done) at t = record {
   item = t.0;
   listed = [];
@@ -70,7 +70,7 @@ turn-at place low high = grind (arith, common_steps)
 -- the turn of a shell
 pub took-at-turn : {X E : Type 0} (w now : WorldState) (left : Option (List ℕ)) (is_full : Bool) (calls : List Call) (place : ℕ) (out : Out) (result : Result X E)
     → 1 ≤ place → place ≤ 20 → OnOk result (IsAnswer (Turn place) (Ok out) (step_of w (Turn place))) → OnOk result (now ≡ world_after w (Ok out) (step_of w (Turn place)))
-    → OnOk result (TakesAt w left is_full calls (next_at place) now left calls out.bytes)
+    → OnOk result (TakesNextItem w left is_full calls (next_at place) now left calls out.bytes)
 took-at-turn w now left is_full calls place out (Ok done) low high answer world = record {
   item = Given (Turn place) out;
   listed = [];
@@ -85,7 +85,7 @@ took-at-turn w now left is_full calls place out (Err fault) low high answer worl
 -- a break of a shell
 pub took-at-break : {X E : Type 0} (w now : WorldState) (left : Option (List ℕ)) (is_full : Bool) (calls : List Call) (k : ℕ) (kind : Kind) (out : Out) (result : Result X E)
     → OnOk result (IsAnswer (Break k kind) (Ok out) (step_of w (Break k kind))) → OnOk result (now ≡ world_after w (Ok out) (step_of w (Break k kind)))
-    → OnOk result (TakesAt w left is_full calls (AtBreak k kind) now left calls out.bytes)
+    → OnOk result (TakesNextItem w left is_full calls (AtBreak k kind) now left calls out.bytes)
 took-at-break w now left is_full calls k kind out (Ok done) answer world = record {
   item = Given (Break k kind) out;
   listed = [];
@@ -102,7 +102,7 @@ start-fits (Start job) reply fit = sym fit
 start-fits (Read n) reply fit = grind (arith, common_steps)
 start-fits (Wait n) reply fit = grind (arith, common_steps)
 
-further-fits : (request : Request) → asks_further (Some request) ≡ not (asks_start (Some request))
+further-fits : (request : Request) → asks_read_or_wait (Some request) ≡ not (asks_start (Some request))
 further-fits (Start job) = refl
 further-fits (Read n) = refl
 further-fits (Wait n) = refl
@@ -155,7 +155,7 @@ dropped-at-answer w now was_full is_full calls calls_now place out (Err fault) l
 -- a launcher's answer
 pub took-at-answer : {X E : Type 0} (w now : WorldState) (left : Option (List ℕ)) (was_full is_full : Bool) (calls calls_now : List Call) (place : ℕ) (out : Out) (result : Result X E)
     → 21 ≤ place → comes w place ≡ true → Answers w (shell_at_place place) was_full is_full calls calls_now (TakesAnswer w (shell_at_place place) result now out)
-    → OnOk result (TakesAt w left is_full calls (next_at place) now left calls_now out.bytes)
+    → OnOk result (TakesNextItem w left is_full calls (next_at place) now left calls_now out.bytes)
 took-at-answer w now left was_full is_full calls calls_now place out (Ok done) late due a = record {
   item = Given (Answer (shell_at_place place) a.reply) out;
   listed = a.asks.listed;

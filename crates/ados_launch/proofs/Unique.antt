@@ -14,9 +14,9 @@ use Rattle.ados_machine.specs.World.{WorldState, pending_of}
 use Rattle.ados_launcher.specs.declared.calls.Call.{Call}
 use Rattle.ados_launch.specs.declared.lines.LineKind.TheVariants.{End, Short, Long}
 use Rattle.ados_launch.specs.Asked.{AreAsked, AreNoStarts, HasCall, IsAsked, Lists, ListsOf, call_of, is_start}
-use Rattle.ados_launch.specs.Laws.{IsFront}
-use Rattle.ados_launch.specs.Schedule.{Next, AtBreak, AtFurther, AtLine, AtStart, AtTurn, InOrder, Standing, next_of, standing_behind}
-use Rattle.ados_launch.specs.Taken.{Taken, Given, LongLine, AreRead, IsAccepted, IsNext, events_in, left_behind, outs_in, world_behind}
+use Rattle.ados_launch.specs.Laws.{IsPrefixOfTaken}
+use Rattle.ados_launch.specs.Schedule.{Next, AtBreak, AtFurther, AtLine, AtStart, AtTurn, InOrder, ScheduleState, next_of, following_schedule_state}
+use Rattle.ados_launch.specs.Taken.{TakenItem, Given, LongLine, AreRead, IsAccepted, IsNext, taken_events, rest_after_item, taken_outs, world_after_item}
 use Rattle.ados_launch.proofs.Taken.{starts-more}
 
 -- the output of an accepted event is unique
@@ -100,13 +100,13 @@ unbroken true k = refl
 unbroken false k = refl
 
 -- what one session took at a place is what the other did
-record Step (w : WorldState) (bytes : List ℕ) (full : Bool) (item : Taken) (now later : List Call) : Type 0 where
+record Step (w : WorldState) (bytes : List ℕ) (full : Bool) (item : TakenItem) (now later : List Call) : Type 0 where
   accepted : IsAccepted w item
   read : IsNext bytes item
   asked : IsAsked full w item now
   has : HasCall item now later
 
-same-break : (w : WorldState) (bytes : List ℕ) (full full' : Bool) (item other : Taken) (now later now' later' : List Call) → Step w bytes full item now later → Step w bytes full' other now' later'
+same-break : (w : WorldState) (bytes : List ℕ) (full full' : Bool) (item other : TakenItem) (now later now' later' : List Call) → Step w bytes full item now later → Step w bytes full' other now' later'
     → is_break (next_of item) ≡ true → next_of item ≡ next_of other → item ≡ other
 same-break w bytes full full' (Given (Break k kind) out) (Given (Break j kind') out') now later now' later' s t is e =
     let same : Break k kind ≡ Break j kind' = cc in
@@ -124,7 +124,7 @@ same-break w bytes full full' (Given (Answer k reply) out) other now later now' 
 same-break w bytes full full' LongLine other now later now' later' s t is e = cc
 
 -- a line, the end of the input, or a long line: the bytes determine which
-same-line : (w : WorldState) (bytes : List ℕ) (full full' : Bool) (item other : Taken) (now later now' later' : List Call) → Step w bytes full item now later → Step w bytes full' other now' later'
+same-line : (w : WorldState) (bytes : List ℕ) (full full' : Bool) (item other : TakenItem) (now later now' later' : List Call) → Step w bytes full item now later → Step w bytes full' other now' later'
     → next_of item ≡ AtLine → next_of other ≡ AtLine → item ≡ other
 same-line w bytes full full' (Given (Typed line) out) (Given (Typed line') out') now later now' later' s t e f =
     let same : line ≡ line' = s.read.1 ∙ sym t.read.1 in
@@ -150,7 +150,7 @@ same-line w bytes full full' LongLine (Given (Turn k) out') now later now' later
 same-line w bytes full full' LongLine (Given (Answer k reply) out') now later now' later' s t e f = absurd (not-line (answers_start reply) k f)
 same-line w bytes full full' LongLine (Given (Break k kind) out') now later now' later' s t e f = cc
 
-same-turn : (w : WorldState) (bytes : List ℕ) (full full' : Bool) (k : ℕ) (out : Out) (other : Taken) (now later now' later' : List Call) → Step w bytes full (Given (Turn k) out) now later → Step w bytes full' other now' later'
+same-turn : (w : WorldState) (bytes : List ℕ) (full full' : Bool) (k : ℕ) (out : Out) (other : TakenItem) (now later now' later' : List Call) → Step w bytes full (Given (Turn k) out) now later → Step w bytes full' other now' later'
     → next_of other ≡ AtTurn k → Given (Turn k) out ≡ other
 same-turn w bytes full full' k out (Given (Turn j) out') now later now' later' s t e =
     let same : k ≡ j = cc in
@@ -161,7 +161,7 @@ same-turn w bytes full full' k out (Given (Answer j reply) out') now later now' 
 same-turn w bytes full full' k out (Given (Break j kind) out') now later now' later' s t e = cc
 same-turn w bytes full full' k out LongLine now later now' later' s t e = cc
 
-same-call : (w : WorldState) (bytes : List ℕ) (full full' : Bool) (k : ℕ) (reply : Reply) (out : Out) (other : Taken) (now later now' later' more : List Call)
+same-call : (w : WorldState) (bytes : List ℕ) (full full' : Bool) (k : ℕ) (reply : Reply) (out : Out) (other : TakenItem) (now later now' later' more : List Call)
     → Step w bytes full (Given (Answer k reply) out) now later → Step w bytes full' other now' later' → next_of (Given (Answer k reply) out) ≡ next_of other
     → now' ++ later' ≡ (now ++ later) ++ more → (full ≡ true → AreNoStarts more) → Given (Answer k reply) out ≡ other
 same-call w bytes full full' k reply out (Given (Answer j reply') out') now later now' later' more s t e calls none =
@@ -176,7 +176,7 @@ same-call w bytes full full' k reply out (Given (Break j kind) out') now later n
     let no = unbroken (answers_start reply) k in let yes = ap is_break e in cc
 same-call w bytes full full' k reply out LongLine now later now' later' more s t e calls none = absurd (not-line (answers_start reply) k e)
 
-same-item : (w : WorldState) (bytes : List ℕ) (full full' : Bool) (item other : Taken) (now later now' later' more : List Call) → Step w bytes full item now later → Step w bytes full' other now' later'
+same-item : (w : WorldState) (bytes : List ℕ) (full full' : Bool) (item other : TakenItem) (now later now' later' more : List Call) → Step w bytes full item now later → Step w bytes full' other now' later'
     → next_of item ≡ next_of other → now' ++ later' ≡ (now ++ later) ++ more → (full ≡ true → AreNoStarts more) → item ≡ other
 same-item w bytes full full' (Given (Typed line) out) other now later now' later' more s t e calls none = same-line w bytes full full' (Given (Typed line) out) other now later now' later' s t refl (sym e)
 same-item w bytes full full' (Given EndOfInput out) other now later now' later' more s t e calls none = same-line w bytes full full' (Given EndOfInput out) other now later now' later' s t refl (sym e)
@@ -186,7 +186,7 @@ same-item w bytes full full' (Given (Answer k reply) out) other now later now' l
 same-item w bytes full full' (Given (Break k kind) out) other now later now' later' more s t e calls none = same-break w bytes full full' (Given (Break k kind) out) other now later now' later' s t refl e
 
 -- the calls after those for an item that both took
-behind-same : (item : Taken) (w : WorldState) (full full' : Bool) (now later now' later' more : List Call) → IsAsked full w item now → IsAsked full' w item now' → HasCall item now later → HasCall item now' later'
+behind-same : (item : TakenItem) (w : WorldState) (full full' : Bool) (now later now' later' more : List Call) → IsAsked full w item now → IsAsked full' w item now' → HasCall item now later → HasCall item now' later'
     → now' ++ later' ≡ (now ++ later) ++ more → (full ≡ true → AreNoStarts more) → later' ≡ later ++ more
 behind-same (Given (Typed line) out) w full full' now later now' later' more a b has has' e none = rw (a, b) at e
 behind-same (Given EndOfInput out) w full full' now later now' later' more a b has has' e none = rw (a, b) at e
@@ -212,18 +212,18 @@ behind-same (Given (Answer k reply) out) w full full' now later now' later' more
         ap (λ xs. xs ++ later') (sym unlisted'.0) ∙ (e ∙ ap (λ xs. (xs ++ later) ++ more) unlisted.0)
 
 -- the first thing of a run, and the rest
-first-accepted : (w : WorldState) (item : Taken) (taken : List Taken) (last : WorldState) → Runs w (events_in (item ∷ taken)) (outs_in (item ∷ taken)) last
-    → IsAccepted w item × Runs (world_behind w item) (events_in taken) (outs_in taken) last
+first-accepted : (w : WorldState) (item : TakenItem) (taken : List TakenItem) (last : WorldState) → Runs w (taken_events (item ∷ taken)) (taken_outs (item ∷ taken)) last
+    → IsAccepted w item × Runs (world_after_item w item) (taken_events taken) (taken_outs taken) last
 first-accepted w (Given event out) taken last run = run
 first-accepted w LongLine taken last run = (tt, run)
 
-front-more : (item : Taken) (taken taken' : List Taken) → IsFront taken taken' ⊎ IsFront taken' taken → IsFront (item ∷ taken) (item ∷ taken') ⊎ IsFront (item ∷ taken') (item ∷ taken)
+front-more : (item : TakenItem) (taken taken' : List TakenItem) → IsPrefixOfTaken taken taken' ⊎ IsPrefixOfTaken taken' taken → IsPrefixOfTaken (item ∷ taken) (item ∷ taken') ⊎ IsPrefixOfTaken (item ∷ taken') (item ∷ taken)
 front-more item taken taken' (inl (rest, is)) = inl (rest, ap (λ xs. item ∷ xs) is)
 front-more item taken taken' (inr (rest, is)) = inr (rest, ap (λ xs. item ∷ xs) is)
 
-pub unique : (taken taken' : List Taken) (s : Standing) (w : WorldState) (bytes : List ℕ) (full full' : Bool) (listed listed' more : List Call) (last last' : WorldState)
-    → Runs w (events_in taken) (outs_in taken) last → Runs w (events_in taken') (outs_in taken') last' → InOrder s w taken → InOrder s w taken' → AreRead bytes taken → AreRead bytes taken'
-    → AreAsked full w taken listed → AreAsked full' w taken' listed' → listed' ≡ listed ++ more → (full ≡ true → AreNoStarts more) → IsFront taken taken' ⊎ IsFront taken' taken
+pub unique : (taken taken' : List TakenItem) (s : ScheduleState) (w : WorldState) (bytes : List ℕ) (full full' : Bool) (listed listed' more : List Call) (last last' : WorldState)
+    → Runs w (taken_events taken) (taken_outs taken) last → Runs w (taken_events taken') (taken_outs taken') last' → InOrder s w taken → InOrder s w taken' → AreRead bytes taken → AreRead bytes taken'
+    → AreAsked full w taken listed → AreAsked full' w taken' listed' → listed' ≡ listed ++ more → (full ≡ true → AreNoStarts more) → IsPrefixOfTaken taken taken' ⊎ IsPrefixOfTaken taken' taken
 unique [] taken' s w bytes full full' listed listed' more last last' run run' order order' read read' asked asked' calls none = inl (taken', refl)
 unique (item ∷ taken) [] s w bytes full full' listed listed' more last last' run run' order order' read read' asked asked' calls none = inr (item ∷ taken, refl)
 unique (item ∷ taken) (other ∷ taken') s w bytes full full' listed listed' more last last' run run' order order' read read' asked asked' calls none =
@@ -233,7 +233,7 @@ unique (item ∷ taken) (other ∷ taken') s w bytes full full' listed listed' m
     let all : asked'.0 ++ asked'.1 ≡ (asked.0 ++ asked.1) ++ more = sym asked'.2 ∙ (calls ∙ ap (λ xs. xs ++ more) asked.2) in
     let same : item ≡ other = same-item w bytes full full' item other asked.0 asked.1 asked'.0 asked'.1 more
     (record { accepted = one.0; read = read.0; asked = asked.3; has = asked.4 }) (record { accepted = two.0; read = read'.0; asked = asked'.3; has = asked'.4 }) next all none in
-    subst (λ x. IsFront (item ∷ taken) (x ∷ taken') ⊎ IsFront (x ∷ taken') (item ∷ taken)) same
-    (front-more item taken taken' (unique taken taken' (standing_behind s w (next_of item)) (world_behind w item) (left_behind bytes item) full full' asked.1 asked'.1 more last last'
+    subst (λ x. IsPrefixOfTaken (item ∷ taken) (x ∷ taken') ⊎ IsPrefixOfTaken (x ∷ taken') (item ∷ taken)) same
+    (front-more item taken taken' (unique taken taken' (following_schedule_state s w (next_of item)) (world_after_item w item) (rest_after_item bytes item) full full' asked.1 asked'.1 more last last'
     one.1 (rw (← same) at two.1) order.1 (rw (← same) at order'.1) read.1 (rw (← same) at read'.1) asked.5 (rw (← same) at asked'.5)
     (behind-same item w full full' asked.0 asked.1 asked'.0 asked'.1 more asked.3 (rw (← same) at asked'.3) asked.4 (rw (← same) at asked'.4) all none) none))

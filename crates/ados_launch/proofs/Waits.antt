@@ -9,8 +9,8 @@ use Rattle.ados_machine.specs.declared.answers.Answer.{Answer}
 use Rattle.ados_machine.specs.Children.{answers_wait}
 use Rattle.ados_launcher.specs.declared.calls.Call.{Call}
 use Rattle.ados_launcher.specs.declared.calls.Call.TheVariants.{Start as Starts, Read as Reads, Wait as Waits}
-use Rattle.ados_launcher.specs.Lives.{Life, Between, InReads, BehindReads, Broken, life_of, life_waited, is_open}
-use Rattle.ados_launch.specs.Agreement.{AddsWait, AreWaits, AreWaitsFor, AreWhole, AreOver, IsOpenTable, WaitsForOpen, waited_child}
+use Rattle.ados_launcher.specs.Lives.{Life, Between, InReads, BehindReads, Broken, life_of, life_after_wait, is_open}
+use Rattle.ados_launch.specs.Agreement.{AddsWait, AreWaits, AreOpenChildWaits, AreWhole, AreOver, IsOpenTable, WaitsForOpen, waited_child}
 use Rattle.ados_launch.proofs.Rows.{life-more}
 
 -- a row once its open child was waited for
@@ -26,7 +26,7 @@ IsWaited n before after = (j : ℕ) → life_of j after ≡ (if nat_lt j n then 
 pub none-waited : (before : List Call) → IsWaited 0 before before
 none-waited before j = grind (arith, common_steps)
 
-waited-is : (life : Life) (a : Answer) → is_open life ≡ true → answers_wait a ≡ true → life_waited life a ≡ waited life
+waited-is : (life : Life) (a : Answer) → is_open life ≡ true → answers_wait a ≡ true → life_after_wait life a ≡ waited life
 waited-is InReads a o f = rw f refl
 waited-is BehindReads a o f = rw f refl
 waited-is Between a o f = cc
@@ -47,7 +47,7 @@ behind n x y = grind (arith, common_steps)
 past : (j n : ℕ) (x y : Life) → j ≢ n → (if nat_lt j (n + 1) then x else y) ≡ (if nat_lt j n then x else y)
 past j n x y h = grind (arith, common_steps)
 
-row-waited : (n : ℕ) (a : Answer) (mid : List Call) → life_of n (mid ++ Waits n a ∷ []) ≡ life_waited (life_of n mid) a
+row-waited : (n : ℕ) (a : Answer) (mid : List Call) → life_of n (mid ++ Waits n a ∷ []) ≡ life_after_wait (life_of n mid) a
 row-waited n a mid = life-more n mid (Waits n a) ∙ grind (arith, common_steps)
 
 row-stays : (j n : ℕ) (a : Answer) (mid : List Call) → j ≢ n → life_of j (mid ++ Waits n a ∷ []) ≡ life_of j mid
@@ -59,7 +59,7 @@ waits-one : (n : ℕ) (a : Answer) (before mid after : List Call) → IsWaited n
 waits-one n a before mid after w o f l j =
     elim (cases_eq j n) [
       | inl same ↦ subst (λ m. life_of m after ≡ (if nat_lt m (n + 1) then waited (life_of m before) else life_of m before)) (sym same)
-          (rw l (row-waited n a mid) ∙ (ap (λ x. life_waited x a) (w n ∙ at n (waited (life_of n before)) (life_of n before))
+          (rw l (row-waited n a mid) ∙ (ap (λ x. life_after_wait x a) (w n ∙ at n (waited (life_of n before)) (life_of n before))
           ∙ (waited-is (life_of n before) a o f ∙ sym (behind n (waited (life_of n before)) (life_of n before)))))
       | inr apart ↦ rw l (row-stays j n a mid apart) ∙ (w j ∙ sym (past j n (waited (life_of j before)) (life_of j before) apart))
     ]
@@ -171,7 +171,7 @@ filter-none test [] none = refl
 filter-none test (x ∷ xs) none = rw (none x) (filter-none test xs none)
 
 -- if no child is open none is waited for
-pub none-open : (calls : List Call) → ((k : ℕ) → life_of k calls ≡ Between) → AreWaitsFor calls []
+pub none-open : (calls : List Call) → ((k : ℕ) → life_of k calls ≡ Between) → AreOpenChildWaits calls []
 none-open calls between = (ap (map Some) (sym (filter-none (λ k. is_open (life_of k calls)) (range_with_len 0 21) (λ k. ap is_open (between k)))), tt)
 
 -- a table that is filled up to n

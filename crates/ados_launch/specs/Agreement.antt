@@ -6,12 +6,12 @@ use Rattle.ados_machine.specs.Children.{answers_wait, child_in}
 use Rattle.ados_machine.specs.World.{WorldState}
 use Rattle.ados_launcher.specs.declared.calls.Call.{Call}
 use Rattle.ados_launcher.specs.declared.calls.Call.TheVariants.{Start, Read, Wait}
-use Rattle.ados_launcher.specs.Lives.{Between, Broken, life_of, life_in, is_open}
+use Rattle.ados_launcher.specs.Lives.{Between, Broken, life_of, life_for_state, is_open}
 
 -- Each row of lives is well-formed so far, and its open child is the one that the world reads or waits for: the end of its
 -- reads is not listed if the world reads it or has broken it, and is listed if the world waits for it and has not.
 abbrev pub Agrees : WorldState → List Call → Type 0
-Agrees w calls = (k : ℕ) → life_of k calls ≡ life_in (child_in w k)
+Agrees w calls = (k : ℕ) → life_of k calls ≡ life_for_state (child_in w k)
 
 -- no call is out of place
 abbrev pub AreWhole : List Call → Type 0
@@ -39,14 +39,14 @@ AreWaits (Read n answer ∷ calls) = ⊥
 AreWaits (Wait n answer ∷ calls) = (answers_wait answer ≡ true) × AreWaits calls
 
 -- one wait for each child that is open after these calls, in ascending order of number, and nothing else
-abbrev pub AreWaitsFor : List Call → List Call → Type 0
-AreWaitsFor calls waits = (map waited_child waits ≡ map Some (open_children calls)) × AreWaits waits
+abbrev pub AreOpenChildWaits : List Call → List Call → Type 0
+AreOpenChildWaits calls waits = (map waited_child waits ≡ map Some (open_children calls)) × AreWaits waits
 
 -- these waits were asked for after the calls, and nothing else
 pub record WaitsForOpen (before after : List Call) : Type 0 where
   pub waits : List Call
   pub calls_are : after ≡ before ++ waits
-  pub are_for_open : AreWaitsFor before waits
+  pub are_for_open : AreOpenChildWaits before waits
 
 -- the open children of a launcher according to its calls, in a table by number
 abbrev pub IsOpenTable : List Bool → List Call → Type 0

@@ -13,7 +13,7 @@ use Rattle.ados_machine.specs.Alone.{AreOf, IsEnd, IsLate, bytes_in}
 use Rattle.ados_machine.specs.Numbers.{free_number}
 use Rattle.ados_machine.specs.Runs.{IsAnswer, Runs, world_after}
 use Rattle.ados_machine.specs.Step.{step_of}
-use Rattle.ados_machine.specs.Whole.{opened, whole}
+use Rattle.ados_machine.specs.Whole.{world_with_opened, whole}
 use Rattle.ados_machine.specs.World.{WorldState, pending_of, shell_at}
 use Rattle.ados_world.specs.Opened.{Refuses, opening_fault}
 use Rattle.ados_launcher.specs.declared.calls.Call.{Call}
@@ -22,7 +22,7 @@ use Rattle.ados_launch.specs.declared.alone.SystemEnd.TheVariants.{Ended, NoShel
 use Rattle.ados_launch.specs.declared.alone.SystemFault.{SystemFault}
 use Rattle.ados_launch.specs.Agreement.{Agrees}
 use Rattle.ados_launch.specs.Asked.{AreAsked, AreNoStarts, IsAsked, ListsOf}
-use Rattle.ados_launch.specs.Taken.{Taken, Given, events_in, outs_in}
+use Rattle.ados_launch.specs.Taken.{TakenItem, Given, taken_events, taken_outs}
 
 -- the next event of a shell: an answer if it waits for one, otherwise a turn
 abbrev pub IsNextOf : ℕ → Option Request → Event → Type 0
@@ -53,46 +53,46 @@ AgreesOnceTaken w k (Some reply) calls = (out : Out) → IsAnswer (Answer k repl
     Agrees (world_after w (Ok out) (step_of w (Answer k reply))) calls
 
 -- whether a shell was opened or not
-abbrev pub AgreesBehind : WorldState → Option ℕ → Option Reply → List Call → Type 0
-AgreesBehind w None answer calls = Agrees w calls
-AgreesBehind w (Some k) answer calls = AgreesOnceTaken w k answer calls
+abbrev pub AgreesAfterOpening : WorldState → Option ℕ → Option Reply → List Call → Type 0
+AgreesAfterOpening w None answer calls = Agrees w calls
+AgreesAfterOpening w (Some k) answer calls = AgreesOnceTaken w k answer calls
 
 -- In a world a shell was opened for a line that has no fault, with the lowest number that was free. It took these events,
 -- with these answers among them; no other event was taken, and the result is the last world. The launcher was asked for each
 -- of the answers once, in their order, and then for these others.
-pub record RunsLine (k : ℕ) (w : WorldState) (line : Text) (is_full : Bool) (taken : List Taken) (answers : List Reply) (last : WorldState) (calls calls_now others : List Call) : Type 0 where
+pub record RunsLine (k : ℕ) (w : WorldState) (line : Text) (is_full : Bool) (taken : List TakenItem) (answers : List Reply) (last : WorldState) (calls calls_now others : List Call) : Type 0 where
   pub no_fault : opening_fault w line ≡ None
   pub free : free_number w.shells ≡ Some k
-  pub run : Runs (opened w k (line ∷ [])) (events_in taken) (outs_in taken) last
-  pub events_are : AreOf k (events_in taken) answers []
+  pub run : Runs (world_with_opened w k (line ∷ [])) (taken_events taken) (taken_outs taken) last
+  pub events_are : AreOf k (taken_events taken) answers []
   pub listed : List Call
-  pub asked : AreAsked is_full (opened w k (line ∷ [])) taken listed
+  pub asked : AreAsked is_full (world_with_opened w k (line ∷ [])) taken listed
   pub calls_are : calls_now ≡ calls ++ (listed ++ others)
 
 -- The shell has ended: the codes, the world, the bytes and the events that are left are what the line means.
 pub record EndedAs (w : WorldState) (line : Text) (turns : ℕ) (is_full : Bool) (last : WorldState) (before now : Bytes) (calls calls_now : List Call) (codes : Codes) : Type 0 where
   pub k : ℕ
-  pub taken : List Taken
+  pub taken : List TakenItem
   pub answers : List Reply
   pub left : ℕ
   pub bytes : Bytes
   pub runs : RunsLine k w line is_full taken answers last calls calls_now []
-  pub count : length (events_in taken) + left ≡ turns
+  pub count : length (taken_events taken) + left ≡ turns
   pub meaning : IsEnd k w (whole turns k w (line ∷ []) answers) left codes last bytes
   pub written : now ≡ before ++ bytes
 
 -- The shell runs on after this many events: by the meaning of the line one more is due.
 pub record RunsOn (w : WorldState) (line : Text) (turns : ℕ) (is_full : Bool) (last : WorldState) (before now : Bytes) (calls calls_now : List Call) (k : ℕ) : Type 0 where
-  pub taken : List Taken
+  pub taken : List TakenItem
   pub answers : List Reply
   pub runs : RunsLine k w line is_full taken answers last calls calls_now []
-  pub count : length (events_in taken) ≡ turns
+  pub count : length (taken_events taken) ≡ turns
   pub meaning : IsLate (whole turns k w (line ∷ []) answers)
-  pub written : now ≡ before ++ bytes_in (outs_in taken)
+  pub written : now ≡ before ++ bytes_in (taken_outs taken)
 
 -- these are the bytes of the last event that was taken
-abbrev pub AreOfLast : Bytes → List Taken → Type 0
-AreOfLast bytes taken = (front : List Taken) × (event : Event) × (out : Out) × (taken ≡ front ++ Given event out ∷ []) × (bytes ≡ out.bytes)
+abbrev pub AreOfLast : Bytes → List TakenItem → Type 0
+AreOfLast bytes taken = (front : List TakenItem) × (event : Event) × (out : Out) × (taken ≡ front ++ Given event out ∷ []) × (bytes ≡ out.bytes)
 
 -- The shell still runs, one more event was allowed, and there was no memory for it: the answer that was asked for it, if one was,
 -- is handed back.
@@ -101,20 +101,20 @@ StopsAtEvent is_full turns fault w k others =
     (is_some (shell_at w k) ≡ true) × (fault.events < turns) × IsUntaken is_full w k fault.answer others × (fault.unwritten ≡ [])
 
 -- There was no room for what the last event printed, which is handed back; nothing was asked for another one.
-abbrev pub StopsAtBytes : ℕ → SystemFault → List Taken → List Call → Type 0
+abbrev pub StopsAtBytes : ℕ → SystemFault → List TakenItem → List Call → Type 0
 StopsAtBytes turns fault taken others =
     (fault.events ≤ turns) × AreOfLast fault.unwritten taken × (0 < length fault.unwritten) × (fault.answer ≡ None) × (others ≡ [])
 
 -- The shell has taken the events that the fault counts, and may have ended with the last of them.
-pub record StandsAt (w : WorldState) (line : Text) (turns : ℕ) (is_full : Bool) (fault : SystemFault) (last : WorldState) (before now : Bytes) (calls calls_now : List Call) (k : ℕ) : Type 0 where
-  pub taken : List Taken
+pub record LineProgress (w : WorldState) (line : Text) (turns : ℕ) (is_full : Bool) (fault : SystemFault) (last : WorldState) (before now : Bytes) (calls calls_now : List Call) (k : ℕ) : Type 0 where
+  pub taken : List TakenItem
   pub answers : List Reply
   pub others : List Call
   pub runs : RunsLine k w line is_full taken answers last calls calls_now others
-  pub count : length (events_in taken) ≡ fault.events
+  pub count : length (taken_events taken) ≡ fault.events
   pub refusal_is : fault.refusal ≡ NoMemory
   pub stops : StopsAtEvent is_full turns fault last k others ⊎ StopsAtBytes turns fault taken others
-  pub written : now ++ fault.unwritten ≡ before ++ bytes_in (outs_in taken)
+  pub written : now ++ fault.unwritten ≡ before ++ bytes_in (taken_outs taken)
 
 -- what holds of an end with codes, and of a shell that runs on
 abbrev pub IfEnded : {E : Type 0} → Result SystemEnd E → (Codes → Type 0) → Type 0
@@ -137,6 +137,6 @@ abbrev pub IsUnopened : SystemFault → Type 0
 IsUnopened fault = (fault.events ≡ 0) × (fault.answer ≡ None) × (fault.unwritten ≡ [])
 
 -- why none was opened, given the first fault of an opening and the lowest free number
-abbrev pub UnopenedFor : Result SystemEnd SystemFault → Option Refusal → Option ℕ → Type 0
-UnopenedFor (Ok done) fault free = (fault ≡ None) × (free ≡ None)
-UnopenedFor (Err why) fault free = Refuses (Err why.refusal) fault free × IsUnopened why
+abbrev pub UnopenedReason : Result SystemEnd SystemFault → Option Refusal → Option ℕ → Type 0
+UnopenedReason (Ok done) fault free = (fault ≡ None) × (free ≡ None)
+UnopenedReason (Err why) fault free = Refuses (Err why.refusal) fault free × IsUnopened why

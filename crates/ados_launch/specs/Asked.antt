@@ -14,7 +14,7 @@ use Rattle.ados_machine.specs.Step.{step_of}
 use Rattle.ados_machine.specs.World.{WorldState, pending_of}
 use Rattle.ados_launcher.specs.declared.calls.Call.{Call}
 use Rattle.ados_launcher.specs.declared.calls.Call.TheVariants.{Start as Starts, Read as Reads, Wait as Waits}
-use Rattle.ados_launch.specs.Taken.{Taken, Given, LongLine, world_behind}
+use Rattle.ados_launch.specs.Taken.{TakenItem, Given, LongLine, world_after_item}
 
 -- the request is a program's start
 abbrev pub is_start : Request → Bool
@@ -48,7 +48,7 @@ ListsOf is_full None reply listed = ⊥
 ListsOf is_full (Some request) reply listed = Lists is_full request reply listed
 
 -- what is asked for what a run takes: for an answer, what its shell waits for
-abbrev pub IsAsked : Bool → WorldState → Taken → List Call → Type 0
+abbrev pub IsAsked : Bool → WorldState → TakenItem → List Call → Type 0
 IsAsked is_full w (Given (Answer k reply) out) listed = ListsOf is_full (pending_of w k) reply listed
 IsAsked is_full w (Given (Typed line) out) listed = listed ≡ []
 IsAsked is_full w (Given EndOfInput out) listed = listed ≡ []
@@ -64,7 +64,7 @@ AreNoStarts (Reads n reply ∷ calls) = AreNoStarts calls
 AreNoStarts (Waits n reply ∷ calls) = AreNoStarts calls
 
 -- an answer that was taken without a call is an answer of a full launcher: it lists no start after it
-abbrev pub HasCall : Taken → List Call → List Call → Type 0
+abbrev pub HasCall : TakenItem → List Call → List Call → Type 0
 HasCall (Given (Answer k reply) out) [] later = AreNoStarts later
 HasCall (Given (Answer k reply) out) (call ∷ calls) later = Unit {0}
 HasCall (Given (Typed line) out) now later = Unit {0}
@@ -74,10 +74,10 @@ HasCall (Given (Break k kind) out) now later = Unit {0}
 HasCall LongLine now later = Unit {0}
 
 -- the same for everything that was taken, in order, each once
-abbrev pub AreAsked : Bool → WorldState → List Taken → List Call → Type 0
+abbrev pub AreAsked : Bool → WorldState → List TakenItem → List Call → Type 0
 AreAsked is_full w [] listed = listed ≡ []
 AreAsked is_full w (item ∷ taken) listed =
-    (now later : List Call) × (listed ≡ now ++ later) × IsAsked is_full w item now × HasCall item now later × AreAsked is_full (world_behind w item) taken later
+    (now later : List Call) × (listed ≡ now ++ later) × IsAsked is_full w item now × HasCall item now later × AreAsked is_full (world_after_item w item) taken later
 
 -- A request was made to a launcher, which gave this answer: what it listed.
 pub record Asks (request : Request) (reply : Reply) (was_full is_full : Bool) (calls calls_now : List Call) : Type 0 where

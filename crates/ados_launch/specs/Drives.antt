@@ -9,12 +9,12 @@ use Rattle.ados_launch.specs.declared.faults.DriveFault.{DriveFault}
 use Rattle.ados_launch.specs.declared.faults.DriveFault.TheVariants.{Read, Write, Turns, Memory}
 use Rattle.ados_launch.specs.Agreement.{AreOver, WaitsForOpen}
 use Rattle.ados_launch.specs.Faults.{one_more}
-use Rattle.ados_launch.specs.Lines.{Known}
-use Rattle.ados_launch.specs.NoFurther.{ReadsNoFurther}
+use Rattle.ados_launch.specs.Lines.{IfKnown}
+use Rattle.ados_launch.specs.NoFurther.{ReadsOnlyDueLine}
 use Rattle.ados_launch.specs.Rounds.{IsRunning}
-use Rattle.ados_launch.specs.Schedule.{next_behind, takes_input, IsReading}
-use Rattle.ados_launch.specs.Session.{Moment, AreDropped, IsReadAhead, LeavesOverlong, Session, Stands, StandsCut}
-use Rattle.ados_launch.specs.Taken.{Taken, written_for, left_after}
+use Rattle.ados_launch.specs.Schedule.{next_after_taken, takes_input, IsReading}
+use Rattle.ados_launch.specs.Session.{Moment, AreDropped, IsReadAhead, LeavesOverlong, Session, SessionProgress, CutSessionProgress}
+use Rattle.ados_launch.specs.Taken.{TakenItem, written_bytes, rest_after_items}
 
 -- no read failed
 abbrev pub ReadsWell : Moment → Moment → Type 0
@@ -27,7 +27,7 @@ WritesWell before now = (now.write_faults ≡ before.write_faults) × (now.stall
 -- The end of a run.
 pub record ComesToEnd (turns : ℕ) (breaks : List BreakAt) (before now : Moment) (end : End) : Type 0 where
   -- as many were taken as the result says, all of their bytes were written, and nothing else was asked of the launcher
-  pub stands : Stands before now breaks end.events []
+  pub stands : SessionProgress before now breaks end.events []
   pub within : end.events ≤ turns
   pub no_shell : is_over now.world ≡ true
   pub code : end.code ≡ (codes_at now.world 1).code
@@ -35,15 +35,15 @@ pub record ComesToEnd (turns : ℕ) (breaks : List BreakAt) (before now : Moment
   pub reads_well : ReadsWell before now
   pub writes_well : WritesWell before now
   -- the reader reached its end, unless shell 1 or its input had ended before
-  pub reader_ended : Known before.left (λ bytes. takes_input before.world ≡ true → now.left ≡ Some [])
+  pub reader_ended : IfKnown before.left (λ bytes. takes_input before.world ≡ true → now.left ≡ Some [])
 
 -- As many as allowed were taken, all of their bytes were written, and something is due.
 pub record StopsAtTurns (turns : ℕ) (breaks : List BreakAt) (before now : Moment) : Type 0 where
-  pub stands : Stands before now breaks turns []
+  pub stands : SessionProgress before now breaks turns []
   pub running : IsRunning now.world
   -- nothing was read for what is due: what is left follows the lines that were taken, except for fewer than 4,096 bytes
   -- that were read with them
-  pub unread : Known before.left (λ bytes. IsReadAhead (left_after bytes stands.taken) now.left)
+  pub unread : IfKnown before.left (λ bytes. IsReadAhead (rest_after_items bytes stands.taken) now.left)
   pub reads_well : ReadsWell before now
   pub writes_well : WritesWell before now
 
@@ -53,12 +53,12 @@ pub record StopsAtMemory (turns : ℕ) (breaks : List BreakAt) (before now : Mom
   pub n : ℕ
   pub few : n < turns
   pub dropped : List Call
-  pub stands : Stands before now breaks n dropped
-  pub dropped_is : AreDropped now.world (next_behind breaks before.world stands.taken now.world) dropped
+  pub stands : SessionProgress before now breaks n dropped
+  pub dropped_is : AreDropped now.world (next_after_taken breaks before.world stands.taken now.world) dropped
   pub running : IsRunning now.world
   -- what is left follows the lines that were taken, or is in or after the line that is due, except for fewer than 4,096 bytes
   -- that were read with them
-  pub unread : Known before.left (λ bytes. ReadsNoFurther (next_behind breaks before.world stands.taken now.world) (left_after bytes stands.taken) now.left)
+  pub unread : IfKnown before.left (λ bytes. ReadsOnlyDueLine (next_after_taken breaks before.world stands.taken now.world) (rest_after_items bytes stands.taken) now.left)
   pub reads_well : ReadsWell before now
   pub writes_well : WritesWell before now
 
@@ -68,43 +68,43 @@ pub record StopsAtMemory (turns : ℕ) (breaks : List BreakAt) (before now : Mom
 pub record StopsAtRead (turns : ℕ) (breaks : List BreakAt) (before now : Moment) : Type 0 where
   pub n : ℕ
   pub few : n < turns
-  pub stands : Stands before now breaks n []
+  pub stands : SessionProgress before now breaks n []
   pub reading : IsReading breaks before.world stands.taken now.world
   pub cause : (now.read_faults ≡ before.read_faults + 1)
-      ⊎ (ReadsWell before now × Known before.left (λ bytes. LeavesOverlong (left_after bytes stands.taken) now.left))
+      ⊎ (ReadsWell before now × IfKnown before.left (λ bytes. LeavesOverlong (rest_after_items bytes stands.taken) now.left))
   pub writes_well : WritesWell before now
 
 -- All bytes were written except some of the last one's, at which a write failed or wrote nothing.
 pub record StopsAtWrite (turns : ℕ) (breaks : List BreakAt) (before now : Moment) : Type 0 where
   pub n : ℕ
   pub within : n ≤ turns
-  pub stands : StandsCut before now breaks n
+  pub stands : CutSessionProgress before now breaks n
   -- it alone failed, or wrote nothing
   pub cause : ((now.write_faults ≡ before.write_faults + 1) × (now.stalls ≡ before.stalls))
       ⊎ ((now.write_faults ≡ before.write_faults) × (now.stalls ≡ one_more before.stalls))
   pub reads_well : ReadsWell before now
 
 -- the result of the schedule
-abbrev pub ComesTo : ℕ → List BreakAt → Moment → Moment → Result End DriveFault → Type 0
-ComesTo turns breaks before now (Ok end) = ComesToEnd turns breaks before now end
-ComesTo turns breaks before now (Err Turns) = StopsAtTurns turns breaks before now
-ComesTo turns breaks before now (Err Memory) = StopsAtMemory turns breaks before now
-ComesTo turns breaks before now (Err Read) = StopsAtRead turns breaks before now
-ComesTo turns breaks before now (Err Write) = StopsAtWrite turns breaks before now
+abbrev pub HasDriveResult : ℕ → List BreakAt → Moment → Moment → Result End DriveFault → Type 0
+HasDriveResult turns breaks before now (Ok end) = ComesToEnd turns breaks before now end
+HasDriveResult turns breaks before now (Err Turns) = StopsAtTurns turns breaks before now
+HasDriveResult turns breaks before now (Err Memory) = StopsAtMemory turns breaks before now
+HasDriveResult turns breaks before now (Err Read) = StopsAtRead turns breaks before now
+HasDriveResult turns breaks before now (Err Write) = StopsAtWrite turns breaks before now
 
 -- What was taken, however it ended, is a session: a run of the machine, which accepted each event, in the order of the schedule.
 -- The launcher listed what was asked for it, and after that at most one call, for the answer that comes next and was not
 -- taken. A prefix of its bytes was written.
 pub record TakesSession (turns : ℕ) (breaks : List BreakAt) (before now : Moment) : Type 0 where
-  pub taken : List Taken
+  pub taken : List TakenItem
   pub listed : List Call
   pub dropped : List Call
   pub within : length taken ≤ turns
   pub session : Session before.world before.left breaks before.calls now.is_full listed taken now.world
-  pub dropped_is : AreDropped now.world (next_behind breaks before.world taken now.world) dropped
+  pub dropped_is : AreDropped now.world (next_after_taken breaks before.world taken now.world) dropped
   pub calls_are : now.calls ≡ before.calls ++ (listed ++ dropped)
   pub length_written : ℕ
-  pub written : Appends before.contents now.contents (take length_written (written_for taken))
+  pub written : Appends before.contents now.contents (take length_written (written_bytes taken))
 
 -- From one moment a drive leads to another, with this result.
 pub record Drives (turns : ℕ) (breaks : List BreakAt) (before now : Moment) (result : Result End DriveFault) : Type 0 where
@@ -113,7 +113,7 @@ pub record Drives (turns : ℕ) (breaks : List BreakAt) (before now : Moment) (r
   -- At every end, whatever the reader, the writer and the launcher do, a session was taken.
   pub takes : TakesSession turns breaks before (record now { calls = called })
   -- What the result says is true of the session.
-  pub comes_to : ComesTo turns breaks before (record now { calls = called }) result
+  pub comes_to : HasDriveResult turns breaks before (record now { calls = called }) result
   -- Then each open child was waited for once, in ascending order of number, and nothing else was asked.
   pub waits : WaitsForOpen called now.calls
   -- At every end no child is open, and each was waited for once: the calls for each number are a row of whole lives.

@@ -8,35 +8,35 @@ use Rattle.ados_machine.specs.Stacks.{FramesHold}
 use Rattle.ados_launcher.specs.declared.calls.Call.{Call}
 use Rattle.ados_launch.specs.Agreement.{Agrees}
 use Rattle.ados_launch.specs.Asked.{AreNoStarts}
-use Rattle.ados_launch.specs.Taken.{Taken, events_in, outs_in}
+use Rattle.ados_launch.specs.Taken.{TakenItem, taken_events, taken_outs}
 use Rattle.ados_launch.specs.Session.{Session}
 
 -- in each shell each script ends early exactly at its first command whose code reaches its limit
 abbrev pub SessionsObeyLimits : Type 0
-SessionsObeyLimits = (w : WorldState) (left : Option (List ℕ)) (breaks : List BreakAt) (calls : List Call) (is_full : Bool) (listed : List Call) (taken : List Taken) (last : WorldState) →
-    Session w left breaks calls is_full listed taken last → IsSane w → LimitsHold w (events_in taken) (outs_in taken)
+SessionsObeyLimits = (w : WorldState) (left : Option (List ℕ)) (breaks : List BreakAt) (calls : List Call) (is_full : Bool) (listed : List Call) (taken : List TakenItem) (last : WorldState) →
+    Session w left breaks calls is_full listed taken last → IsSane w → LimitsHold w (taken_events taken) (taken_outs taken)
 
 -- the reports are the ends of scripts, in order
 abbrev pub SessionsReportEnds : Type 0
-SessionsReportEnds = (w : WorldState) (left : Option (List ℕ)) (breaks : List BreakAt) (calls : List Call) (is_full : Bool) (listed : List Call) (taken : List Taken) (last : WorldState) →
-    Session w left breaks calls is_full listed taken last → ReportsHold w (events_in taken) (outs_in taken)
+SessionsReportEnds = (w : WorldState) (left : Option (List ℕ)) (breaks : List BreakAt) (calls : List Call) (is_full : Bool) (listed : List Call) (taken : List TakenItem) (last : WorldState) →
+    Session w left breaks calls is_full listed taken last → ReportsHold w (taken_events taken) (taken_outs taken)
 
 -- in each shell the frames go through what was taken as a stack, and each ends at most once
 abbrev pub SessionsEndFramesOnce : Type 0
-SessionsEndFramesOnce = (w : WorldState) (left : Option (List ℕ)) (breaks : List BreakAt) (calls : List Call) (is_full : Bool) (listed : List Call) (taken : List Taken) (last : WorldState) →
-    Session w left breaks calls is_full listed taken last → IsSane w → FramesHold w (events_in taken) (outs_in taken) last
+SessionsEndFramesOnce = (w : WorldState) (left : Option (List ℕ)) (breaks : List BreakAt) (calls : List Call) (is_full : Bool) (listed : List Call) (taken : List TakenItem) (last : WorldState) →
+    Session w left breaks calls is_full listed taken last → IsSane w → FramesHold w (taken_events taken) (taken_outs taken) last
 
 -- a fresh world and a launcher without a call agree
 abbrev pub NewPairsAgree : Type 0
 NewPairsAgree = (w : WorldState) (hosts : List HostEntry) (calls : List Call) → w ≡ fresh_world hosts → calls ≡ [] → Agrees w calls
 
 -- the one is a prefix of the other
-abbrev pub IsFront : List Taken → List Taken → Type 0
-IsFront front taken = (rest : List Taken) × (taken ≡ front ++ rest)
+abbrev pub IsPrefixOfTaken : List TakenItem → List TakenItem → Type 0
+IsPrefixOfTaken front taken = (rest : List TakenItem) × (taken ≡ front ++ rest)
 
 -- Of two sessions from the same world, with the same bytes and breaks, and with the same list of calls except that one may be
 -- longer, what the one took is a prefix of what the other took. A launcher that is full lists no more starts.
 abbrev pub SessionsAreUnique : Type 0
-SessionsAreUnique = (w : WorldState) (bytes : List ℕ) (breaks : List BreakAt) (before before' : List Call) (is_full is_full' : Bool) (listed more : List Call) (taken taken' : List Taken) (last last' : WorldState) →
+SessionsAreUnique = (w : WorldState) (bytes : List ℕ) (breaks : List BreakAt) (before before' : List Call) (is_full is_full' : Bool) (listed more : List Call) (taken taken' : List TakenItem) (last last' : WorldState) →
     Session w (Some bytes) breaks before is_full listed taken last → Session w (Some bytes) breaks before' is_full' (listed ++ more) taken' last' → (is_full ≡ true → AreNoStarts more) →
-    IsFront taken taken' ⊎ IsFront taken' taken
+    IsPrefixOfTaken taken taken' ⊎ IsPrefixOfTaken taken' taken

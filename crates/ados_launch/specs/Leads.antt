@@ -6,7 +6,7 @@ use Rattle.ados_machine.specs.declared.outs.Out.{Out}
 use Rattle.ados_machine.specs.Numbers.{free_number}
 use Rattle.ados_machine.specs.Runs.{IsAnswer, world_after}
 use Rattle.ados_machine.specs.Step.{step_of}
-use Rattle.ados_machine.specs.Whole.{opened}
+use Rattle.ados_machine.specs.Whole.{world_with_opened}
 use Rattle.ados_machine.specs.World.{WorldState}
 use Rattle.ados_world.specs.Opened.{opening_fault}
 
@@ -21,7 +21,7 @@ ActsLead w [] last = last ≡ w
 ActsLead w (Takes event out ∷ acts) last =
     IsAnswer event (Ok out) (step_of w event) × ActsLead (world_after w (Ok out) (step_of w event)) acts last
 ActsLead w (Opens k line ∷ acts) last =
-    (free_number w.shells ≡ Some k) × (opening_fault w line ≡ None) × ActsLead (opened w k (line ∷ [])) acts last
+    (free_number w.shells ≡ Some k) × (opening_fault w line ≡ None) × ActsLead (world_with_opened w k (line ∷ [])) acts last
 
 -- there are such acts
 abbrev pub Reaches : WorldState → WorldState → Type 0

@@ -30,28 +30,28 @@ kind_of [] = End
 kind_of (byte ∷ bytes) = kind_of_length (length (line_of (byte ∷ bytes)))
 
 -- what is left after the bytes that show that a line is overlong
-abbrev pub behind_overlong : List ℕ → List ℕ
-behind_overlong bytes = drop (input_limit + 1) bytes
+abbrev pub rest_after_overlong : List ℕ → List ℕ
+rest_after_overlong bytes = drop (input_limit + 1) bytes
 
 -- what is still to be read: the bytes read ahead, and then what is left in the reader
-abbrev pub ahead : List ℕ → Option (List ℕ) → Option (List ℕ)
-ahead held left = prepend_known held left
+abbrev pub bytes_ahead : List ℕ → Option (List ℕ) → Option (List ℕ)
+bytes_ahead held left = prepend_known held left
 
 -- what holds of the bytes, if they are known
-abbrev pub Known : Option (List ℕ) → (List ℕ → Type 0) → Type 0
-Known known P = (bytes : List ℕ) → known ≡ Some bytes → P bytes
+abbrev pub IfKnown : Option (List ℕ) → (List ℕ → Type 0) → Type 0
+IfKnown known P = (bytes : List ℕ) → known ≡ Some bytes → P bytes
 
 -- these bytes begin with an overlong line, and as many were taken as show that
 abbrev pub BeginsOverlong : List ℕ → Option (List ℕ) → Type 0
-BeginsOverlong bytes now = (kind_of bytes ≡ Overlong) × (now ≡ Some (behind_overlong bytes))
+BeginsOverlong bytes now = (kind_of bytes ≡ Overlong) × (now ≡ Some (rest_after_overlong bytes))
 
 -- A read failed; or none did, and what is to be read begins with an overlong line.
 abbrev pub IsUnreadable : ℕ → ℕ → Option (List ℕ) → Option (List ℕ) → Type 0
-IsUnreadable before now left rest = (now ≡ before + 1) ⊎ ((now ≡ before) × Known left (λ bytes. BeginsOverlong bytes rest))
+IsUnreadable before now left rest = (now ≡ before + 1) ⊎ ((now ≡ before) × IfKnown left (λ bytes. BeginsOverlong bytes rest))
 
 -- the next line was taken from these bytes: its kind, the line if it is short, and what is left
 pub record TakesLine (bytes : List ℕ) (kind : LineKind) (kept : List ℕ) (now : Option (List ℕ)) : Type 0 where
   pub kind_is : kind ≡ kind_of bytes
   pub kept_is : kind ≡ Short → kept ≡ line_of bytes
   pub now_is : (kind ≡ Overlong → ⊥) → now ≡ Some (rest_of bytes)
-  pub cut_is : kind ≡ Overlong → now ≡ Some (behind_overlong bytes)
+  pub cut_is : kind ≡ Overlong → now ≡ Some (rest_after_overlong bytes)

@@ -7,7 +7,7 @@ use Rattle.ados_launch.specs.Session.{IsReadAhead}
 -- For what comes next nothing was read past the line that is due. Of what was left to read a number of bytes were taken: none
 -- if it is not a line; otherwise at most that line and the byte 10 after it, and no more than 65,537. Fewer than 4,096 bytes
 -- after them were read ahead.
-pub record ReadsNoFurther (next : Option Next) (left : List ℕ) (now : Option (List ℕ)) : Type 0 where
+pub record ReadsOnlyDueLine (next : Option Next) (left : List ℕ) (now : Option (List ℕ)) : Type 0 where
   pub count : ℕ
   pub none : next ≢ Some AtLine → count ≡ 0
   pub within : count ≤ length (line_of left) + 1

@@ -19,18 +19,18 @@ asks_start (Some (Read k)) = false
 asks_start (Some (Wait k)) = false
 
 -- a read or a wait is asked for
-abbrev pub asks_further : Option Request → Bool
-asks_further None = false
-asks_further (Some (Start job)) = false
-asks_further (Some (Read k)) = true
-asks_further (Some (Wait k)) = true
+abbrev pub asks_read_or_wait : Option Request → Bool
+asks_read_or_wait None = false
+asks_read_or_wait (Some (Start job)) = false
+asks_read_or_wait (Some (Read k)) = true
+asks_read_or_wait (Some (Wait k)) = true
 
 -- something may come at this place
 abbrev pub comes : WorldState → ℕ → Bool
 comes w place =
     if nat_lt place 1 then wants_line w else
     (if nat_lt place 21 then is_ready w place else
-    (if nat_lt place 41 then asks_start (pending_of w (place - 20)) else asks_further (pending_of w (place - 40))))
+    (if nat_lt place 41 then asks_start (pending_of w (place - 20)) else asks_read_or_wait (pending_of w (place - 40))))
 
 -- something is due at it: what may come there, except for a read or a wait of a shell that had an answer in this round
 abbrev pub is_due : WorldState → List Bool → ℕ → Bool
@@ -51,35 +51,35 @@ abbrev pub in_next_round : WorldState → Option ℕ
 in_next_round w = find (is_due w none_answered) (range_with_len 0 61)
 
 -- the place of the next event: between two events the world does not change
-abbrev pub due : Round → WorldState → Option ℕ
-due round w = option_or (in_this_round round w) (in_next_round w)
+abbrev pub due_place : Round → WorldState → Option ℕ
+due_place round w = option_or (in_this_round round w) (in_next_round w)
 
 -- which shells had an answer in the round of the next event
-abbrev pub answered_if : Option ℕ → List Bool → List Bool
-answered_if None answered = none_answered
-answered_if (Some place) answered = answered
+abbrev pub answered_or_none : Option ℕ → List Bool → List Bool
+answered_or_none None answered = none_answered
+answered_or_none (Some place) answered = answered
 
-abbrev pub answered_by : Round → WorldState → List Bool
-answered_by round w = answered_if (in_this_round round w) round.answered
+abbrev pub answered_shells : Round → WorldState → List Bool
+answered_shells round w = answered_or_none (in_this_round round w) round.answered
 
 -- the place from which a round goes on: lines are read for as long as they are wanted
-abbrev pub place_behind : ℕ → ℕ
-place_behind zero = 0
-place_behind (suc k) = suc k + 1
+abbrev pub following_place : ℕ → ℕ
+following_place zero = 0
+following_place (suc k) = suc k + 1
 
 -- the shell to which this place belongs has had an answer
-abbrev pub marked : ℕ → List Bool → List Bool
-marked place answered =
+abbrev pub marked_answers : ℕ → List Bool → List Bool
+marked_answers place answered =
     if nat_lt place 21 then answered else
     (if nat_lt place 41 then slice_set answered (place - 20) true else slice_set answered (place - 40) true)
 
 -- the round after what came at a place
-abbrev pub round_behind : Round → WorldState → ℕ → Round
-round_behind round w place = record { place = place_behind place; answered = marked place (answered_by round w) }
+abbrev pub following_round : Round → WorldState → ℕ → Round
+following_round round w place = record { place = following_place place; answered = marked_answers place (answered_shells round w) }
 
 -- the round after what was found to be due, in this round or as the first of another
 abbrev pub passed_round : Round → Due → Round
-passed_round round found = record { place = place_behind found.place; answered = marked found.place (if found.begins then none_answered else round.answered) }
+passed_round round found = record { place = following_place found.place; answered = marked_answers found.place (if found.begins then none_answered else round.answered) }
 
 -- at some place something may come
 abbrev pub IsRunning : WorldState → Type 0

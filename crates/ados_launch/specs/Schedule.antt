@@ -11,19 +11,19 @@ use Rattle.ados_machine.specs.World.{WorldState, shell_at}
 use Rattle.ados_launch.specs.declared.rounds.Round.{Round}
 use Rattle.ados_launch.specs.declared.schedule.Next as found
 use Rattle.ados_launch.specs.declared.schedule.Next.TheVariants.{Break as BreakFound, Due as DueFound}
-use Rattle.ados_launch.specs.Rounds.{comes, due, first_round, passed_round, round_behind}
-use Rattle.ados_launch.specs.Taken.{Taken, Given, LongLine, world_behind}
+use Rattle.ados_launch.specs.Rounds.{comes, due_place, first_round, passed_round, following_round}
+use Rattle.ados_launch.specs.Taken.{TakenItem, Given, LongLine, world_after_item}
 
 -- The state of a schedule: the round; the breaks of its list that were neither given nor passed over; and how many events and
 -- long lines were taken.
-pub record Standing : Type 0 where
+pub record ScheduleState : Type 0 where
   pub round : Round
   pub breaks : List BreakAt
   pub taken : ℕ
 
 -- it begins with a list of breaks
-abbrev pub first_standing : List BreakAt → Standing
-first_standing breaks = record { round = first_round; breaks = breaks; taken = 0 }
+abbrev pub first_schedule_state : List BreakAt → ScheduleState
+first_schedule_state breaks = record { round = first_round; breaks = breaks; taken = 0 }
 
 -- what comes next: a break of a shell; a line; a shell's turn, the answer to its start, or to its read or wait
 pub data Next : Type 0 where
@@ -52,46 +52,46 @@ abbrev pub is_passed : ℕ → WorldState → BreakAt → Bool
 is_passed number w at = nat_le at.event number && not (is_some (shell_at w at.shell))
 
 -- the breaks that are left before the next event
-abbrev pub breaks_left : Standing → WorldState → List BreakAt
+abbrev pub breaks_left : ScheduleState → WorldState → List BreakAt
 breaks_left s w = drop (prefix_len (is_passed (s.taken + 1) w) s.breaks) s.breaks
 
 -- the first of these breaks, if it comes before the event with this number
-abbrev pub first_before : ℕ → List BreakAt → Option BreakAt
-first_before number [] = None
-first_before number (at ∷ breaks) = if nat_le at.event number then Some at else None
+abbrev pub first_due_break : ℕ → List BreakAt → Option BreakAt
+first_due_break number [] = None
+first_due_break number (at ∷ breaks) = if nat_le at.event number then Some at else None
 
 -- such a break comes before what is due
-abbrev pub next_by : Option BreakAt → ℕ → Next
-next_by None place = next_at place
-next_by (Some at) place = AtBreak at.shell at.kind
+abbrev pub break_or_due : Option BreakAt → ℕ → Next
+break_or_due None place = next_at place
+break_or_due (Some at) place = AtBreak at.shell at.kind
 
 -- what comes next: if nothing is due no break comes either
-abbrev pub next_in : Standing → WorldState → Option Next
-next_in s w = option_map (next_by (first_before (s.taken + 1) (breaks_left s w))) (due s.round w)
+abbrev pub next_in : ScheduleState → WorldState → Option Next
+next_in s w = option_map (break_or_due (first_due_break (s.taken + 1) (breaks_left s w))) (due_place s.round w)
 
 -- the place of what comes next, if it is not a break
-abbrev pub place_due : Standing → WorldState → Option ℕ
-place_due s w = if is_some (first_before (s.taken + 1) (breaks_left s w)) then None else due s.round w
+abbrev pub place_due : ScheduleState → WorldState → Option ℕ
+place_due s w = if is_some (first_due_break (s.taken + 1) (breaks_left s w)) then None else due_place s.round w
 
 -- the schedule after what came: a break leaves the round unchanged
-abbrev pub behind_place : Standing → WorldState → ℕ → Standing
-behind_place s w place = record { round = round_behind s.round w place; breaks = breaks_left s w; taken = s.taken + 1 }
+abbrev pub schedule_state_after_place : ScheduleState → WorldState → ℕ → ScheduleState
+schedule_state_after_place s w place = record { round = following_round s.round w place; breaks = breaks_left s w; taken = s.taken + 1 }
 
-abbrev pub standing_behind : Standing → WorldState → Next → Standing
-standing_behind s w (AtBreak shell kind) = record { round = s.round; breaks = drop 1 (breaks_left s w); taken = s.taken + 1 }
-standing_behind s w AtLine = behind_place s w (place_of AtLine)
-standing_behind s w (AtTurn shell) = behind_place s w (place_of (AtTurn shell))
-standing_behind s w (AtStart shell) = behind_place s w (place_of (AtStart shell))
-standing_behind s w (AtFurther shell) = behind_place s w (place_of (AtFurther shell))
+abbrev pub following_schedule_state : ScheduleState → WorldState → Next → ScheduleState
+following_schedule_state s w (AtBreak shell kind) = record { round = s.round; breaks = drop 1 (breaks_left s w); taken = s.taken + 1 }
+following_schedule_state s w AtLine = schedule_state_after_place s w (place_of AtLine)
+following_schedule_state s w (AtTurn shell) = schedule_state_after_place s w (place_of (AtTurn shell))
+following_schedule_state s w (AtStart shell) = schedule_state_after_place s w (place_of (AtStart shell))
+following_schedule_state s w (AtFurther shell) = schedule_state_after_place s w (place_of (AtFurther shell))
 
 -- what was found to come next, and the schedule after it once the breaks before it were passed over
-abbrev pub next_as : found.Next → Next
-next_as (BreakFound at) = AtBreak at.shell at.kind
-next_as (DueFound due_at) = next_at due_at.place
+abbrev pub found_next : found.Next → Next
+found_next (BreakFound at) = AtBreak at.shell at.kind
+found_next (DueFound due_at) = next_at due_at.place
 
-abbrev pub passed : Standing → found.Next → Standing
-passed s (BreakFound at) = record s { breaks = drop 1 s.breaks; taken = s.taken + 1 }
-passed s (DueFound due_at) = record s { round = passed_round s.round due_at; taken = s.taken + 1 }
+abbrev pub passed_schedule_state : ScheduleState → found.Next → ScheduleState
+passed_schedule_state s (BreakFound at) = record s { breaks = drop 1 s.breaks; taken = s.taken + 1 }
+passed_schedule_state s (DueFound due_at) = record s { round = passed_round s.round due_at; taken = s.taken + 1 }
 
 -- it may come: a break of a shell that runs, or what may come at a place
 abbrev pub MayCome : WorldState → found.Next → Type 0
@@ -112,27 +112,27 @@ next_of_event (Answer k reply) = if answers_start reply then AtStart k else AtFu
 next_of_event (Break k kind) = AtBreak k kind
 
 -- what a thing that was taken is to a schedule: long lines are read at the place of lines
-abbrev pub next_of : Taken → Next
+abbrev pub next_of : TakenItem → Next
 next_of (Given event out) = next_of_event event
 next_of LongLine = AtLine
 
 -- from here on, in this world, each was the next to come
-abbrev pub InOrder : Standing → WorldState → List Taken → Type 0
+abbrev pub InOrder : ScheduleState → WorldState → List TakenItem → Type 0
 InOrder s w [] = Unit {0}
-InOrder s w (item ∷ taken) = (next_in s w ≡ Some (next_of item)) × InOrder (standing_behind s w (next_of item)) (world_behind w item) taken
+InOrder s w (item ∷ taken) = (next_in s w ≡ Some (next_of item)) × InOrder (following_schedule_state s w (next_of item)) (world_after_item w item) taken
 
 -- the schedule after all of it
-abbrev pub standing_after : Standing → WorldState → List Taken → Standing
-standing_after s w [] = s
-standing_after s w (item ∷ taken) = standing_after (standing_behind s w (next_of item)) (world_behind w item) taken
+abbrev pub final_schedule_state : ScheduleState → WorldState → List TakenItem → ScheduleState
+final_schedule_state s w [] = s
+final_schedule_state s w (item ∷ taken) = final_schedule_state (following_schedule_state s w (next_of item)) (world_after_item w item) taken
 
 -- what comes next after what was taken from a world
-abbrev pub next_behind : List BreakAt → WorldState → List Taken → WorldState → Option Next
-next_behind breaks w taken now = next_in (standing_after (first_standing breaks) w taken) now
+abbrev pub next_after_taken : List BreakAt → WorldState → List TakenItem → WorldState → Option Next
+next_after_taken breaks w taken now = next_in (final_schedule_state (first_schedule_state breaks) w taken) now
 
 -- a line comes next
-abbrev pub IsReading : List BreakAt → WorldState → List Taken → WorldState → Type 0
-IsReading breaks w taken now = next_behind breaks w taken now ≡ Some AtLine
+abbrev pub IsReading : List BreakAt → WorldState → List TakenItem → WorldState → Type 0
+IsReading breaks w taken now = next_after_taken breaks w taken now ≡ Some AtLine
 
 -- shell 1 runs, and its input has not ended
 abbrev pub takes_input : WorldState → Bool

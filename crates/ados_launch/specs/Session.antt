@@ -11,10 +11,10 @@ use Rattle.ados_machine.specs.Runs.{Runs}
 use Rattle.ados_launcher.specs.declared.calls.Call.{Call}
 use Rattle.ados_launch.specs.declared.lines.LineKind.TheVariants.{Overlong}
 use Rattle.ados_launch.specs.Agreement.{Agrees}
-use Rattle.ados_launch.specs.Lines.{Known, ahead, behind_overlong, kind_of}
-use Rattle.ados_launch.specs.Taken.{Taken, events_in, outs_in, bytes_of, written_for, world_behind, IsAccepted, IsNext, IsOfReader, left_behind, AreRead}
+use Rattle.ados_launch.specs.Lines.{IfKnown, bytes_ahead, rest_after_overlong, kind_of}
+use Rattle.ados_launch.specs.Taken.{TakenItem, taken_events, taken_outs, bytes_of, written_bytes, world_after_item, IsAccepted, IsNext, IsOfReader, rest_after_item, AreRead}
 use Rattle.ados_launch.specs.Asked.{IsAsked, AreAsked, AreNoStarts, call_of}
-use Rattle.ados_launch.specs.Schedule.{InOrder, Next, first_standing, next_of, next_of_event}
+use Rattle.ados_launch.specs.Schedule.{InOrder, Next, first_schedule_state, next_of, next_of_event}
 
 -- The state at a moment of a drive: the world; what the reader has left, and how many of its reads have failed; what the
 -- writer holds, how many of its writes have failed, and how many wrote nothing; and the launcher's calls, and whether it is full.
@@ -44,24 +44,24 @@ moment_of left read_faults contents write_faults stalls calls is_full world read
 
 -- Before each thing that was taken the world and the launcher's list agree. So a child is waited for before the end of its reads
 -- exactly if the world has broken it.
-abbrev pub AgreesAlong : (is_full : Bool) (w : WorldState) (calls : List Call) (taken : List Taken) (listed : List Call) → AreAsked is_full w taken listed → Type 0
-AgreesAlong is_full w calls [] listed asked = Agrees w calls
-AgreesAlong is_full w calls (item ∷ taken) listed asked =
-    Agrees w calls × AgreesAlong is_full (world_behind w item) (calls ++ asked.0) taken asked.1 asked.5
+abbrev pub AgreesThroughout : (is_full : Bool) (w : WorldState) (calls : List Call) (taken : List TakenItem) (listed : List Call) → AreAsked is_full w taken listed → Type 0
+AgreesThroughout is_full w calls [] listed asked = Agrees w calls
+AgreesThroughout is_full w calls (item ∷ taken) listed asked =
+    Agrees w calls × AgreesThroughout is_full (world_after_item w item) (calls ++ asked.0) taken asked.1 asked.5
 
 -- From a world, with a reader that had this left, these breaks, and a launcher that had these calls, is or is not full in the end
 -- and then listed those, this was taken, and the result is the last world.
-pub record Session (w : WorldState) (left : Option (List ℕ)) (breaks : List BreakAt) (calls : List Call) (is_full : Bool) (listed : List Call) (taken : List Taken) (last : WorldState) : Type 0 where
+pub record Session (w : WorldState) (left : Option (List ℕ)) (breaks : List BreakAt) (calls : List Call) (is_full : Bool) (listed : List Call) (taken : List TakenItem) (last : WorldState) : Type 0 where
   -- the events are a run of the machine, which accepted each
-  pub run : Runs w (events_in taken) (outs_in taken) last
+  pub run : Runs w (taken_events taken) (taken_outs taken) last
   -- they came in the order of the schedule
-  pub ordered : InOrder (first_standing breaks) w taken
+  pub ordered : InOrder (first_schedule_state breaks) w taken
   -- the lines are those of the reader's bytes
-  pub lines : Known left (λ bytes. AreRead bytes taken)
+  pub lines : IfKnown left (λ bytes. AreRead bytes taken)
   -- the answers are the launcher's: each request was called once, and in their order
   pub asked : AreAsked is_full w taken listed
   -- each was called when the launcher's list and the world agreed
-  pub agreed : AgreesAlong is_full w calls taken listed asked
+  pub agreed : AgreesThroughout is_full w calls taken listed asked
 
 -- The call is for the answer that comes next: for what its shell asks for, with an answer of that kind.
 pub record IsForNext (w : WorldState) (next : Option Next) (call : Call) : Type 0 where
@@ -81,49 +81,49 @@ AreDropped w next (call ∷ other ∷ calls) = ⊥
 
 -- Between two moments this many events and long lines were taken, and all of their bytes were written. The launcher listed
 -- what was asked for them, and then these other calls.
-pub record Stands (before now : Moment) (breaks : List BreakAt) (n : ℕ) (others : List Call) : Type 0 where
-  pub taken : List Taken
+pub record SessionProgress (before now : Moment) (breaks : List BreakAt) (n : ℕ) (others : List Call) : Type 0 where
+  pub taken : List TakenItem
   pub listed : List Call
   pub count_is : length taken ≡ n
   pub session : Session before.world before.left breaks before.calls now.is_full listed taken now.world
-  pub written : Appends before.contents now.contents (written_for taken)
+  pub written : Appends before.contents now.contents (written_bytes taken)
   pub calls_are : now.calls ≡ before.calls ++ (listed ++ others)
 
 -- This many were taken, and some bytes of the last one were not written.
-pub record StandsCut (before now : Moment) (breaks : List BreakAt) (n : ℕ) : Type 0 where
-  pub taken : List Taken
-  pub item : Taken
+pub record CutSessionProgress (before now : Moment) (breaks : List BreakAt) (n : ℕ) : Type 0 where
+  pub taken : List TakenItem
+  pub item : TakenItem
   pub listed : List Call
   pub count_is : length taken + 1 ≡ n
   pub session : Session before.world before.left breaks before.calls now.is_full listed (taken ++ item ∷ []) now.world
   pub length_written : ℕ
   pub cut : length_written < length (bytes_of item)
-  pub written : Appends before.contents now.contents (written_for taken ++ take length_written (bytes_of item))
+  pub written : Appends before.contents now.contents (written_bytes taken ++ take length_written (bytes_of item))
   pub calls_are : now.calls ≡ before.calls ++ listed
 
 -- of what is left to read, fewer than 4,096 bytes were taken from the reader
 abbrev pub IsReadAhead : List ℕ → Option (List ℕ) → Type 0
-IsReadAhead left now = (held : List ℕ) × (length held < 4096) × (ahead held now ≡ Some left)
+IsReadAhead left now = (held : List ℕ) × (length held < 4096) × (bytes_ahead held now ≡ Some left)
 
 -- of what was left to read, the bytes that show that a line is overlong were taken from the reader, and fewer than 4,096
 -- after them
 abbrev pub LeavesOverlong : List ℕ → Option (List ℕ) → Type 0
-LeavesOverlong left now = (kind_of left ≡ Overlong) × IsReadAhead (behind_overlong left) now
+LeavesOverlong left now = (kind_of left ≡ Overlong) × IsReadAhead (rest_after_overlong left) now
 
 -- One thing was taken: the world after it, what is left to read, and the bytes that are to be written.
-pub record Takes (w : WorldState) (left : Option (List ℕ)) (item : Taken) (now : WorldState) (rest : Option (List ℕ)) (bytes : List ℕ) : Type 0 where
+pub record Takes (w : WorldState) (left : Option (List ℕ)) (item : TakenItem) (now : WorldState) (rest : Option (List ℕ)) (bytes : List ℕ) : Type 0 where
   pub accepted : IsAccepted w item
-  pub world_is : now ≡ world_behind w item
-  pub lines : Known left (λ known. IsNext known item × (rest ≡ Some (left_behind known item)))
+  pub world_is : now ≡ world_after_item w item
+  pub lines : IfKnown left (λ known. IsNext known item × (rest ≡ Some (rest_after_item known item)))
   pub bytes_are : bytes ≡ bytes_of item
 
 -- A line was taken, or the end of the input.
-abbrev pub TakesLineAt : WorldState → Option (List ℕ) → WorldState → Option (List ℕ) → List ℕ → Type 0
-TakesLineAt w left now rest bytes = (item : Taken) × IsOfReader item × Takes w left item now rest bytes
+abbrev pub TakesLineOrEnd : WorldState → Option (List ℕ) → WorldState → Option (List ℕ) → List ℕ → Type 0
+TakesLineOrEnd w left now rest bytes = (item : TakenItem) × IsOfReader item × Takes w left item now rest bytes
 
 -- What came next was taken, and this was asked of the launcher for it.
-pub record TakesAt (w : WorldState) (left : Option (List ℕ)) (is_full : Bool) (calls : List Call) (next : Next) (now : WorldState) (rest : Option (List ℕ)) (calls_now : List Call) (bytes : List ℕ) : Type 0 where
-  pub item : Taken
+pub record TakesNextItem (w : WorldState) (left : Option (List ℕ)) (is_full : Bool) (calls : List Call) (next : Next) (now : WorldState) (rest : Option (List ℕ)) (calls_now : List Call) (bytes : List ℕ) : Type 0 where
+  pub item : TakenItem
   pub listed : List Call
   pub next_is : next_of item ≡ next
   pub takes : Takes w left item now rest bytes

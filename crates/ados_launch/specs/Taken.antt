@@ -12,43 +12,43 @@ use Rattle.ados_launch.specs.declared.lines.LineKind.TheVariants.{End, Short, Lo
 use Rattle.ados_launch.specs.Lines.{line_of, rest_of, kind_of}
 
 -- an event that the machine accepts, with what it gives, or a long line, which is not an event
-pub data Taken : Type 0 where
-  Given : (event : Event) (out : Out) → Taken
-  LongLine : Taken
+pub data TakenItem : Type 0 where
+  Given : (event : Event) (out : Out) → TakenItem
+  LongLine : TakenItem
 
 -- the events of what was taken
-abbrev pub events_in : List Taken → List Event
-events_in [] = []
-events_in (Given event out ∷ taken) = event ∷ events_in taken
-events_in (LongLine ∷ taken) = events_in taken
+abbrev pub taken_events : List TakenItem → List Event
+taken_events [] = []
+taken_events (Given event out ∷ taken) = event ∷ taken_events taken
+taken_events (LongLine ∷ taken) = taken_events taken
 
 -- what the machine answered to them: each was accepted
-abbrev pub outs_in : List Taken → List (Result Out Refusal)
-outs_in [] = []
-outs_in (Given event out ∷ taken) = Ok out ∷ outs_in taken
-outs_in (LongLine ∷ taken) = outs_in taken
+abbrev pub taken_outs : List TakenItem → List (Result Out Refusal)
+taken_outs [] = []
+taken_outs (Given event out ∷ taken) = Ok out ∷ taken_outs taken
+taken_outs (LongLine ∷ taken) = taken_outs taken
 
 -- what is written instead of a line that the machine does not take
 abbrev pub long_line_text : List ℕ
 long_line_text = codes "Line too long" ++ 10 ∷ []
 
 -- what is written for it: what its event prints, or the text of a long line
-abbrev pub bytes_of : Taken → List ℕ
+abbrev pub bytes_of : TakenItem → List ℕ
 bytes_of (Given event out) = out.bytes
 bytes_of LongLine = long_line_text
 
 -- what is written for all that was taken, in order
-abbrev pub written_for : List Taken → List ℕ
-written_for [] = []
-written_for (item ∷ taken) = bytes_of item ++ written_for taken
+abbrev pub written_bytes : List TakenItem → List ℕ
+written_bytes [] = []
+written_bytes (item ∷ taken) = bytes_of item ++ written_bytes taken
 
 -- the world after it; a long line leaves it unchanged
-abbrev pub world_behind : WorldState → Taken → WorldState
-world_behind w (Given event out) = world_after w (Ok out) (step_of w event)
-world_behind w LongLine = w
+abbrev pub world_after_item : WorldState → TakenItem → WorldState
+world_after_item w (Given event out) = world_after w (Ok out) (step_of w event)
+world_after_item w LongLine = w
 
 -- the machine accepts it, and gives exactly this
-abbrev pub IsAccepted : WorldState → Taken → Type 0
+abbrev pub IsAccepted : WorldState → TakenItem → Type 0
 IsAccepted w (Given event out) = IsAnswer event (Ok out) (step_of w event)
 IsAccepted w LongLine = Unit {0}
 
@@ -58,7 +58,7 @@ text_of line = map to_ascii line
 
 -- it is what comes next in the bytes: a line is typed as text, at their end the input ends, a long line is
 -- passed over; a turn, an answer and a break read nothing
-abbrev pub IsNext : List ℕ → Taken → Type 0
+abbrev pub IsNext : List ℕ → TakenItem → Type 0
 IsNext bytes (Given (Typed line) out) = (kind_of bytes ≡ Short) × (line ≡ text_of (line_of bytes))
 IsNext bytes (Given EndOfInput out) = kind_of bytes ≡ End
 IsNext bytes (Given (Turn k) out) = Unit {0}
@@ -67,7 +67,7 @@ IsNext bytes (Given (Break k kind) out) = Unit {0}
 IsNext bytes LongLine = kind_of bytes ≡ Long
 
 -- it is a line of the reader, or its end
-abbrev pub IsOfReader : Taken → Type 0
+abbrev pub IsOfReader : TakenItem → Type 0
 IsOfReader (Given (Typed line) out) = Unit {0}
 IsOfReader (Given EndOfInput out) = Unit {0}
 IsOfReader (Given (Turn k) out) = ⊥
@@ -76,20 +76,20 @@ IsOfReader (Given (Break k kind) out) = ⊥
 IsOfReader LongLine = Unit {0}
 
 -- what is left of the bytes after it
-abbrev pub left_behind : List ℕ → Taken → List ℕ
-left_behind bytes (Given (Typed line) out) = rest_of bytes
-left_behind bytes (Given EndOfInput out) = rest_of bytes
-left_behind bytes (Given (Turn k) out) = bytes
-left_behind bytes (Given (Answer k reply) out) = bytes
-left_behind bytes (Given (Break k kind) out) = bytes
-left_behind bytes LongLine = rest_of bytes
+abbrev pub rest_after_item : List ℕ → TakenItem → List ℕ
+rest_after_item bytes (Given (Typed line) out) = rest_of bytes
+rest_after_item bytes (Given EndOfInput out) = rest_of bytes
+rest_after_item bytes (Given (Turn k) out) = bytes
+rest_after_item bytes (Given (Answer k reply) out) = bytes
+rest_after_item bytes (Given (Break k kind) out) = bytes
+rest_after_item bytes LongLine = rest_of bytes
 
 -- its lines are those of the bytes, in their order
-abbrev pub AreRead : List ℕ → List Taken → Type 0
+abbrev pub AreRead : List ℕ → List TakenItem → Type 0
 AreRead bytes [] = Unit {0}
-AreRead bytes (item ∷ taken) = IsNext bytes item × AreRead (left_behind bytes item) taken
+AreRead bytes (item ∷ taken) = IsNext bytes item × AreRead (rest_after_item bytes item) taken
 
 -- what is left of the bytes after all of it
-abbrev pub left_after : List ℕ → List Taken → List ℕ
-left_after bytes [] = bytes
-left_after bytes (item ∷ taken) = left_after (left_behind bytes item) taken
+abbrev pub rest_after_items : List ℕ → List TakenItem → List ℕ
+rest_after_items bytes [] = bytes
+rest_after_items bytes (item ∷ taken) = rest_after_items (rest_after_item bytes item) taken

@@ -6,7 +6,7 @@ ghost use Rattle.ados_world.specs.Opened.{opening_fault};
 ghost use Rattle.ados_shell.specs.Drafts.{out_of};
 ghost use Rattle.ados_launcher.specs.declared.calls.Call.{Call};
 ghost use Rattle.ados_launch.specs.Agreement.{Agrees};
-ghost use Rattle.ados_launch.specs.Alone.{AgreesBehind, AgreesOnceTaken, EndedAs, IfEnded, IfRunning, IfUnopened, IsUnopened, IsUntaken, RunsOn, StandsAt, TakesNext, UnopenedFor};
+ghost use Rattle.ados_launch.specs.Alone.{AgreesAfterOpening, AgreesOnceTaken, EndedAs, IfEnded, IfRunning, IfUnopened, IsUnopened, IsUntaken, RunsOn, LineProgress, TakesNext, UnopenedReason};
 
 use crate::asks::ask;
 use crate::events::give;
@@ -96,17 +96,17 @@ pub fn system<L: Launcher>(
         out.old.items out.new.items (L.calls launcher.old) (L.calls launcher.new)) }
     // No shell was opened: no number was free, or there was a fault.
     ensures unopened { IfUnopened result
-        (UnopenedFor result (opening_fault world.old line.now) (free_number world.old.shells)) }
+        (UnopenedReason result (opening_fault world.old line.now) (free_number world.old.shells)) }
     ensures untouched { IfUnopened result
         ((world.new ≡ world.old) × (launcher.new ≡ launcher.old) × (out.new ≡ out.old)) }
     // At a later fault the shell has taken these events, and nothing is lost.
     ensures fault { IfErr result (λ fault. IfSome fault.shell
-        (StandsAt world.old line.now turns (L.is_full launcher.new) fault world.new
+        (LineProgress world.old line.now turns (L.is_full launcher.new) fault world.new
         out.old.items out.new.items (L.calls launcher.old) (L.calls launcher.new))) }
     // The launcher's list and the world agree again, once an answer that was not taken is given.
     ensures agrees { OnOk result (Agrees world.new (L.calls launcher.new)) }
     ensures agrees_behind { IfErr result
-        (λ fault. AgreesBehind world.new fault.shell fault.answer (L.calls launcher.new)) }
+        (λ fault. AgreesAfterOpening world.new fault.shell fault.answer (L.calls launcher.new)) }
 {
     let number = match world.open_shell(line) {
         Ok(Some(number)) => number,

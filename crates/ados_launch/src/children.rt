@@ -4,7 +4,7 @@ ghost use Rattle.ados_machine.specs.World.{pending_of};
 ghost use Rattle.ados_machine.specs.declared.children.ChildState.TheVariants.{Closed};
 ghost use Rattle.ados_launcher.specs.Lives.{state_of};
 ghost use Rattle.ados_launch.specs.Agreement.{AddsWait, AreOver, AreWhole, IsOpenTable, WaitsForOpen};
-ghost use Rattle.ados_launch.specs.Rounds.{asks_further};
+ghost use Rattle.ados_launch.specs.Rounds.{asks_read_or_wait};
 
 use crate::rounds::asks_further;
 use ados_launcher::Launcher;
@@ -12,7 +12,7 @@ use ados_world::World;
 
 // Which children are open, according to what the shells of a world ask for.
 pub fn open_children(world: &World) -> [bool; 21]
-    ensures { (k : ℕ) → get_or result k false ≡ asks_further (pending_of world.now k) }
+    ensures { (k : ℕ) → get_or result k false ≡ asks_read_or_wait (pending_of world.now k) }
 {
     let mut children = [false; 21];
     // This shows that no shell has a number above 20.

@@ -2,7 +2,7 @@
 ghost use Rattle.std.specs.Prelude.{◌≡◌, ◌<◌, ◌^◌, ◌-◌, length, OnOk};
 ghost use Rattle.ados_machine.specs.World.{codes_at};
 ghost use Rattle.ados_launch.specs.Agreement.{Agrees, AreWhole, IsOpenTable};
-ghost use Rattle.ados_launch.specs.Drives.{ComesTo, Drives};
+ghost use Rattle.ados_launch.specs.Drives.{HasDriveResult, Drives};
 ghost use Rattle.ados_launch.specs.Session.{moment_of};
 
 use crate::children::{open_children, wait_for_open};
@@ -134,7 +134,7 @@ impl Drive<'_> {
         ensures children { IsOpenTable children.new (L.calls launcher.new) }
         ensures whole { AreWhole (L.calls launcher.new) }
         ensures agrees { OnOk result (Agrees world.new (L.calls launcher.new)) }
-        ensures comes_to { ComesTo self.now.turns self.now.breaks.now
+        ensures comes_to { HasDriveResult self.now.turns self.now.breaks.now
             (moment_of S.left S.faults K.contents K.faults K.stalls L.calls L.is_full world.old reader.old writer.old launcher.old)
             (moment_of S.left S.faults K.contents K.faults K.stalls L.calls L.is_full world.new reader.new writer.new launcher.new)
             result }

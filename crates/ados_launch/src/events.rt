@@ -1,16 +1,16 @@
 // Taking the event that is due.
 ghost use Rattle.std.specs.Prelude.{◌≡◌, ◌<◌, ◌≤◌, ◌^◌, ◌-◌, ◌+◌, ◌++◌, List, [], true, length, nat_lt, Some, if◌then◌else◌, OnOk, OnErr, IsErrOf, Ok, Err};
 ghost use Rattle.ados_machine.specs.World.{wants_line};
-ghost use Rattle.ados_machine.specs.Step.{giving, is_accepted, step_of};
+ghost use Rattle.ados_machine.specs.Step.{out_with, is_accepted, step_of};
 ghost use Rattle.ados_machine.specs.Runs.{IsAnswer, world_after};
 ghost use Rattle.ados_shell.specs.Drafts.{out_of};
 ghost use Rattle.ados_launcher.specs.declared.calls.Call.{Call};
 ghost use Rattle.ados_launch.specs.Agreement.{Agrees, AreWhole, IsOpenTable};
-ghost use Rattle.ados_launch.specs.Lines.{ahead, IsUnreadable, Known};
+ghost use Rattle.ados_launch.specs.Lines.{bytes_ahead, IsUnreadable, IfKnown};
 ghost use Rattle.ados_launch.specs.NoFurther.{TakesPart, TakesPartAt};
 ghost use Rattle.ados_launch.specs.Rounds.{comes};
-ghost use Rattle.ados_launch.specs.Schedule.{AtLine, next_as, next_at, MayCome};
-ghost use Rattle.ados_launch.specs.Session.{AreDropped, TakesAt, TakesLineAt};
+ghost use Rattle.ados_launch.specs.Schedule.{AtLine, found_next, next_at, MayCome};
+ghost use Rattle.ados_launch.specs.Session.{AreDropped, TakesNextItem, TakesLineOrEnd};
 
 use crate::Source;
 use crate::asks::answer;
@@ -41,8 +41,8 @@ pub fn take_next<L: Launcher, S: Source>(
     requires may_come { MayCome world.old next }
     requires agrees { Agrees world.old (L.calls launcher.old) }
     requires children { IsOpenTable children.old (L.calls launcher.old) }
-    ensures took { OnOk result (TakesAt world.old (ahead held.old (S.left reader.old)) (L.is_full launcher.new) (L.calls launcher.old) (next_as next)
-        world.new (ahead held.new (S.left reader.new)) (L.calls launcher.new) draft.new.printed.items) }
+    ensures took { OnOk result (TakesNextItem world.old (bytes_ahead held.old (S.left reader.old)) (L.is_full launcher.new) (L.calls launcher.old) (found_next next)
+        world.new (bytes_ahead held.new (S.left reader.new)) (L.calls launcher.new) draft.new.printed.items) }
     ensures agrees { OnOk result (Agrees world.new (L.calls launcher.new)) }
     ensures children { IsOpenTable children.new (L.calls launcher.new) }
     ensures whole { AreWhole (L.calls launcher.new) }
@@ -50,15 +50,15 @@ pub fn take_next<L: Launcher, S: Source>(
     ensures few { length held.old < 4096 → length held.new < 4096 }
     ensures honest { OnOk result (S.faults reader.new ≡ S.faults reader.old) }
     ensures err { OnErr result (world.new ≡ world.old) }
-    ensures dropped { OnErr result ((dropped : List Call) × AreDropped world.old (Some (next_as next)) dropped
+    ensures dropped { OnErr result ((dropped : List Call) × AreDropped world.old (Some (found_next next)) dropped
         × (L.calls launcher.new ≡ L.calls launcher.old ++ dropped)) }
     ensures unasked { IsErrOf result DriveFault.Read → L.calls launcher.new ≡ L.calls launcher.old }
     ensures read { IsErrOf result DriveFault.Read
-        → IsUnreadable (S.faults reader.old) (S.faults reader.new) (ahead held.old (S.left reader.old)) (ahead held.new (S.left reader.new)) }
-    ensures reading { IsErrOf result DriveFault.Read → next_as next ≡ AtLine }
+        → IsUnreadable (S.faults reader.old) (S.faults reader.new) (bytes_ahead held.old (S.left reader.old)) (bytes_ahead held.new (S.left reader.new)) }
+    ensures reading { IsErrOf result DriveFault.Read → found_next next ≡ AtLine }
     ensures memory_honest { IsErrOf result DriveFault.Memory → S.faults reader.new ≡ S.faults reader.old }
-    ensures memory_unread { IsErrOf result DriveFault.Memory → Known (ahead held.old (S.left reader.old))
-        (λ bytes. TakesPartAt (next_as next) bytes (ahead held.new (S.left reader.new))) }
+    ensures memory_unread { IsErrOf result DriveFault.Memory → IfKnown (bytes_ahead held.old (S.left reader.old))
+        (λ bytes. TakesPartAt (found_next next) bytes (bytes_ahead held.new (S.left reader.new))) }
     ensures no_write { IsErrOf result DriveFault.Write → ⊥ }
     ensures no_turns { IsErrOf result DriveFault.Turns → ⊥ }
 {
@@ -96,8 +96,8 @@ fn take_event<L: Launcher, S: Source>(
     requires due { comes world.old place ≡ true }
     requires agrees { Agrees world.old (L.calls launcher.old) }
     requires children { IsOpenTable children.old (L.calls launcher.old) }
-    ensures took { OnOk result (TakesAt world.old (ahead held.old (S.left reader.old)) (L.is_full launcher.new) (L.calls launcher.old) (next_at place)
-        world.new (ahead held.new (S.left reader.new)) (L.calls launcher.new) draft.new.printed.items) }
+    ensures took { OnOk result (TakesNextItem world.old (bytes_ahead held.old (S.left reader.old)) (L.is_full launcher.new) (L.calls launcher.old) (next_at place)
+        world.new (bytes_ahead held.new (S.left reader.new)) (L.calls launcher.new) draft.new.printed.items) }
     ensures agrees { OnOk result (Agrees world.new (L.calls launcher.new)) }
     ensures children { IsOpenTable children.new (L.calls launcher.new) }
     ensures whole { AreWhole (L.calls launcher.new) }
@@ -109,11 +109,11 @@ fn take_event<L: Launcher, S: Source>(
         × (L.calls launcher.new ≡ L.calls launcher.old ++ dropped)) }
     ensures unasked { IsErrOf result DriveFault.Read → L.calls launcher.new ≡ L.calls launcher.old }
     ensures read { IsErrOf result DriveFault.Read
-        → IsUnreadable (S.faults reader.old) (S.faults reader.new) (ahead held.old (S.left reader.old)) (ahead held.new (S.left reader.new)) }
+        → IsUnreadable (S.faults reader.old) (S.faults reader.new) (bytes_ahead held.old (S.left reader.old)) (bytes_ahead held.new (S.left reader.new)) }
     ensures reading { IsErrOf result DriveFault.Read → place ≡ 0 }
     ensures memory_honest { IsErrOf result DriveFault.Memory → S.faults reader.new ≡ S.faults reader.old }
-    ensures memory_unread { IsErrOf result DriveFault.Memory → Known (ahead held.old (S.left reader.old))
-        (λ bytes. TakesPartAt (next_at place) bytes (ahead held.new (S.left reader.new))) }
+    ensures memory_unread { IsErrOf result DriveFault.Memory → IfKnown (bytes_ahead held.old (S.left reader.old))
+        (λ bytes. TakesPartAt (next_at place) bytes (bytes_ahead held.new (S.left reader.new))) }
     ensures no_write { IsErrOf result DriveFault.Write → ⊥ }
     ensures none_turns { IsErrOf result DriveFault.Turns → ⊥ }
 {
@@ -148,15 +148,15 @@ fn take_line<S: Source>(
     requires reader { S.faults reader.old < 2 ^ 64 - 1 }
     requires due { wants_line world.old ≡ true }
     ensures took { OnOk result
-        (TakesLineAt world.old (ahead held.old (S.left reader.old)) world.new (ahead held.new (S.left reader.new)) draft.new.printed.items) }
+        (TakesLineOrEnd world.old (bytes_ahead held.old (S.left reader.old)) world.new (bytes_ahead held.new (S.left reader.new)) draft.new.printed.items) }
     ensures few { length held.old < 4096 → length held.new < 4096 }
     ensures honest { OnOk result (S.faults reader.new ≡ S.faults reader.old) }
     ensures err { OnErr result (world.new ≡ world.old) }
     ensures read { IsErrOf result DriveFault.Read
-        → IsUnreadable (S.faults reader.old) (S.faults reader.new) (ahead held.old (S.left reader.old)) (ahead held.new (S.left reader.new)) }
+        → IsUnreadable (S.faults reader.old) (S.faults reader.new) (bytes_ahead held.old (S.left reader.old)) (bytes_ahead held.new (S.left reader.new)) }
     ensures memory_honest { IsErrOf result DriveFault.Memory → S.faults reader.new ≡ S.faults reader.old }
-    ensures memory_unread { IsErrOf result DriveFault.Memory → Known (ahead held.old (S.left reader.old))
-        (λ bytes. TakesPart bytes (ahead held.new (S.left reader.new))) }
+    ensures memory_unread { IsErrOf result DriveFault.Memory → IfKnown (bytes_ahead held.old (S.left reader.old))
+        (λ bytes. TakesPart bytes (bytes_ahead held.new (S.left reader.new))) }
     ensures never_write { IsErrOf result DriveFault.Write → ⊥ }
     ensures never_turns { IsErrOf result DriveFault.Turns → ⊥ }
 {
@@ -195,8 +195,8 @@ pub fn give(world: &mut World, event: &Event, draft: &mut Draft) -> Result<(), D
 // Gives the world a line that it accepts, unless an allocation fails.
 fn give_line(world: &mut World, line: Text) -> Result<(), DriveFault>
     requires { is_accepted (step_of world.old (Event.Typed line)) ≡ true }
-    ensures answer { OnOk result (IsAnswer (Event.Typed line) (Ok (giving [] None [])) (step_of world.old (Event.Typed line))) }
-    ensures world { OnOk result (world.new ≡ world_after world.old (Ok (giving [] None [])) (step_of world.old (Event.Typed line))) }
+    ensures answer { OnOk result (IsAnswer (Event.Typed line) (Ok (out_with [] None [])) (step_of world.old (Event.Typed line))) }
+    ensures world { OnOk result (world.new ≡ world_after world.old (Ok (out_with [] None [])) (step_of world.old (Event.Typed line))) }
     ensures memory { OnErr result (result ≡ Err DriveFault.Memory) }
     ensures err { OnErr result (world.new ≡ world.old) }
 {

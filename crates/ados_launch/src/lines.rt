@@ -1,6 +1,6 @@
 ghost use Rattle.std.specs.Prelude.{◌≡◌, ◌<◌, ◌≤◌, ℕ, List, Option, true, false, vec_len, length, position, ◌^◌, ◌-◌, ◌+◌, [], ◌∷◌, ◌++◌, take, IfOk, IfSome, OnOk, OnErr, IsErrOf};
 ghost use Rattle.ados_text.specs.Lines.{is_newline};
-ghost use Rattle.ados_launch.specs.Lines.{ahead, kind_of_length, Known, TakesLine};
+ghost use Rattle.ados_launch.specs.Lines.{bytes_ahead, kind_of_length, IfKnown, TakesLine};
 ghost use Rattle.ados_launch.specs.NoFurther.{TakesPart};
 ghost use Rattle.ados_launch.specs.declared.lines.LineFault.TheVariants.{NoMemory as OutOfMemory};
 
@@ -59,14 +59,14 @@ pub fn next_line<S: Source>(
     line: &mut Vec<u8>,
 ) -> Result<LineKind, LineFault>
     requires { S.faults source.old < 2 ^ 64 - 1 }
-    ensures taken { IfOk result (λ kind. Known (ahead held.old (S.left source.old))
-        (λ bytes. TakesLine bytes kind line.new.items (ahead held.new (S.left source.new)))) }
+    ensures taken { IfOk result (λ kind. IfKnown (bytes_ahead held.old (S.left source.old))
+        (λ bytes. TakesLine bytes kind line.new.items (bytes_ahead held.new (S.left source.new)))) }
     ensures short { vec_len line.new ≤ 512 }
     ensures few { length held.old < 4096 → length held.new < 4096 }
     ensures read { IsErrOf result LineFault.Read → S.faults source.new ≡ S.faults source.old + 1 }
     ensures others { (IsErrOf result LineFault.Read → ⊥) → S.faults source.new ≡ S.faults source.old }
-    ensures no_further { IsErrOf result LineFault.NoMemory → Known (ahead held.old (S.left source.old))
-        (λ bytes. TakesPart bytes (ahead held.new (S.left source.new))) }
+    ensures no_further { IsErrOf result LineFault.NoMemory → IfKnown (bytes_ahead held.old (S.left source.old))
+        (λ bytes. TakesPart bytes (bytes_ahead held.new (S.left source.new))) }
 {
     line.clear();
     if take_held(held, line)? {
@@ -95,8 +95,8 @@ pub fn next_line<S: Source>(
 // is taken.
 fn take_held(held: &mut ReadAhead, line: &mut Vec<u8>) -> Result<bool, AllocError>
     requires { line.old.items ≡ [] }
-    ensures taken { IfOk result (λ is_taken. is_taken ≡ true → (left : Option (List ℕ)) → Known (ahead held.old left) (λ bytes.
-        TakesLine bytes LineKind.Short line.new.items (ahead held.new left))) }
+    ensures taken { IfOk result (λ is_taken. is_taken ≡ true → (left : Option (List ℕ)) → IfKnown (bytes_ahead held.old left) (λ bytes.
+        TakesLine bytes LineKind.Short line.new.items (bytes_ahead held.new left))) }
     ensures none { IfOk result (λ is_taken. is_taken ≡ false → (held.new ≡ held.old) × (line.new.items ≡ [])) }
     ensures short { vec_len line.new ≤ 512 }
     ensures few { length held.old < 4096 → length held.new < 4096 }

@@ -1,7 +1,7 @@
 ghost use Rattle.std.specs.Prelude.{◌≡◌, ◌<◌, ◌≤◌, ◌^◌, ◌-◌, ℕ, List, [], ◌∷◌, length, take, drop, IfOk, IfSome, IfNone, OnErr};
 ghost use Rattle.std.specs.Io.KnownBytes.{Consumes, Keeps, IsAtEnd};
 ghost use Rattle.ados_launch.specs.Faults.{CountsFault};
-ghost use Rattle.ados_launch.specs.Lines.{ahead};
+ghost use Rattle.ados_launch.specs.Lines.{bytes_ahead};
 
 use crate::Source;
 use std::io;
@@ -45,9 +45,9 @@ impl ReadAhead {
     pub fn next<S: Source>(&mut self, source: &mut S) -> io::Result<Option<u8>>
         requires { S.faults source.old < 2 ^ 64 - 1 }
         ensures byte { IfOk result (λ next. IfSome next (λ byte.
-            Consumes (ahead self.old (S.left source.old)) (ahead self.new (S.left source.new)) (byte ∷ []))) }
+            Consumes (bytes_ahead self.old (S.left source.old)) (bytes_ahead self.new (S.left source.new)) (byte ∷ []))) }
         ensures end { IfOk result (λ next. IfNone next
-            (IsAtEnd (ahead self.old (S.left source.old)) × Keeps (ahead self.old (S.left source.old)) (ahead self.new (S.left source.new)))) }
+            (IsAtEnd (bytes_ahead self.old (S.left source.old)) × Keeps (bytes_ahead self.old (S.left source.old)) (bytes_ahead self.new (S.left source.new)))) }
         ensures few { length self.new < 4096 }
         ensures counted { CountsFault (S.faults source.old) (S.faults source.new) result }
     {

@@ -3,18 +3,18 @@ ghost use Rattle.std.specs.Prelude.{◌≡◌, ◌<◌, ◌≤◌, get_or, false
 ghost use Rattle.ados_machine.specs.World.{pending_of};
 ghost use Rattle.ados_launch.specs.Rounds.{
   asks_start,
-  asks_further,
+  asks_read_or_wait,
   comes,
   is_due,
-  due,
+  due_place,
   in_next_round,
   in_this_round,
-  answered_by,
+  answered_shells,
   first_round,
-  marked,
+  marked_answers,
   none_answered,
   passed_round,
-  place_behind,
+  following_place,
 };
 
 use ados_machine::Request;
@@ -56,8 +56,8 @@ impl Round {
     // shell had an answer yet. To ask for it changes nothing.
     pub fn next(&self, world: &World) -> Option<Due>
         requires { self.now.place ≤ 61 }
-        ensures place { option_map (λ found. found.place) result ≡ due self.now world.now }
-        ensures answered { IfSome result (λ found. (if found.begins then none_answered else self.now.answered) ≡ answered_by self.now world.now) }
+        ensures place { option_map (λ found. found.place) result ≡ due_place self.now world.now }
+        ensures answered { IfSome result (λ found. (if found.begins then none_answered else self.now.answered) ≡ answered_shells self.now world.now) }
     {
         match self.next_here(world) {
             Some(place) => Some(Due {
@@ -107,7 +107,7 @@ impl Round {
     // The shell whose start, read or wait is at this place had an answer in this round.
     fn mark(&mut self, place: u8)
         requires { place < 61 }
-        ensures { self.new ≡ record self.old { answered = marked place self.old.answered } }
+        ensures { self.new ≡ record self.old { answered = marked_answers place self.old.answered } }
     {
         if place < 21 {
             return;
@@ -158,7 +158,7 @@ fn asks_start(world: &World, number: u8) -> bool
 
 // The shell of this number asks for a piece of its program's output, or for its end.
 pub fn asks_further(world: &World, number: u8) -> bool
-    ensures { result ≡ asks_further (pending_of world.now number) }
+    ensures { result ≡ asks_read_or_wait (pending_of world.now number) }
 {
     matches!(
         world.pending(number),
@@ -169,7 +169,7 @@ pub fn asks_further(world: &World, number: u8) -> bool
 // The place after an event: lines are read for as long as they are wanted.
 fn behind(place: u8) -> u8
     requires { place < 61 }
-    ensures { result ≡ place_behind place }
+    ensures { result ≡ following_place place }
 {
     if place == 0 { 0 } else { place + 1 }
 }

@@ -1,17 +1,17 @@
 // The order in which events come.
 ghost use Rattle.std.specs.Prelude.{◌≡◌, ◌<◌, ◌≤◌, ◌+◌, ◌-◌, ◌^◌, drop, length, option_map, IfSome, is_none};
 ghost use Rattle.std.specs.List.{prefix_len};
-ghost use Rattle.ados_launch.specs.Rounds.{due};
+ghost use Rattle.ados_launch.specs.Rounds.{due_place};
 ghost use Rattle.ados_launch.specs.Schedule.{
   breaks_left,
-  first_before,
-  first_standing,
+  first_due_break,
+  first_schedule_state,
   is_passed,
-  next_as,
+  found_next,
   next_in,
-  passed,
+  passed_schedule_state,
   place_due,
-  standing_behind,
+  following_schedule_state,
   IsInRound,
   MayCome,
 };
@@ -41,9 +41,9 @@ pub struct Schedule<'a> {
 }
 
 impl<'a> Model for Schedule<'a> {
-    ghost use Rattle.ados_launch.specs.Schedule.{Standing};
+    ghost use Rattle.ados_launch.specs.Schedule.{ScheduleState};
 
-    ghost Value = { Standing };
+    ghost Value = { ScheduleState };
 
     ghost view = { λ s. record { round = s.round; breaks = s.breaks.now; taken = s.taken } };
 }
@@ -51,7 +51,7 @@ impl<'a> Model for Schedule<'a> {
 impl<'a> Schedule<'a> {
     // A schedule begins, with these breaks.
     pub fn new(breaks: &'a [BreakAt]) -> Schedule<'a>
-        ensures { result ≡ first_standing breaks.now }
+        ensures { result ≡ first_schedule_state breaks.now }
     {
         Schedule {
             round: Round::first(),
@@ -65,11 +65,11 @@ impl<'a> Schedule<'a> {
     pub fn next(&mut self, world: &World) -> Option<Next>
         requires round { self.old.round.place ≤ 61 }
         requires count { self.old.taken < 2 ^ 64 - 1 }
-        ensures next { option_map next_as result ≡ next_in self.old world.now }
+        ensures next { option_map found_next result ≡ next_in self.old world.now }
         ensures round { self.new.round ≡ self.old.round }
         ensures taken { self.new.taken ≡ self.old.taken }
         ensures may_come { IfSome result (λ next. MayCome world.now next) }
-        ensures passed { IfSome result (λ next. passed self.new next ≡ standing_behind self.old world.now (next_as next)) }
+        ensures passed { IfSome result (λ next. passed_schedule_state self.new next ≡ following_schedule_state self.old world.now (found_next next)) }
     {
         let found = self.round.next(world)?;
         self.pass_over(world);
@@ -83,7 +83,7 @@ impl<'a> Schedule<'a> {
     pub fn pass(&mut self, next: Next)
         requires place { IsInRound next }
         requires count { self.old.taken < 2 ^ 64 - 1 }
-        ensures { self.new ≡ passed self.old next }
+        ensures { self.new ≡ passed_schedule_state self.old next }
     {
         match next {
             Next::Break(_) => self.drop_break(),
@@ -118,7 +118,7 @@ impl<'a> Schedule<'a> {
     // Nothing is due.
     pub fn is_over(&self, world: &World) -> bool
         requires { self.now.round.place ≤ 61 }
-        ensures { result ≡ is_none (due self.now.round world.now) }
+        ensures { result ≡ is_none (due_place self.now.round world.now) }
     {
         self.round.next(world).is_none()
     }
@@ -135,7 +135,7 @@ impl<'a> Schedule<'a> {
     // The first of the breaks, if it comes before the next event.
     fn first_before(&self) -> Option<BreakAt>
         requires { self.now.taken < 2 ^ 64 - 1 }
-        ensures { result ≡ first_before (self.now.taken + 1) self.now.breaks }
+        ensures { result ≡ first_due_break (self.now.taken + 1) self.now.breaks }
     {
         match self.breaks {
             [at, ..] if at.event <= self.taken + 1 => Some(*at),

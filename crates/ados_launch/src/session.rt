@@ -4,9 +4,9 @@ ghost use Rattle.std.specs.Option.{option_copied};
 ghost use Rattle.ados_machine.specs.World.{codes_at, pending_of};
 ghost use Rattle.ados_launch.specs.Agreement.{Agrees, AreOver, AreWhole, IsOpenTable, WaitsForOpen};
 ghost use Rattle.ados_launch.specs.Leads.{Reaches};
-ghost use Rattle.ados_launch.specs.Rounds.{asks_further, due};
-ghost use Rattle.ados_launch.specs.Schedule.{first_standing, next_in};
-ghost use Rattle.ados_launch.specs.Steps.{TakesOne, request_at};
+ghost use Rattle.ados_launch.specs.Rounds.{asks_read_or_wait, due_place};
+ghost use Rattle.ados_launch.specs.Schedule.{first_schedule_state, next_in};
+ghost use Rattle.ados_launch.specs.Steps.{TakesOne, next_request};
 
 use crate::children::{open_children, wait_for_open};
 use crate::driver::End;
@@ -51,9 +51,9 @@ impl<'a> Model for Session<'a> {
 impl<'a> Session<'a> {
     /// A session with this world begins, with these breaks.
     pub fn new(alloc: Global, world: &World, breaks: &'a [BreakAt]) -> Session<'a>
-        ensures standing { result.standing ≡ first_standing breaks.now }
+        ensures standing { result.standing ≡ first_schedule_state breaks.now }
         ensures held { result.held ≡ [] }
-        ensures children { (k : ℕ) → get_or result.children k false ≡ asks_further (pending_of world.now k) }
+        ensures children { (k : ℕ) → get_or result.children k false ≡ asks_read_or_wait (pending_of world.now k) }
     {
         Session {
             alloc,
@@ -69,7 +69,7 @@ impl<'a> Session<'a> {
     #[tactic(auto, using(crate::proofs::Requests::request_none, crate::proofs::Requests::request_low, crate::proofs::Requests::request_high))]
     pub fn request<'w>(&self, world: &'w World) -> Option<&'w Request>
         requires count { self.now.standing.taken < 2 ^ 64 - 1 }
-        ensures { option_copied result ≡ request_at world.now (next_in self.now.standing world.now) }
+        ensures { option_copied result ≡ next_request world.now (next_in self.now.standing world.now) }
     {
         let place = self.schedule.place(world)?;
         if place < 21 {
@@ -134,7 +134,7 @@ impl<'a> Session<'a> {
 
     /// Looks up which children are open, after lines ran alone in the world.
     pub fn look(&mut self, world: &World)
-        ensures children { (k : ℕ) → get_or self.new.children k false ≡ asks_further (pending_of world.now k) }
+        ensures children { (k : ℕ) → get_or self.new.children k false ≡ asks_read_or_wait (pending_of world.now k) }
         ensures standing { self.new.standing ≡ self.old.standing }
         ensures held { self.new.held ≡ self.old.held }
     {
@@ -143,7 +143,7 @@ impl<'a> Session<'a> {
 
     /// Nothing comes any longer.
     pub fn is_over(&self, world: &World) -> bool
-        ensures { result ≡ is_none (due self.now.standing.round world.now) }
+        ensures { result ≡ is_none (due_place self.now.standing.round world.now) }
     {
         self.schedule.is_over(world)
     }

@@ -5,7 +5,7 @@ use Rattle.std.proofs.lemmas.Bool.{cases_lt}
 use Rattle.std.proofs.lemmas.List.{get_or_past, get_or-map, get_or-replicate, length-replicate, map-set}
 use Rattle.ados_machine.specs.declared.answers.Answer.{Answer}
 use Rattle.ados_launcher.specs.declared.calls.Call.{Call}
-use Rattle.ados_launcher.specs.Open.{AreOpen, none_open, open_behind, table_behind}
+use Rattle.ados_launcher.specs.Open.{AreOpen, none_open, is_open_after_start, next_open_table}
 
 -- at first none is open
 pub opens-none : (table : List Bool) (calls : List Call) → table ≡ none_open → calls ≡ [] → AreOpen table calls
@@ -21,10 +21,10 @@ opens-none table calls none empty k =
 pub table-read : {X : Type 0} (places : List (Option X)) (k : ℕ) (was now : Option X) → was ≡ get_or places k was → is_some now ≡ is_some was → map is_some (slice_set places k now) ≡ map is_some places
 table-read places k was now is held = map-set_same is_some places k now was (held ∙ ap is_some is)
 
-pub table-started : {X : Type 0} (places : List (Option X)) (k : ℕ) (was now : Option X) (answer : Answer) → k < length places → was ≡ get_or places k was → is_some now ≡ open_behind answer (is_some was)
-    → map is_some (slice_set places k now) ≡ table_behind k answer (map is_some places)
+pub table-started : {X : Type 0} (places : List (Option X)) (k : ℕ) (was now : Option X) (answer : Answer) → k < length places → was ≡ get_or places k was → is_some now ≡ is_open_after_start answer (is_some was)
+    → map is_some (slice_set places k now) ≡ next_open_table k answer (map is_some places)
 table-started places k was now answer few is held =
-    map-set is_some places k now ∙ ap (slice_set (map is_some places) k) (held ∙ ap (open_behind answer) (ap is_some is ∙ sym (get_or-map is_some places k was false few)))
+    map-set is_some places k now ∙ ap (slice_set (map is_some places) k) (held ∙ ap (is_open_after_start answer) (ap is_some is ∙ sym (get_or-map is_some places k was false few)))
 
 pub table-waited : {X : Type 0} (places : List (Option X)) (k : ℕ) (now : Option X) → is_some now ≡ false → map is_some (slice_set places k now) ≡ slice_set (map is_some places) k false
 table-waited places k now held = map-set is_some places k now ∙ ap (slice_set (map is_some places) k) held

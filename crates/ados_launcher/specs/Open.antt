@@ -3,21 +3,21 @@ use Rattle.std.specs.Prelude.{◌≡◌, ℕ, List, Bool, true, false, get_or, r
 use Rattle.ados_machine.specs.declared.answers.Answer.{Answer}
 use Rattle.ados_machine.specs.declared.answers.Answer.TheVariants.{Started}
 use Rattle.ados_launcher.specs.declared.calls.Call.{Call}
-use Rattle.ados_launcher.specs.Lives.{is_open, life_in, state_of}
+use Rattle.ados_launcher.specs.Lives.{is_open, life_for_state, state_of}
 
 -- no child is open
 abbrev pub none_open : List Bool
 none_open = replicate 21 false
 
 -- whether a child is open after a start with this answer
-abbrev pub open_behind : Answer → Bool → Bool
-open_behind Started was_open = true
-open_behind answer was_open = was_open
+abbrev pub is_open_after_start : Answer → Bool → Bool
+is_open_after_start Started was_open = true
+is_open_after_start answer was_open = was_open
 
 -- the table after a start of child k with this answer
-abbrev pub table_behind : ℕ → Answer → List Bool → List Bool
-table_behind k answer table = slice_set table k (open_behind answer (get_or table k false))
+abbrev pub next_open_table : ℕ → Answer → List Bool → List Bool
+next_open_table k answer table = slice_set table k (is_open_after_start answer (get_or table k false))
 
 -- a child is open by the table exactly if it is by the list of the calls
 abbrev pub AreOpen : List Bool → List Call → Type 0
-AreOpen table calls = (k : ℕ) → get_or table k false ≡ is_open (life_in (state_of k calls))
+AreOpen table calls = (k : ℕ) → get_or table k false ≡ is_open (life_for_state (state_of k calls))

@@ -14,10 +14,10 @@ use Rattle.ados_line.specs.declared.signs.Sign.TheVariants.{Input, Output, Appen
 use Rattle.ados_line.specs.declared.cuts.Cut.{Cut}
 use Rattle.ados_line.specs.declared.lines.Expanded.{Expanded}
 use Rattle.ados_line.specs.Signs.{begins, is_both, sign_at, width_of}
-use Rattle.ados_line.specs.Cut.{with_blanks, with_name, named, is_taken, redirected, by_sign, cut_word, cut_item, is_run, with_rest, run_word, run_item, cut_behind, cut_from, cut_of, nothing_read, came_to, expanded_by}
+use Rattle.ados_line.specs.Cut.{with_blanks, with_name, read_name, is_taken, read_redirection, by_sign, cut_word, cut_item, is_run, with_rest, run_word, run_item, cut_item_by_command, cut_later_items, cut_of, nothing_read, line_or_nothing, expanded_of_cut}
 use Rattle.ados_line.specs.Answers.{Gives}
 use Rattle.ados_line.specs.FirstFault.{is_named, IsFaultAt, second, no_name, both, open_name, open_item, IsFirstFault}
-use Rattle.ados_line.specs.Pieces.{sign_bytes, written, EndsAt, is_signed, command_of, IsOfPieces}
+use Rattle.ados_line.specs.Pieces.{sign_bytes, piece_bytes, EndsAt, is_signed, command_of, IsOfPieces}
 use Rattle.ados_line.proofs.PieceLemmas.{Parts, spans-between, spans-rest, none-left, kept-parts, blank-parts, run-blank-parts, rest-parts, name-parts}
 use Rattle.ados_line.proofs.CutSteps.{Comes, both-signed, lift, no-equal-at, sign-here, signed, stop, taken-named, unsigned, wide}
 
@@ -56,7 +56,7 @@ signed-parts next line read answer from sign item to found single same ends abov
 named-parts : (next : ℕ → Cut → Result Cut LineFault) (line : List ℕ) (read : Cut) (answer : Result Cut LineFault) (from : ℕ) (sign : Sign) (item : Item)
     → sign_at line from ≡ Some sign → is_both line from ≡ false → from ≤ length line
     → item_at false line (from + width_of sign) ≡ item → StandsBehind (from + width_of sign) (length line) item → is_taken sign read ≡ false
-    → GoesOn next line answer from → named next line sign read item ≡ answer → Comes line from read answer
+    → GoesOn next line answer from → read_name next line sign read item ≡ answer → Comes line from read answer
 named-parts next line read answer from sign (Word start to) found single inside same stands free goes e =
     signed-parts next line read answer from sign (Word start to) to found single same refl (omega (arith, stands.0, stands.1)) stands.2 free goes e
 named-parts next line read answer from sign (Quoted start to) found single inside same stands free goes e =
@@ -69,7 +69,7 @@ named-parts next line read answer from sign (Unmatched start) found single insid
 
 redirected-parts : (next : ℕ → Cut → Result Cut LineFault) (line : List ℕ) (read : Cut) (answer : Result Cut LineFault) (from : ℕ) (sign : Sign)
     → sign_at line from ≡ Some sign → is_both line from ≡ false → from ≤ length line
-    → GoesOn next line answer from → redirected next line from read sign ≡ answer → Comes line from read answer
+    → GoesOn next line answer from → read_redirection next line from read sign ≡ answer → Comes line from read answer
 redirected-parts next line read answer from sign found single inside goes =
     let P : Result Cut LineFault → Type 0 = λ r. r ≡ answer → Comes line from read answer in
     cond_both (is_taken sign read) (Err TooManyArguments) _ P
@@ -190,7 +190,7 @@ run-item-parts next line read answer place (Unmatched from) same inside stands r
 -- any item
 behind-parts : (next : ℕ → Cut → Result Cut LineFault) (line : List ℕ) (read : Cut) (answer : Result Cut LineFault) (place : ℕ) (item : Item) → item_at true line place ≡ item
     → place ≤ length line → StandsBehind place (length line) item → GoesOn next line answer place
-    → cut_behind next line place read item ≡ answer → Comes line place read answer
+    → cut_item_by_command next line place read item ≡ answer → Comes line place read answer
 behind-parts next line read answer place item same inside stands goes =
     let P : Result Cut LineFault → Type 0 = λ r. r ≡ answer → Comes line place read answer in
     cond_both (is_run read.command) (run_item next line place read item) (cut_item next line place read item) P
@@ -198,10 +198,10 @@ behind-parts next line read answer place item same inside stands goes =
     (λ other e. item-parts next line read answer place item same inside stands other goes e)
 
 parts-from : (n : ℕ) (line : List ℕ) (place : ℕ) (read : Cut) (answer : Result Cut LineFault) → place ≤ length line → length line < n + place
-    → cut_from n line place read ≡ answer → Comes line place read answer
+    → cut_later_items n line place read ≡ answer → Comes line place read answer
 parts-from zero line place read answer within enough e = absurd (omega arith)
 parts-from (suc n) line place read answer within enough e =
-    behind-parts (cut_from n line) line read answer place (item_at true line place) refl within (item-behind true line place)
+    behind-parts (cut_later_items n line) line read answer place (item_at true line place) refl within (item-behind true line place)
     (λ to more above end h. parts-from n line to more answer end (omega arith) h) e
 
 -- pieces up to the end are the line
@@ -209,12 +209,12 @@ all-joined : (line bytes : List ℕ) → bytes ++ drop (length line) line ≡ li
 all-joined line bytes e = sym (append-nil bytes) ∙ ap (λ l. bytes ++ l) (sym (drop_all (length line) line (omega arith))) ∙ e
 
 came-parts : (line : List ℕ) (read : Cut) (command : Option (List ℕ)) → read.command ≡ command
-    → Parts line 0 (length line) nothing_read read → IsOfPieces line (came_to command read)
-came-parts line read None e p = let a = p.1 in (p.0, record { joined = all-joined line (flat_map written p.0) a.joined; placed = a.placed }, sym a.command ∙ e)
+    → Parts line 0 (length line) nothing_read read → IsOfPieces line (line_or_nothing command read)
+came-parts line read None e p = let a = p.1 in (p.0, record { joined = all-joined line (flat_map piece_bytes p.0) a.joined; placed = a.placed }, sym a.command ∙ e)
 came-parts line read (Some text) e p =
     let a = p.1 in (
       p.0,
-      record { joined = all-joined line (flat_map written p.0) a.joined; placed = a.placed },
+      record { joined = all-joined line (flat_map piece_bytes p.0) a.joined; placed = a.placed },
       record {
         command = sym a.command ∙ e;
         args = sym a.args;
@@ -223,15 +223,15 @@ came-parts line read (Some text) e p =
       },
     )
 
-by-cut : (line : List ℕ) (cut : Result Cut LineFault) → cut_of line ≡ cut → (found : Expanded) → expanded_by cut ≡ Ok found → IsOfPieces line found
+by-cut : (line : List ℕ) (cut : Result Cut LineFault) → cut_of line ≡ cut → (found : Expanded) → expanded_of_cut cut ≡ Ok found → IsOfPieces line found
 by-cut line (Ok read) h found e =
-    let same : came_to read.command read ≡ found = cc in
+    let same : line_or_nothing read.command read ≡ found = cc in
     let P : Expanded → Type 0 = λ it. IsOfPieces line it in
     subst P same (came-parts line read read.command refl (parts-from (length line + 1) line 0 nothing_read (Ok read) (omega arith) (omega arith) h))
 by-cut line (Err fault) h found e = cc
 
 -- what a line is read as, if it was cut
-pub of_pieces : (result : Result Expanded LineFault) (line : List ℕ) → Gives result (expanded_by (cut_of line)) → IfOk result (IsOfPieces line)
+pub of_pieces : (result : Result Expanded LineFault) (line : List ℕ) → Gives result (expanded_of_cut (cut_of line)) → IfOk result (IsOfPieces line)
 of_pieces (Ok found) line (inl none) = cc
 of_pieces (Ok found) line (inr same) = by-cut line _ refl found (sym same)
 of_pieces (Err fault) line h = tt
@@ -251,7 +251,7 @@ first-fault line fault e =
     let pieces = p.2.0 in
     let after = p.1 in
     let a = p.2.1 in
-    let place = ends-at line (flat_map written pieces) p.0 a.joined p.3 in
+    let place = ends-at line (flat_map piece_bytes pieces) p.0 a.joined p.3 in
     let C : Option (List ℕ) → Type 0 = λ command. IsFaultAt line command (is_named after.input after.output) p.0 fault in
     let P : ℕ → Type 0 = λ at. IsFaultAt line (command_of pieces) (is_named after.input after.output) at fault in
     record {

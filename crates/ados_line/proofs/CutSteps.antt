@@ -6,7 +6,7 @@ use Rattle.std.proofs.lemmas.Bool.{cond_both, and_parts, eqb-true, cases_lt}
 use Rattle.std.proofs.lemmas.List.{drop_more, get_or_past}
 use Rattle.ados_items.specs.declared.items.Item.{Item}
 use Rattle.ados_items.specs.declared.items.Item.TheVariants.{Equal, End}
-use Rattle.ados_items.specs.Items.{closing_from, is_blank, item_at, item_by_first, quoted_of}
+use Rattle.ados_items.specs.Items.{closing_place, is_blank, item_at, item_by_first, quoted_item}
 use Rattle.ados_line.specs.declared.faults.LineFault.{LineFault}
 use Rattle.ados_line.specs.declared.signs.Sign.{Sign}
 use Rattle.ados_line.specs.declared.signs.Sign.TheVariants.{Input, Output, Append}
@@ -70,10 +70,10 @@ no-equal place at [] = λ e. cc
 no-equal place at (c ∷ cs) =
     let P : Item → Type 0 = λ item. item ≡ Equal at → ⊥ in
     cond_both (c == 59) (End place) _ P (λ _ e. cc) (λ _.
-    cond_both (c == 34) (quoted_of (place + 1) (closing_from (place + 1) false cs)) _ P
-    (λ _ e. closing (closing_from (place + 1) false cs) e) (λ _ e. cc))
+    cond_both (c == 34) (quoted_item (place + 1) (closing_place (place + 1) false cs)) _ P
+    (λ _ e. closing (closing_place (place + 1) false cs) e) (λ _ e. cc))
   where
-    closing : (found : Option ℕ) → quoted_of (place + 1) found ≡ Equal at → ⊥
+    closing : (found : Option ℕ) → quoted_item (place + 1) found ≡ Equal at → ⊥
     closing (Some to) e = cc
     closing None e = cc
 

@@ -15,8 +15,8 @@ use Rattle.ados_line.specs.Comment.{without_comment}
 use Rattle.ados_line.specs.Cut.{line_limit}
 use Rattle.ados_line.specs.Letters.{letters_of}
 use Rattle.ados_line.specs.Values.{Variables, values}
-use Rattle.ados_line.specs.Expansion.{expanded_in, expanded_line, then_cut, then_read, read_behind, tick_text, resumed_of, IsMade, IsRead, IsResumed}
-use Rattle.ados_line.specs.Ticks.{text_of, within_bytes, parted_at, IsSeam}
+use Rattle.ados_line.specs.Expansion.{expand_raw_line, expanded_line, then_cut, then_read, read_rest_of_text, tick_text, resume_line, IsMade, IsRead, IsResumed}
+use Rattle.ados_line.specs.Ticks.{text_of, within_bytes, split_after_letters, IsSeam}
 use Rattle.ados_line.proofs.LetterLemmas.{letters-written}
 use Rattle.ados_line.proofs.TickLemmas.{is_read, seam}
 use Rattle.ados_line.proofs.SegmentLemmas.{in_segments}
@@ -32,24 +32,24 @@ made-line v line found =
     let ls = letters_of text in
     let P : Result (List ℕ) LineFault → Type 0 = λ r. then_read r ≡ Ok found → IsMade v line found in
     cond_both (nat_lt line_limit (length text)) (Err LineTooLong) (Ok text) P (λ _ e. cc)
-    (λ short e. (text, in_segments v line, grind (arith, nat_tests, short), is_read [] ls found (sym (ap (λ n. then_cut (parted_at n ls)) (none-kept ls)) ∙ e)))
+    (λ short e. (text, in_segments v line, grind (arith, nat_tests, short), is_read [] ls found (sym (ap (λ n. then_cut (split_after_letters n ls)) (none-kept ls)) ∙ e)))
 
-made-raw : (aliases : Pairs) (v : Variables) (raw : List ℕ) (found : Expanded) → expanded_in aliases v raw ≡ Ok found
+made-raw : (aliases : Pairs) (v : Variables) (raw : List ℕ) (found : Expanded) → expand_raw_line aliases v raw ≡ Ok found
     → IsMade v (with_alias aliases (without_comment raw)) found
-unfolding expanded_in
+unfolding expand_raw_line
 made-raw aliases v raw found =
     let line = with_alias aliases (without_comment raw) in
     let P : Result Expanded LineFault → Type 0 = λ r. r ≡ Ok found → IsMade v line found in
     cond_both (nat_lt line_limit (length raw)) (Err LineTooLong) (expanded_line v line) P (λ _ e. cc) (λ _ e. made-line v line found e)
 
-pub made : (result : Result Expanded LineFault) (aliases : Pairs) (v : Variables) (raw : List ℕ) → Gives result (expanded_in aliases v raw)
+pub made : (result : Result Expanded LineFault) (aliases : Pairs) (v : Variables) (raw : List ℕ) → Gives result (expand_raw_line aliases v raw)
     → IfOk result (IsMade v (with_alias aliases (without_comment raw)))
 made (Ok found) aliases v raw (inl none) = cc
 made (Ok found) aliases v raw (inr same) = made-raw aliases v raw found (sym same)
 made (Err fault) aliases v raw h = tt
 
 -- what a line is read as after its command substitution
-resumed-made : (kept after : List ℕ) (found : Expanded) → length (kept ++ after) ≤ line_limit → read_behind (length kept) (kept ++ after) ≡ Ok found
+resumed-made : (kept after : List ℕ) (found : Expanded) → length (kept ++ after) ≤ line_limit → read_rest_of_text (length kept) (kept ++ after) ≡ Ok found
     → (read : List Letter) × (behind : List Letter) × IsSeam kept (kept ++ after) read behind
     × (length (kept ++ after) ≤ line_limit) × IsRead (text_of read) behind found
 resumed-made kept after found short e =
@@ -62,15 +62,15 @@ resumed-made kept after found short e =
       is_read (text_of (take n ls)) (drop n ls) found e,
     )
 
-resumed-line : (before output after : List ℕ) (found : Expanded) → resumed_of before output after ≡ Ok found → IsResumed before output after found
-unfolding resumed_of
+resumed-line : (before output after : List ℕ) (found : Expanded) → resume_line before output after ≡ Ok found → IsResumed before output after found
+unfolding resume_line
 resumed-line before output after found =
     let kept = before ++ tick_text output in
     let P : Result Expanded LineFault → Type 0 = λ r. r ≡ Ok found → IsResumed before output after found in
-    cond_both (nat_lt line_limit (length (kept ++ after))) (Err LineTooLong) (read_behind (length kept) (kept ++ after)) P (λ _ e. cc)
+    cond_both (nat_lt line_limit (length (kept ++ after))) (Err LineTooLong) (read_rest_of_text (length kept) (kept ++ after)) P (λ _ e. cc)
     (λ short e. resumed-made kept after found (grind (arith, nat_tests, short)) e)
 
-pub resumed : (result : Result Expanded LineFault) (before output after : List ℕ) → Gives result (resumed_of before output after)
+pub resumed : (result : Result Expanded LineFault) (before output after : List ℕ) → Gives result (resume_line before output after)
     → IfOk result (IsResumed before output after)
 resumed (Ok found) before output after (inl none) = cc
 resumed (Ok found) before output after (inr same) = resumed-line before output after found (sym same)

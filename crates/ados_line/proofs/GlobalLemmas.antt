@@ -9,17 +9,17 @@ use Rattle.ados_line.specs.declared.letters.Letter.TheVariants.{Plain, Starred}
 use Rattle.ados_line.specs.Alias.{with_alias}
 use Rattle.ados_line.specs.Comment.{comment_start, without_comment}
 use Rattle.ados_line.specs.Globals.{asks_beyond}
-use Rattle.ados_line.specs.Letters.{letters_of, written}
+use Rattle.ados_line.specs.Letters.{letters_of, letter_bytes}
 use Rattle.ados_line.proofs.AliasLemmas.{no_aliases}
 use Rattle.ados_line.proofs.LetterLemmas.{letters-written}
 use Rattle.ados_line.proofs.UnmarkedLemmas.{is_byte, rest-none}
 
-none-beyond : (locals : Pairs) (ls : List Letter) → list_any (is_byte 36) (flat_map written ls) ≡ false → asks_beyond locals ls ≡ false
+none-beyond : (locals : Pairs) (ls : List Letter) → list_any (is_byte 36) (flat_map letter_bytes ls) ≡ false → asks_beyond locals ls ≡ false
 none-beyond locals [] none = refl
 none-beyond locals (Plain c ∷ ls) none =
     let parts = or_parts (c == 36) _ none in
     rw parts.0 (none-beyond locals ls parts.1)
-none-beyond locals (Starred c ∷ ls) none = none-beyond locals ls (rest-none 36 (Starred c) (flat_map written ls) none)
+none-beyond locals (Starred c ∷ ls) none = none-beyond locals ls (rest-none 36 (Starred c) (flat_map letter_bytes ls) none)
 
 -- a byte that a line does not have, no part of it has
 none-before : (n : ℕ) (bytes : List ℕ) → list_any (is_byte 36) bytes ≡ false → list_any (is_byte 36) (take n bytes) ≡ false

@@ -6,18 +6,18 @@ use Rattle.std.proofs.lemmas.Grind.{flat_map-append}
 use Rattle.std.proofs.lemmas.List.{drop-drop, take-append-drop}
 use Rattle.ados_items.specs.declared.items.Item.{Item}
 use Rattle.ados_items.specs.declared.items.Item.TheVariants.{Word, Quoted, Equal, End, Unmatched}
-use Rattle.ados_items.specs.Items.{is_blank, closing_from, quoted_of, item_by_first, item_at, bytes_between}
+use Rattle.ados_items.specs.Items.{is_blank, closing_place, quoted_item, item_by_first, item_at, bytes_between}
 use Rattle.ados_items.proofs.ItemLemmas.{StandsBehind, item-behind}
 use Rattle.ados_line.specs.declared.letters.Letter.{Letter}
 use Rattle.ados_line.specs.declared.letters.Letter.TheVariants.{Plain}
-use Rattle.ados_line.specs.Letters.{written, singly, paired, letters_behind, letters_from, letters_of, behind}
+use Rattle.ados_line.specs.Letters.{letter_bytes, plain_letters, starred_letters, letters_after_item, letters_of_items, letters_of, following_letters}
 
-pub letters-done : (next : ℕ → List Letter) (whole new : List Letter) (to : Option ℕ) → whole ≡ new ++ behind next to → to ≡ None → new ≡ whole
-letters-done next whole new to h e = sym (h ∙ ap (λ o. new ++ behind next o) e ∙ append-nil new)
+pub letters-done : (next : ℕ → List Letter) (whole new : List Letter) (to : Option ℕ) → whole ≡ new ++ following_letters next to → to ≡ None → new ≡ whole
+letters-done next whole new to h e = sym (h ∙ ap (λ o. new ++ following_letters next o) e ∙ append-nil new)
 
-pub letters-onward : (next : ℕ → List Letter) (whole new : List Letter) (to : Option ℕ) (place : ℕ) → whole ≡ new ++ behind next to → to ≡ Some place
+pub letters-onward : (next : ℕ → List Letter) (whole new : List Letter) (to : Option ℕ) (place : ℕ) → whole ≡ new ++ following_letters next to → to ≡ Some place
     → whole ≡ new ++ next place
-letters-onward next whole new to place h e = h ∙ ap (λ o. new ++ behind next o) e
+letters-onward next whole new to place h e = h ∙ ap (λ o. new ++ following_letters next o) e
 
 -- the place of an open quote
 abbrev OpensBehind : ℕ → Item → Type 0
@@ -27,7 +27,7 @@ OpensBehind place (Quoted from to) = Unit {0}
 OpensBehind place (Equal at) = Unit {0}
 OpensBehind place (End at) = Unit {0}
 
-quote-opens : (place : ℕ) (found : Option ℕ) → OpensBehind place (quoted_of (place + 1) found)
+quote-opens : (place : ℕ) (found : Option ℕ) → OpensBehind place (quoted_item (place + 1) found)
 quote-opens place (Some to) = tt
 quote-opens place None = omega arith
 
@@ -36,36 +36,36 @@ first-opens place [] = tt
 first-opens place (c ∷ cs) =
     let P : Item → Type 0 = λ item. OpensBehind place item in
     cond_both (c == 59) _ _ P (λ _. tt) (λ _.
-    cond_both (c == 34) _ _ P (λ _. quote-opens place (closing_from (place + 1) false cs)) (λ _.
+    cond_both (c == 34) _ _ P (λ _. quote-opens place (closing_place (place + 1) false cs)) (λ _.
     cond_both (c == 61) _ _ P (λ _. tt) (λ _. tt)))
 
-opens-before : (place behind : ℕ) (item : Item) → place ≤ behind → OpensBehind behind item → OpensBehind place item
-opens-before place behind (Unmatched from) h w = omega (arith, w)
-opens-before place behind (Word from to) h w = tt
-opens-before place behind (Quoted from to) h w = tt
-opens-before place behind (Equal at) h w = tt
-opens-before place behind (End at) h w = tt
+opens-before : (place following_letters : ℕ) (item : Item) → place ≤ following_letters → OpensBehind following_letters item → OpensBehind place item
+opens-before place following_letters (Unmatched from) h w = omega (arith, w)
+opens-before place following_letters (Word from to) h w = tt
+opens-before place following_letters (Quoted from to) h w = tt
+opens-before place following_letters (Equal at) h w = tt
+opens-before place following_letters (End at) h w = tt
 
 opens : (line : List ℕ) (place : ℕ) → OpensBehind place (item_at true line place)
 opens line place =
-    let behind = place + prefix_len is_blank (drop place line) in
-    opens-before place behind _ (omega arith) (first-opens behind (drop behind line))
+    let following_letters = place + prefix_len is_blank (drop place line) in
+    opens-before place following_letters _ (omega arith) (first-opens following_letters (drop following_letters line))
 
 -- bytes one by one are written as they are, and so are pairs
-written-singly : (bytes : List ℕ) → flat_map written (singly bytes) ≡ bytes
+written-singly : (bytes : List ℕ) → flat_map letter_bytes (plain_letters bytes) ≡ bytes
 written-singly [] = refl
 written-singly (c ∷ cs) = ap (λ l. c ∷ l) (written-singly cs)
 
 abbrev with_star : Bool → List ℕ → List ℕ
 with_star starred bytes = if starred then 42 ∷ bytes else bytes
 
-written-paired : (starred : Bool) (bytes : List ℕ) → flat_map written (paired starred bytes) ≡ with_star starred bytes
+written-paired : (starred : Bool) (bytes : List ℕ) → flat_map letter_bytes (starred_letters starred bytes) ≡ with_star starred bytes
 written-paired false [] = refl
 written-paired true [] = refl
 written-paired true (c ∷ cs) = ap (λ l. 42 ∷ c ∷ l) (written-paired false cs)
 written-paired false (c ∷ cs) =
-    let P : List Letter → Type 0 = λ l. flat_map written l ≡ c ∷ cs in
-    cond_both (c == 42) (paired true cs) (Plain c ∷ paired false cs) P
+    let P : List Letter → Type 0 = λ l. flat_map letter_bytes l ≡ c ∷ cs in
+    cond_both (c == 42) (starred_letters true cs) (Plain c ∷ starred_letters false cs) P
     (λ e. written-paired true cs ∙ ap (λ b. b ∷ cs) (sym (eqb-true c 42 e)))
     (λ _. ap (λ l. c ∷ l) (written-paired false cs))
 
@@ -76,20 +76,20 @@ on line from to h =
     ap (λ l. bytes_between line from to ++ l) (sym (drop-drop (to - from) from line ∙ ap (λ k. drop k line) e)) ∙ take-append-drop (to - from) (drop from line)
 
 -- the characters of a piece and of what follows
-then-written : (bytes rest : List ℕ) (ls : List Letter) → flat_map written ls ≡ rest → flat_map written (singly bytes ++ ls) ≡ bytes ++ rest
+then-written : (bytes rest : List ℕ) (ls : List Letter) → flat_map letter_bytes ls ≡ rest → flat_map letter_bytes (plain_letters bytes ++ ls) ≡ bytes ++ rest
 then-written bytes rest ls h =
-    flat_map-append written (singly bytes) ls ∙ ap (λ l. l ++ flat_map written ls) (written-singly bytes) ∙ ap (λ l. bytes ++ l) h
+    flat_map-append letter_bytes (plain_letters bytes) ls ∙ ap (λ l. l ++ flat_map letter_bytes ls) (written-singly bytes) ∙ ap (λ l. bytes ++ l) h
 
-pairs-written : (bytes rest : List ℕ) (ls : List Letter) → flat_map written ls ≡ rest → flat_map written (paired false bytes ++ ls) ≡ bytes ++ rest
+pairs-written : (bytes rest : List ℕ) (ls : List Letter) → flat_map letter_bytes ls ≡ rest → flat_map letter_bytes (starred_letters false bytes ++ ls) ≡ bytes ++ rest
 pairs-written bytes rest ls h =
-    flat_map-append written (paired false bytes) ls ∙ ap (λ l. l ++ flat_map written ls) (written-paired false bytes) ∙ ap (λ l. bytes ++ l) h
+    flat_map-append letter_bytes (starred_letters false bytes) ls ∙ ap (λ l. l ++ flat_map letter_bytes ls) (written-paired false bytes) ∙ ap (λ l. bytes ++ l) h
 
 -- what is read from a place on is the whole line from there
 abbrev Reads : (ℕ → List Letter) → List ℕ → ℕ → Type 0
-Reads next line place = (to : ℕ) → place < to → to ≤ length line → flat_map written (next to) ≡ drop to line
+Reads next line place = (to : ℕ) → place < to → to ≤ length line → flat_map letter_bytes (next to) ≡ drop to line
 
 item-written : (next : ℕ → List Letter) (line : List ℕ) (place : ℕ) (item : Item) → StandsBehind place (length line) item → OpensBehind place item
-    → Reads next line place → flat_map written (letters_behind next line place item) ≡ drop place line
+    → Reads next line place → flat_map letter_bytes (letters_after_item next line place item) ≡ drop place line
 item-written next line place (Word from to) w o reads =
     then-written _ _ _ (reads to (omega (arith, w.0, w.1)) w.2) ∙ on line place to (omega (arith, w.0, w.1))
 item-written next line place (Quoted from to) w o reads =
@@ -102,12 +102,12 @@ item-written next line place (End at) w o reads = written-singly (drop place lin
 item-written next line place (Unmatched from) w o reads =
     then-written _ _ _ (written-paired false (drop from line)) ∙ on line place from o
 
-from-written : (n : ℕ) (line : List ℕ) (place : ℕ) → place ≤ length line → length line < n + place → flat_map written (letters_from n line place) ≡ drop place line
+from-written : (n : ℕ) (line : List ℕ) (place : ℕ) → place ≤ length line → length line < n + place → flat_map letter_bytes (letters_of_items n line place) ≡ drop place line
 from-written zero line place within enough = absurd (omega arith)
 from-written (suc n) line place within enough =
-    item-written (letters_from n line) line place (item_at true line place) (item-behind true line place) (opens line place)
+    item-written (letters_of_items n line) line place (item_at true line place) (item-behind true line place) (opens line place)
     (λ to more end. from-written n line to end (omega arith))
 
 -- the characters of a line are the line
-pub letters-written : (line : List ℕ) → flat_map written (letters_of line) ≡ line
+pub letters-written : (line : List ℕ) → flat_map letter_bytes (letters_of line) ≡ line
 letters-written line = from-written (length line + 1) line 0 (omega arith) (omega arith)

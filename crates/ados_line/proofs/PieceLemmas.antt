@@ -10,7 +10,7 @@ use Rattle.ados_line.specs.declared.signs.Sign.{Sign}
 use Rattle.ados_line.specs.declared.signs.Sign.TheVariants.{Input, Output, Append}
 use Rattle.ados_line.specs.declared.cuts.Cut.{Cut}
 use Rattle.ados_line.specs.Cut.{with_piece, with_blanks, with_name, is_taken, is_run, with_rest}
-use Rattle.ados_line.specs.Pieces.{Piece, Blank, Kept, Redirected, Rest, sign_bytes, written, IsPieceAt, command_behind, Stand, kept, command_of, args_of, inputs, outputs}
+use Rattle.ados_line.specs.Pieces.{Piece, Blank, Kept, Redirected, Rest, sign_bytes, piece_bytes, IsPieceAt, next_command, Stand, piece_args, command_of, args_of, inputs, outputs}
 
 -- the command and the arguments, whether a command has been read or not
 abbrev pub command_from : Option (List ℕ) → List Piece → Option (List ℕ)
@@ -19,11 +19,11 @@ command_from (Some command) pieces = Some command
 
 abbrev pub args_from : Option (List ℕ) → List Piece → List ℕ
 args_from None pieces = args_of pieces
-args_from (Some command) pieces = flat_map (kept command) pieces
+args_from (Some command) pieces = flat_map (piece_args command) pieces
 
 -- pieces that are the line from a place on up to an end, and what has been read after them by what was read before
 pub record Adds (line : List ℕ) (place end : ℕ) (before after : Cut) (pieces : List Piece) : Type 0 where
-  pub joined : flat_map written pieces ++ drop end line ≡ drop place line
+  pub joined : flat_map piece_bytes pieces ++ drop end line ≡ drop place line
   pub placed : Stand line before.command place pieces
   pub command : after.command ≡ command_from before.command pieces
   pub args : after.args ≡ before.args ++ args_from before.command pieces
@@ -56,13 +56,13 @@ spans-rest line place within =
 
 -- one piece, and those after it
 stand-more : (line : List ℕ) (command : Option (List ℕ)) (place to : ℕ) (piece : Piece) (pieces : List Piece) → IsPieceAt line command place piece
-    → place + length (written piece) ≡ to → Stand line (command_behind command piece) to pieces → Stand line command place (piece ∷ pieces)
+    → place + length (piece_bytes piece) ≡ to → Stand line (next_command command piece) to pieces → Stand line command place (piece ∷ pieces)
 stand-more line command place to piece pieces here e rest =
-    let P : ℕ → Type 0 = λ p. Stand line (command_behind command piece) p pieces in (here, subst P (sym e) rest)
+    let P : ℕ → Type 0 = λ p. Stand line (next_command command piece) p pieces in (here, subst P (sym e) rest)
 
-joined-more : (line bytes : List ℕ) (place to end : ℕ) (pieces : List Piece) → Spans line place to bytes → flat_map written pieces ++ drop end line ≡ drop to line
-    → (bytes ++ flat_map written pieces) ++ drop end line ≡ drop place line
-joined-more line bytes place to end pieces spans e = append_assoc bytes (flat_map written pieces) (drop end line) ∙ ap (λ l. bytes ++ l) e ∙ sym spans.0
+joined-more : (line bytes : List ℕ) (place to end : ℕ) (pieces : List Piece) → Spans line place to bytes → flat_map piece_bytes pieces ++ drop end line ≡ drop to line
+    → (bytes ++ flat_map piece_bytes pieces) ++ drop end line ≡ drop place line
+joined-more line bytes place to end pieces spans e = append_assoc bytes (flat_map piece_bytes pieces) (drop end line) ∙ ap (λ l. bytes ++ l) e ∙ sym spans.0
 
 command-none : (command : Option (List ℕ)) → command ≡ command_from command []
 command-none None = refl
@@ -119,8 +119,8 @@ kept-parts line place to end bytes text read after (Some command) e spans here p
     )
 
 -- blanks that are not part of Run's line are kept; before the command they are dropped
-blank-kept : (command bytes : List ℕ) (pieces : List Piece) → is_run (Some command) ≡ false → bytes ++ flat_map (kept command) pieces ≡ flat_map (kept command) (Blank bytes ∷ pieces)
-blank-kept command bytes pieces other = ap (λ l. l ++ flat_map (kept command) pieces) (sym (cond-false (is_run (Some command)) [] bytes other))
+blank-kept : (command bytes : List ℕ) (pieces : List Piece) → is_run (Some command) ≡ false → bytes ++ flat_map (piece_args command) pieces ≡ flat_map (piece_args command) (Blank bytes ∷ pieces)
+blank-kept command bytes pieces other = ap (λ l. l ++ flat_map (piece_args command) pieces) (sym (cond-false (is_run (Some command)) [] bytes other))
 
 pub blank-parts : (line : List ℕ) (place to end : ℕ) (bytes : List ℕ) (read after : Cut) (command : Option (List ℕ)) → read.command ≡ command → is_run command ≡ false
     → Spans line place to bytes → IsPieceAt line read.command place (Blank bytes) → Parts line to end (with_blanks command bytes read) after → Parts line place end read after
@@ -152,8 +152,8 @@ blank-parts line place to end bytes read after (Some command) e other spans here
     )
 
 -- blanks before Run's redirections add nothing
-run-blank : (command bytes : List ℕ) (pieces : List Piece) → is_run (Some command) ≡ true → flat_map (kept command) pieces ≡ flat_map (kept command) (Blank bytes ∷ pieces)
-run-blank command bytes pieces runs = ap (λ l. l ++ flat_map (kept command) pieces) (sym (cond-true (is_run (Some command)) [] bytes runs))
+run-blank : (command bytes : List ℕ) (pieces : List Piece) → is_run (Some command) ≡ true → flat_map (piece_args command) pieces ≡ flat_map (piece_args command) (Blank bytes ∷ pieces)
+run-blank command bytes pieces runs = ap (λ l. l ++ flat_map (piece_args command) pieces) (sym (cond-true (is_run (Some command)) [] bytes runs))
 
 pub run-blank-parts : (line : List ℕ) (place to end : ℕ) (bytes : List ℕ) (read after : Cut) (command : Option (List ℕ)) → read.command ≡ command → is_run command ≡ true
     → Spans line place to bytes → IsPieceAt line read.command place (Blank bytes) → Parts line to end read after → Parts line place end read after

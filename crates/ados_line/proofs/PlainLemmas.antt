@@ -9,7 +9,7 @@ use Rattle.ados_items.specs.Items.{is_blank, item_by_first, item_at, value_of, b
 use Rattle.ados_items.proofs.ItemLemmas.{StandsBehind, item-behind}
 use Rattle.ados_line.specs.declared.faults.LineFault.{LineFault}
 use Rattle.ados_line.specs.declared.cuts.Cut.{Cut}
-use Rattle.ados_line.specs.Cut.{is_run, run_item, cut_item, cut_behind, cut_from, cut_of, nothing_read}
+use Rattle.ados_line.specs.Cut.{is_run, run_item, cut_item, cut_item_by_command, cut_later_items, cut_of, nothing_read}
 use Rattle.ados_line.specs.Signs.{is_both, sign_at, is_mark}
 use Rattle.ados_line.specs.Steps.{with_arguments}
 use Rattle.ados_line.proofs.PieceLemmas.{between}
@@ -89,7 +89,7 @@ run-rests next line command args place (Unmatched from) none = refl
 
 behind-rests : (next : ℕ → Cut → Result Cut LineFault) (line command args : List ℕ) (place : ℕ) (item : Item) → list_any is_mark line ≡ false
     → IsUnquoted item → StandsBehind place (length line) item → Rests next line command place
-    → cut_behind next line place (with_arguments command args) item ≡ Ok (with_arguments command (args ++ drop place line))
+    → cut_item_by_command next line place (with_arguments command args) item ≡ Ok (with_arguments command (args ++ drop place line))
 behind-rests next line command args place item none plain stands rests =
     let read = with_arguments command args in
     let P : Result Cut LineFault → Type 0 = λ r. r ≡ Ok (with_arguments command (args ++ drop place line)) in
@@ -98,10 +98,10 @@ behind-rests next line command args place item none plain stands rests =
     (λ _. item-rests next line command args place item none plain stands rests)
 
 rests-from : (n : ℕ) (line command args : List ℕ) (place : ℕ) → list_any is_mark line ≡ false → place ≤ length line → length line < n + place
-    → cut_from n line place (with_arguments command args) ≡ Ok (with_arguments command (args ++ drop place line))
+    → cut_later_items n line place (with_arguments command args) ≡ Ok (with_arguments command (args ++ drop place line))
 rests-from zero line command args place none within enough = absurd (omega arith)
 rests-from (suc n) line command args place none within enough =
-    behind-rests (cut_from n line) line command args place (item_at true line place) none (unquoted line place none) (item-behind true line place)
+    behind-rests (cut_later_items n line) line command args place (item_at true line place) none (unquoted line place none) (item-behind true line place)
     (λ to more above end. rests-from n line command more to none end (omega arith))
 
 -- the cut by the line's first item
@@ -113,7 +113,7 @@ plain_by line (End at) = nothing_read
 plain_by line (Unmatched from) = nothing_read
 
 by-item : (line : List ℕ) (item : Item) → list_any is_mark line ≡ false → IsUnquoted item → StandsBehind 0 (length line) item
-    → cut_item (cut_from (length line) line) line 0 nothing_read item ≡ Ok (plain_by line item)
+    → cut_item (cut_later_items (length line) line) line 0 nothing_read item ≡ Ok (plain_by line item)
 by-item line (Word from to) none plain stands =
     rw (no-both line from none, no-sign line from none)
     (rests-from (length line) line _ [] to none stands.2 (omega (arith, stands.0, stands.1)))
@@ -125,5 +125,5 @@ by-item line (Unmatched from) none plain stands = absurd plain
 pub plain_cut : (line : List ℕ) → list_any is_mark line ≡ false → cut_of line ≡ Ok (plain_by line (item_at true line 0))
 plain_cut line none =
     let count : length line + 1 ≡ suc (length line) = omega arith in
-    ap (λ n. cut_from n line 0 nothing_read) count
+    ap (λ n. cut_later_items n line 0 nothing_read) count
     ∙ by-item line (item_at true line 0) none (unquoted line 0 none) (item-behind true line 0)

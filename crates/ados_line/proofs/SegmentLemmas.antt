@@ -7,8 +7,8 @@ use Rattle.ados_text.specs.Text.{to_ascii}
 use Rattle.ados_line.specs.declared.letters.Letter.{Letter}
 use Rattle.ados_line.specs.declared.letters.Letter.TheVariants.{Plain, Starred}
 use Rattle.ados_line.specs.declared.references.Reference.{Reference}
-use Rattle.ados_line.specs.Letters.{singly, spelled, letters_of}
-use Rattle.ados_line.specs.Values.{Variables, Segment, Literal, covered, further, is_name_byte, is_of_name, is_plain, is_this, braced, bare, reference, name_of, by_value, by_reference, first_segment, segments, values, IsReference, IsSegment, AreSegments, IsInSegments}
+use Rattle.ados_line.specs.Letters.{plain_letters, letter_text, letters_of}
+use Rattle.ados_line.specs.Values.{Variables, Segment, Literal, segment_letters, later_letter_count, is_name_byte, is_of_name, is_plain, is_this, braced_reference, bare_reference, reference, name_of, by_value, by_reference, first_segment, segments, values, IsReference, IsSegment, AreSegments, IsInSegments}
 
 -- the segments of a list of characters are those characters
 take-on : (n : ℕ) (ls : List Letter) → take n ls ++ drop (length (take n ls)) ls ≡ ls
@@ -18,7 +18,7 @@ take-on (suc n) (l ∷ ls) = ap (λ rest. l ∷ rest) (take-on n ls)
 
 -- a segment begins with its character
 abbrev Begins : Variables → Letter → List Letter → Segment → Type 0
-Begins v l ls segment = covered segment ++ drop (further segment) ls ≡ l ∷ ls
+Begins v l ls segment = segment_letters segment ++ drop (later_letter_count segment) ls ≡ l ∷ ls
 
 value-begins : (v : Variables) (l : Letter) (n : ℕ) (ls : List Letter) (value : Option (List ℕ)) → l ≡ Plain 36 → Begins v l ls (by_value l (take n ls) value)
 value-begins v l n ls None e = refl
@@ -36,13 +36,13 @@ segment-begins v (Plain c) ls =
     (λ _. refl)
 segment-begins v (Starred c) ls = refl
 
-segments-cover : (v : Variables) (taken : ℕ) (ls : List Letter) → flat_map covered (segments v taken ls) ≡ drop taken ls
+segments-cover : (v : Variables) (taken : ℕ) (ls : List Letter) → flat_map segment_letters (segments v taken ls) ≡ drop taken ls
 segments-cover v zero [] = refl
 segments-cover v (suc taken) [] = refl
 segments-cover v (suc taken) (l ∷ ls) = segments-cover v taken ls
 segments-cover v zero (l ∷ ls) =
     let segment = first_segment v l ls in
-    ap (λ rest. covered segment ++ rest) (segments-cover v (further segment) ls) ∙ segment-begins v l ls
+    ap (λ rest. segment_letters segment ++ rest) (segments-cover v (later_letter_count segment) ls) ∙ segment-begins v l ls
 
 -- each value is that of the name to which its segment refers
 name-ascii : (c : ℕ) → is_name_byte c ≡ true → to_ascii c ≡ c
@@ -50,20 +50,20 @@ name-ascii c e =
     let below : c < 128 = grind (arith, nat_tests, e) in
     grind (arith, nat_tests)
 
-named-more : (c n : ℕ) (ls : List Letter) → to_ascii c ≡ c → take n ls ≡ singly (flat_map spelled (take n ls))
-    → take (1 + n) (Plain c ∷ ls) ≡ singly (flat_map spelled (take (1 + n) (Plain c ∷ ls)))
+named-more : (c n : ℕ) (ls : List Letter) → to_ascii c ≡ c → take n ls ≡ plain_letters (flat_map letter_text (take n ls))
+    → take (1 + n) (Plain c ∷ ls) ≡ plain_letters (flat_map letter_text (take (1 + n) (Plain c ∷ ls)))
 named-more c n ls e rest =
-    let P : ℕ → Type 0 = λ k. take k (Plain c ∷ ls) ≡ singly (flat_map spelled (take k (Plain c ∷ ls))) in
+    let P : ℕ → Type 0 = λ k. take k (Plain c ∷ ls) ≡ plain_letters (flat_map letter_text (take k (Plain c ∷ ls))) in
     let one : suc n ≡ 1 + n = omega arith in
     subst P one (ap (λ b. Plain b ∷ take n ls) (sym e) ∙ ap (λ l. Plain (to_ascii c) ∷ l) rest)
 
-named : (ls : List Letter) → take (prefix_len is_of_name ls) ls ≡ singly (flat_map spelled (take (prefix_len is_of_name ls) ls))
+named : (ls : List Letter) → take (prefix_len is_of_name ls) ls ≡ plain_letters (flat_map letter_text (take (prefix_len is_of_name ls) ls))
 named [] = refl
 named (Starred c ∷ ls) = refl
 named (Plain c ∷ ls) = by (is_name_byte c) refl (named ls)
   where
-    by : (b : Bool) → is_name_byte c ≡ b → take (prefix_len is_of_name ls) ls ≡ singly (flat_map spelled (take (prefix_len is_of_name ls) ls))
-        → take (prefix_len is_of_name (Plain c ∷ ls)) (Plain c ∷ ls) ≡ singly (flat_map spelled (take (prefix_len is_of_name (Plain c ∷ ls)) (Plain c ∷ ls)))
+    by : (b : Bool) → is_name_byte c ≡ b → take (prefix_len is_of_name ls) ls ≡ plain_letters (flat_map letter_text (take (prefix_len is_of_name ls) ls))
+        → take (prefix_len is_of_name (Plain c ∷ ls)) (Plain c ∷ ls) ≡ plain_letters (flat_map letter_text (take (prefix_len is_of_name (Plain c ∷ ls)) (Plain c ∷ ls)))
     by true e rest = simp e (named-more c (prefix_len is_of_name ls) ls (name-ascii c e) rest)
     by false e rest = simp e refl
 
@@ -85,7 +85,7 @@ found : {X : Type 0} (b : Bool) (x y : X) → cond b (Some x) None ≡ Some y �
 found true x y e = (refl, cc)
 found false x y e = cc
 
-braced-refers : (ls : List Letter) (r : Reference) → braced (Plain 123 ∷ ls) (1 + prefix_len is_of_name ls) ≡ Some r
+braced-refers : (ls : List Letter) (r : Reference) → braced_reference (Plain 123 ∷ ls) (1 + prefix_len is_of_name ls) ≡ Some r
     → IsReference (take r.end (Plain 123 ∷ ls)) (name_of (Plain 123 ∷ ls) r)
 braced-refers ls r e =
     let n = prefix_len is_of_name ls in
@@ -102,23 +102,23 @@ braced-refers ls r e =
     (ap (λ k. take k (Plain 123 ∷ ls)) more
     ∙ ap (λ l. Plain 123 ∷ l)
     (taken-on ls n (Plain 125) closed
-    ∙ ap (λ l. l ++ Plain 125 ∷ []) (named ls ∙ ap (λ k. singly (flat_map spelled (take k ls))) back))))
+    ∙ ap (λ l. l ++ Plain 125 ∷ []) (named ls ∙ ap (λ k. plain_letters (flat_map letter_text (take k ls))) back))))
 
-bare-refers : (ls : List Letter) (r : Reference) → bare (prefix_len is_of_name ls) ≡ Some r → IsReference (take r.end ls) (name_of ls r)
+bare-refers : (ls : List Letter) (r : Reference) → bare_reference (prefix_len is_of_name ls) ≡ Some r → IsReference (take r.end ls) (name_of ls r)
 bare-refers ls r e =
     let n = prefix_len is_of_name ls in
     let given : Reference = record { from = 0; to = n; end = n } in
     let both = found (nat_lt 0 n) given r e in
     let P : Reference → Type 0 = λ it. IsReference (take it.end ls) (name_of ls it) in
     let same : n ≡ n - 0 = omega arith in
-    subst P both.1 (inl (named ls ∙ ap (λ k. singly (flat_map spelled (take k ls))) same))
+    subst P both.1 (inl (named ls ∙ ap (λ k. plain_letters (flat_map letter_text (take k ls))) same))
 
 refers : (ls : List Letter) (r : Reference) → reference ls ≡ Some r → IsReference (take r.end ls) (name_of ls r)
 refers [] r = λ e. cc
 refers (l ∷ ls) r =
     let P : Option Reference → Type 0 = λ o. o ≡ Some r → IsReference (take r.end (l ∷ ls)) (name_of (l ∷ ls) r) in
-    cond_both (is_plain 123 l) (braced (l ∷ ls) (1 + prefix_len is_of_name ls)) (bare (prefix_len is_of_name (l ∷ ls))) P
-    (λ h. let Q : Letter → Type 0 = λ it. braced (it ∷ ls) (1 + prefix_len is_of_name ls) ≡ Some r → IsReference (take r.end (it ∷ ls)) (name_of (it ∷ ls) r) in
+    cond_both (is_plain 123 l) (braced_reference (l ∷ ls) (1 + prefix_len is_of_name ls)) (bare_reference (prefix_len is_of_name (l ∷ ls))) P
+    (λ h. let Q : Letter → Type 0 = λ it. braced_reference (it ∷ ls) (1 + prefix_len is_of_name ls) ≡ Some r → IsReference (take r.end (it ∷ ls)) (name_of (it ∷ ls) r) in
     subst Q (sym (plain-is 123 l h)) (braced-refers ls r))
     (λ h e. bare-refers (l ∷ ls) r e)
 
@@ -140,7 +140,7 @@ segments-known : (v : Variables) (taken : ℕ) (ls : List Letter) → AreSegment
 segments-known v zero [] = tt
 segments-known v (suc taken) [] = tt
 segments-known v (suc taken) (l ∷ ls) = segments-known v taken ls
-segments-known v zero (l ∷ ls) = (first-known v l ls, segments-known v (further (first_segment v l ls)) ls)
+segments-known v zero (l ∷ ls) = (first-known v l ls, segments-known v (later_letter_count (first_segment v l ls)) ls)
 
 -- a line with its variables expanded is its segments
 pub in_segments : (v : Variables) (line : List ℕ) → IsInSegments v line (values v 0 (letters_of line))

@@ -13,9 +13,9 @@ use Rattle.ados_line.specs.declared.lines.Expanded.{Expanded}
 use Rattle.ados_line.specs.declared.lines.Expanded.TheVariants.{Nothing, Ready, Tick}
 use Rattle.ados_line.specs.declared.lines.Tick.{Tick as TickParts}
 use Rattle.ados_line.specs.Expansion.{then_cut, IsRead}
-use Rattle.ados_line.specs.Letters.{written}
+use Rattle.ados_line.specs.Letters.{letter_bytes}
 use Rattle.ados_line.specs.Pieces.{IsOfPieces}
-use Rattle.ados_line.specs.Ticks.{is_tick, text_of, unticked, by_second, by_first, parted, within_bytes, HasNoTick}
+use Rattle.ados_line.specs.Ticks.{is_tick, text_of, tickless_text, by_second, by_first, split_at_pair, within_bytes, HasNoTick}
 use Rattle.ados_line.proofs.CutPieces.{of_pieces}
 use Rattle.ados_line.proofs.SegmentLemmas.{plain-is}
 
@@ -54,11 +54,11 @@ found-first ls place e =
 -- what characters are read as
 pair-read : (kept : List ℕ) (ls : List Letter) (place : ℕ) (second : Option ℕ) (found : Expanded) → position is_tick ls ≡ Some place
     → position is_tick (drop (place + 1) ls) ≡ second
-    → then_cut (by_second (kept ++ unticked (take place ls)) (drop (place + 1) ls) second) ≡ Ok found → IsRead kept ls found
+    → then_cut (by_second (kept ++ tickless_text (take place ls)) (drop (place + 1) ls) second) ≡ Ok found → IsRead kept ls found
 pair-read kept ls place None found first e h = cc
 pair-read kept ls place (Some end) found first e h =
     let rest = drop (place + 1) ls in
-    let tick : TickParts = record { before = kept ++ unticked (take place ls); command = unticked (take end rest); after = text_of (drop (end + 1) rest) } in
+    let tick : TickParts = record { before = kept ++ tickless_text (take place ls); command = tickless_text (take end rest); after = text_of (drop (end + 1) rest) } in
     let same : Tick tick ≡ found = cc in
     let P : Expanded → Type 0 = λ it. IsRead kept ls it in
     subst P same (
@@ -75,42 +75,42 @@ pair-read kept ls place (Some end) found first e h =
       refl,
     )
 
-whole-read : (kept : List ℕ) (ls : List Letter) (found : Expanded) → HasNoTick ls → IsOfPieces (kept ++ unticked ls) found → IsRead kept ls found
+whole-read : (kept : List ℕ) (ls : List Letter) (found : Expanded) → HasNoTick ls → IsOfPieces (kept ++ tickless_text ls) found → IsRead kept ls found
 whole-read kept ls Nothing none made = (none, made)
 whole-read kept ls (Ready line) none made = (none, made)
 whole-read kept ls (Tick tick) none made = absurd made
 
 first-read : (kept : List ℕ) (ls : List Letter) (first : Option ℕ) (found : Expanded) → position is_tick ls ≡ first
     → then_cut (by_first kept ls first) ≡ Ok found → IsRead kept ls found
-first-read kept ls None found e h = whole-read kept ls found (none-found ls e) (of_pieces (Ok found) (kept ++ unticked ls) (inr (sym h)))
+first-read kept ls None found e h = whole-read kept ls found (none-found ls e) (of_pieces (Ok found) (kept ++ tickless_text ls) (inr (sym h)))
 first-read kept ls (Some place) found e h = pair-read kept ls place _ found e refl h
 
-pub is_read : (kept : List ℕ) (ls : List Letter) (found : Expanded) → then_cut (parted kept ls) ≡ Ok found → IsRead kept ls found
+pub is_read : (kept : List ℕ) (ls : List Letter) (found : Expanded) → then_cut (split_at_pair kept ls) ≡ Ok found → IsRead kept ls found
 is_read kept ls found h = first-read kept ls _ found refl h
 
 -- the characters that end within `size` bytes are these bytes, except for a star that is read with the byte after it
 abbrev Ends : List ℕ → List Letter → Type 0
-Ends kept before = (flat_map written before ≡ kept) ⊎ (flat_map written before ++ 42 ∷ [] ≡ kept)
+Ends kept before = (flat_map letter_bytes before ≡ kept) ⊎ (flat_map letter_bytes before ++ 42 ∷ [] ≡ kept)
 
 ends-more : (c k : ℕ) (before kept : List ℕ) → c ≡ k → (before ≡ kept) ⊎ (before ++ 42 ∷ [] ≡ kept)
     → (c ∷ before ≡ k ∷ kept) ⊎ (c ∷ (before ++ 42 ∷ []) ≡ k ∷ kept)
 ends-more c k before kept same (inl e) = inl (ap (λ l. c ∷ l) e ∙ ap (λ h. h ∷ kept) same)
 ends-more c k before kept same (inr e) = inr (ap (λ l. c ∷ l) e ∙ ap (λ h. h ∷ kept) same)
 
-pub seam : (kept after : List ℕ) (ls : List Letter) → flat_map written ls ≡ kept ++ after → Ends kept (take (within_bytes (length kept) ls) ls)
+pub seam : (kept after : List ℕ) (ls : List Letter) → flat_map letter_bytes ls ≡ kept ++ after → Ends kept (take (within_bytes (length kept) ls) ls)
 seam [] after [] e = inl refl
 seam (k ∷ ks) after [] e = cc
 seam [] after (Plain c ∷ ls) e = inl refl
 seam (k ∷ ks) after (Plain c ∷ ls) e =
     let same : c ≡ k = cc in
-    let rest : flat_map written ls ≡ ks ++ after = cc in
+    let rest : flat_map letter_bytes ls ≡ ks ++ after = cc in
     let m = within_bytes (length ks) ls in
     let less : length (k ∷ ks) - 1 ≡ length ks = omega arith in
     let fits : nat_le 1 (length (k ∷ ks)) ≡ true = grind (arith, nat_tests) in
     let one : within_bytes (length (k ∷ ks)) (Plain c ∷ ls) ≡ suc m =
     cond-true (nat_le 1 (length (k ∷ ks))) _ _ fits ∙ ap (λ j. suc (within_bytes j ls)) less in
     let P : ℕ → Type 0 = λ n. Ends (k ∷ ks) (take n (Plain c ∷ ls)) in
-    subst P (sym one) (ends-more c k (flat_map written (take m ls)) ks same (seam ks after ls rest))
+    subst P (sym one) (ends-more c k (flat_map letter_bytes (take m ls)) ks same (seam ks after ls rest))
 seam [] after (Starred c ∷ ls) e = inl refl
 seam (k ∷ []) after (Starred c ∷ ls) e =
     let same : 42 ≡ k = cc in
@@ -122,11 +122,11 @@ seam (k ∷ []) after (Starred c ∷ ls) e =
 seam (k ∷ j ∷ ks) after (Starred c ∷ ls) e =
     let first : 42 ≡ k = cc in
     let second : c ≡ j = cc in
-    let rest : flat_map written ls ≡ ks ++ after = cc in
+    let rest : flat_map letter_bytes ls ≡ ks ++ after = cc in
     let m = within_bytes (length ks) ls in
     let less : length (k ∷ j ∷ ks) - 2 ≡ length ks = omega arith in
     let fits : nat_le 2 (length (k ∷ j ∷ ks)) ≡ true = grind (arith, nat_tests) in
     let two : within_bytes (length (k ∷ j ∷ ks)) (Starred c ∷ ls) ≡ suc m =
     cond-true (nat_le 2 (length (k ∷ j ∷ ks))) _ _ fits ∙ ap (λ n. suc (within_bytes n ls)) less in
     let P : ℕ → Type 0 = λ n. Ends (k ∷ j ∷ ks) (take n (Starred c ∷ ls)) in
-    subst P (sym two) (ends-more 42 k (c ∷ flat_map written (take m ls)) (j ∷ ks) first (ends-more c j (flat_map written (take m ls)) ks second (seam ks after ls rest)))
+    subst P (sym two) (ends-more 42 k (c ∷ flat_map letter_bytes (take m ls)) (j ∷ ks) first (ends-more c j (flat_map letter_bytes (take m ls)) ks second (seam ks after ls rest)))

@@ -6,8 +6,8 @@ use Rattle.ados_line.specs.declared.faults.LineFault.TheVariants.{LineTooLong, N
 use Rattle.ados_line.specs.Cut.{line_limit}
 
 -- a line has at most `line_limit` bytes
-abbrev pub limited : Text → Result Text LineFault
-limited text = if nat_lt line_limit (length text) then Err LineTooLong else Ok text
+abbrev pub within_line_limit : Text → Result Text LineFault
+within_line_limit text = if nat_lt line_limit (length text) then Err LineTooLong else Ok text
 
 -- the result is the definition's, or an allocation failed
 abbrev pub Gives : {X : Type 0} → Result X LineFault → Result X LineFault → Type 0

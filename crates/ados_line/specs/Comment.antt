@@ -7,21 +7,21 @@ use Rattle.ados_items.specs.Items.{item_at}
 use Rattle.ados_line.specs.Pieces.{EndsAt}
 
 -- where the comment begins, or the line ends, from an item on; `next` gives it from a place on
-abbrev pub comment_behind : (ℕ → ℕ) → Text → Item → ℕ
-comment_behind next line (Word from to) = next to
-comment_behind next line (Quoted from to) = next (to + 1)
-comment_behind next line (Equal place) = next (place + 1)
-comment_behind next line (End place) = place
-comment_behind next line (Unmatched from) = length line
+abbrev pub comment_after_item : (ℕ → ℕ) → Text → Item → ℕ
+comment_after_item next line (Word from to) = next to
+comment_after_item next line (Quoted from to) = next (to + 1)
+comment_after_item next line (Equal place) = next (place + 1)
+comment_after_item next line (End place) = place
+comment_after_item next line (Unmatched from) = length line
 
 -- the same from a place on, over at most `count` items
-abbrev pub comment_from : ℕ → Text → ℕ → ℕ
-comment_from zero line place = length line
-comment_from (suc count) line place = comment_behind (λ to. comment_from count line to) line (item_at true line place)
+abbrev pub comment_search : ℕ → Text → ℕ → ℕ
+comment_search zero line place = length line
+comment_search (suc count) line place = comment_after_item (λ to. comment_search count line to) line (item_at true line place)
 
 -- where a line's comment begins, or the line ends; a line has no more items than bytes
 abbrev pub comment_start : Text → ℕ
-comment_start line = comment_from (length line + 1) line 0
+comment_start line = comment_search (length line + 1) line 0
 
 -- A line up to its comment: all of it if it has none.
 abbrev pub without_comment : Text → Text

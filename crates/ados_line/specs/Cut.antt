@@ -36,11 +36,11 @@ with_name Output name read = record read { output = Some (record { name = name; 
 with_name Append name read = record read { output = Some (record { name = name; append = true }) }
 
 -- the redirection whose name is the item after its sign: a quoted item, or a run up to a blank or `;`
-abbrev pub named : Next → Text → Sign → Cut → Item → Result Cut LineFault
-named next line sign read (Word from to) = next to (with_name sign (value_of line (Word from to)) read)
-named next line sign read (Quoted from to) = next (to + 1) (with_name sign (value_of line (Quoted from to)) read)
-named next line sign read (Unmatched from) = Err UnmatchedQuotes
-named next line sign read _ = Err ArgumentMissing
+abbrev pub read_name : Next → Text → Sign → Cut → Item → Result Cut LineFault
+read_name next line sign read (Word from to) = next to (with_name sign (value_of line (Word from to)) read)
+read_name next line sign read (Quoted from to) = next (to + 1) (with_name sign (value_of line (Quoted from to)) read)
+read_name next line sign read (Unmatched from) = Err UnmatchedQuotes
+read_name next line sign read _ = Err ArgumentMissing
 
 -- an input, or an output, was named before: a line takes one of each
 abbrev pub is_taken : Sign → Cut → Bool
@@ -49,13 +49,13 @@ is_taken Output read = is_some read.output
 is_taken Append read = is_some read.output
 
 -- the redirection whose sign is at a place; the blanks before it have been read
-abbrev pub redirected : Next → Text → ℕ → Cut → Sign → Result Cut LineFault
-redirected next line place read sign =
-    if is_taken sign read then Err TooManyArguments else named next line sign read (item_at false line (place + width_of sign))
+abbrev pub read_redirection : Next → Text → ℕ → Cut → Sign → Result Cut LineFault
+read_redirection next line place read sign =
+    if is_taken sign read then Err TooManyArguments else read_name next line sign read (item_at false line (place + width_of sign))
 
 -- a word that may begin with a sign: a redirection, or a piece
 abbrev pub by_sign : Next → Text → ℕ → Cut → ℕ → ℕ → Option Sign → Result Cut LineFault
-by_sign next line place read from to (Some sign) = redirected next line from (with_blanks read.command (bytes_between line place from) read) sign
+by_sign next line place read from to (Some sign) = read_redirection next line from (with_blanks read.command (bytes_between line place from) read) sign
 by_sign next line place read from to None = next to (with_piece read.command (value_of line (Word from to)) (bytes_between line place to) read)
 
 -- a word
@@ -84,7 +84,7 @@ with_rest rest read = record read { args = read.args ++ rest }
 
 -- a word after Run: a redirection, or the rest of the line begins at the blanks before it
 abbrev pub run_word : Next → Text → ℕ → Cut → ℕ → Option Sign → Result Cut LineFault
-run_word next line place read from (Some sign) = redirected next line from read sign
+run_word next line place read from (Some sign) = read_redirection next line from read sign
 run_word next line place read from None = Ok (with_rest (drop place line) read)
 
 -- an item after Run: only a word may begin with a sign
@@ -94,30 +94,30 @@ run_item next line place read (Word from to) =
 run_item next line place read _ = Ok (with_rest (drop place line) read)
 
 -- an item, by the command that has been read, if there is one
-abbrev pub cut_behind : Next → Text → ℕ → Cut → Item → Result Cut LineFault
-cut_behind next line place read item =
+abbrev pub cut_item_by_command : Next → Text → ℕ → Cut → Item → Result Cut LineFault
+cut_item_by_command next line place read item =
     if is_run read.command then run_item next line place read item else cut_item next line place read item
 
 -- the items from a place on, at most `count`
-abbrev pub cut_from : ℕ → Text → ℕ → Cut → Result Cut LineFault
-cut_from zero line place read = Ok read
-cut_from (suc count) line place read = cut_behind (cut_from count line) line place read (item_at true line place)
+abbrev pub cut_later_items : ℕ → Text → ℕ → Cut → Result Cut LineFault
+cut_later_items zero line place read = Ok read
+cut_later_items (suc count) line place read = cut_item_by_command (cut_later_items count line) line place read (item_at true line place)
 
 abbrev pub nothing_read : Cut
 nothing_read = record { command = None; args = []; input = None; output = None }
 
 -- The cut of a line, or the first fault in it. A line has no more items than bytes.
 abbrev pub cut_of : Text → Result Cut LineFault
-cut_of line = cut_from (length line + 1) line 0 nothing_read
+cut_of line = cut_later_items (length line + 1) line 0 nothing_read
 
 -- a line without a command asks for nothing
-abbrev pub came_to : Option Text → Cut → Expanded
-came_to None read = Nothing
-came_to (Some command) read = Ready (record { command = command; args = read.args; input = read.input; output = read.output })
+abbrev pub line_or_nothing : Option Text → Cut → Expanded
+line_or_nothing None read = Nothing
+line_or_nothing (Some command) read = Ready (record { command = command; args = read.args; input = read.input; output = read.output })
 
-abbrev pub expanded_by : Result Cut LineFault → Result Expanded LineFault
-expanded_by (Ok read) = Ok (came_to read.command read)
-expanded_by (Err fault) = Err fault
+abbrev pub expanded_of_cut : Result Cut LineFault → Result Expanded LineFault
+expanded_of_cut (Ok read) = Ok (line_or_nothing read.command read)
+expanded_of_cut (Err fault) = Err fault
 
 -- the greatest number of bytes of a line
 abbrev pub line_limit : ℕ

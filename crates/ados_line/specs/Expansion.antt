@@ -12,30 +12,30 @@ use Rattle.ados_line.specs.declared.lines.Expanded.TheVariants.{Nothing, Ready, 
 use Rattle.ados_line.specs.declared.ticks.Parted.{Parted}
 use Rattle.ados_line.specs.declared.ticks.Parted.TheVariants.{Whole, Ticked}
 use Rattle.ados_line.specs.Alias.{with_alias}
-use Rattle.ados_line.specs.Answers.{limited}
+use Rattle.ados_line.specs.Answers.{within_line_limit}
 use Rattle.ados_line.specs.Comment.{without_comment}
-use Rattle.ados_line.specs.Cut.{cut_of, expanded_by, line_limit}
+use Rattle.ados_line.specs.Cut.{cut_of, expanded_of_cut, line_limit}
 use Rattle.ados_line.specs.Letters.{letters_of}
 use Rattle.ados_line.specs.Pieces.{IsOfPieces}
-use Rattle.ados_line.specs.Ticks.{text_of, unticked, parted_behind, HasNoTick, IsTick, IsSeam}
+use Rattle.ados_line.specs.Ticks.{text_of, tickless_text, split_after_bytes, HasNoTick, IsTick, IsSeam}
 use Rattle.ados_line.specs.Values.{Variables, values, IsInSegments}
 
 -- a line with its variables expanded has at most 512 bytes too
 abbrev pub with_values : Variables → Text → Result Text LineFault
-with_values variables line = limited (values variables 0 (letters_of line))
+with_values variables line = within_line_limit (values variables 0 (letters_of line))
 
 -- a line without a pair of back-ticks is cut
 abbrev pub then_cut : Result Parted LineFault → Result Expanded LineFault
-then_cut (Ok (Whole text)) = expanded_by (cut_of text)
+then_cut (Ok (Whole text)) = expanded_of_cut (cut_of text)
 then_cut (Ok (Ticked tick)) = Ok (Tick tick)
 then_cut (Err fault) = Err fault
 
 -- a text whose first `size` bytes are kept as they are
-abbrev pub read_behind : ℕ → Text → Result Expanded LineFault
-read_behind size text = then_cut (parted_behind size text)
+abbrev pub read_rest_of_text : ℕ → Text → Result Expanded LineFault
+read_rest_of_text size text = then_cut (split_after_bytes size text)
 
 abbrev pub then_read : Result Text LineFault → Result Expanded LineFault
-then_read (Ok text) = read_behind 0 text
+then_read (Ok text) = read_rest_of_text 0 text
 then_read (Err fault) = Err fault
 
 -- a line without its comment, with its alias expanded
@@ -43,33 +43,33 @@ abbrev pub expanded_line : Variables → Text → Result Expanded LineFault
 expanded_line variables line = then_read (with_values variables line)
 
 -- a raw line
-unfoldable pub expanded_in : Pairs → Variables → Text → Result Expanded LineFault
-expanded_in aliases variables raw =
+unfoldable pub expand_raw_line : Pairs → Variables → Text → Result Expanded LineFault
+expand_raw_line aliases variables raw =
     if nat_lt line_limit (length raw) then Err LineTooLong else expanded_line variables (with_alias aliases (without_comment raw))
 
 -- the output of a command substitution, as text: one newline at its end is dropped, and each other one becomes a space
 abbrev pub without_newline : Bytes → Bytes
 without_newline bytes = if slice_index bytes (length bytes - 1) == 10 then take (length bytes - 1) bytes else bytes
 
-abbrev pub spaced : ℕ → ℕ
-spaced c = if c == 10 then 32 else to_ascii c
+abbrev pub newline_to_space : ℕ → ℕ
+newline_to_space c = if c == 10 then 32 else to_ascii c
 
 abbrev pub tick_text : Bytes → Text
-tick_text output = map spaced (without_newline output)
+tick_text output = map newline_to_space (without_newline output)
 
 -- a line after its command substitution, by the text up to the end of the output and the text after it
-abbrev pub resumed_at : Text → Text → Result Expanded LineFault
-resumed_at kept after = if nat_lt line_limit (length (kept ++ after)) then Err LineTooLong else read_behind (length kept) (kept ++ after)
+abbrev pub read_resumed_text : Text → Text → Result Expanded LineFault
+read_resumed_text kept after = if nat_lt line_limit (length (kept ++ after)) then Err LineTooLong else read_rest_of_text (length kept) (kept ++ after)
 
 -- a line after its command substitution
-unfoldable pub resumed_of : Text → Bytes → Text → Result Expanded LineFault
-resumed_of before output after = resumed_at (before ++ tick_text output) after
+unfoldable pub resume_line : Text → Bytes → Text → Result Expanded LineFault
+resume_line before output after = read_resumed_text (before ++ tick_text output) after
 
 -- What characters are read as after a text that is kept as it is: the tick of their first pair of back-ticks, or, if
 -- there is no back-tick without a star before it, the pieces of the text without the stars before back-ticks.
 abbrev pub IsRead : Text → List Letter → Expanded → Type 0
-IsRead kept letters Nothing = HasNoTick letters × IsOfPieces (kept ++ unticked letters) Nothing
-IsRead kept letters (Ready line) = HasNoTick letters × IsOfPieces (kept ++ unticked letters) (Ready line)
+IsRead kept letters Nothing = HasNoTick letters × IsOfPieces (kept ++ tickless_text letters) Nothing
+IsRead kept letters (Ready line) = HasNoTick letters × IsOfPieces (kept ++ tickless_text letters) (Ready line)
 IsRead kept letters (Tick tick) = IsTick kept letters tick
 
 -- What a line is read as is a tick or pieces of a text, and that text is the line's segments joined.

@@ -10,7 +10,7 @@ use Rattle.ados_line.specs.declared.lines.Redirection.{Redirection}
 use Rattle.ados_line.specs.declared.signs.Sign.{Sign}
 use Rattle.ados_line.specs.declared.signs.Sign.TheVariants.{Input, Output, Append}
 use Rattle.ados_line.specs.Cut.{is_run}
-use Rattle.ados_line.specs.Pieces.{Piece, Stand, command_of, inputs, outputs, written}
+use Rattle.ados_line.specs.Pieces.{Piece, Stand, command_of, inputs, outputs, piece_bytes}
 use Rattle.ados_line.specs.Signs.{is_both, sign_at, width_of}
 
 -- an input, or an output, was named before
@@ -40,8 +40,8 @@ pub record IsFirstFault (line : Text) (fault : LineFault) : Type 0 where
   pub rest : Text
   pub input : Option Text
   pub output : Option Redirection
-  pub joined : flat_map written pieces ++ rest ≡ line
+  pub joined : flat_map piece_bytes pieces ++ rest ≡ line
   pub placed : Stand line None 0 pieces
   pub inputs_are : flat_map inputs pieces ≡ option_to_list input
   pub outputs_are : flat_map outputs pieces ≡ option_to_list output
-  pub here : IsFaultAt line (command_of pieces) (is_named input output) (length (flat_map written pieces)) fault
+  pub here : IsFaultAt line (command_of pieces) (is_named input output) (length (flat_map piece_bytes pieces)) fault

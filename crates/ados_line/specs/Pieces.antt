@@ -31,11 +31,11 @@ sign_bytes Output = 62 ∷ []
 sign_bytes Append = 62 ∷ 62 ∷ []
 
 -- the bytes of a piece
-abbrev pub written : Piece → Text
-written (Blank bytes) = bytes
-written (Kept bytes text) = bytes
-written (Redirected sign behind name) = sign_bytes sign ++ behind
-written (Rest bytes) = bytes
+abbrev pub piece_bytes : Piece → Text
+piece_bytes (Blank bytes) = bytes
+piece_bytes (Kept bytes text) = bytes
+piece_bytes (Redirected sign behind name) = sign_bytes sign ++ behind
+piece_bytes (Rest bytes) = bytes
 
 -- an item ends at a place: neither the line's end nor an open quote does
 abbrev pub EndsAt : ℕ → Item → Type 0
@@ -79,29 +79,29 @@ IsPieceAt line command place (Rest bytes) =
     (is_run command ≡ true) × (place + length bytes ≡ length line) × (is_signed line (item_at true line place) ≡ false)
 
 -- the command after a piece: the first item that is kept
-abbrev pub command_behind : Option Text → Piece → Option Text
-command_behind command (Blank bytes) = command
-command_behind command (Kept bytes text) = option_or command (Some text)
-command_behind command (Redirected sign behind name) = command
-command_behind command (Rest bytes) = command
+abbrev pub next_command : Option Text → Piece → Option Text
+next_command command (Blank bytes) = command
+next_command command (Kept bytes text) = option_or command (Some text)
+next_command command (Redirected sign behind name) = command
+next_command command (Rest bytes) = command
 
 -- the pieces follow one another in the line from a place on
 abbrev pub Stand : Text → Option Text → ℕ → List Piece → Type 0
 Stand line command place [] = Unit {0}
 Stand line command place (piece ∷ pieces) =
-    IsPieceAt line command place piece × Stand line (command_behind command piece) (place + length (written piece)) pieces
+    IsPieceAt line command place piece × Stand line (next_command command piece) (place + length (piece_bytes piece)) pieces
 
 -- the pieces are the line, in order
 pub record ArePieces (line : Text) (pieces : List Piece) : Type 0 where
-  pub joined : flat_map written pieces ≡ line
+  pub joined : flat_map piece_bytes pieces ≡ line
   pub placed : Stand line None 0 pieces
 
 -- what a piece adds to the arguments of a command: blanks before Run's redirections add nothing
-abbrev pub kept : Text → Piece → Text
-kept command (Blank bytes) = if is_run (Some command) then [] else bytes
-kept command (Kept bytes text) = bytes
-kept command (Redirected sign behind name) = []
-kept command (Rest bytes) = bytes
+abbrev pub piece_args : Text → Piece → Text
+piece_args command (Blank bytes) = if is_run (Some command) then [] else bytes
+piece_args command (Kept bytes text) = bytes
+piece_args command (Redirected sign behind name) = []
+piece_args command (Rest bytes) = bytes
 
 -- the command is the first item that is kept
 abbrev pub command_of : List Piece → Option Text
@@ -115,7 +115,7 @@ command_of (Rest bytes ∷ pieces) = command_of pieces
 abbrev pub args_of : List Piece → Text
 args_of [] = []
 args_of (Blank bytes ∷ pieces) = args_of pieces
-args_of (Kept bytes text ∷ pieces) = flat_map (kept text) pieces
+args_of (Kept bytes text ∷ pieces) = flat_map (piece_args text) pieces
 args_of (Redirected sign behind name ∷ pieces) = args_of pieces
 args_of (Rest bytes ∷ pieces) = args_of pieces
 

@@ -11,7 +11,7 @@ use Rattle.ados_line.specs.declared.letters.Letter.TheVariants.{Plain}
 use Rattle.ados_line.specs.declared.lines.Tick.{Tick}
 use Rattle.ados_line.specs.declared.ticks.Parted.{Parted}
 use Rattle.ados_line.specs.declared.ticks.Parted.TheVariants.{Whole, Ticked}
-use Rattle.ados_line.specs.Letters.{written, spelled, bared, letters_of}
+use Rattle.ados_line.specs.Letters.{letter_bytes, letter_text, starless_text, letters_of}
 use Rattle.ados_line.specs.Values.{is_plain}
 
 -- a back-tick without a star before it
@@ -20,40 +20,40 @@ is_tick letter = is_plain 96 letter
 
 -- characters as they are written, and without the stars before back-ticks
 abbrev pub text_of : List Letter → Text
-text_of letters = flat_map spelled letters
+text_of letters = flat_map letter_text letters
 
-abbrev pub unticked : List Letter → Text
-unticked letters = flat_map (bared 96) letters
+abbrev pub tickless_text : List Letter → Text
+tickless_text letters = flat_map (starless_text 96) letters
 
 -- the second back-tick ends the command; the text after it stays as it is
 abbrev pub by_second : Text → List Letter → Option ℕ → Result Parted LineFault
 by_second before rest None = Err UnmatchedQuotes
 by_second before rest (Some place) =
-    Ok (Ticked (record { before = before; command = unticked (take place rest); after = text_of (drop (place + 1) rest) }))
+    Ok (Ticked (record { before = before; command = tickless_text (take place rest); after = text_of (drop (place + 1) rest) }))
 
 -- the first one begins it
 abbrev pub by_first : Text → List Letter → Option ℕ → Result Parted LineFault
-by_first kept letters None = Ok (Whole (kept ++ unticked letters))
+by_first kept letters None = Ok (Whole (kept ++ tickless_text letters))
 by_first kept letters (Some place) =
-    (let rest = drop (place + 1) letters in by_second (kept ++ unticked (take place letters)) rest (position is_tick rest))
+    (let rest = drop (place + 1) letters in by_second (kept ++ tickless_text (take place letters)) rest (position is_tick rest))
 
 -- characters split at their first two back-ticks, after a text that is kept as it is
-abbrev pub parted : Text → List Letter → Result Parted LineFault
-parted kept letters = by_first kept letters (position is_tick letters)
+abbrev pub split_at_pair : Text → List Letter → Result Parted LineFault
+split_at_pair kept letters = by_first kept letters (position is_tick letters)
 
 -- how many characters end within `size` bytes
 abbrev pub within_bytes : ℕ → List Letter → ℕ
 within_bytes size [] = 0
-within_bytes size (l ∷ ls) = if nat_le (length (written l)) size then suc (within_bytes (size - length (written l)) ls) else 0
+within_bytes size (l ∷ ls) = if nat_le (length (letter_bytes l)) size then suc (within_bytes (size - length (letter_bytes l)) ls) else 0
 
 -- characters split after the first `count` ones, which are kept as they are
-abbrev pub parted_at : ℕ → List Letter → Result Parted LineFault
-parted_at count letters = parted (text_of (take count letters)) (drop count letters)
+abbrev pub split_after_letters : ℕ → List Letter → Result Parted LineFault
+split_after_letters count letters = split_at_pair (text_of (take count letters)) (drop count letters)
 
 -- A line split after its first `size` bytes, which are kept as they are. A star there and the byte after it may be one
 -- character, which is then read.
-abbrev pub parted_behind : ℕ → Text → Result Parted LineFault
-parted_behind size line = (let letters = letters_of line in parted_at (within_bytes size letters) letters)
+abbrev pub split_after_bytes : ℕ → Text → Result Parted LineFault
+split_after_bytes size line = (let letters = letters_of line in split_after_letters (within_bytes size letters) letters)
 
 -- there is no back-tick without a star before it among the characters
 abbrev pub HasNoTick : List Letter → Type 0
@@ -70,10 +70,10 @@ pub record ArePairAt (letters before command after : List Letter) : Type 0 where
 abbrev pub IsTick : Text → List Letter → Tick → Type 0
 IsTick kept letters tick =
     (before : List Letter) × (command : List Letter) × (after : List Letter) × ArePairAt letters before command after
-    × (tick.before ≡ kept ++ unticked before) × (tick.command ≡ unticked command) × (tick.after ≡ text_of after)
+    × (tick.before ≡ kept ++ tickless_text before) × (tick.command ≡ tickless_text command) × (tick.after ≡ text_of after)
 
 -- A line's characters up to the end of the kept text, and those that are read: a star at that end is read with the byte
 -- after it.
 pub record IsSeam (kept line : Text) (before behind : List Letter) : Type 0 where
   pub joined : before ++ behind ≡ letters_of line
-  pub ends : (flat_map written before ≡ kept) ⊎ (flat_map written before ++ 42 ∷ [] ≡ kept)
+  pub ends : (flat_map letter_bytes before ≡ kept) ⊎ (flat_map letter_bytes before ++ 42 ∷ [] ≡ kept)

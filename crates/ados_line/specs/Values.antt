@@ -7,12 +7,12 @@ use Rattle.ados_ram.specs.Files.{Files}
 use Rattle.ados_assign.specs.Assigns.{AssignMap}
 use Rattle.ados_vars.specs.Vars.{Pairs, value_in}
 use Rattle.ados_vars.specs.Global.{global_of}
-use Rattle.ados_vars.specs.Locals.{shown}
+use Rattle.ados_vars.specs.Locals.{shown_pairs}
 use Rattle.ados_line.specs.declared.scopes.Scope.{Scope}
 use Rattle.ados_line.specs.declared.letters.Letter.{Letter}
 use Rattle.ados_line.specs.declared.letters.Letter.TheVariants.{Plain, Starred}
 use Rattle.ados_line.specs.declared.references.Reference.{Reference}
-use Rattle.ados_line.specs.Letters.{singly, spelled, bared, letters_of}
+use Rattle.ados_line.specs.Letters.{plain_letters, letter_text, starless_text, letters_of}
 
 -- the values of variables, by their names
 abbrev pub Variables : Type 0
@@ -23,7 +23,7 @@ abbrev pub variables_of : Pairs → AssignMap → Files → Variables
 variables_of locals assigns files name = option_or (value_in locals name) (global_of assigns files name)
 
 abbrev pub variables_in : Scope → Variables
-variables_in scope = variables_of (shown scope.locals.now scope.code scope.result2) scope.assigns.now scope.ram.now
+variables_in scope = variables_of (shown_pairs scope.locals.now scope.code scope.result2) scope.assigns.now scope.ram.now
 
 -- a digit, a letter or `_`
 abbrev pub is_name_byte : ℕ → Bool
@@ -44,19 +44,19 @@ is_this byte (Some letter) = is_plain byte letter
 
 -- the reference whose `$` is before these characters, by the places of its name and of its end: `name`, as long as it
 -- goes, or `{name}`
-abbrev pub braced : List Letter → ℕ → Option Reference
-braced rest to = if nat_lt 1 to && is_this 125 (slice_get rest to) then Some (record { from = 1; to = to; end = to + 1 }) else None
+abbrev pub braced_reference : List Letter → ℕ → Option Reference
+braced_reference rest to = if nat_lt 1 to && is_this 125 (slice_get rest to) then Some (record { from = 1; to = to; end = to + 1 }) else None
 
-abbrev pub bare : ℕ → Option Reference
-bare to = if nat_lt 0 to then Some (record { from = 0; to = to; end = to }) else None
+abbrev pub bare_reference : ℕ → Option Reference
+bare_reference to = if nat_lt 0 to then Some (record { from = 0; to = to; end = to }) else None
 
 abbrev pub reference : List Letter → Option Reference
 reference rest =
-    if is_this 123 (slice_get rest 0) then braced rest (1 + prefix_len is_of_name (drop 1 rest)) else bare (prefix_len is_of_name rest)
+    if is_this 123 (slice_get rest 0) then braced_reference rest (1 + prefix_len is_of_name (drop 1 rest)) else bare_reference (prefix_len is_of_name rest)
 
 -- the name of a reference
 abbrev pub name_of : List Letter → Reference → List ℕ
-name_of rest r = flat_map spelled (take (r.to - r.from) (drop r.from rest))
+name_of rest r = flat_map letter_text (take (r.to - r.from) (drop r.from rest))
 
 -- a segment: a character for itself, or a `$` and the characters of its reference for a value
 pub data Segment : Type 0 where
@@ -64,19 +64,19 @@ pub data Segment : Type 0 where
   Value : List Letter → List ℕ → Segment
 
 -- the characters that a segment covers
-abbrev pub covered : Segment → List Letter
-covered (Literal letter) = letter ∷ []
-covered (Value letters value) = Plain 36 ∷ letters
+abbrev pub segment_letters : Segment → List Letter
+segment_letters (Literal letter) = letter ∷ []
+segment_letters (Value letters value) = Plain 36 ∷ letters
 
 -- how many it has after its first
-abbrev pub further : Segment → ℕ
-further (Literal letter) = 0
-further (Value letters value) = length letters
+abbrev pub later_letter_count : Segment → ℕ
+later_letter_count (Literal letter) = 0
+later_letter_count (Value letters value) = length letters
 
 -- the text that it stands for: the star before a `$` is removed
-abbrev pub meant : Segment → List ℕ
-meant (Literal letter) = bared 36 letter
-meant (Value letters value) = value
+abbrev pub text_of_segment : Segment → List ℕ
+text_of_segment (Literal letter) = starless_text 36 letter
+text_of_segment (Value letters value) = value
 
 -- an unknown variable stays as it is written
 abbrev pub by_value : Letter → List Letter → Option (List ℕ) → Segment
@@ -96,15 +96,15 @@ abbrev pub segments : Variables → ℕ → List Letter → List Segment
 segments variables taken [] = []
 segments variables (suc taken) (l ∷ ls) = segments variables taken ls
 segments variables zero (l ∷ ls) =
-    (let segment = first_segment variables l ls in segment ∷ segments variables (further segment) ls)
+    (let segment = first_segment variables l ls in segment ∷ segments variables (later_letter_count segment) ls)
 
 -- what the characters stand for, after the `taken` ones of the segment before
 abbrev pub values : Variables → ℕ → List Letter → List ℕ
-values variables taken letters = flat_map meant (segments variables taken letters)
+values variables taken letters = flat_map text_of_segment (segments variables taken letters)
 
 -- the characters after the `$` of a reference to a name: the name, or the name in braces
 abbrev pub IsReference : List Letter → List ℕ → Type 0
-IsReference letters name = (letters ≡ singly name) ⊎ (letters ≡ Plain 123 ∷ (singly name ++ Plain 125 ∷ []))
+IsReference letters name = (letters ≡ plain_letters name) ⊎ (letters ≡ Plain 123 ∷ (plain_letters name ++ Plain 125 ∷ []))
 
 -- a segment is a character for itself, or a reference for the value of its name
 abbrev pub IsSegment : Variables → Segment → Type 0
@@ -117,9 +117,9 @@ AreSegments variables (segment ∷ row) = IsSegment variables segment × AreSegm
 
 -- a list of segments is a line's characters, in order, and stands for a text
 pub record Stands (variables : Variables) (line text : List ℕ) (row : List Segment) : Type 0 where
-  pub covers : flat_map covered row ≡ letters_of line
+  pub covers : flat_map segment_letters row ≡ letters_of line
   pub known : AreSegments variables row
-  pub means : flat_map meant row ≡ text
+  pub means : flat_map text_of_segment row ≡ text
 
 -- a text is a line with its variables expanded: its segments joined, each a character of the line or one value
 abbrev pub IsInSegments : Variables → List ℕ → List ℕ → Type 0

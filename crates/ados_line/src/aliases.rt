@@ -1,6 +1,6 @@
 ghost use Rattle.std.specs.Prelude.{◌≡◌, ◌+◌, ◌++◌, ◌≤◌, length, unwrap_or, IfOk, IfSome, OnOk};
 ghost use Rattle.ados_text.specs.Text.{IsText};
-ghost use Rattle.ados_line.specs.Alias.{hole_from, filled, with_alias};
+ghost use Rattle.ados_line.specs.Alias.{hole_from, text_with_rest, with_alias};
 
 use ados_items::{Item, blanks, next_item, value};
 use ados_text::{Name, NoMemory, Text};
@@ -38,7 +38,7 @@ pub fn replace_alias(
 #[tactic(auto, using(ados_text::proofs::TextLemmas::parts))]
 fn push_filled(out: &mut Text, text: &Text, rest: &[u8]) -> Result<(), NoMemory>
     requires { IsText rest.now }
-    ensures { OnOk result (out.new ≡ out.old ++ filled text.now rest.now (hole_from 0 text.now)) }
+    ensures { OnOk result (out.new ≡ out.old ++ text_with_rest text.now rest.now (hole_from 0 text.now)) }
 {
     let bytes = text.as_bytes();
     match hole(bytes) {

@@ -3,7 +3,7 @@ ghost use Rattle.ados_text.specs.Text.{IsText};
 ghost use Rattle.ados_line.specs.Answers.{Gives};
 ghost use Rattle.ados_line.specs.Alias.{with_alias};
 ghost use Rattle.ados_line.specs.Comment.{without_comment, IsUpToComment};
-ghost use Rattle.ados_line.specs.Expansion.{expanded_in, expanded_line, read_behind, resumed_at, resumed_of, spaced, without_newline, tick_text, IsMade, IsResumed};
+ghost use Rattle.ados_line.specs.Expansion.{expand_raw_line, expanded_line, read_rest_of_text, read_resumed_text, resume_line, newline_to_space, without_newline, tick_text, IsMade, IsResumed};
 ghost use Rattle.ados_line.specs.Values.{variables_in};
 
 use crate::aliases::replace_alias;
@@ -28,7 +28,7 @@ use std::alloc::Global;
 /// back-tick; the other faults are those of the cut: the first one in the text.
 #[tactic(auto, unfolding(crate::specs::Expansion::expanded_in))]
 pub fn expand(scope: &Scope, raw: &Text) -> Result<Expanded, LineFault>
-    ensures value { Gives result (expanded_in scope.now.aliases.now (variables_in scope.now) raw.now) }
+    ensures value { Gives result (expand_raw_line scope.now.aliases.now (variables_in scope.now) raw.now) }
     ensures long { 512 < length raw.now → result ≡ Err LineFault.LineTooLong }
     ensures comment { IsUpToComment raw.now (without_comment raw.now) }
     ensures made { IfOk result (IsMade (variables_in scope.now) (with_alias scope.now.aliases.now (without_comment raw.now))) }
@@ -58,7 +58,7 @@ pub fn resume(
     output: &[u8],
     after: &Text,
 ) -> Result<Expanded, LineFault>
-    ensures value { Gives result (resumed_of before.now output.now after.now) }
+    ensures value { Gives result (resume_line before.now output.now after.now) }
     ensures long { 512 < length (before.now ++ (tick_text output.now ++ after.now)) → result ≡ Err LineFault.LineTooLong }
     ensures made { IfOk result (IsResumed before.now output.now after.now) }
 {
@@ -86,7 +86,7 @@ fn put_and_read(scope: &Scope, line: &[u8]) -> Result<Expanded, LineFault>
 #[tactic(auto, using(crate::proofs::UnmarkedLemmas::plain_ticks))]
 fn read_text(alloc: Global, text: &[u8], size: usize) -> Result<Expanded, LineFault>
     requires { IsText text.now }
-    ensures { Gives result (read_behind size text.now) }
+    ensures { Gives result (read_rest_of_text size text.now) }
 {
     if text.contains(&b'`') {
         part_and_cut(alloc, text, size)
@@ -99,7 +99,7 @@ fn read_text(alloc: Global, text: &[u8], size: usize) -> Result<Expanded, LineFa
 #[inline(never)]
 fn part_and_cut(alloc: Global, text: &[u8], size: usize) -> Result<Expanded, LineFault>
     requires { IsText text.now }
-    ensures { Gives result (read_behind size text.now) }
+    ensures { Gives result (read_rest_of_text size text.now) }
 {
     match part_behind(alloc, text, size)? {
         Parted::Whole(text) => cut_text(alloc, text.as_bytes()),
@@ -115,8 +115,8 @@ fn put_and_go_on(
     output: &[u8],
     after: &Text,
 ) -> Result<Expanded, LineFault>
-    ensures value { Gives result (resumed_at (before.now ++ map spaced output.now) after.now) }
-    ensures long { 512 < length (before.now ++ (map spaced output.now ++ after.now)) → result ≡ Err LineFault.LineTooLong }
+    ensures value { Gives result (read_resumed_text (before.now ++ map newline_to_space output.now) after.now) }
+    ensures long { 512 < length (before.now ++ (map newline_to_space output.now ++ after.now)) → result ≡ Err LineFault.LineTooLong }
 {
     let size = before.as_bytes().len() + output.len();
     if size > LINE_BYTES || size + after.as_bytes().len() > LINE_BYTES {
@@ -140,7 +140,7 @@ fn without_newline(bytes: &[u8]) -> &[u8]
 
 // Appends bytes, with blanks for newlines.
 fn push_spaced(text: &mut Text, bytes: &[u8]) -> Result<(), NoMemory>
-    ensures { OnOk result (text.new ≡ text.old ++ map spaced bytes.now) }
+    ensures { OnOk result (text.new ≡ text.old ++ map newline_to_space bytes.now) }
 {
     for byte in bytes {
         text.push(if *byte == b'\n' { b' ' } else { *byte })?;

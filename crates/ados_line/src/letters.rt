@@ -3,7 +3,7 @@ ghost use Rattle.std.specs.List.{flat_map};
 ghost use Rattle.ados_text.specs.Text.{IsText};
 ghost use Rattle.ados_items.specs.Items.{item_at};
 ghost use Rattle.ados_line.specs.declared.letters.Letter.{Letter};
-ghost use Rattle.ados_line.specs.Letters.{singly, paired, letters_behind, letters_of, behind, written};
+ghost use Rattle.ados_line.specs.Letters.{plain_letters, starred_letters, letters_after_item, letters_of, following_letters, letter_bytes};
 
 use ados_items::{Item, between, next_item};
 use ados_text::NoMemory;
@@ -23,7 +23,7 @@ pub enum Letter {
 pub fn read_letters(alloc: Global, line: &[u8]) -> Result<Vec<Letter>, NoMemory>
     requires { IsText line.now }
     ensures letters { IfOk result (λ letters. letters.items ≡ letters_of line.now) }
-    ensures written { IfOk result (λ letters. flat_map written letters.items ≡ line.now) }
+    ensures written { IfOk result (λ letters. flat_map letter_bytes letters.items ≡ line.now) }
 {
     let mut letters = Vec::with_capacity(alloc, line.len())?;
     let mut place = 0;
@@ -44,7 +44,7 @@ fn push_item(
 ) -> Result<Option<usize>, NoMemory>
     requires { IsText line.now }
     ensures { (next : ℕ → List Letter) →
-        IfOk result (λ to. letters.old.items ++ letters_behind next line.now place (item_at true line.now place) ≡ letters.new.items ++ behind next to) }
+        IfOk result (λ to. letters.old.items ++ letters_after_item next line.now place (item_at true line.now place) ≡ letters.new.items ++ following_letters next to) }
 {
     match next_item(line, place) {
         Item::Word { to, .. } => {
@@ -75,7 +75,7 @@ fn push_item(
 
 // Appends bytes outside quotes.
 fn push_singly(letters: &mut Vec<Letter>, bytes: &[u8]) -> Result<(), NoMemory>
-    ensures { OnOk result (letters.new.items ≡ letters.old.items ++ singly bytes.now) }
+    ensures { OnOk result (letters.new.items ≡ letters.old.items ++ plain_letters bytes.now) }
 {
     for byte in bytes {
         letters.push(Letter::Plain(*byte))?;
@@ -85,7 +85,7 @@ fn push_singly(letters: &mut Vec<Letter>, bytes: &[u8]) -> Result<(), NoMemory>
 
 // Appends bytes inside quotes.
 fn push_paired(letters: &mut Vec<Letter>, bytes: &[u8]) -> Result<(), NoMemory>
-    ensures { OnOk result (letters.new.items ≡ letters.old.items ++ paired false bytes.now) }
+    ensures { OnOk result (letters.new.items ≡ letters.old.items ++ starred_letters false bytes.now) }
 {
     let mut starred = false;
     for byte in bytes {

@@ -1,7 +1,7 @@
 ghost use Rattle.std.specs.Prelude.{◌≡◌, IfOk};
 ghost use Rattle.ados_text.specs.Text.{IsText};
 ghost use Rattle.ados_line.specs.Answers.{Gives};
-ghost use Rattle.ados_line.specs.Cut.{cut_of, expanded_by};
+ghost use Rattle.ados_line.specs.Cut.{cut_of, expanded_of_cut};
 ghost use Rattle.ados_line.specs.Pieces.{IsOfPieces};
 
 use crate::cuts::Cut;
@@ -84,7 +84,7 @@ pub enum Expanded {
 /// the redirections that directly follow it are read: the rest of the line is one piece, the arguments, and no fault in
 /// it is reported.
 pub fn cut(alloc: Global, line: &Text) -> Result<Expanded, LineFault>
-    ensures value { Gives result (expanded_by (cut_of line.now)) }
+    ensures value { Gives result (expanded_of_cut (cut_of line.now)) }
     ensures pieces { IfOk result (IsOfPieces line.now) }
 {
     cut_text(alloc, line.as_bytes())
@@ -93,7 +93,7 @@ pub fn cut(alloc: Global, line: &Text) -> Result<Expanded, LineFault>
 // The cut of a text's bytes.
 pub fn cut_text(alloc: Global, line: &[u8]) -> Result<Expanded, LineFault>
     requires { IsText line.now }
-    ensures value { Gives result (expanded_by (cut_of line.now)) }
+    ensures value { Gives result (expanded_of_cut (cut_of line.now)) }
     ensures pieces { IfOk result (IsOfPieces line.now) }
 {
     let Cut {

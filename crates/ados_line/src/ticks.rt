@@ -1,8 +1,8 @@
 ghost use Rattle.std.specs.Prelude.{◌≡◌, ◌≤◌, ◌<◌, length, position, IfSome};
 ghost use Rattle.ados_text.specs.Text.{IsText};
 ghost use Rattle.ados_line.specs.Answers.{Gives};
-ghost use Rattle.ados_line.specs.Letters.{written};
-ghost use Rattle.ados_line.specs.Ticks.{is_tick, within_bytes, parted, parted_behind};
+ghost use Rattle.ados_line.specs.Letters.{letter_bytes};
+ghost use Rattle.ados_line.specs.Ticks.{is_tick, within_bytes, split_at_pair, split_after_bytes};
 
 use crate::faults::LineFault;
 use crate::letters::{Letter, read_letters};
@@ -27,7 +27,7 @@ pub enum Parted {
 /// a single back-tick.
 pub fn part_behind(alloc: Global, line: &[u8], size: usize) -> Result<Parted, LineFault>
     requires { IsText line.now }
-    ensures { Gives result (parted_behind size line.now) }
+    ensures { Gives result (split_after_bytes size line.now) }
 {
     let letters = read_letters(alloc, line)?;
     let count = count_within(&letters, size);
@@ -38,7 +38,7 @@ pub fn part_behind(alloc: Global, line: &[u8], size: usize) -> Result<Parted, Li
 
 // Splits the characters at their first two back-ticks, after a text that is kept as it is.
 fn part(alloc: Global, kept: Text, letters: &[Letter]) -> Result<Parted, LineFault>
-    ensures { Gives result (parted kept letters.now) }
+    ensures { Gives result (split_at_pair kept letters.now) }
 {
     let mut before = kept;
     let Some(first) = tick(letters) else {
@@ -87,7 +87,7 @@ fn count_within(letters: &[Letter], size: usize) -> usize
 
 // How many bytes a character has.
 fn width(letter: Letter) -> usize
-    ensures { result ≡ length (written letter) }
+    ensures { result ≡ length (letter_bytes letter) }
 {
     match letter {
         Letter::Plain(_) => 1,

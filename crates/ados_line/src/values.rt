@@ -1,6 +1,6 @@
 ghost use Rattle.std.specs.Prelude.{◌≡◌, ◌++◌, IfOk};
-ghost use Rattle.ados_line.specs.Answers.{limited, Gives};
-ghost use Rattle.ados_line.specs.Values.{variables_in, first_segment, further, meant, values};
+ghost use Rattle.ados_line.specs.Answers.{within_line_limit, Gives};
+ghost use Rattle.ados_line.specs.Values.{variables_in, first_segment, later_letter_count, text_of_segment, values};
 
 use crate::faults::LineFault;
 use crate::letters::Letter;
@@ -11,7 +11,7 @@ use ados_text::{LINE_BYTES, NoMemory, Text};
 
 /// The text that the characters stand for, with the values of their variables.
 pub fn put_values(scope: &Scope, letters: &[Letter]) -> Result<Text, LineFault>
-    ensures { Gives result (limited (values (variables_in scope.now) 0 letters.now)) }
+    ensures { Gives result (within_line_limit (values (variables_in scope.now) 0 letters.now)) }
 {
     let mut text = Text::new(scope.alloc);
     let mut taken = 0;
@@ -36,7 +36,7 @@ fn push_segment(
     text: &mut Text,
 ) -> Result<usize, NoMemory>
     ensures { let segment = first_segment (variables_in scope.now) letter rest.now in
-        IfOk result (λ count. (count ≡ further segment) × (text.new ≡ text.old ++ meant segment)) }
+        IfOk result (λ count. (count ≡ later_letter_count segment) × (text.new ≡ text.old ++ text_of_segment segment)) }
 {
     if is_plain(letter, b'$') {
         if let Some(r) = find_reference(rest) {

@@ -6,7 +6,7 @@ use Rattle.std.specs.FinMap.{get-insert}
 use Rattle.std.specs.declared.cmp.Ordering.{Ordering}
 use Rattle.std.specs.declared.cmp.Ordering.TheVariants.{Less, Equal, Greater}
 use Rattle.std.specs.Ordering.{eq_by_cmp, is_eq}
-use Rattle.ados_text.specs.Text.{Text, folded}
+use Rattle.ados_text.specs.Text.{Text, folded_text}
 use Rattle.ados_text.specs.Name.{name_cmp, name_cmp_total, name_cmp_exact}
 use Rattle.ados_text.specs.declared.codes.TheConstants.Result2.{WRONG_TYPE}
 use Rattle.ados_ram.specs.Entry.{is_directory}
@@ -14,15 +14,15 @@ use Rattle.ados_ram.specs.Place.{Place, key_of}
 use Rattle.ados_ram.specs.Files.{Files, is_some_directory}
 use Rattle.ados_ram.specs.declared.entries.Entry.{Entry}
 use Rattle.ados_names.specs.Path.{path_of}
-use Rattle.ados_assign.specs.Assigns.{AssignMap, rebound}
-use Rattle.ados_assign.specs.Resolve.{Resolved, by_path, directory_at, led, leads_in, on_entry, resolved_by}
-use Rattle.ados_assign.specs.Uses.{bound_each, bound_row, bound_to_place, if_led, is_defer, is_used, led_by}
+use Rattle.ados_assign.specs.Assigns.{AssignMap, with_binding}
+use Rattle.ados_assign.specs.Resolve.{Resolved, by_path, directory_at, lead_text, text_place, on_entry, resolve_with_texts}
+use Rattle.ados_assign.specs.Uses.{with_rows_bound, with_row_bound, with_defer_bound, led_place, is_defer, is_used, deferred_place}
 use Rattle.ados_assign.specs.declared.assigns.Assign.{Assign}
 use Rattle.ados_assign.specs.declared.bindings.Binding.{Binding}
 use Rattle.ados_assign.specs.declared.bindings.Binding.TheVariants.{Dirs, Path, Defer}
 use Rattle.ados_find.specs.Shared.{SharedState}
 use Rattle.ados_machine.specs.Binding.{BindsOnly, EventsBindOnlyWhatTheyUsed, IsBound}
-use Rattle.ados_machine.specs.Uses.{bound_in}
+use Rattle.ados_machine.specs.Uses.{shared_with_bound}
 
 -- what is led to is a directory
 entry-directory : (entry : Option Entry) (there place : Place) → on_entry entry (Ok there) ≡ Ok place → (is_some_directory entry ≡ true) × (there ≡ place)
@@ -40,13 +40,13 @@ led-directory files (Ok there) place h =
     subst (λ (p : Place). is_some_directory (map.get files (key_of p)) ≡ true) e.1 e.0
 
 -- the text of a Defer leads to a directory, and no other binding leads to any
-led-defers : (files : Files) (m : AssignMap) (binding : Binding) (place : Place) → led_by files m binding ≡ Some place
+led-defers : (files : Files) (m : AssignMap) (binding : Binding) (place : Place) → deferred_place files m binding ≡ Some place
     → (is_defer binding ≡ true) × (is_some_directory (map.get files (key_of place)) ≡ true)
 led-defers files m (Dirs places) place h = absurd cc
 led-defers files m (Path text) place h = absurd cc
-led-defers files m (Defer text) place h = (refl, led-directory files (by_path (resolved_by (led 7 m files) m files []) (path_of text)) place (of (leads_in m files text) h))
+led-defers files m (Defer text) place h = (refl, led-directory files (by_path (resolve_with_texts (lead_text 7 m files) m files []) (path_of text)) place (of (text_place m files text) h))
   where
-    of : (way : Resolved) → if_led way ≡ Some place → way ≡ Ok place
+    of : (way : Resolved) → led_place way ≡ Some place → way ≡ Ok place
     of (Err fault) q = absurd cc
     of (Ok there) q = cc
 
@@ -59,43 +59,43 @@ same-name a b h = name_cmp_exact a b (equal (name_cmp a b) h)
     equal Equal q = refl
     equal Greater q = absurd cc
 
-rebound-binding : (old : Option Assign) (name : Text) (binding : Binding) → (rebound old name binding).binding ≡ binding
+rebound-binding : (old : Option Assign) (name : Text) (binding : Binding) → (with_binding old name binding).binding ≡ binding
 rebound-binding None name binding = refl
 rebound-binding (Some a) name binding = refl
 
 -- one of the assigns is bound, if its text leads to a place
 placed-at : (used : List Text) (files : Files) (m : AssignMap) (a : Assign) (name : Text) (led_to : Option Place)
-    → is_used used a.name ≡ true → led_by files m a.binding ≡ led_to
-    → (map.get (bound_to_place m a.name led_to) name ≡ map.get m name) ⊎ IsBound used files (a ∷ []) name (map.get (bound_to_place m a.name led_to) name)
+    → is_used used a.name ≡ true → deferred_place files m a.binding ≡ led_to
+    → (map.get (with_defer_bound m a.name led_to) name ≡ map.get m name) ⊎ IsBound used files (a ∷ []) name (map.get (with_defer_bound m a.name led_to) name)
 placed-at used files m a name None u h = inl refl
 placed-at used files m a name (Some place) u h =
-    let value = rebound (map.get m (folded a.name)) a.name (Dirs (place ∷ [])) in
-    let got : map.get (bound_to_place m a.name (Some place)) name ≡ cond (eq_by_cmp name_cmp name (folded a.name)) (Some value) (map.get m name) =
-    get-insert name_cmp_total m (folded a.name) value name in
+    let value = with_binding (map.get m (folded_text a.name)) a.name (Dirs (place ∷ [])) in
+    let got : map.get (with_defer_bound m a.name (Some place)) name ≡ cond (eq_by_cmp name_cmp name (folded_text a.name)) (Some value) (map.get m name) =
+    get-insert name_cmp_total m (folded_text a.name) value name in
     let d = led-defers files m a.binding place h in
-    elim (cases_Bool (eq_by_cmp name_cmp name (folded a.name))) [
+    elim (cases_Bool (eq_by_cmp name_cmp name (folded_text a.name))) [
       | inl same ↦ inr (record {
         assign = a;
         was = (0, omega arith, refl);
-        name_is = sym (same-name name (folded a.name) same);
+        name_is = sym (same-name name (folded_text a.name) same);
         defers = d.0;
         used_is = u;
         place = place;
         stands_for = ap (option_map (λ x. x.binding)) (got ∙ ap (λ b. cond b (Some value) (map.get m name)) same)
-            ∙ ap Some (rebound-binding (map.get m (folded a.name)) a.name (Dirs (place ∷ [])));
+            ∙ ap Some (rebound-binding (map.get m (folded_text a.name)) a.name (Dirs (place ∷ [])));
         directory = d.1;
       })
       | inr other ↦ inl (got ∙ ap (λ b. cond b (Some value) (map.get m name)) other)
     ]
 
 row-at : (used : List Text) (files : Files) (m : AssignMap) (a : Assign) (name : Text)
-    → (map.get (bound_row files used m a) name ≡ map.get m name) ⊎ IsBound used files (a ∷ []) name (map.get (bound_row files used m a) name)
+    → (map.get (with_row_bound files used m a) name ≡ map.get m name) ⊎ IsBound used files (a ∷ []) name (map.get (with_row_bound files used m a) name)
 row-at used files m a name = of (is_used used a.name) refl
   where
     of : (b : Bool) → is_used used a.name ≡ b
-        → (map.get (if b then bound_to_place m a.name (led_by files m a.binding) else m) name ≡ map.get m name)
-        ⊎ IsBound used files (a ∷ []) name (map.get (if b then bound_to_place m a.name (led_by files m a.binding) else m) name)
-    of true u = placed-at used files m a name (led_by files m a.binding) u refl
+        → (map.get (if b then with_defer_bound m a.name (deferred_place files m a.binding) else m) name ≡ map.get m name)
+        ⊎ IsBound used files (a ∷ []) name (map.get (if b then with_defer_bound m a.name (deferred_place files m a.binding) else m) name)
+    of true u = placed-at used files m a name (deferred_place files m a.binding) u refl
     of false u = inl refl
 
 -- one of more assigns
@@ -130,10 +130,10 @@ first-of used files a rest name now now' e b = record {
     only (suc k) l q = absurd (omega (arith, l))
 
 each-at : (used : List Text) (files : Files) (m : AssignMap) (rows : List Assign) (name : Text)
-    → (map.get (bound_each files used m rows) name ≡ map.get m name) ⊎ IsBound used files rows name (map.get (bound_each files used m rows) name)
+    → (map.get (with_rows_bound files used m rows) name ≡ map.get m name) ⊎ IsBound used files rows name (map.get (with_rows_bound files used m rows) name)
 each-at used files m [] name = inl refl
 each-at used files m (a ∷ rest) name =
-    elim (each-at used files (bound_row files used m a) rest name) [
+    elim (each-at used files (with_row_bound files used m a) rest name) [
       | inr b ↦ inr (among-more used files a rest name _ b)
       | inl still ↦ elim (row-at used files m a name) [
         | inl same ↦ inl (still ∙ same)
@@ -142,12 +142,12 @@ each-at used files m (a ∷ rest) name =
     ]
 
 -- what all share after an event
-bound-only : (used : List Text) (shared : SharedState) → BindsOnly used (bound_in used shared).files shared.assigns (bound_in used shared).assigns
+bound-only : (used : List Text) (shared : SharedState) → BindsOnly used (shared_with_bound used shared).files shared.assigns (shared_with_bound used shared).assigns
 bound-only [] shared = λ name. inl refl
 bound-only (device ∷ used) shared = λ name. each-at (device ∷ used) shared.files shared.assigns (map.values shared.assigns) name
 
 pub binds-only : EventsBindOnlyWhatTheyUsed
 binds-only w world k queue turned out items e =
-    let shared : world.shared ≡ bound_in turned.course.used turned.course.shared = cc in
+    let shared : world.shared ≡ shared_with_bound turned.course.used turned.course.shared = cc in
     subst (λ (s : SharedState). BindsOnly turned.course.used s.files turned.course.shared.assigns s.assigns) (sym shared)
     (bound-only turned.course.used turned.course.shared)

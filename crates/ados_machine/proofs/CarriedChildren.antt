@@ -3,21 +3,21 @@ use Rattle.std.proofs.Common.{◌≡◌, ◌≢◌, ◌∙◌, ℕ, List, Bool, 
 use Rattle.std.proofs.lemmas.Bool.{cases_eq, cases_Bool}
 use Rattle.ados_find.specs.declared.outcomes.Breaks.{Breaks}
 use Rattle.ados_find.specs.declared.outcomes.Renamed.{Renamed}
-use Rattle.ados_machine.specs.Breaks.{marked_if, broken_by}
+use Rattle.ados_machine.specs.Breaks.{marked_if, shells_after_break}
 use Rattle.ados_machine.specs.declared.children.ChildState.TheVariants.{Closed}
 use Rattle.ados_machine.specs.declared.phases.Phase.{Phase}
 use Rattle.ados_machine.specs.declared.phases.Phase.TheVariants as phase
 use Rattle.ados_machine.specs.declared.phases.Wait.TheVariants.{ForAnswer, ForLines, ForStart, ForPiece, ForEnd}
 use Rattle.ados_machine.specs.declared.requests.Request.{Request}
-use Rattle.ados_machine.specs.Carrying.{carried_shells, carried_by}
-use Rattle.ados_machine.specs.Children.{child_during, child_by}
+use Rattle.ados_machine.specs.Carrying.{carried_shells, carried_or_same}
+use Rattle.ados_machine.specs.Children.{child_during, child_of_shell}
 use Rattle.ados_machine.specs.Course.{Course}
 use Rattle.ados_machine.specs.Numbers.{free_number}
 use Rattle.ados_machine.specs.Requests.{request_of}
-use Rattle.ados_machine.specs.Settle.{Turned}
-use Rattle.ados_machine.specs.Shells.{Begun, begun_shell, ShellState}
-use Rattle.ados_machine.specs.Step.{shell_of_turn, with_begun, is_done, left}
-use Rattle.ados_machine.specs.World.{pending_by}
+use Rattle.ados_machine.specs.Settle.{TurnResult}
+use Rattle.ados_machine.specs.Shells.{ShellStart, begun_shell, ShellState}
+use Rattle.ados_machine.specs.Step.{shell_of_turn, with_begun, is_done, shell_after_turn}
+use Rattle.ados_machine.specs.World.{request_of_shell}
 use Rattle.ados_machine.proofs.Shells.{shells_behind, broken_maybe, broken_for, found-broken, found, IsFree, free-number, carried-free, carried_found, found-carried, found-set_other, runs_pos}
 use Rattle.ados_machine.proofs.Moves.{placed-at}
 use Rattle.ados_machine.proofs.Rests.{IsIdle}
@@ -43,27 +43,27 @@ handed-asked from course (phase.Waiting (ForPiece child)) hands = absurd hands
 handed-asked from course (phase.Waiting (ForEnd child)) hands = absurd hands
 
 -- carrying keeps what a shell asks for
-pub carried-pending : (renamed : Option Renamed) (o : Option ShellState) → pending_by (carried_found renamed o) ≡ pending_by o
+pub carried-pending : (renamed : Option Renamed) (o : Option ShellState) → request_of_shell (carried_found renamed o) ≡ request_of_shell o
 carried-pending None o = refl
 carried-pending (Some renamed) None = refl
 carried-pending (Some renamed) (Some shell) = refl
 
-pub carried_by-pending : (renamed : Option Renamed) (shell : ShellState) → pending_by (Some (carried_by renamed shell)) ≡ pending_by (Some shell)
+pub carried_by-pending : (renamed : Option Renamed) (shell : ShellState) → request_of_shell (Some (carried_or_same renamed shell)) ≡ request_of_shell (Some shell)
 carried_by-pending None shell = refl
 carried_by-pending (Some renamed) shell = refl
 
-carried-child : (renamed : Option Renamed) (o : Option ShellState) → child_by (carried_found renamed o) ≡ child_by o
+carried-child : (renamed : Option Renamed) (o : Option ShellState) → child_of_shell (carried_found renamed o) ≡ child_of_shell o
 carried-child None o = refl
 carried-child (Some renamed) None = refl
 carried-child (Some renamed) (Some shell) = refl
 
-pub carried_by-child : (renamed : Option Renamed) (shell : ShellState) → child_by (Some (carried_by renamed shell)) ≡ child_by (Some shell)
+pub carried_by-child : (renamed : Option Renamed) (shell : ShellState) → child_of_shell (Some (carried_or_same renamed shell)) ≡ child_of_shell (Some shell)
 carried_by-child None shell = refl
 carried_by-child (Some renamed) shell = refl
 
 -- what is asked of a shell that begins is what is asked of none
-begun-same : {X : Type 0} (f : Option ShellState → X) → ((n : ℕ) (begun : Begun) → f (Some (begun_shell n begun)) ≡ f None) →
-    (shells : List (Option ShellState)) (begun : Option Begun) (n : Option ℕ) (j : ℕ) → IsFree shells n →
+begun-same : {X : Type 0} (f : Option ShellState → X) → ((n : ℕ) (begun : ShellStart) → f (Some (begun_shell n begun)) ≡ f None) →
+    (shells : List (Option ShellState)) (begun : Option ShellStart) (n : Option ℕ) (j : ℕ) → IsFree shells n →
     f (found (with_begun begun n shells) j) ≡ f (found shells j)
 begun-same f fresh shells None n j free = refl
 begun-same f fresh shells (Some begun) None j free = refl
@@ -84,7 +84,7 @@ marked-request true n (phase.Waiting (ForStart starting)) = refl
 marked-request true n (phase.Waiting (ForPiece child)) = refl
 marked-request true n (phase.Waiting (ForEnd child)) = refl
 
-pub broken-pending : (breaks : Option Breaks) (o : Option ShellState) → pending_by (broken_maybe breaks o) ≡ pending_by o
+pub broken-pending : (breaks : Option Breaks) (o : Option ShellState) → request_of_shell (broken_maybe breaks o) ≡ request_of_shell o
 broken-pending None o = refl
 broken-pending (Some breaks) None = refl
 broken-pending (Some breaks) (Some shell) = marked-request breaks.marks shell.parts.number shell.phase
@@ -99,37 +99,37 @@ marked-child true (phase.Waiting (ForStart starting)) = refl
 marked-child true (phase.Waiting (ForPiece child)) = refl
 marked-child true (phase.Waiting (ForEnd child)) = refl
 
-pub broken-child : (breaks : Option Breaks) (o : Option ShellState) → child_by (broken_maybe breaks o) ≡ child_by o
+pub broken-child : (breaks : Option Breaks) (o : Option ShellState) → child_of_shell (broken_maybe breaks o) ≡ child_of_shell o
 broken-child None o = refl
 broken-child (Some breaks) None = refl
 broken-child (Some breaks) (Some shell) = marked-child breaks.marks shell.phase
 
 -- what a turn, or an answer, keeps of the other shells
-others-same : {X : Type 0} (f : Option ShellState → X) → ((n : ℕ) (begun : Begun) → f (Some (begun_shell n begun)) ≡ f None) →
+others-same : {X : Type 0} (f : Option ShellState → X) → ((n : ℕ) (begun : ShellStart) → f (Some (begun_shell n begun)) ≡ f None) →
     ((moved : Option Renamed) (o : Option ShellState) → f (carried_found moved o) ≡ f o) →
     ((breaks : Option Breaks) (o : Option ShellState) → f (broken_maybe breaks o) ≡ f o) →
-    (shells : List (Option ShellState)) (k : ℕ) (shell : ShellState) (moved : Option Renamed) (t : Turned) → found shells k ≡ Some shell →
+    (shells : List (Option ShellState)) (k : ℕ) (shell : ShellState) (moved : Option Renamed) (t : TurnResult) → found shells k ≡ Some shell →
     (j : ℕ) → j ≢ k → f (found (shells_behind shells k moved t) j) ≡ f (found shells j)
 others-same f fresh carries breaks shells k shell moved t is j differ =
     let carried = carried_shells moved shells in
     let number = free_number shells in
     let placed = with_begun t.course.begun number carried in
-    let stay = found-set_other (broken_by t.course.breaking placed) k (left k moved t) j differ (runs_pos shells k shell is) in
+    let stay = found-set_other (shells_after_break t.course.breaking placed) k (shell_after_turn k moved t) j differ (runs_pos shells k shell is) in
     let whole = ap f (found-broken t.course.breaking placed j) ∙ breaks (broken_for t.course.breaking j) (found placed j) in
     let begun = begun-same f fresh carried t.course.begun number j (carried-free moved shells number (free-number shells)) in
     ap f stay ∙ (whole ∙ (begun ∙ (ap f (found-carried moved shells j) ∙ carries moved (found shells j))))
 
-pub others-pending : (shells : List (Option ShellState)) (k : ℕ) (shell : ShellState) (moved : Option Renamed) (t : Turned) → found shells k ≡ Some shell →
-    (j : ℕ) → j ≢ k → pending_by (found (shells_behind shells k moved t) j) ≡ pending_by (found shells j)
-others-pending = others-same pending_by (λ n begun. refl) carried-pending broken-pending
+pub others-pending : (shells : List (Option ShellState)) (k : ℕ) (shell : ShellState) (moved : Option Renamed) (t : TurnResult) → found shells k ≡ Some shell →
+    (j : ℕ) → j ≢ k → request_of_shell (found (shells_behind shells k moved t) j) ≡ request_of_shell (found shells j)
+others-pending = others-same request_of_shell (λ n begun. refl) carried-pending broken-pending
 
-pub others-child : (shells : List (Option ShellState)) (k : ℕ) (shell : ShellState) (moved : Option Renamed) (t : Turned) → found shells k ≡ Some shell →
-    (j : ℕ) → j ≢ k → child_by (found (shells_behind shells k moved t) j) ≡ child_by (found shells j)
-others-child = others-same child_by (λ n begun. refl) carried-child broken-child
+pub others-child : (shells : List (Option ShellState)) (k : ℕ) (shell : ShellState) (moved : Option Renamed) (t : TurnResult) → found shells k ≡ Some shell →
+    (j : ℕ) → j ≢ k → child_of_shell (found (shells_behind shells k moved t) j) ≡ child_of_shell (found shells j)
+others-child = others-same child_of_shell (λ n begun. refl) carried-child broken-child
 
 -- the child of the shell that a turn leaves, if it leaves one
-pub left-child : (k : ℕ) (moved : Option Renamed) (t : Turned) → child_during t.phase ≡ Closed →
-    child_by (left k moved t) ≡ Closed
+pub left-child : (k : ℕ) (moved : Option Renamed) (t : TurnResult) → child_during t.phase ≡ Closed →
+    child_of_shell (shell_after_turn k moved t) ≡ Closed
 left-child k moved t closed =
     elim (cases_Bool (is_done k t.frames)) [
       | inl d ↦ rw d refl

@@ -13,20 +13,20 @@ use Rattle.ados_machine.specs.declared.events.Event.{Event}
 use Rattle.ados_machine.specs.declared.outs.Out.{Out}
 use Rattle.ados_machine.specs.declared.refusals.Refusal.{Refusal}
 use Rattle.ados_machine.specs.declared.events.Kind.{Kind}
-use Rattle.ados_machine.specs.Breaks.{breaks_by, broken_by}
-use Rattle.ados_machine.specs.Carrying.{carried_shells, carried_by}
+use Rattle.ados_machine.specs.Breaks.{breaks_by, shells_after_break}
+use Rattle.ados_machine.specs.Carrying.{carried_shells, carried_or_same}
 use Rattle.ados_machine.specs.Items.{Item, Began, Answered, Ended, Broke}
 use Rattle.ados_machine.specs.Limits.{IsSane}
 use Rattle.ados_machine.specs.Numbers.{free_number}
 use Rattle.ados_machine.specs.Runs.{world_after}
-use Rattle.ados_machine.specs.Settle.{Turned}
-use Rattle.ados_machine.specs.Shells.{Begun, begun_shell, ShellState}
-use Rattle.ados_machine.specs.Stacks.{Entry, opened, with_last, stack_of, Standing, standing_of, codes_at as codes_begun, limit_after, codes_after}
-use Rattle.ados_machine.specs.Step.{Response, Refused, Accepted, of_shell, shell_of_turn, with_begun, begun_items, is_done, left, ended_with, moved_in, took, shell_ended, start, unflagged, applied, turned, answered, broken, typed, step_of}
+use Rattle.ados_machine.specs.Settle.{TurnResult}
+use Rattle.ados_machine.specs.Shells.{ShellStart, begun_shell, ShellState}
+use Rattle.ados_machine.specs.Stacks.{Entry, new_entry, with_last, stack_of, Standing, standing_of, codes_at as codes_begun, limit_after_end, codes_after_end}
+use Rattle.ados_machine.specs.Step.{Response, Refused, Accepted, of_shell, shell_of_turn, with_begun, begun_items, is_done, shell_after_turn, codes_of_ended, moved_at_turn, turn_taken, shell_ended, start, course_without_flag, turning_response, turn_response, answer_response, break_response, typing_response, step_of}
 use Rattle.ados_machine.specs.Trace.{items_after, own}
-use Rattle.ados_machine.specs.Turning.{Turning, Refuses, Ends, Takes, flagged_turning, answering}
-use Rattle.ados_machine.specs.World.{WorldState, numbered, shell_at, input_of, shell_codes, codes_at}
-use Rattle.ados_machine.specs.Kept.{codes_behind, HasAllCodes}
+use Rattle.ados_machine.specs.Turning.{Turning, Refuses, Ends, Takes, flagged_turning, turning_of_answer}
+use Rattle.ados_machine.specs.World.{WorldState, at_number, shell_at, input_of, shell_codes, codes_at}
+use Rattle.ados_machine.specs.Kept.{codes_after_trace, HasAllCodes}
 use Rattle.ados_machine.proofs.Follows.{back, Follows}
 use Rattle.ados_machine.proofs.Turns.{Goes}
 use Rattle.ados_machine.proofs.Turnings.{TurningGoes, flagged-goes, answering-goes}
@@ -36,29 +36,29 @@ use Rattle.ados_machine.proofs.StepCases.{of-step}
 
 -- if a trace leads to a standing it leads to that one's codes
 follows-codes : (limit : Code) (codes : Codes) (stack : List Entry) (log : List Item) (stands : Standing) →
-    Follows limit codes stack log (Some stands) → stands.codes ≡ codes_behind codes log
+    Follows limit codes stack log (Some stands) → stands.codes ≡ codes_after_trace codes log
 follows-codes limit codes stack [] stands h = ap (λ s. s.codes) h
 follows-codes limit codes stack (Began d kind first ∷ log) stands h =
-    follows-codes first (codes_begun kind codes) (opened kind first ∷ stack) log stands h.3
+    follows-codes first (codes_begun kind codes) (new_entry kind first ∷ stack) log stands h.3
 follows-codes limit codes [] (Answered d entry ∷ log) stands h = follows-codes entry.limit entry.codes [] log stands h.1
 follows-codes limit codes (top ∷ below) (Answered d entry ∷ log) stands h =
     follows-codes entry.limit entry.codes (with_last top entry ∷ below) log stands h.2
 follows-codes limit codes [] (Ended d kind line answer early ∷ log) stands h = absurd h
 follows-codes limit codes (top ∷ below) (Ended d kind line answer early ∷ log) stands h =
-    rw h.0.kind_is (follows-codes (limit_after top.kind (back below top.limit) limit) (codes_after top.kind answer codes) below log stands h.2)
+    rw h.0.kind_is (follows-codes (limit_after_end top.kind (back below top.limit) limit) (codes_after_end top.kind answer codes) below log stands h.2)
 follows-codes limit codes [] (Broke d kind line ∷ log) stands h = absurd h
 follows-codes limit codes (top ∷ below) (Broke d kind line ∷ log) stands h = follows-codes limit codes below log stands h.3
 
-pub behind-append : (codes : Codes) (log more : List Item) → codes_behind codes (log ++ more) ≡ codes_behind (codes_behind codes log) more
+pub behind-append : (codes : Codes) (log more : List Item) → codes_after_trace codes (log ++ more) ≡ codes_after_trace (codes_after_trace codes log) more
 behind-append codes [] more = refl
 behind-append codes (Began d kind first ∷ log) more = behind-append (codes_begun kind codes) log more
 behind-append codes (Answered d entry ∷ log) more = behind-append entry.codes log more
-behind-append codes (Ended d kind line answer early ∷ log) more = behind-append (codes_after kind answer codes) log more
+behind-append codes (Ended d kind line answer early ∷ log) more = behind-append (codes_after_end kind answer codes) log more
 behind-append codes (Broke d kind line ∷ log) more = behind-append codes log more
 
 -- the last codes that stay at a number
 abbrev stays_at : List Codes → ℕ → Codes
-stays_at ended k = unwrap_or (numbered ended k) went_well
+stays_at ended k = unwrap_or (at_number ended k) went_well
 
 set-same : (shells : List (Option ShellState)) (ended : List Codes) (k : ℕ) (shell : ShellState) (codes : Codes) →
     length ended ≡ length shells → found shells k ≡ Some shell → stays_at (slice_set ended (k - 1) codes) k ≡ codes
@@ -71,14 +71,14 @@ set-other : (ended : List Codes) (k : ℕ) (codes : Codes) (j : ℕ) → j ≢ k
 set-other ended k codes zero ne pos = refl
 set-other ended k codes (suc m) ne pos = ap (λ o. unwrap_or o went_well) (slice_get-set_other ended (k - 1) codes m (not_before m k ne pos))
 
-with-other : (done : Bool) (ended : List Codes) (k : ℕ) (codes : Codes) (j : ℕ) → j ≢ k → 0 < k → stays_at (ended_with done k codes ended) j ≡ stays_at ended j
+with-other : (done : Bool) (ended : List Codes) (k : ℕ) (codes : Codes) (j : ℕ) → j ≢ k → 0 < k → stays_at (codes_of_ended done k codes ended) j ≡ stays_at ended j
 with-other done ended k codes j ne pos =
     elim (cases_Bool done) [
       | inl e ↦ rw e (set-other ended k codes j ne pos)
       | inr e ↦ rw e refl
     ]
 
-carried_by-codes : (renamed : Option Renamed) (shell : ShellState) → (carried_by renamed shell).parts.codes ≡ shell.parts.codes
+carried_by-codes : (renamed : Option Renamed) (shell : ShellState) → (carried_or_same renamed shell).parts.codes ≡ shell.parts.codes
 carried_by-codes None shell = refl
 carried_by-codes (Some renamed) shell = refl
 
@@ -92,8 +92,8 @@ broken-codes None o codes = refl
 broken-codes (Some breaks) None codes = refl
 broken-codes (Some breaks) (Some shell) codes = refl
 
-begun-codes : (shells : List (Option ShellState)) (begun : Option Begun) (n : Option ℕ) (j : ℕ) (codes : Codes) → IsFree shells n →
-    shell_codes (found (with_begun begun n shells) j) codes ≡ codes_behind (shell_codes (found shells j) codes) (own j (begun_items begun n))
+begun-codes : (shells : List (Option ShellState)) (begun : Option ShellStart) (n : Option ℕ) (j : ℕ) (codes : Codes) → IsFree shells n →
+    shell_codes (found (with_begun begun n shells) j) codes ≡ codes_after_trace (shell_codes (found shells j) codes) (own j (begun_items begun n))
 begun-codes shells None n j codes free = refl
 begun-codes shells (Some begun) None j codes free = refl
 begun-codes shells (Some begun) (Some n) j codes free =
@@ -108,23 +108,23 @@ begun-codes shells (Some begun) (Some n) j codes free =
 -- an accepted event moves the last codes of each number by what its trace gets
 abbrev LeadsCodes : WorldState → Response → Type 0
 LeadsCodes w (Refused why) = Unit {0}
-LeadsCodes w (Accepted world given items) = (j : ℕ) → codes_at world j ≡ codes_behind (codes_at w j) (own j items)
+LeadsCodes w (Accepted world given items) = (j : ℕ) → codes_at world j ≡ codes_after_trace (codes_at w j) (own j items)
 
 -- the codes of a shell after its turn, if it runs on and if it has ended
-own-codes : (w : WorldState) (k : ℕ) (shell : ShellState) (t : Turned) → HasAllCodes w → shell_at w k ≡ Some shell → Goes shell.parts shell.frames t →
-    shell_codes (left k (moved_in w t) t) (stays_at (ended_with (is_done k t.frames) k t.course.parts.codes w.ended) k) ≡ codes_behind (codes_at w k) t.log
+own-codes : (w : WorldState) (k : ℕ) (shell : ShellState) (t : TurnResult) → HasAllCodes w → shell_at w k ≡ Some shell → Goes shell.parts shell.frames t →
+    shell_codes (shell_after_turn k (moved_at_turn w t) t) (stays_at (codes_of_ended (is_done k t.frames) k t.course.parts.codes w.ended) k) ≡ codes_after_trace (codes_at w k) t.log
 own-codes w k shell t all is goes =
     let follows = follows-codes shell.parts.limit shell.parts.codes (stack_of shell.frames) t.log (standing_of (shell_of_turn t)) goes.follows in
     rw (ap (λ o. shell_codes o (stays_at w.ended k)) is)
     (elim (cases_Bool (is_done k t.frames)) [
       | inl d ↦ rw d (set-same w.shells w.ended k shell t.course.parts.codes all is ∙ follows)
-      | inr d ↦ rw d (carried_by-codes (moved_in w t) (shell_of_turn t) ∙ follows)
+      | inr d ↦ rw d (carried_by-codes (moved_at_turn w t) (shell_of_turn t) ∙ follows)
     ])
 
-took-codes : (w : WorldState) (k : ℕ) (shell : ShellState) (queue : List (List ℕ)) (t : Turned) → HasAllCodes w → shell_at w k ≡ Some shell →
-    Goes shell.parts shell.frames t → LeadsCodes w (took w k queue t)
+took-codes : (w : WorldState) (k : ℕ) (shell : ShellState) (queue : List (List ℕ)) (t : TurnResult) → HasAllCodes w → shell_at w k ≡ Some shell →
+    Goes shell.parts shell.frames t → LeadsCodes w (turn_taken w k queue t)
 took-codes w k shell queue t all is goes = λ j.
-    let moved = moved_in w t in
+    let moved = moved_at_turn w t in
     let carried = carried_shells moved w.shells in
     let number = free_number w.shells in
     let free = carried-free moved w.shells number (free-number w.shells) in
@@ -133,20 +133,20 @@ took-codes w k shell queue t all is goes = λ j.
     let breaking = t.course.breaking in
     rw (own-append j (of_shell k t.log) (begun_items t.course.begun number))
     (elim (cases_eq j k) [
-      | inl same ↦ rw (same, own-of_shell_same k t.log, begun-silent carried t.course.begun number k (carried_by moved shell) free there, append-nil t.log)
-          (ap (λ o. shell_codes o (stays_at (ended_with (is_done k t.frames) k t.course.parts.codes w.ended) k)) (found-left w.shells k shell moved t is)
+      | inl same ↦ rw (same, own-of_shell_same k t.log, begun-silent carried t.course.begun number k (carried_or_same moved shell) free there, append-nil t.log)
+          (ap (λ o. shell_codes o (stays_at (codes_of_ended (is_done k t.frames) k t.course.parts.codes w.ended) k)) (found-left w.shells k shell moved t is)
           ∙ own-codes w k shell t all is goes)
       | inr differ ↦ rw (own-of_shell_other j k t.log (λ e. differ (sym e)))
           (let pos = runs_pos w.shells k shell is in
           rw (
-            ap (λ o. shell_codes o (stays_at (ended_with (is_done k t.frames) k t.course.parts.codes w.ended) j))
-                (found-set_other (broken_by breaking placed) k (left k moved t) j differ pos),
+            ap (λ o. shell_codes o (stays_at (codes_of_ended (is_done k t.frames) k t.course.parts.codes w.ended) j))
+                (found-set_other (shells_after_break breaking placed) k (shell_after_turn k moved t) j differ pos),
             with-other (is_done k t.frames) w.ended k t.course.parts.codes j differ pos,
           )
           (ap (λ o. shell_codes o (stays_at w.ended j)) (found-broken breaking placed j)
           ∙ broken-codes (broken_for breaking j) (found placed j) (stays_at w.ended j)
           ∙ begun-codes carried t.course.begun number j (stays_at w.ended j) free
-          ∙ ap (λ codes. codes_behind codes (own j (begun_items t.course.begun number)))
+          ∙ ap (λ codes. codes_after_trace codes (own j (begun_items t.course.begun number)))
           (ap (λ o. shell_codes o (stays_at w.ended j)) (found-carried moved w.shells j) ∙ carried-codes moved (found w.shells j) (stays_at w.ended j))))
     ])
 
@@ -163,25 +163,25 @@ ended-codes w k shell all is = λ j.
     ]
 
 applied-codes : (w : WorldState) (k : ℕ) (shell : ShellState) (now : Turning) → HasAllCodes w → shell_at w k ≡ Some shell →
-    TurningGoes shell.parts shell.frames now → LeadsCodes w (applied w k shell.parts.codes now)
+    TurningGoes shell.parts shell.frames now → LeadsCodes w (turning_response w k shell.parts.codes now)
 applied-codes w k shell (Refuses why) all is goes = tt
 applied-codes w k shell Ends all is goes = ended-codes w k shell all is
 applied-codes w k shell (Takes queue t) all is goes = took-codes w k shell queue t all is goes
 
-turned-codes : (w : WorldState) (k : ℕ) (o : Option ShellState) → IsSane w → HasAllCodes w → shell_at w k ≡ o → LeadsCodes w (turned w k o)
+turned-codes : (w : WorldState) (k : ℕ) (o : Option ShellState) → IsSane w → HasAllCodes w → shell_at w k ≡ o → LeadsCodes w (turn_response w k o)
 turned-codes w k None sane all is = tt
 turned-codes w k (Some shell) sane all is =
-    applied-codes w k shell (flagged_turning shell.flagged (input_of w k) shell.frames (unflagged (start w shell)) shell.phase) all is
-    (flagged-goes shell.flagged (input_of w k) shell.frames (unflagged (start w shell)) shell.phase (rw is at (sane.each k)))
+    applied-codes w k shell (flagged_turning shell.flagged (input_of w k) shell.frames (course_without_flag (start w shell)) shell.phase) all is
+    (flagged-goes shell.flagged (input_of w k) shell.frames (course_without_flag (start w shell)) shell.phase (rw is at (sane.each k)))
 
 answered-codes : (w : WorldState) (k : ℕ) (reply : Reply) (o : Option ShellState) → IsSane w → HasAllCodes w → shell_at w k ≡ o →
-    LeadsCodes w (answered w k reply o)
+    LeadsCodes w (answer_response w k reply o)
 answered-codes w k reply None sane all is = tt
 answered-codes w k reply (Some shell) sane all is =
-    applied-codes w k shell (answering (input_of w k) shell.frames (start w shell) shell.phase reply) all is
+    applied-codes w k shell (turning_of_answer (input_of w k) shell.frames (start w shell) shell.phase reply) all is
     (answering-goes (input_of w k) shell.frames (start w shell) shell.phase reply (rw is at (sane.each k)))
 
-break-codes : (w : WorldState) (k : ℕ) (kind : Kind) (o : Option ShellState) → LeadsCodes w (broken w k kind o)
+break-codes : (w : WorldState) (k : ℕ) (kind : Kind) (o : Option ShellState) → LeadsCodes w (break_response w k kind o)
 break-codes w k kind None = tt
 break-codes w k kind (Some shell) = λ j.
     let breaking = Some (record { shell = k; breaks = breaks_by kind }) in
@@ -199,7 +199,7 @@ step-codes w event sane all = of-step w (λ event response. LeadsCodes w respons
 }) event
 
 pub after-codes : (w : WorldState) (out : Result Out Refusal) (r : Response) → LeadsCodes w r →
-    (j : ℕ) → codes_at (world_after w out r) j ≡ codes_behind (codes_at w j) (own j (items_after out r))
+    (j : ℕ) → codes_at (world_after w out r) j ≡ codes_after_trace (codes_at w j) (own j (items_after out r))
 after-codes w (Ok out) (Accepted world given items) leads j = leads j
 after-codes w (Ok out) (Refused why) leads j = refl
 after-codes w (Err refusal) (Accepted world given items) leads j = refl

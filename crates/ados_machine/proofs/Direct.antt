@@ -7,11 +7,11 @@ use Rattle.ados_text.specs.declared.codes.Code.{Code}
 use Rattle.ados_text.specs.declared.codes.TheConstants.Result2.{TOO_MANY_LEVELS}
 use Rattle.ados_find.specs.declared.codes.Codes.{Codes}
 use Rattle.ados_find.specs.declared.targets.Target.{Target}
-use Rattle.ados_find.specs.Codes.{failed}
+use Rattle.ados_find.specs.Codes.{fail_codes}
 use Rattle.ados_flow.specs.declared.kinds.Kind.{Kind}
 use Rattle.ados_flow.specs.declared.kinds.Kind.TheVariants.{Script, Tick}
 use Rattle.ados_flow.specs.CodeRule.{is_reached}
-use Rattle.ados_flow.specs.Frames.{FrameState, began, frame_limit, is_over, is_script, jumped, moved, scripts_in, limit_behind, last_codes, answered_frame}
+use Rattle.ados_flow.specs.Frames.{FrameState, new_frame, frame_limit, is_over, is_script, frame_at_line, advanced_frame, scripts_in, limit_above_frames, last_codes, answered_frame}
 use Rattle.ados_machine.specs.declared.answers.Answer.{Answer as Reply}
 use Rattle.ados_machine.specs.declared.phases.Parted.{Parted}
 use Rattle.ados_machine.specs.declared.phases.Phase.TheVariants.{GoingOn, Waiting}
@@ -23,16 +23,16 @@ use Rattle.ados_machine.specs.Lines.{line_deed, parted_deed, answer_deed}
 use Rattle.ados_machine.specs.NewShells.{gathered_deed}
 use Rattle.ados_machine.specs.Items.{broken_codes}
 use Rattle.ados_machine.specs.Breaks.{has_script}
-use Rattle.ados_machine.specs.Settled.{Said, Settled, after_break, broken_off, with_limit, finish, passed, finished, faulted, newest_kept}
-use Rattle.ados_machine.specs.Settle.{here_of, jumped_in, ruled}
-use Rattle.ados_machine.specs.Whole.{recorded, report_of, report_broken, with_report, after_broken, flagless, turn_at, Broken, Common, absorbed, Whole, Done, Late, Short, says, here_at, start_at, after_answer, answered_at, after_call, after_tick, behind_deed, waits, lines, ticking, ticked_out, reply_of, deed_of, script_at, tick_at}
+use Rattle.ados_machine.specs.Settled.{RuleState, RuleResult, after_break, end_at_break, with_limit, finish, pass_line, finish_with_fault, with_fault_line, newest_kept}
+use Rattle.ados_machine.specs.Settle.{here_of, frames_at_line, code_rule_of}
+use Rattle.ados_machine.specs.Whole.{record_at, report_of, report_broken, with_report, after_broken, common_without_flag, turn_at, Broken, Common, common_after_event, Whole, Done, Late, Short, says, here_at, start_at, after_answer, after_own_answer, after_call, after_tick, after_deed, waits, lines, common_with_tick, common_without_tick, reply_of, deed_of, script_at, tick_at}
 use Rattle.ados_machine.proofs.Alone.{Go, line_event, start_in, turn_event, Lone, go_by, does, deed_event, exec}
 use Rattle.ados_machine.proofs.DirectStates.{ended, breaking, AgreesBy, at_of, AgreesAt, here-is, weaker, lines-over, there}
 
 -- the newest frame continues, or ends if no line is left
 passed-agrees : (k gas : ℕ) → AgreesAt k gas →
     (n : ℕ) (answers : List Reply) (common : Common) (frame : FrameState) (frames : List FrameState) → n < gas →
-    AgreesBy n (go_by k (exec k n answers) common (passed (frame ∷ frames) common.said))
+    AgreesBy n (go_by k (exec k n answers) common (pass_line (frame ∷ frames) common.said))
     (lines k gas n answers common (at_of k frame frames) None)
     (ended k frame frames) (breaking k frame frames) (scripts_in (frame ∷ frames))
 passed-agrees k gas ih n answers common frame frames lt =
@@ -50,7 +50,7 @@ answer-agrees : (k gas : ℕ) → AgreesAt k gas →
     (ended k frame frames) (breaking k frame frames) (scripts_in (frame ∷ frames))
 answer-agrees k gas ih n answers common frame frames word answer quits lt =
     elim (cases_Bool (is_over frame)) [
-      | inl e ↦ rw (e, lines-over k gas n answers (says word answer common) (record (at_of k frame frames) { last = Some (recorded (at_of k frame frames) answer common) }) lt e)
+      | inl e ↦ rw (e, lines-over k gas n answers (says word answer common) (record (at_of k frame frames) { last = Some (record_at (at_of k frame frames) answer common) }) lt e)
           (over (is_script frame.kind && (quits || is_reached common.said.parts.limit answer.code)))
       | inr e ↦ elim (cases_Bool (is_script frame.kind && (quits || is_reached common.said.parts.limit answer.code))) [
         | inl f ↦ rw (e, f) (omega arith, refl)
@@ -60,9 +60,9 @@ answer-agrees k gas ih n answers common frame frames word answer quits lt =
     ]
   where
     over : (early : Bool) →
-        AgreesBy n (ended k frame frames n answers (Some (recorded (at_of k frame frames) answer common)) (says word answer common))
-        (if early then Done n answers (Some (recorded (at_of k frame frames) answer common)) (says word answer common)
-        else Done n answers (Some (recorded (at_of k frame frames) answer common)) (says word answer common))
+        AgreesBy n (ended k frame frames n answers (Some (record_at (at_of k frame frames) answer common)) (says word answer common))
+        (if early then Done n answers (Some (record_at (at_of k frame frames) answer common)) (says word answer common)
+        else Done n answers (Some (record_at (at_of k frame frames) answer common)) (says word answer common))
         (ended k frame frames) (breaking k frame frames) (scripts_in (frame ∷ frames))
     over true = (omega arith, refl)
     over false = (omega arith, refl)
@@ -70,21 +70,21 @@ answer-agrees k gas ih n answers common frame frames word answer quits lt =
 finished-agrees : (k gas : ℕ) → AgreesAt k gas →
     (n : ℕ) (answers : List Reply) (common : Common) (frame : FrameState) (frames : List FrameState)
     (word : Text) (answer : Codes) (quits : Bool) → n < gas →
-    AgreesBy n (go_by k (exec k n answers) common (finished word answer quits (frame ∷ frames) common.said))
-    (answered_at (lines k gas) n answers common (at_of k frame frames) word answer quits)
+    AgreesBy n (go_by k (exec k n answers) common (finish_with_fault word answer quits (frame ∷ frames) common.said))
+    (after_own_answer (lines k gas) n answers common (at_of k frame frames) word answer quits)
     (ended k frame frames) (breaking k frame frames) (scripts_in (frame ∷ frames))
 finished-agrees k gas ih n answers common frame frames word answer quits lt =
-    answer-agrees k gas ih n answers (record common { said = faulted word answer.result2 common.said }) frame frames word answer quits lt
+    answer-agrees k gas ih n answers (record common { said = with_fault_line word answer.result2 common.said }) frame frames word answer quits lt
 
 -- it continues at another line
 jumped-agrees : (k gas : ℕ) → AgreesAt k gas →
     (n : ℕ) (answers : List Reply) (common : Common) (frame : FrameState) (frames : List FrameState)
     (word : Text) (answer : Codes) (line : ℕ) → n < gas →
-    AgreesBy n (go_by k (exec k n answers) common (finished word answer false (jumped_in line (frame ∷ frames)) common.said))
-    (answered_at (lines k gas) n answers common (at_of k (jumped line frame) frames) word answer false)
+    AgreesBy n (go_by k (exec k n answers) common (finish_with_fault word answer false (frames_at_line line (frame ∷ frames)) common.said))
+    (after_own_answer (lines k gas) n answers common (at_of k (frame_at_line line frame) frames) word answer false)
     (ended k frame frames) (breaking k frame frames) (scripts_in (frame ∷ frames))
 jumped-agrees k gas ih n answers common frame frames word answer line lt =
-    finished-agrees k gas ih n answers common (jumped line frame) frames word answer false lt
+    finished-agrees k gas ih n answers common (frame_at_line line frame) frames word answer false lt
 
 -- the shell's events, if `exec` is another
 abbrev exec_of : ℕ → ℕ → List Reply → Go
@@ -97,7 +97,7 @@ some-script (suc m) e = (m, refl)
 
 turn-agrees : (k n : ℕ) (answers : List Reply) (common : Common) (frame : FrameState) (frames : List FrameState)
     (work : Common → Lone) (meaning : Common → Whole) →
-    AgreesBy (suc n) (work (flagless common)) (meaning (flagless common)) (ended k frame frames) (breaking k frame frames) (scripts_in (frame ∷ frames)) →
+    AgreesBy (suc n) (work (common_without_flag common)) (meaning (common_without_flag common)) (ended k frame frames) (breaking k frame frames) (scripts_in (frame ∷ frames)) →
     AgreesBy (suc n) (turn_event k (exec k n answers) (frame ∷ frames) common work) (turn_at n answers common (at_of k frame frames) meaning) (ended k frame frames) (breaking k frame frames) (scripts_in (frame ∷ frames))
 turn-agrees k n answers common frame frames work meaning h =
     elim (cases_Bool (common.flagged && has_script (frame ∷ frames))) [
@@ -108,18 +108,18 @@ turn-agrees k n answers common frame frames work meaning h =
 -- after a script that ended at a break
 break-agrees : (k gas : ℕ) → AgreesAt k gas → (m n : ℕ) (answers : List Reply) (common : Common) (frame : FrameState) (frames : List FrameState)
     (name word : Text) (limit : Code) → n < gas → scripts_in (frame ∷ frames) ≡ m →
-    AgreesBy n (go_by k (exec k n answers) common (after_break m (Script name word) limit (broken_off (frame ∷ frames) common.said) (frame ∷ frames) common.said))
+    AgreesBy n (go_by k (exec k n answers) common (after_break m (Script name word) limit (end_at_break (frame ∷ frames) common.said) (frame ∷ frames) common.said))
     (after_broken (lines k gas) n answers common (at_of k frame frames) limit word m)
     (ended k frame frames) (breaking k frame frames) (scripts_in (frame ∷ frames))
 break-agrees k gas ih zero n answers common frame frames name word limit lt e =
-    let limited : Common = record common { said = with_limit (limit_behind (frame ∷ frames) limit) common.said } in
+    let limited : Common = record common { said = with_limit (limit_above_frames (frame ∷ frames) limit) common.said } in
     answer-agrees k gas ih n answers limited frame frames word broken_codes false lt
 break-agrees k gas ih (suc m) n answers common frame frames name word limit lt e = (omega arith, (m, e), refl)
 
 -- after a script
 call-agrees : (k gas : ℕ) → AgreesAt k gas → (n : ℕ) (exec : Lone) (meaning : Whole) (frame : FrameState) (frames : List FrameState)
     (name word : Text) (commands : List Text) (limit : Code) (output : Option Target) → n < gas →
-    AgreesBy n exec meaning (ended k (began (Script name word) commands limit output) (frame ∷ frames)) (breaking k (began (Script name word) commands limit output) (frame ∷ frames)) (scripts_in (began (Script name word) commands limit output ∷ frame ∷ frames)) →
+    AgreesBy n exec meaning (ended k (new_frame (Script name word) commands limit output) (frame ∷ frames)) (breaking k (new_frame (Script name word) commands limit output) (frame ∷ frames)) (scripts_in (new_frame (Script name word) commands limit output ∷ frame ∷ frames)) →
     AgreesBy n exec (after_call (lines k gas) (at_of k frame frames) limit name word meaning) (ended k frame frames) (breaking k frame frames) (scripts_in (frame ∷ frames))
 call-agrees k gas ih n exec (Late answers) frame frames name word commands limit output lt h = h
 call-agrees k gas ih n exec Short frame frames name word commands limit output lt h = h
@@ -127,19 +127,19 @@ call-agrees k gas ih n exec (Broken left answers last common) frame frames name 
     rw h.2 (weaker left n _ (after_broken (lines k gas) left answers (with_report (report_broken k name last) common) (at_of k frame frames) limit word (scripts_in (frame ∷ frames))) (ended k frame frames) (breaking k frame frames) (scripts_in (frame ∷ frames))
     h.0 (break-agrees k gas ih (scripts_in (frame ∷ frames)) left answers (with_report (report_broken k name last) common) frame frames name word limit (omega (arith, h.0)) refl))
 call-agrees k gas ih n exec (Done left answers last common) frame frames name word commands limit output lt h =
-    let limited : Common = record (with_report (report_of k name last) common) { said = with_limit (limit_behind (frame ∷ frames) limit) common.said } in
+    let limited : Common = record (with_report (report_of k name last) common) { said = with_limit (limit_above_frames (frame ∷ frames) limit) common.said } in
     rw h.1 (weaker left n _ (after_answer (lines k gas) left answers limited (at_of k frame frames) word (last_codes last) false)
     (ended k frame frames) (breaking k frame frames) (scripts_in (frame ∷ frames)) h.0
     (answer-agrees k gas ih left answers limited frame frames word (last_codes last) false (omega (arith, h.0))))
 
-after-some : (n m : ℕ) (kind : Kind) (limit : Code) (further : Settled) (frames : List FrameState) (said : Said) → n ≡ suc m →
+after-some : (n m : ℕ) (kind : Kind) (limit : Code) (further : RuleResult) (frames : List FrameState) (said : RuleState) → n ≡ suc m →
     after_break n kind limit further frames said ≡ further
 after-some n m kind limit further frames said e = rw e refl
 
 -- after a command substitution the line that waits for it continues
 tick-agrees : (k gas : ℕ) → AgreesAt k gas → (n : ℕ) (exec : Lone) (meaning : Whole) (frame : FrameState) (frames : List FrameState)
     (before after : Text) (commands : List Text) (limit : Code) → n < gas →
-    AgreesBy n exec meaning (ended k (began (Tick before after) commands limit None) (frame ∷ frames)) (breaking k (began (Tick before after) commands limit None) (frame ∷ frames)) (scripts_in (began (Tick before after) commands limit None ∷ frame ∷ frames)) →
+    AgreesBy n exec meaning (ended k (new_frame (Tick before after) commands limit None) (frame ∷ frames)) (breaking k (new_frame (Tick before after) commands limit None) (frame ∷ frames)) (scripts_in (new_frame (Tick before after) commands limit None ∷ frame ∷ frames)) →
     AgreesBy n exec (after_tick (lines k gas) (at_of k frame frames) before after meaning) (ended k frame frames) (breaking k frame frames) (scripts_in (frame ∷ frames))
 tick-agrees k gas ih n exec (Late answers) frame frames before after commands limit lt h = h
 tick-agrees k gas ih n exec Short frame frames before after commands limit lt h = h
@@ -147,12 +147,12 @@ tick-agrees k gas ih n exec (Broken left answers last common) frame frames befor
   h.0,
   h.1,
   h.2 ∙ ap (go_by k (exec_of k left answers) common)
-      (after-some (scripts_in (frame ∷ frames)) h.1.0 (Tick before after) limit (broken_off (frame ∷ frames) (ticked_out common).said) (frame ∷ frames) common.said h.1.1),
+      (after-some (scripts_in (frame ∷ frames)) h.1.0 (Tick before after) limit (end_at_break (frame ∷ frames) (common_without_tick common).said) (frame ∷ frames) common.said h.1.1),
 )
 tick-agrees k gas ih n exec (Done left answers last common) frame frames before after commands limit lt h =
     let parted : Parted = record { before = before; output = newest_kept common.said.kept; after = after } in
-    rw h.1 (weaker left n _ (lines k gas left answers (ticked_out common) (at_of k frame frames) (Some parted)) (ended k frame frames) (breaking k frame frames) (scripts_in (frame ∷ frames)) h.0
-    (ih left answers (ticked_out common) frame frames (Some parted) (omega (arith, h.0)) tt))
+    rw h.1 (weaker left n _ (lines k gas left answers (common_without_tick common) (at_of k frame frames) (Some parted)) (ended k frame frames) (breaking k frame frames) (scripts_in (frame ∷ frames)) h.0
+    (ih left answers (common_without_tick common) frame frames (Some parted) (omega (arith, h.0)) tt))
 
 -- what the shell waits for
 abbrev WaitsAgree : ℕ → ℕ → List Reply → FrameState → List FrameState → (Common → Wait → Whole) → Type 0
@@ -163,8 +163,8 @@ WaitsAgree k n answers frame frames further = (common : Common) (wait : Wait) �
 deed-agrees : (k gas : ℕ) → AgreesAt k gas →
     (n : ℕ) (answers : List Reply) (common : Common) (frame : FrameState) (frames : List FrameState)
     (further : Common → Wait → Whole) (deed : Deed) → n < gas → WaitsAgree k n answers frame frames further →
-    AgreesBy n (go_by k (exec k n answers) common (ruled deed (frame ∷ frames) common.said))
-    (behind_deed further (lines k gas) n answers common (at_of k frame frames) deed)
+    AgreesBy n (go_by k (exec k n answers) common (code_rule_of deed (frame ∷ frames) common.said))
+    (after_deed further (lines k gas) n answers common (at_of k frame frames) deed)
     (ended k frame frames) (breaking k frame frames) (scripts_in (frame ∷ frames))
 deed-agrees k gas ih n answers common frame frames further (Passes course) lt waits =
     passed-agrees k gas ih n answers common frame frames lt
@@ -174,18 +174,18 @@ deed-agrees k gas ih n answers common frame frames further (Jumps word answer li
     jumped-agrees k gas ih n answers common frame frames word answer line lt
 deed-agrees k gas ih n answers common frame frames further (Calls word output script course) lt waits =
     elim (cases_Bool (nat_le frame_limit (length (frame ∷ frames)))) [
-      | inl e ↦ rw e (finished-agrees k gas ih n answers common frame frames word (failed TOO_MANY_LEVELS) false lt)
+      | inl e ↦ rw e (finished-agrees k gas ih n answers common frame frames word (fail_codes TOO_MANY_LEVELS) false lt)
       | inr e ↦ rw e (call-agrees k gas ih n _
           (lines k gas n answers common (script_at (at_of k frame frames) output script) None) frame frames
           script.name word script.script common.said.parts.limit output lt
-          (passed-agrees k gas ih n answers common (began (Script script.name word) script.script common.said.parts.limit output)
+          (passed-agrees k gas ih n answers common (new_frame (Script script.name word) script.script common.said.parts.limit output)
           (frame ∷ frames) lt))
     ]
 deed-agrees k gas ih n answers common frame frames further (Ticks before command after course) lt waits =
     tick-agrees k gas ih n _
-    (lines k gas n answers (ticking common) (tick_at (at_of k frame frames) command) None) frame frames
+    (lines k gas n answers (common_with_tick common) (tick_at (at_of k frame frames) command) None) frame frames
     before after (command ∷ []) common.said.parts.limit lt
-    (ih n answers (ticking common) (began (Tick before after) (command ∷ []) common.said.parts.limit None)
+    (ih n answers (common_with_tick common) (new_frame (Tick before after) (command ∷ []) common.said.parts.limit None)
     (frame ∷ frames) None lt refl)
 deed-agrees k gas ih n answers common frame frames further (Waits wait course) lt waits = waits common wait
 
@@ -197,8 +197,8 @@ event-agrees : (k gas : ℕ) → AgreesAt k gas →
     (deed_of further (lines k gas) n answers common (at_of k frame frames) deed)
     (ended k frame frames) (breaking k frame frames) (scripts_in (frame ∷ frames))
 event-agrees k gas ih n answers common frame frames further deed lt waits =
-    let behind = absorbed common (course_of deed) in
-    weaker n (suc n) _ (behind_deed further (lines k gas) n answers behind (at_of k frame frames) deed) (ended k frame frames) (breaking k frame frames) (scripts_in (frame ∷ frames))
+    let behind = common_after_event common (course_of deed) in
+    weaker n (suc n) _ (after_deed further (lines k gas) n answers behind (at_of k frame frames) deed) (ended k frame frames) (breaking k frame frames) (scripts_in (frame ∷ frames))
     (omega arith) (deed-agrees k gas ih n answers behind frame frames further deed lt waits)
 
 -- an event that results in the deed of a line
@@ -231,15 +231,15 @@ waits-agree k gas ih (suc n) answers frame frames lt common (ForAnswer asking) =
     turn-agrees k n answers common frame frames
     (λ now. does k (exec k n answers) (frame ∷ frames) now (answer_deed [] asking (here_of (frame ∷ frames)) (start_in k (frame ∷ frames) (Waiting (ForAnswer asking)) now)))
     (λ now. deed_of (waits k (lines k gas) (at_of k frame frames) n answers) (lines k gas) n answers now (at_of k frame frames) (answer_deed [] asking (here_at (at_of k frame frames)) (start_at k (at_of k frame frames) (Some (ForAnswer asking)) now)))
-    (work-agrees k gas ih n answers (flagless common) frame frames (waits k (lines k gas) (at_of k frame frames) n answers)
-    (λ here. answer_deed [] asking here (start_at k (at_of k frame frames) (Some (ForAnswer asking)) (flagless common))) (omega arith)
+    (work-agrees k gas ih n answers (common_without_flag common) frame frames (waits k (lines k gas) (at_of k frame frames) n answers)
+    (λ here. answer_deed [] asking here (start_at k (at_of k frame frames) (Some (ForAnswer asking)) (common_without_flag common))) (omega arith)
     (waits-agree k gas ih n answers frame frames (omega arith)))
 waits-agree k gas ih (suc n) answers frame frames lt common (ForLines gathering) =
     turn-agrees k n answers common frame frames
     (λ now. does k (exec k n answers) (frame ∷ frames) now (gathered_deed gathering (sink_in (frame ∷ frames)) (start_in k (frame ∷ frames) (Waiting (ForLines gathering)) now)))
     (λ now. deed_of (waits k (lines k gas) (at_of k frame frames) n answers) (lines k gas) n answers now (at_of k frame frames) (gathered_deed gathering (at_of k frame frames).sink (start_at k (at_of k frame frames) (Some (ForLines gathering)) now)))
-    (event-agrees k gas ih n answers (flagless common) frame frames (waits k (lines k gas) (at_of k frame frames) n answers)
-    (gathered_deed gathering (sink_in (frame ∷ frames)) (start_at k (at_of k frame frames) (Some (ForLines gathering)) (flagless common))) (omega arith)
+    (event-agrees k gas ih n answers (common_without_flag common) frame frames (waits k (lines k gas) (at_of k frame frames) n answers)
+    (gathered_deed gathering (sink_in (frame ∷ frames)) (start_at k (at_of k frame frames) (Some (ForLines gathering)) (common_without_flag common))) (omega arith)
     (waits-agree k gas ih n answers frame frames (omega arith)))
 waits-agree k gas ih (suc n) [] frame frames lt common (ForStart starting) = refl
 waits-agree k gas ih (suc n) [] frame frames lt common (ForPiece child) = refl
@@ -260,15 +260,15 @@ agrees k (suc gas) (suc n) answers common frame frames (Some parted) lt next =
     turn-agrees k n answers common frame frames
     (λ now. does k (exec k n answers) (frame ∷ frames) now (parted_deed parted (here_of (frame ∷ frames)) (start_in k (frame ∷ frames) (GoingOn parted) now)))
     (λ now. deed_of (waits k (lines k gas) (at_of k frame frames) n answers) (lines k gas) n answers now (at_of k frame frames) (parted_deed parted (here_at (at_of k frame frames)) (start_at k (at_of k frame frames) None now)))
-    (work-agrees k gas (agrees k gas) n answers (flagless common) frame frames (waits k (lines k gas) (at_of k frame frames) n answers)
-    (λ here. parted_deed parted here (start_at k (at_of k frame frames) None (flagless common))) (omega arith)
+    (work-agrees k gas (agrees k gas) n answers (common_without_flag common) frame frames (waits k (lines k gas) (at_of k frame frames) n answers)
+    (λ here. parted_deed parted here (start_at k (at_of k frame frames) None (common_without_flag common))) (omega arith)
     (waits-agree k gas (agrees k gas) n answers frame frames (omega arith)))
 agrees k (suc gas) (suc n) answers common frame frames None lt next =
     let line = get_or frame.lines frame.position [] in
     rw (there frame.lines frame.position next)
     (turn-agrees k n answers common frame frames
     (λ now. line_event k (exec k n answers) frame frames now (Some line))
-    (λ now. deed_of (waits k (lines k gas) (at_of k (moved frame) frames) n answers) (lines k gas) n answers now (at_of k (moved frame) frames) (line_deed line (here_at (at_of k (moved frame) frames)) (start_at k (at_of k frame frames) None now)))
-    (work-agrees k gas (agrees k gas) n answers (flagless common) (moved frame) frames (waits k (lines k gas) (at_of k (moved frame) frames) n answers)
-    (λ here. line_deed line here (start_at k (at_of k frame frames) None (flagless common))) (omega arith)
-    (waits-agree k gas (agrees k gas) n answers (moved frame) frames (omega arith))))
+    (λ now. deed_of (waits k (lines k gas) (at_of k (advanced_frame frame) frames) n answers) (lines k gas) n answers now (at_of k (advanced_frame frame) frames) (line_deed line (here_at (at_of k (advanced_frame frame) frames)) (start_at k (at_of k frame frames) None now)))
+    (work-agrees k gas (agrees k gas) n answers (common_without_flag common) (advanced_frame frame) frames (waits k (lines k gas) (at_of k (advanced_frame frame) frames) n answers)
+    (λ here. line_deed line here (start_at k (at_of k frame frames) None (common_without_flag common))) (omega arith)
+    (waits-agree k gas (agrees k gas) n answers (advanced_frame frame) frames (omega arith))))

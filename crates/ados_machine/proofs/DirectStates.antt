@@ -6,14 +6,14 @@ use Rattle.std.proofs.lemmas.Option.{slice_get_past, slice_get-get_or}
 use Rattle.ados_text.specs.Text.{Text}
 use Rattle.ados_flow.specs.declared.kinds.Kind.{Kind}
 use Rattle.ados_flow.specs.declared.kinds.Kind.TheVariants.{Script, Lines, Tick}
-use Rattle.ados_flow.specs.Frames.{FrameState, is_over, is_script, scripts_in, script_line_by, limit_behind, last_line, last_codes, is_early, maker}
+use Rattle.ados_flow.specs.Frames.{FrameState, is_over, is_script, scripts_in, kind_script_line, limit_above_frames, last_line, last_codes, is_early, maker}
 use Rattle.ados_machine.specs.declared.answers.Answer.{Answer as Reply}
 use Rattle.ados_machine.specs.declared.phases.Parted.{Parted}
 use Rattle.ados_machine.specs.declared.phases.Phase.{Phase}
 use Rattle.ados_machine.specs.declared.phases.Phase.TheVariants.{Ready, GoingOn}
 use Rattle.ados_machine.specs.Sinks.{sink_in, outputs_in}
 use Rattle.ados_machine.specs.Names.{name_in}
-use Rattle.ados_machine.specs.Settled.{broken_off, with_limit, after_end, finish}
+use Rattle.ados_machine.specs.Settled.{end_at_break, with_limit, after_end, finish}
 use Rattle.ados_machine.specs.Settle.{here_of}
 use Rattle.ados_flow.specs.declared.records.Record.{Record}
 use Rattle.ados_machine.specs.Whole.{Broken, Common, At, Whole, Done, Late, Short, here_at, lines}
@@ -27,7 +27,7 @@ abbrev pub ended : ℕ → FrameState → List FrameState → Next
 ended k frame frames n answers last common =
     go_by k (exec k n answers) (record common { reports = with_end k frame.kind (last_line last) (last_codes last) (is_early frame.kind last) common.reports })
     (after_end frame.kind
-    (finish (maker frame.kind) (last_codes last) false frames (with_limit (limit_behind frames frame.limit) common.said)) frames common.said)
+    (finish (maker frame.kind) (last_codes last) false frames (with_limit (limit_above_frames frames frame.limit) common.said)) frames common.said)
 
 abbrev pub IsRunning : List Reply → Lone → Type 0
 IsRunning answers (Going answers' frames phase common) = answers' ≡ answers
@@ -39,7 +39,7 @@ IsSome n = (m : ℕ) × (n ≡ suc m)
 
 -- what a shell does at a break that came to this frame
 abbrev pub breaking : ℕ → FrameState → List FrameState → Next
-breaking k frame frames n answers last common = go_by k (exec k n answers) common (broken_off (record frame { last = last } ∷ frames) common.said)
+breaking k frame frames n answers last common = go_by k (exec k n answers) common (end_at_break (record frame { last = last } ∷ frames) common.said)
 
 -- a shell does what lines mean, in or below which this many scripts run, and then the one or, at a break, the other
 abbrev pub AgreesBy : ℕ → Lone → Whole → Next → Next → ℕ → Type 0
@@ -81,7 +81,7 @@ AgreesAt k gas = (n : ℕ) (answers : List Reply) (common : Common) (frame : Fra
 
 -- a line of the newest frame knows just what one of these lines knows
 script-line : (kind : Kind) (frame : FrameState) →
-    script_line_by kind frame ≡ (if is_script kind then Some (record { lines = frame.lines; line = frame.line }) else None)
+    kind_script_line kind frame ≡ (if is_script kind then Some (record { lines = frame.lines; line = frame.line }) else None)
 script-line (Script name command) frame = refl
 script-line Lines frame = refl
 script-line (Tick before after) frame = refl

@@ -13,17 +13,17 @@ use Rattle.ados_machine.specs.declared.events.Event.{Event}
 use Rattle.ados_machine.specs.declared.outs.Out.{Out}
 use Rattle.ados_machine.specs.declared.refusals.Refusal.{Refusal}
 use Rattle.ados_machine.specs.declared.events.Kind.{Kind}
-use Rattle.ados_machine.specs.Breaks.{breaks_by, broken_at, broken_number, broken_by}
+use Rattle.ados_machine.specs.Breaks.{breaks_by, broken_at, broken_number, shells_after_break}
 use Rattle.ados_machine.specs.Carrying.{carried_place, carried_shells}
 use Rattle.ados_machine.specs.Numbers.{free_number}
 use Rattle.ados_machine.specs.Runs.{world_after}
-use Rattle.ados_machine.specs.Settle.{Turned}
-use Rattle.ados_machine.specs.Shells.{Begun, begun_shell, ShellState}
-use Rattle.ados_machine.specs.Step.{Response, Refused, Accepted, with_begun, is_done, left, ended_with, moved_in, start, unflagged, applied, turned, answered, broken, typed, step_of}
+use Rattle.ados_machine.specs.Settle.{TurnResult}
+use Rattle.ados_machine.specs.Shells.{ShellStart, begun_shell, ShellState}
+use Rattle.ados_machine.specs.Step.{Response, Refused, Accepted, with_begun, is_done, shell_after_turn, codes_of_ended, moved_at_turn, start, course_without_flag, turning_response, turn_response, answer_response, break_response, typing_response, step_of}
 use Rattle.ados_machine.specs.Trace.{items_after, trace, own}
-use Rattle.ados_machine.specs.Turning.{Turning, Refuses, Ends, Takes, flagged_turning, answering}
+use Rattle.ados_machine.specs.Turning.{Turning, Refuses, Ends, Takes, flagged_turning, turning_of_answer}
 use Rattle.ados_machine.specs.World.{WorldState, input_of, codes_at}
-use Rattle.ados_machine.specs.Kept.{codes_behind, HasAllCodes, FreshWorldsHaveAllCodes, EventsKeepAllCodes, LastCodesStay}
+use Rattle.ados_machine.specs.Kept.{codes_after_trace, HasAllCodes, FreshWorldsHaveAllCodes, EventsKeepAllCodes, LastCodesStay}
 use Rattle.ados_machine.proofs.Shells.{shells_behind, own-append}
 use Rattle.ados_machine.proofs.Sane.{sane-after}
 use Rattle.ados_machine.proofs.CodesLemmas.{behind-append, step-codes, after-codes}
@@ -41,7 +41,7 @@ length-carried : (renamed : Option Renamed) (shells : List (Option ShellState)) 
 length-carried None shells = refl
 length-carried (Some renamed) shells = length-map renamed shells
 
-length-begun : (begun : Option Begun) (n : Option ℕ) (shells : List (Option ShellState)) → length (with_begun begun n shells) ≡ length shells
+length-begun : (begun : Option ShellStart) (n : Option ℕ) (shells : List (Option ShellState)) → length (with_begun begun n shells) ≡ length shells
 length-begun None n shells = refl
 length-begun (Some begun) None shells = refl
 length-begun (Some begun) (Some n) shells = length-set shells (n - 1) (Some (begun_shell n begun))
@@ -55,18 +55,18 @@ length-broken_number : (breaks : Breaks) (n : ℕ) (shells : List (Option ShellS
 length-broken_number breaks zero shells = refl
 length-broken_number breaks (suc n) shells = length-broken_at breaks n shells
 
-length-broken : (breaking : Option Breaking) (shells : List (Option ShellState)) → length (broken_by breaking shells) ≡ length shells
+length-broken : (breaking : Option Breaking) (shells : List (Option ShellState)) → length (shells_after_break breaking shells) ≡ length shells
 length-broken None shells = refl
 length-broken (Some breaking) shells = length-broken_number breaking.breaks breaking.shell shells
 
-length-behind : (shells : List (Option ShellState)) (k : ℕ) (moved : Option Renamed) (t : Turned) → length (shells_behind shells k moved t) ≡ length shells
+length-behind : (shells : List (Option ShellState)) (k : ℕ) (moved : Option Renamed) (t : TurnResult) → length (shells_behind shells k moved t) ≡ length shells
 length-behind shells k moved t =
     let placed = with_begun t.course.begun (free_number shells) (carried_shells moved shells) in
-    length-set (broken_by t.course.breaking placed) (k - 1) (left k moved t)
+    length-set (shells_after_break t.course.breaking placed) (k - 1) (shell_after_turn k moved t)
     ∙ (length-broken t.course.breaking placed
     ∙ length-begun t.course.begun (free_number shells) (carried_shells moved shells) ∙ length-carried moved shells)
 
-length-ended : (done : Bool) (k : ℕ) (codes : Codes) (ended : List Codes) → length (ended_with done k codes ended) ≡ length ended
+length-ended : (done : Bool) (k : ℕ) (codes : Codes) (ended : List Codes) → length (codes_of_ended done k codes ended) ≡ length ended
 length-ended done k codes ended =
     elim (cases_Bool done) [
       | inl e ↦ rw e (length-set ended (k - 1) codes)
@@ -77,23 +77,23 @@ abbrev KeepsAll : Response → Type 0
 KeepsAll (Refused why) = Unit {0}
 KeepsAll (Accepted world given items) = HasAllCodes world
 
-applied-all : (w : WorldState) (k : ℕ) (codes : Codes) (now : Turning) → HasAllCodes w → KeepsAll (applied w k codes now)
+applied-all : (w : WorldState) (k : ℕ) (codes : Codes) (now : Turning) → HasAllCodes w → KeepsAll (turning_response w k codes now)
 applied-all w k codes (Refuses why) all = tt
 applied-all w k codes Ends all = length-set w.ended (k - 1) codes ∙ (all ∙ sym (length-set w.shells (k - 1) None))
 applied-all w k codes (Takes queue t) all =
-    length-ended (is_done k t.frames) k t.course.parts.codes w.ended ∙ (all ∙ sym (length-behind w.shells k (moved_in w t) t))
+    length-ended (is_done k t.frames) k t.course.parts.codes w.ended ∙ (all ∙ sym (length-behind w.shells k (moved_at_turn w t) t))
 
-turned-all : (w : WorldState) (k : ℕ) (o : Option ShellState) → HasAllCodes w → KeepsAll (turned w k o)
+turned-all : (w : WorldState) (k : ℕ) (o : Option ShellState) → HasAllCodes w → KeepsAll (turn_response w k o)
 turned-all w k None all = tt
 turned-all w k (Some shell) all =
-    applied-all w k shell.parts.codes (flagged_turning shell.flagged (input_of w k) shell.frames (unflagged (start w shell)) shell.phase) all
+    applied-all w k shell.parts.codes (flagged_turning shell.flagged (input_of w k) shell.frames (course_without_flag (start w shell)) shell.phase) all
 
-answered-all : (w : WorldState) (k : ℕ) (reply : Reply) (o : Option ShellState) → HasAllCodes w → KeepsAll (answered w k reply o)
+answered-all : (w : WorldState) (k : ℕ) (reply : Reply) (o : Option ShellState) → HasAllCodes w → KeepsAll (answer_response w k reply o)
 answered-all w k reply None all = tt
 answered-all w k reply (Some shell) all =
-    applied-all w k shell.parts.codes (answering (input_of w k) shell.frames (start w shell) shell.phase reply) all
+    applied-all w k shell.parts.codes (turning_of_answer (input_of w k) shell.frames (start w shell) shell.phase reply) all
 
-break-all : (w : WorldState) (k : ℕ) (kind : Kind) (o : Option ShellState) → HasAllCodes w → KeepsAll (broken w k kind o)
+break-all : (w : WorldState) (k : ℕ) (kind : Kind) (o : Option ShellState) → HasAllCodes w → KeepsAll (break_response w k kind o)
 break-all w k kind None all = tt
 break-all w k kind (Some shell) all = all ∙ sym (length-broken_number (breaks_by kind) k w.shells)
 
@@ -128,4 +128,4 @@ last-codes-stay w (event ∷ events) (out ∷ outs) last run sane all k =
     let here = items_after out (step_of w event) in
     rw (own-append k here (trace mid events outs), behind-append (codes_at w k) (own k here) (own k (trace mid events outs)))
     (last-codes-stay mid events outs last run.1 (sane-after w event out sane) (events-keep-all w event out all) k
-    ∙ ap (λ codes. codes_behind codes (own k (trace mid events outs))) (after-codes w out (step_of w event) (step-codes w event sane all) k))
+    ∙ ap (λ codes. codes_after_trace codes (own k (trace mid events outs))) (after-codes w out (step_of w event) (step-codes w event sane all) k))

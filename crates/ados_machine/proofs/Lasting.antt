@@ -15,16 +15,16 @@ use Rattle.ados_machine.specs.declared.phases.Phase.TheVariants as phase
 use Rattle.ados_machine.specs.declared.phases.Wait.{Wait}
 use Rattle.ados_machine.specs.declared.phases.Wait.TheVariants.{ForAnswer, ForLines, ForStart, ForPiece, ForEnd}
 use Rattle.ados_machine.specs.Answers.{answered_in}
-use Rattle.ados_machine.specs.Breaks.{breaks_by, broken_by, marked_if}
-use Rattle.ados_machine.specs.Carrying.{carried_shells, carried_by}
+use Rattle.ados_machine.specs.Breaks.{breaks_by, shells_after_break, marked_if}
+use Rattle.ados_machine.specs.Carrying.{carried_shells, carried_or_same}
 use Rattle.ados_machine.specs.Course.{Course}
 use Rattle.ados_machine.specs.Deeds.{Deed, Passes, Answers, Jumps, Calls, Ticks, Waits}
 use Rattle.ados_machine.specs.Numbers.{free_number}
-use Rattle.ados_machine.specs.Settle.{Turned, jumped_in, said_of, settle}
-use Rattle.ados_machine.specs.Shells.{Begun, begun_shell, ShellState}
+use Rattle.ados_machine.specs.Settle.{TurnResult, frames_at_line, said_of, turn_of_deed}
+use Rattle.ados_machine.specs.Shells.{ShellStart, begun_shell, ShellState}
 use Rattle.ados_machine.specs.Sinks.{Sink, sink_in}
-use Rattle.ados_machine.specs.Step.{Response, Refused, Accepted, shell_of_turn, with_begun, is_done, left, moved_in, took, shell_ended, start, unflagged, applied, turned, answered, broken, typed, step_of}
-use Rattle.ados_machine.specs.Turning.{Turning, Refuses, Ends, Takes, flagged_turning, replied}
+use Rattle.ados_machine.specs.Step.{Response, Refused, Accepted, shell_of_turn, with_begun, is_done, shell_after_turn, moved_at_turn, turn_taken, shell_ended, start, course_without_flag, turning_response, turn_response, answer_response, break_response, typing_response, step_of}
+use Rattle.ados_machine.specs.Turning.{Turning, Refuses, Ends, Takes, flagged_turning, turning_of_deed}
 use Rattle.ados_machine.specs.World.{WorldState, shell_at, input_of}
 use Rattle.ados_machine.proofs.AskedTurns.{flagged-refused}
 use Rattle.ados_machine.proofs.Moves.{placed-at}
@@ -71,11 +71,11 @@ carried-held s None o = refl
 carried-held s (Some renamed) None = refl
 carried-held s (Some renamed) (Some shell) = refl
 
-own-seen : {X : Type 0} (s : Watch X) (renamed : Option Renamed) (shell : ShellState) → seen_by s (Some (carried_by renamed shell)) ≡ s.look shell.frames shell.phase
+own-seen : {X : Type 0} (s : Watch X) (renamed : Option Renamed) (shell : ShellState) → seen_by s (Some (carried_or_same renamed shell)) ≡ s.look shell.frames shell.phase
 own-seen s None shell = refl
 own-seen s (Some renamed) shell = refl
 
-own-held : {X : Type 0} (s : Watch X) (renamed : Option Renamed) (shell : ShellState) → is_held s (Some (carried_by renamed shell)) ≡ s.holds shell.phase
+own-held : {X : Type 0} (s : Watch X) (renamed : Option Renamed) (shell : ShellState) → is_held s (Some (carried_or_same renamed shell)) ≡ s.holds shell.phase
 own-held s None shell = refl
 own-held s (Some renamed) shell = refl
 
@@ -85,7 +85,7 @@ broken-seen s (Some breaks) None = refl
 broken-seen s (Some breaks) (Some shell) = s.marked shell.frames breaks.marks shell.phase
 
 -- a shell begins where there is none
-begun-seen : {X : Type 0} (s : Watch X) (shells : List (Option ShellState)) (begun : Option Begun) (n : Option ℕ) (j : ℕ) → IsFree shells n →
+begun-seen : {X : Type 0} (s : Watch X) (shells : List (Option ShellState)) (begun : Option ShellStart) (n : Option ℕ) (j : ℕ) → IsFree shells n →
     is_held s (found shells j) ≡ true → seen_by s (found (with_begun begun n shells) j) ≡ seen_by s (found shells j)
 begun-seen s shells None n j free held = refl
 begun-seen s shells (Some begun) None j free held = refl
@@ -101,7 +101,7 @@ begun-seen s shells (Some begun) (Some n) j free held =
     none None e h = cc
     none (Some shell) e h = cc
 
-others-seen : {X : Type 0} (s : Watch X) (shells : List (Option ShellState)) (k : ℕ) (shell : ShellState) (moved : Option Renamed) (t : Turned) → found shells k ≡ Some shell →
+others-seen : {X : Type 0} (s : Watch X) (shells : List (Option ShellState)) (k : ℕ) (shell : ShellState) (moved : Option Renamed) (t : TurnResult) → found shells k ≡ Some shell →
     (j : ℕ) → j ≢ k → is_held s (found shells j) ≡ true → seen_by s (found (shells_behind shells k moved t) j) ≡ seen_by s (found shells j)
 others-seen s shells k shell moved t is j differ held =
     let carried = carried_shells moved shells in
@@ -110,7 +110,7 @@ others-seen s shells k shell moved t is j differ held =
     let there = found-carried moved shells j in
     let placed = with_begun t.course.begun number carried in
     let breaking = t.course.breaking in
-    ap (seen_by s) (found-set_other (broken_by breaking placed) k (left k moved t) j differ (runs_pos shells k shell is))
+    ap (seen_by s) (found-set_other (shells_after_break breaking placed) k (shell_after_turn k moved t) j differ (runs_pos shells k shell is))
     ∙ (ap (seen_by s) (found-broken breaking placed j)
     ∙ broken-seen s (broken_for breaking j) (found placed j)
     ∙ begun-seen s carried t.course.begun number j free (ap (is_held s) there ∙ carried-held s moved (found shells j) ∙ held)
@@ -123,11 +123,11 @@ Keeps s w (Accepted world out items) =
     (j : ℕ) → is_held s (shell_at w j) ≡ true → is_held s (shell_at world j) ≡ true → seen_by s (shell_at world j) ≡ seen_by s (shell_at w j)
 
 -- so does a turn that does so of its own shell
-took-keeps : {X : Type 0} (s : Watch X) (w : WorldState) (k : ℕ) (shell : ShellState) (queue : List (List ℕ)) (t : Turned) → shell_at w k ≡ Some shell →
-    (s.holds shell.phase ≡ true → is_held s (left k (moved_in w t) t) ≡ true → seen_by s (left k (moved_in w t) t) ≡ s.look shell.frames shell.phase) →
-    Keeps s w (took w k queue t)
+took-keeps : {X : Type 0} (s : Watch X) (w : WorldState) (k : ℕ) (shell : ShellState) (queue : List (List ℕ)) (t : TurnResult) → shell_at w k ≡ Some shell →
+    (s.holds shell.phase ≡ true → is_held s (shell_after_turn k (moved_at_turn w t) t) ≡ true → seen_by s (shell_after_turn k (moved_at_turn w t) t) ≡ s.look shell.frames shell.phase) →
+    Keeps s w (turn_taken w k queue t)
 took-keeps s w k shell queue t is own = λ j before behind.
-    let moved = moved_in w t in
+    let moved = moved_at_turn w t in
     elim (cases_eq j k) [
       | inl same ↦
           (let there = found-left w.shells k shell moved t is in
@@ -145,24 +145,24 @@ ended-keeps s w k shell codes is = λ j before behind.
 
 -- a shell that is not held
 applied-keeps : {X : Type 0} (s : Watch X) (w : WorldState) (k : ℕ) (shell : ShellState) (now : Turning) → shell_at w k ≡ Some shell → s.holds shell.phase ≡ false →
-    Keeps s w (applied w k shell.parts.codes now)
+    Keeps s w (turning_response w k shell.parts.codes now)
 applied-keeps s w k shell (Refuses why) is free = tt
 applied-keeps s w k shell Ends is free = ended-keeps s w k shell shell.parts.codes is
 applied-keeps s w k shell (Takes queue t) is free = took-keeps s w k shell queue t is (λ before behind. absurd (never (sym free ∙ before)))
 
 -- its turn in a phase
 abbrev turn_by : WorldState → ℕ → ShellState → Phase → Turning
-turn_by w k shell now = flagged_turning shell.flagged (input_of w k) shell.frames (unflagged (start w shell)) now
+turn_by w k shell now = flagged_turning shell.flagged (input_of w k) shell.frames (course_without_flag (start w shell)) now
 
 -- a shell that waits for a launcher takes no turn
 by-phase : {X : Type 0} (s : Watch X) (w : WorldState) (k : ℕ) (shell : ShellState) (now : Phase) → shell_at w k ≡ Some shell → shell.phase ≡ now →
-    Keeps s w (applied w k shell.parts.codes (turn_by w k shell now))
+    Keeps s w (turning_response w k shell.parts.codes (turn_by w k shell now))
 by-phase s w k shell (phase.Waiting (ForStart starting)) is e =
-    rw (flagged-refused shell.flagged (input_of w k) shell.frames (unflagged (start w shell)) (ForStart starting) refl) tt
+    rw (flagged-refused shell.flagged (input_of w k) shell.frames (course_without_flag (start w shell)) (ForStart starting) refl) tt
 by-phase s w k shell (phase.Waiting (ForPiece child)) is e =
-    rw (flagged-refused shell.flagged (input_of w k) shell.frames (unflagged (start w shell)) (ForPiece child) refl) tt
+    rw (flagged-refused shell.flagged (input_of w k) shell.frames (course_without_flag (start w shell)) (ForPiece child) refl) tt
 by-phase s w k shell (phase.Waiting (ForEnd child)) is e =
-    rw (flagged-refused shell.flagged (input_of w k) shell.frames (unflagged (start w shell)) (ForEnd child) refl) tt
+    rw (flagged-refused shell.flagged (input_of w k) shell.frames (course_without_flag (start w shell)) (ForEnd child) refl) tt
 by-phase s w k shell phase.Ready is e =
     applied-keeps s w k shell (turn_by w k shell phase.Ready) is (ap s.holds e ∙ s.idle phase.Ready tt)
 by-phase s w k shell (phase.GoingOn parted) is e =
@@ -172,15 +172,15 @@ by-phase s w k shell (phase.Waiting (ForAnswer asking)) is e =
 by-phase s w k shell (phase.Waiting (ForLines gathering)) is e =
     applied-keeps s w k shell (turn_by w k shell (phase.Waiting (ForLines gathering))) is (ap s.holds e ∙ s.for_lines gathering)
 
-turned-keeps : {X : Type 0} (s : Watch X) (w : WorldState) (k : ℕ) (o : Option ShellState) → shell_at w k ≡ o → Keeps s w (turned w k o)
+turned-keeps : {X : Type 0} (s : Watch X) (w : WorldState) (k : ℕ) (o : Option ShellState) → shell_at w k ≡ o → Keeps s w (turn_response w k o)
 turned-keeps s w k None is = tt
 turned-keeps s w k (Some shell) is = by-phase s w k shell shell.phase is refl
 
 -- what an answer leaves
-abbrev LeftKeeps : {X : Type 0} → Watch X → ℕ → Option Renamed → X → Turned → Type 0
-LeftKeeps s k moved value t = is_held s (left k moved t) ≡ true → seen_by s (left k moved t) ≡ value
+abbrev LeftKeeps : {X : Type 0} → Watch X → ℕ → Option Renamed → X → TurnResult → Type 0
+LeftKeeps s k moved value t = is_held s (shell_after_turn k moved t) ≡ true → seen_by s (shell_after_turn k moved t) ≡ value
 
-idle-keeps : {X : Type 0} (s : Watch X) (k : ℕ) (moved : Option Renamed) (value : X) (t : Turned) → IsIdle t.phase → LeftKeeps s k moved value t
+idle-keeps : {X : Type 0} (s : Watch X) (k : ℕ) (moved : Option Renamed) (value : X) (t : TurnResult) → IsIdle t.phase → LeftKeeps s k moved value t
 idle-keeps s k moved value t idle =
     elim (cases_Bool (is_done k t.frames)) [
       | inl d ↦ rw d (λ held. absurd (never held))
@@ -188,42 +188,42 @@ idle-keeps s k moved value t idle =
     ]
 
 pub waits-keeps : {X : Type 0} (s : Watch X) (k : ℕ) (moved : Option Renamed) (value : X) (wait : Wait) (course : Course) (frames : List FrameState) →
-    s.look frames (phase.Waiting wait) ≡ value → LeftKeeps s k moved value (settle (Waits wait course) frames)
+    s.look frames (phase.Waiting wait) ≡ value → LeftKeeps s k moved value (turn_of_deed (Waits wait course) frames)
 waits-keeps s k moved value wait course frames same =
     elim (cases_Bool (is_done k frames)) [
       | inl d ↦ rw d (λ held. absurd (never held))
-      | inr d ↦ rw d (λ held. own-seen s moved (shell_of_turn (settle (Waits wait course) frames)) ∙ same)
+      | inr d ↦ rw d (λ held. own-seen s moved (shell_of_turn (turn_of_deed (Waits wait course) frames)) ∙ same)
     ]
 
 settle-keeps : {X : Type 0} (s : Watch X) (k : ℕ) (moved : Option Renamed) (value : X) (deed : Deed) (frames : List FrameState) →
-    SeenBehind s.look frames value (Some deed) → LeftKeeps s k moved value (settle deed frames)
-settle-keeps s k moved value (Passes course) frames keeps = idle-keeps s k moved value (settle (Passes course) frames) (passed-rests frames (said_of course)).idle
+    SeenBehind s.look frames value (Some deed) → LeftKeeps s k moved value (turn_of_deed deed frames)
+settle-keeps s k moved value (Passes course) frames keeps = idle-keeps s k moved value (turn_of_deed (Passes course) frames) (passed-rests frames (said_of course)).idle
 settle-keeps s k moved value (Answers word answer quits course) frames keeps =
-    idle-keeps s k moved value (settle (Answers word answer quits course) frames) (finished-rests word answer quits frames (said_of course)).idle
+    idle-keeps s k moved value (turn_of_deed (Answers word answer quits course) frames) (finished-rests word answer quits frames (said_of course)).idle
 settle-keeps s k moved value (Jumps word answer line course) frames keeps =
-    idle-keeps s k moved value (settle (Jumps word answer line course) frames) (finished-rests word answer false (jumped_in line frames) (said_of course)).idle
+    idle-keeps s k moved value (turn_of_deed (Jumps word answer line course) frames) (finished-rests word answer false (frames_at_line line frames) (said_of course)).idle
 settle-keeps s k moved value (Calls word output script course) frames keeps =
-    idle-keeps s k moved value (settle (Calls word output script course) frames) (called-rests word output script frames (said_of course)).idle
+    idle-keeps s k moved value (turn_of_deed (Calls word output script course) frames) (called-rests word output script frames (said_of course)).idle
 settle-keeps s k moved value (Ticks before command after course) frames keeps =
-    idle-keeps s k moved value (settle (Ticks before command after course) frames) (ticked-rests before command after frames (said_of course)).idle
+    idle-keeps s k moved value (turn_of_deed (Ticks before command after course) frames) (ticked-rests before command after frames (said_of course)).idle
 settle-keeps s k moved value (Waits wait course) frames keeps = waits-keeps s k moved value wait course frames keeps
 
 replied-keeps : {X : Type 0} (s : Watch X) (w : WorldState) (k : ℕ) (shell : ShellState) (deed : Option Deed) → shell_at w k ≡ Some shell →
     (s.holds shell.phase ≡ true → SeenBehind s.look shell.frames (s.look shell.frames shell.phase) deed) →
-    Keeps s w (applied w k shell.parts.codes (replied (input_of w k) shell.frames deed))
+    Keeps s w (turning_response w k shell.parts.codes (turning_of_deed (input_of w k) shell.frames deed))
 replied-keeps s w k shell None is keeps = tt
 replied-keeps s w k shell (Some deed) is keeps =
-    let t = settle deed shell.frames in
+    let t = turn_of_deed deed shell.frames in
     took-keeps s w k shell (input_of w k).queue t is
-    (λ before behind. settle-keeps s k (moved_in w t) (s.look shell.frames shell.phase) deed shell.frames (keeps before) behind)
+    (λ before behind. settle-keeps s k (moved_at_turn w t) (s.look shell.frames shell.phase) deed shell.frames (keeps before) behind)
 
-answered-keeps : {X : Type 0} (s : Watch X) (w : WorldState) (k : ℕ) (reply : Reply) (o : Option ShellState) → shell_at w k ≡ o → Keeps s w (answered w k reply o)
+answered-keeps : {X : Type 0} (s : Watch X) (w : WorldState) (k : ℕ) (reply : Reply) (o : Option ShellState) → shell_at w k ≡ o → Keeps s w (answer_response w k reply o)
 answered-keeps s w k reply None is = tt
 answered-keeps s w k reply (Some shell) is =
     replied-keeps s w k shell (answered_in (sink_in shell.frames) (start w shell) shell.phase reply) is
     (s.answers shell.frames (sink_in shell.frames) (start w shell) shell.phase reply)
 
-break-keeps : {X : Type 0} (s : Watch X) (w : WorldState) (k : ℕ) (kind : Kind) (o : Option ShellState) → Keeps s w (broken w k kind o)
+break-keeps : {X : Type 0} (s : Watch X) (w : WorldState) (k : ℕ) (kind : Kind) (o : Option ShellState) → Keeps s w (break_response w k kind o)
 break-keeps s w k kind None = tt
 break-keeps s w k kind (Some shell) = λ j before behind.
     let breaking = Some (record { shell = k; breaks = breaks_by kind }) in

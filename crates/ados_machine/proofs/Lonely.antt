@@ -5,8 +5,8 @@ use Rattle.std.proofs.lemmas.Bool.{cases_Bool, ne_eqb}
 use Rattle.ados_text.specs.Text.{Bytes, Text}
 use Rattle.ados_find.specs.declared.outcomes.Breaking.{Breaking}
 use Rattle.ados_find.specs.declared.outcomes.Renamed.{Renamed}
-use Rattle.ados_machine.specs.Breaks.{break_text, broken_by, has_script}
-use Rattle.ados_flow.specs.Frames.{FrameState, moved}
+use Rattle.ados_machine.specs.Breaks.{break_text, shells_after_break, has_script}
+use Rattle.ados_flow.specs.Frames.{FrameState, advanced_frame}
 use Rattle.ados_machine.specs.declared.answers.Answer.{Answer as Reply}
 use Rattle.ados_machine.specs.declared.events.Event.TheVariants.{Turn, Answer}
 use Rattle.ados_machine.specs.declared.phases.Phase.{Phase}
@@ -14,21 +14,21 @@ use Rattle.ados_machine.specs.declared.phases.Phase.TheVariants.{Ready, GoingOn,
 use Rattle.ados_machine.specs.declared.phases.Wait.TheVariants.{ForAnswer, ForEnd, ForLines, ForPiece, ForStart}
 use Rattle.ados_machine.specs.Items.{Item}
 use Rattle.ados_machine.specs.Numbers.{free_number}
-use Rattle.ados_machine.specs.Shells.{Begun, ShellState, seen_of}
+use Rattle.ados_machine.specs.Shells.{ShellStart, ShellState, seen_of}
 use Rattle.ados_machine.specs.Sinks.{sink_in}
-use Rattle.ados_machine.specs.Course.{Course, shared_behind, printing}
+use Rattle.ados_machine.specs.Course.{Course, shared_after_event, with_bytes_printed}
 use Rattle.ados_machine.specs.Deeds.{Deed, Passes, course_of}
 use Rattle.ados_machine.specs.Lines.{line_deed, parted_deed, answer_deed}
 use Rattle.ados_machine.specs.NewShells.{gathered_deed}
 use Rattle.ados_machine.specs.Answers.{answered_in}
-use Rattle.ados_machine.specs.Settled.{Said, Settled, broken_off}
-use Rattle.ados_machine.specs.Settle.{Turned, here_of, said_of, by_rule, ruled, settle}
-use Rattle.ados_machine.specs.Turning.{Input, Takes, frame_turned, flagged_turning, turning, replied}
+use Rattle.ados_machine.specs.Settled.{RuleState, RuleResult, end_at_break}
+use Rattle.ados_machine.specs.Settle.{TurnResult, here_of, said_of, turn_by_rule, code_rule_of, turn_of_deed}
+use Rattle.ados_machine.specs.Turning.{Input, Takes, turn_of_frame, flagged_turning, turning_in_phase, turning_of_deed}
 use Rattle.ados_machine.specs.World.{WorldState, shell_at, input_of, is_over}
-use Rattle.ados_machine.specs.Carrying.{carried_shells, carried_by, moved_by}
-use Rattle.ados_machine.specs.Step.{with_begun, ended_with, queue_behind, is_done, moved_in, took, start, unflagged, applied, step_of}
-use Rattle.ados_machine.specs.Whole.{Common, absorbed, carried_parts, flagless}
-use Rattle.ados_machine.specs.Alone.{Exec, go_on, reply_next, event_next, alone, world_behind}
+use Rattle.ados_machine.specs.Carrying.{carried_shells, carried_or_same, moved_object}
+use Rattle.ados_machine.specs.Step.{with_begun, codes_of_ended, queue_after_event, is_done, moved_at_turn, turn_taken, start, course_without_flag, turning_response, step_of}
+use Rattle.ados_machine.specs.Whole.{Common, common_after_event, carried_parts, common_without_flag}
+use Rattle.ados_machine.specs.Alone.{Exec, exec_step, reply_next, event_next, exec_alone, world_after_lines}
 use Rattle.ados_machine.proofs.Shells.{shells_behind, broken_one, broken_for, broken-there, found, found-set_same, found-carried, carried-runs, found-placed_other, carried-free, free-number}
 use Rattle.ados_machine.proofs.Places.{map-set, any-found, shells-same, broken-same_set}
 use Rattle.ados_machine.proofs.Fronts.{front, fronted, broken-front, ruled-front}
@@ -42,7 +42,7 @@ pub record Stands (k : ℕ) (common : Common) : Type 0 where
 
 -- the world in which it runs, or has ended
 abbrev pub world_of : ℕ → WorldState → List FrameState → Phase → Common → WorldState
-world_of k w [] phase common = world_behind k w common
+world_of k w [] phase common = world_after_lines k w common
 world_of k w (frame ∷ frames) phase common = standing k w (frame ∷ frames) phase common
 
 not-first : (k : ℕ) (common : Common) → Stands k common → (k == 1) ≡ false
@@ -52,7 +52,7 @@ pub stands-at : (k : ℕ) (w : WorldState) (frames : List FrameState) (phase : P
     shell_at (standing k w frames phase common) k ≡ Some (shell_of frames phase common)
 stands-at k w frames phase common stands = found-set_same common.shells k stands.shell (Some (shell_of frames phase common)) stands.is
 
-pub ended-at : (k : ℕ) (w : WorldState) (common : Common) → Stands k common → shell_at (world_behind k w common) k ≡ None
+pub ended-at : (k : ℕ) (w : WorldState) (common : Common) → Stands k common → shell_at (world_after_lines k w common) k ≡ None
 ended-at k w common stands = found-set_same common.shells k stands.shell None stands.is
 
 not-over : (k : ℕ) (w : WorldState) (frames : List FrameState) (phase : Phase) (common : Common) → Stands k common →
@@ -74,74 +74,74 @@ starts-in k w frames phase common =
     rw (map-set (option_map seen_of) common.shells (k - 1) (Some (shell_of frames phase common))) refl
 
 -- if a shell runs it still runs after an event
-carried-stands : (k : ℕ) (moved : Option Renamed) (begun : Option Begun) (breaking : Option Breaking) (shells : List (Option ShellState))
+carried-stands : (k : ℕ) (advanced_frame : Option Renamed) (begun : Option ShellStart) (breaking : Option Breaking) (shells : List (Option ShellState))
     (shell : ShellState) → found shells k ≡ Some shell →
-    found (broken_by breaking (with_begun begun (free_number shells) (carried_shells moved shells))) k
-    ≡ Some (broken_one (broken_for breaking k) (carried_by moved shell))
-carried-stands k moved begun breaking shells shell is =
-    broken-there breaking (with_begun begun (free_number shells) (carried_shells moved shells)) k (carried_by moved shell)
-    (found-placed_other (carried_shells moved shells) begun (free_number shells) k (carried_by moved shell)
-    (carried-free moved shells (free_number shells) (free-number shells))
-    (found-carried moved shells k ∙ carried-runs moved (found shells k) shell is))
+    found (shells_after_break breaking (with_begun begun (free_number shells) (carried_shells advanced_frame shells))) k
+    ≡ Some (broken_one (broken_for breaking k) (carried_or_same advanced_frame shell))
+carried-stands k advanced_frame begun breaking shells shell is =
+    broken-there breaking (with_begun begun (free_number shells) (carried_shells advanced_frame shells)) k (carried_or_same advanced_frame shell)
+    (found-placed_other (carried_shells advanced_frame shells) begun (free_number shells) k (carried_or_same advanced_frame shell)
+    (carried-free advanced_frame shells (free_number shells) (free-number shells))
+    (found-carried advanced_frame shells k ∙ carried-runs advanced_frame (found shells k) shell is))
 
-stands-behind : (k : ℕ) (common : Common) (course : Course) → Stands k common → Stands k (absorbed common course)
+stands-behind : (k : ℕ) (common : Common) (course : Course) → Stands k common → Stands k (common_after_event common course)
 stands-behind k common course stands = record {
   above = stands.above;
-  shell = broken_one (broken_for course.breaking k) (carried_by (moved_by common.shared (shared_behind course) course.renamed) stands.shell);
-  is = carried-stands k (moved_by common.shared (shared_behind course) course.renamed) course.begun course.breaking common.shells stands.shell stands.is;
+  shell = broken_one (broken_for course.breaking k) (carried_or_same (moved_object common.shared (shared_after_event course) course.renamed) stands.shell);
+  is = carried-stands k (moved_object common.shared (shared_after_event course) course.renamed) course.begun course.breaking common.shells stands.shell stands.is;
 }
 
-pub stands-again : (k : ℕ) (common : Common) (course : Course) (said : Said) (log : List Item) → Stands k common →
-    Stands k (record (absorbed common course) { said = said; reports = with_ends k log common.reports })
+pub stands-again : (k : ℕ) (common : Common) (course : Course) (said : RuleState) (log : List Item) → Stands k common →
+    Stands k (record (common_after_event common course) { said = said; reports = with_ends k log common.reports })
 stands-again k common course said log stands =
     let behind = stands-behind k common course stands in
     record { above = behind.above; shell = behind.shell; is = behind.is }
 
 -- the shell after an event
-left-same : (moved : Option Renamed) (shell : ShellState) →
-    carried_by moved shell ≡ record shell { parts = carried_parts moved shell.parts }
+left-same : (advanced_frame : Option Renamed) (shell : ShellState) →
+    carried_or_same advanced_frame shell ≡ record shell { parts = carried_parts advanced_frame shell.parts }
 left-same None shell = refl
 left-same (Some renamed) shell = refl
 
 -- the world after an event
-abbrev pub took_world : WorldState → ℕ → Course → Settled → WorldState
-took_world w k course settled = (let t = by_rule course settled in record {
-  shells = shells_behind w.shells k (moved_in w t) t;
-  ended = ended_with (is_done k t.frames) k t.course.parts.codes w.ended;
-  queue = queue_behind k w.queue [];
+abbrev pub took_world : WorldState → ℕ → Course → RuleResult → WorldState
+took_world w k course settled = (let t = turn_by_rule course settled in record {
+  shells = shells_behind w.shells k (moved_at_turn w t) t;
+  ended = codes_of_ended (is_done k t.frames) k t.course.parts.codes w.ended;
+  queue = queue_after_event k w.queue [];
   input_ended = w.input_ended;
-  shared = shared_behind t.course;
+  shared = shared_after_event t.course;
 })
 
 -- what is passed on after an event
-abbrev pub common_by : ℕ → Common → Course → Said → List Item → Common
+abbrev pub common_by : ℕ → Common → Course → RuleState → List Item → Common
 common_by k common course said log =
-    record (absorbed common course) {
-      said = front common.said.printed (moved_by common.shared (shared_behind course) course.renamed) said;
+    record (common_after_event common course) {
+      said = front common.said.printed (moved_object common.shared (shared_after_event course) course.renamed) said;
       reports = with_ends k log common.reports;
     }
 
 pub world-same : (k : ℕ) (w : WorldState) (old : List FrameState) (phase : Phase) (common : Common) (course : Course)
-    (frames : List FrameState) (next : Phase) (said : Said) (log : List Item) →
+    (frames : List FrameState) (next : Phase) (said : RuleState) (log : List Item) →
     Stands k common →
     took_world (standing k w old phase common) k course (record { frames = frames; phase = next; said = said; log = log })
     ≡ world_of k w frames next (common_by k common course said log)
 world-same k w old phase common course [] next said log stands =
-    let moved = moved_by common.shared (shared_behind course) course.renamed in
+    let advanced_frame = moved_object common.shared (shared_after_event course) course.renamed in
     rw (
       not-first k common stands,
       broken-same_set course.breaking _ _ (k - 1) None
-          (shells-same moved course.begun common.shells k stands.shell (shell_of old phase common) None stands.is),
+          (shells-same advanced_frame course.begun common.shells k stands.shell (shell_of old phase common) None stands.is),
     ) refl
 world-same k w old phase common course (frame ∷ frames) next said log stands =
-    let moved = moved_by common.shared (shared_behind course) course.renamed in
+    let advanced_frame = moved_object common.shared (shared_after_event course) course.renamed in
     let now : ShellState = record { frames = frame ∷ frames; phase = next; parts = said.parts; kept = said.kept; flagged = course.flagged } in
     rw (
       not-first k common stands,
-      left-same moved now,
-      broken-same_set course.breaking _ _ (k - 1) (Some (record now { parts = carried_parts moved said.parts }))
-          (shells-same moved course.begun common.shells k stands.shell (shell_of old phase common)
-          (Some (record now { parts = carried_parts moved said.parts })) stands.is),
+      left-same advanced_frame now,
+      broken-same_set course.breaking _ _ (k - 1) (Some (record now { parts = carried_parts advanced_frame said.parts }))
+          (shells-same advanced_frame course.begun common.shells k stands.shell (shell_of old phase common)
+          (Some (record now { parts = carried_parts advanced_frame said.parts })) stands.is),
     ) refl
 
 -- how the world continues
@@ -150,50 +150,50 @@ Goes = WorldState → Bytes → Exec
 
 -- an event after which the code rule makes this of what was passed on
 took-rules : (k : ℕ) (w : WorldState) (go : Goes) (on : Go) (old : List FrameState) (phase : Phase) (common : Common) (course : Course)
-    (rule : Said → Settled) → Stands k common →
-    ((bytes : Bytes) (moved : Option Renamed) (said : Said) → rule (front bytes moved said) ≡ fronted bytes moved (rule said)) →
+    (rule : RuleState → RuleResult) → Stands k common →
+    ((bytes : Bytes) (advanced_frame : Option Renamed) (said : RuleState) → rule (front bytes advanced_frame said) ≡ fronted bytes advanced_frame (rule said)) →
     ((frames : List FrameState) (phase : Phase) (common : Common) → Stands k common →
     go (world_of k w frames phase common) common.said.printed ≡ lift k w (on frames phase common)) →
-    go_on go common.said.printed (took (standing k w old phase common) k [] (by_rule course (rule (said_of course))))
-    ≡ lift k w (go_by k on (absorbed common course) (rule (absorbed common course).said))
+    exec_step go common.said.printed (turn_taken (standing k w old phase common) k [] (turn_by_rule course (rule (said_of course))))
+    ≡ lift k w (go_by k on (common_after_event common course) (rule (common_after_event common course).said))
 took-rules k w go on old phase common course rule stands fronts same =
-    let moved = moved_by common.shared (shared_behind course) course.renamed in
+    let advanced_frame = moved_object common.shared (shared_after_event course) course.renamed in
     let settled = rule (said_of course) in
     rw (
-      fronts common.said.printed moved (said_of course),
+      fronts common.said.printed advanced_frame (said_of course),
       world-same k w old phase common course settled.frames settled.phase settled.said settled.log stands,
     )
     (same settled.frames settled.phase (common_by k common course settled.said settled.log)
-    (stands-again k common course (front common.said.printed moved settled.said) settled.log stands))
+    (stands-again k common course (front common.said.printed advanced_frame settled.said) settled.log stands))
 
 -- an event that results in a deed
 took-does : (k : ℕ) (w : WorldState) (go : Goes) (on : Go) (old : List FrameState) (phase : Phase) (common : Common) (deed : Deed)
     (frames : List FrameState) → Stands k common →
     ((frames : List FrameState) (phase : Phase) (common : Common) → Stands k common →
     go (world_of k w frames phase common) common.said.printed ≡ lift k w (on frames phase common)) →
-    go_on go common.said.printed (took (standing k w old phase common) k [] (settle deed frames)) ≡ lift k w (does k on frames common deed)
+    exec_step go common.said.printed (turn_taken (standing k w old phase common) k [] (turn_of_deed deed frames)) ≡ lift k w (does k on frames common deed)
 took-does k w go on old phase common deed frames stands same =
-    took-rules k w go on old phase common (course_of deed) (ruled deed frames) stands
-    (λ bytes moved said. ruled-front bytes moved deed frames said) same
+    took-rules k w go on old phase common (course_of deed) (code_rule_of deed frames) stands
+    (λ bytes advanced_frame said. ruled-front bytes advanced_frame deed frames said) same
 
 -- the world's turn of the shell
 pub turn-is : (k : ℕ) (w : WorldState) (frames : List FrameState) (phase : Phase) (common : Common) → Stands k common →
     step_of (standing k w frames phase common) (Turn k)
-    ≡ applied (standing k w frames phase common) k common.said.parts.codes
-    (flagged_turning common.flagged no_input frames (start_in k frames phase (flagless common)) phase)
+    ≡ turning_response (standing k w frames phase common) k common.said.parts.codes
+    (flagged_turning common.flagged no_input frames (start_in k frames phase (common_without_flag common)) phase)
 turn-is k w frames phase common stands =
     rw (
       not-over k w frames phase common stands,
       stands-at k w frames phase common stands,
       background k (standing k w frames phase common) (not-first k common stands),
-      ap unflagged (starts-in k w frames phase common),
+      ap course_without_flag (starts-in k w frames phase common),
     ) refl
 
 -- an answer for it
 pub answer-is : (k : ℕ) (w : WorldState) (frames : List FrameState) (phase : Phase) (common : Common) (reply : Reply) → Stands k common →
     step_of (standing k w frames phase common) (Answer k reply)
-    ≡ applied (standing k w frames phase common) k common.said.parts.codes
-    (replied no_input frames (answered_in (sink_in frames) (start_in k frames phase common) phase reply))
+    ≡ turning_response (standing k w frames phase common) k common.said.parts.codes
+    (turning_of_deed no_input frames (answered_in (sink_in frames) (start_in k frames phase common) phase reply))
 answer-is k w frames phase common reply stands =
     rw (
       not-over k w frames phase common stands,
@@ -209,36 +209,36 @@ Same k w go on = (frames : List FrameState) (phase : Phase) (common : Common) �
 
 line-same : (k : ℕ) (w : WorldState) (go : Goes) (on : Go) (frame : FrameState) (frames : List FrameState) (common : Common)
     (line : Option Text) → Stands k common → Same k w go on →
-    go_on go common.said.printed
-    (took (standing k w (frame ∷ frames) Ready common) k [] (frame_turned frame frames (start_in k (frame ∷ frames) Ready (flagless common)) line))
-    ≡ lift k w (line_event k on frame frames (flagless common) line)
+    exec_step go common.said.printed
+    (turn_taken (standing k w (frame ∷ frames) Ready common) k [] (turn_of_frame frame frames (start_in k (frame ∷ frames) Ready (common_without_flag common)) line))
+    ≡ lift k w (line_event k on frame frames (common_without_flag common) line)
 line-same k w go on frame frames common None stands same =
-    took-does k w go on (frame ∷ frames) Ready common (Passes (start_in k (frame ∷ frames) Ready (flagless common))) (frame ∷ frames) stands same
+    took-does k w go on (frame ∷ frames) Ready common (Passes (start_in k (frame ∷ frames) Ready (common_without_flag common))) (frame ∷ frames) stands same
 line-same k w go on frame frames common (Some line) stands same =
     took-does k w go on (frame ∷ frames) Ready common
-    (line_deed line (here_of (moved frame ∷ frames)) (start_in k (frame ∷ frames) Ready (flagless common))) (moved frame ∷ frames) stands same
+    (line_deed line (here_of (advanced_frame frame ∷ frames)) (start_in k (frame ∷ frames) Ready (common_without_flag common))) (advanced_frame frame ∷ frames) stands same
 
 -- a turn, which may find the flag
 turn-same : (k : ℕ) (w : WorldState) (go : Goes) (on : Go) (frames : List FrameState) (common : Common) (phase : Phase) (queue : List (List ℕ))
-    (turned : Turned) (work : Common → Lone) → Stands k common → Same k w go on →
-    turning no_input frames (start_in k frames phase (flagless common)) phase ≡ Takes queue turned →
-    go_on go common.said.printed
-    (applied (standing k w frames phase common) k common.said.parts.codes (turning no_input frames (start_in k frames phase (flagless common)) phase))
-    ≡ lift k w (work (flagless common)) →
-    go_on go common.said.printed (step_of (standing k w frames phase common) (Turn k)) ≡ lift k w (turn_event k on frames common work)
+    (turned : TurnResult) (work : Common → Lone) → Stands k common → Same k w go on →
+    turning_in_phase no_input frames (start_in k frames phase (common_without_flag common)) phase ≡ Takes queue turned →
+    exec_step go common.said.printed
+    (turning_response (standing k w frames phase common) k common.said.parts.codes (turning_in_phase no_input frames (start_in k frames phase (common_without_flag common)) phase))
+    ≡ lift k w (work (common_without_flag common)) →
+    exec_step go common.said.printed (step_of (standing k w frames phase common) (Turn k)) ≡ lift k w (turn_event k on frames common work)
 turn-same k w go on frames common phase queue turned work stands same takes plain =
     rw (turn-is k w frames phase common stands)
     (elim (cases_Bool (common.flagged && has_script frames)) [
       | inl e ↦ rw (e, takes)
-          (took-rules k w go on frames phase common (printing break_text (start_in k frames phase (flagless common))) (broken_off frames) stands
-          (λ bytes moved said. broken-front bytes moved frames said) same)
+          (took-rules k w go on frames phase common (with_bytes_printed break_text (start_in k frames phase (common_without_flag common))) (end_at_break frames) stands
+          (λ bytes advanced_frame said. broken-front bytes advanced_frame frames said) same)
       | inr e ↦ rw e plain
     ])
 
 deed-same : (k : ℕ) (w : WorldState) (go : Goes) (on : Go) (frames : List FrameState) (phase : Phase) (common : Common)
     (deed : Option Deed) → Stands k common → Same k w go on →
-    go_on go common.said.printed
-    (applied (standing k w frames phase common) k common.said.parts.codes (replied no_input frames deed))
+    exec_step go common.said.printed
+    (turning_response (standing k w frames phase common) k common.said.parts.codes (turning_of_deed no_input frames deed))
     ≡ lift k w (deed_event k on frames common deed)
 deed-same k w go on frames phase common None stands same = refl
 deed-same k w go on frames phase common (Some deed) stands same = took-does k w go on frames phase common deed frames stands same
@@ -276,7 +276,7 @@ event-same k w go on n answers frame frames common (Waiting (ForLines gathering)
     turn-same k w (go answers) (on answers) (frame ∷ frames) common (Waiting (ForLines gathering)) _ _
     (λ now. does k (on answers) (frame ∷ frames) now (gathered_deed gathering (sink_in (frame ∷ frames)) (start_in k (frame ∷ frames) (Waiting (ForLines gathering)) now))) stands (same answers) refl
     (took-does k w (go answers) (on answers) (frame ∷ frames) (Waiting (ForLines gathering)) common
-    (gathered_deed gathering (sink_in (frame ∷ frames)) (start_in k (frame ∷ frames) (Waiting (ForLines gathering)) (flagless common)))
+    (gathered_deed gathering (sink_in (frame ∷ frames)) (start_in k (frame ∷ frames) (Waiting (ForLines gathering)) (common_without_flag common)))
     (frame ∷ frames) stands (same answers))
 event-same k w go on n answers frame frames common (Waiting (ForStart starting)) stands same =
     reply-same k w go on (frame ∷ frames) (Waiting (ForStart starting)) common answers stands same
@@ -285,10 +285,10 @@ event-same k w go on n answers frame frames common (Waiting (ForPiece child)) st
 event-same k w go on n answers frame frames common (Waiting (ForEnd child)) stands same =
     reply-same k w go on (frame ∷ frames) (Waiting (ForEnd child)) common answers stands same
 
-pub alone-exec : (k : ℕ) (w : WorldState) (n : ℕ) (answers : List Reply) → Same k w (alone k n answers) (exec k n answers)
+pub alone-exec : (k : ℕ) (w : WorldState) (n : ℕ) (answers : List Reply) → Same k w (exec_alone k n answers) (exec k n answers)
 alone-exec k w zero answers [] phase common stands = rw (ended-at k w common stands) refl
 alone-exec k w zero answers (frame ∷ frames) phase common stands = rw (stands-at k w (frame ∷ frames) phase common stands) refl
 alone-exec k w (suc n) answers [] phase common stands = rw (ended-at k w common stands) refl
 alone-exec k w (suc n) answers (frame ∷ frames) phase common stands =
     rw (stands-at k w (frame ∷ frames) phase common stands)
-    (event-same k w (alone k n) (exec k n) n answers frame frames common phase stands (λ rest. alone-exec k w n rest))
+    (event-same k w (exec_alone k n) (exec k n) n answers frame frames common phase stands (λ rest. alone-exec k w n rest))

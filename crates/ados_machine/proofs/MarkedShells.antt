@@ -12,9 +12,9 @@ use Rattle.ados_machine.specs.Breaks.{breaks_by, marked_if}
 use Rattle.ados_find.specs.declared.outcomes.Breaks.{Breaks}
 use Rattle.ados_machine.specs.Laws.{KeepsWhatComes, BreaksKeepWhatComes}
 use Rattle.ados_machine.specs.Shells.{ShellState}
-use Rattle.ados_machine.specs.Step.{Response, Refused, Accepted, broken, step_of}
+use Rattle.ados_machine.specs.Step.{Response, Refused, Accepted, break_response, step_of}
 use Rattle.ados_machine.specs.Turning.{Input}
-use Rattle.ados_machine.specs.World.{WorldState, can_take, can_turn, has_input, shell_at, is_over, input_of, pending_by, takes_input, wants_input}
+use Rattle.ados_machine.specs.World.{WorldState, can_take, can_turn, has_input, shell_at, is_over, input_of, request_of_shell, takes_input, wants_input}
 use Rattle.ados_machine.proofs.CarriedChildren.{broken-pending}
 use Rattle.ados_machine.proofs.Shells.{found, broken_maybe, broken_for, found-broken}
 
@@ -53,13 +53,13 @@ abbrev KeepsBy : WorldState → Response → Type 0
 KeepsBy w (Refused why) = Unit {0}
 KeepsBy w (Accepted world out items) = KeepsWhatComes w world
 
-broken-keeps : (w : WorldState) (k : ℕ) (kind : by.Kind) (o : Option ShellState) → KeepsBy w (broken w k kind o)
+broken-keeps : (w : WorldState) (k : ℕ) (kind : by.Kind) (o : Option ShellState) → KeepsBy w (break_response w k kind o)
 broken-keeps w k kind None = tt
 broken-keeps w k kind (Some shell) =
     let breaking = Some (record { shell = k; breaks = breaks_by kind }) in
     record {
       ready = λ j. ap (can_turn (input_of w j)) (found-broken breaking w.shells j) ∙ broken-turns (input_of w j) (broken_for breaking j) (found w.shells j);
-      asked = λ j. ap pending_by (found-broken breaking w.shells j) ∙ broken-pending (broken_for breaking j) (found w.shells j);
+      asked = λ j. ap request_of_shell (found-broken breaking w.shells j) ∙ broken-pending (broken_for breaking j) (found w.shells j);
       line = ap (λ b. b && not (has_input (input_of w 1)))
           (ap wants_input (found-broken breaking w.shells 1) ∙ broken-wants (broken_for breaking 1) (found w.shells 1));
     }

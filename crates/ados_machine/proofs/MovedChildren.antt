@@ -20,21 +20,21 @@ use Rattle.ados_machine.specs.declared.phases.Starting.{Starting}
 use Rattle.ados_machine.specs.declared.phases.Wait.{Wait}
 use Rattle.ados_machine.specs.declared.phases.Wait.TheVariants.{ForStart, ForPiece, ForEnd}
 use Rattle.ados_machine.specs.declared.requests.Request.{Request}
-use Rattle.ados_machine.specs.Answers.{next_wait, with_break, behind_piece, child_of, started_deed, piece_deed, is_piece, ended_deed, answered_deed, answered_in}
-use Rattle.ados_machine.specs.Children.{read_unless, mark_by, is_marked, fits, behind_answer, child_while, child_by, child_in}
+use Rattle.ados_machine.specs.Answers.{next_wait, with_break, child_after_piece, child_of, started_deed, piece_deed, is_piece, ended_deed, answered_deed, answered_in}
+use Rattle.ados_machine.specs.Children.{read_unless, mark_of_shell, is_marked, fits, child_after_answer, child_while, child_of_shell, child_in}
 use Rattle.ados_machine.specs.Course.{Course}
 use Rattle.ados_machine.specs.Deeds.{Deed, Passes, Answers, Jumps, Calls, Ticks, Waits}
 use Rattle.ados_machine.specs.Laws.{AnswersMoveChildren}
 use Rattle.ados_machine.specs.Limits.{RunsFrame}
-use Rattle.ados_machine.specs.Opening.{Opened, opening}
+use Rattle.ados_machine.specs.Opening.{OpenedOutput, line_output}
 use Rattle.ados_machine.specs.Requests.{request_while, request_of}
-use Rattle.ados_machine.specs.Settle.{by_rule, jumped_in, said_of, settle}
-use Rattle.ados_machine.specs.Settled.{Settled}
+use Rattle.ados_machine.specs.Settle.{turn_by_rule, frames_at_line, said_of, turn_of_deed}
+use Rattle.ados_machine.specs.Settled.{RuleResult}
 use Rattle.ados_machine.specs.Shells.{ShellState}
 use Rattle.ados_machine.specs.Sinks.{Sink, sink_in}
-use Rattle.ados_machine.specs.Step.{Response, Refused, Accepted, shell_of_turn, is_done, left, moved_in, start, applied, answered, step_of}
-use Rattle.ados_machine.specs.Turning.{replied}
-use Rattle.ados_machine.specs.World.{WorldState, flatten, shell_at, is_over, input_of, pending_by, pending_of}
+use Rattle.ados_machine.specs.Step.{Response, Refused, Accepted, shell_of_turn, is_done, shell_after_turn, moved_at_turn, start, turning_response, answer_response, step_of}
+use Rattle.ados_machine.specs.Turning.{turning_of_deed}
+use Rattle.ados_machine.specs.World.{WorldState, flatten, shell_at, is_over, input_of, request_of_shell, pending_of}
 use Rattle.ados_machine.proofs.Shells.{found-left}
 use Rattle.ados_machine.proofs.Rests.{Rests, passed-rests, finished-rests, called-rests, ticked-rests}
 use Rattle.ados_machine.proofs.CarriedChildren.{same_some, idle-asked, carried_by-child, others-pending, others-child, left-child}
@@ -48,7 +48,7 @@ child_behind deed = Closed
 abbrev MovesBy : Bool → Option Request → Reply → Option Deed → Type 0
 MovesBy marked None answer deed = deed ≡ None
 MovesBy marked (Some request) answer None = fits request answer ≡ false
-MovesBy marked (Some request) answer (Some deed) = (fits request answer ≡ true) × (child_behind deed ≡ behind_answer marked request answer)
+MovesBy marked (Some request) answer (Some deed) = (fits request answer ≡ true) × (child_behind deed ≡ child_after_answer marked request answer)
 
 next-while : (child : Child) → child_while (next_wait child) ≡ read_unless child.marked
 next-while child =
@@ -64,11 +64,11 @@ break-marked child =
       | inr e ↦ rw e refl
     ]
 
-piece-marked : (child : Child) (fault : Option Result2) → (behind_piece child fault).marked ≡ child.marked
+piece-marked : (child : Child) (fault : Option Result2) → (child_after_piece child fault).marked ≡ child.marked
 piece-marked child None = refl
 piece-marked child (Some fault) = refl
 
-started-moves : (starting : Starting) (course : Course) (opened : Result Opened Result2) →
+started-moves : (starting : Starting) (course : Course) (opened : Result OpenedOutput Result2) →
     child_behind (started_deed starting course opened) ≡ read_unless starting.marked
 started-moves starting course (Err fault) = next-while (child_of starting None (Some fault))
 started-moves starting course (Ok opened) = next-while (child_of starting opened.target None)
@@ -77,7 +77,7 @@ piece-moves : (child : Child) (bytes : Bytes) (sink : Sink) (course : Course) (f
     child_behind (piece_deed child bytes sink course fault) ≡ read_unless child.marked
 piece-moves child bytes sink course (Some fault) = next-while (with_break child) ∙ ap read_unless (break-marked child)
 piece-moves child bytes sink course None =
-    next-while (behind_piece (with_break child) _) ∙ ap read_unless (piece-marked (with_break child) _ ∙ break-marked child)
+    next-while (child_after_piece (with_break child) _) ∙ ap read_unless (piece-marked (with_break child) _ ∙ break-marked child)
 
 ended-moves : (child : Child) (codes : Codes) (course : Course) (fault : Option Result2) → child_behind (ended_deed child codes course fault) ≡ Closed
 ended-moves child codes course (Some fault) = refl
@@ -85,7 +85,7 @@ ended-moves child codes course None = refl
 
 wait-moves : (n : ℕ) (sink : Sink) (course : Course) (wait : Wait) (answer : Reply) →
     MovesBy (mark_while wait) (request_while n wait) answer (answered_deed sink course wait answer)
-wait-moves n sink course (ForStart starting) Started = (refl, started-moves starting course (opening course starting.output))
+wait-moves n sink course (ForStart starting) Started = (refl, started-moves starting course (line_output course starting.output))
 wait-moves n sink course (ForStart starting) NotFound = (refl, refl)
 wait-moves n sink course (ForStart starting) Denied = (refl, refl)
 wait-moves n sink course (ForStart starting) Memory = (refl, refl)
@@ -109,21 +109,21 @@ phase-moves n sink course (phase.Waiting wait) answer = wait-moves n sink course
 
 -- a deed leaves its shell with the child after it; a shell that waits runs on
 waits-child : (k : ℕ) (moved : Option Renamed) (wait : Wait) (course : Course) (frames : List FrameState) → is_done k frames ≡ false →
-    child_by (left k moved (settle (Waits wait course) frames)) ≡ child_while wait
+    child_of_shell (shell_after_turn k moved (turn_of_deed (Waits wait course) frames)) ≡ child_while wait
 waits-child k moved wait course frames runs =
-    rw (runs, carried_by-child moved (shell_of_turn (settle (Waits wait course) frames))) refl
+    rw (runs, carried_by-child moved (shell_of_turn (turn_of_deed (Waits wait course) frames))) refl
 
-rests-child : (k : ℕ) (moved : Option Renamed) (course : Course) (settled : Settled) → Rests (said_of course) settled →
-    child_by (left k moved (by_rule course settled)) ≡ Closed
-rests-child k moved course settled rests = left-child k moved (by_rule course settled) (idle-asked settled.phase rests.idle)
+rests-child : (k : ℕ) (moved : Option Renamed) (course : Course) (settled : RuleResult) → Rests (said_of course) settled →
+    child_of_shell (shell_after_turn k moved (turn_by_rule course settled)) ≡ Closed
+rests-child k moved course settled rests = left-child k moved (turn_by_rule course settled) (idle-asked settled.phase rests.idle)
 
 settled-child : (k : ℕ) (moved : Option Renamed) (deed : Deed) (frames : List FrameState) → is_done k frames ≡ false →
-    child_by (left k moved (settle deed frames)) ≡ child_behind deed
+    child_of_shell (shell_after_turn k moved (turn_of_deed deed frames)) ≡ child_behind deed
 settled-child k moved (Passes course) frames runs = rests-child k moved course _ (passed-rests frames (said_of course))
 settled-child k moved (Answers word answer quits course) frames runs =
     rests-child k moved course _ (finished-rests word answer quits frames (said_of course))
 settled-child k moved (Jumps word answer line course) frames runs =
-    rests-child k moved course _ (finished-rests word answer false (jumped_in line frames) (said_of course))
+    rests-child k moved course _ (finished-rests word answer false (frames_at_line line frames) (said_of course))
 settled-child k moved (Calls word output script course) frames runs =
     rests-child k moved course _ (called-rests word output script frames (said_of course))
 settled-child k moved (Ticks before command after course) frames runs =
@@ -132,7 +132,7 @@ settled-child k moved (Waits wait course) frames runs = waits-child k moved wait
 
 -- what an accepted answer moves, if each background shell that is there runs a frame
 pub record Moved (k : ℕ) (request : Request) (answer : Reply) (w world : WorldState) : Type 0 where
-  own : (k ≢ 1 → RunsFrame (shell_at w k)) → child_in world k ≡ behind_answer (is_marked w k) request answer
+  own : (k ≢ 1 → RunsFrame (shell_at w k)) → child_in world k ≡ child_after_answer (is_marked w k) request answer
   others : (j : ℕ) → j ≢ k → pending_of world j ≡ pending_of w j
   children : (j : ℕ) → j ≢ k → child_in world j ≡ child_in w j
 
@@ -150,25 +150,25 @@ runs-done k shell runs =
     ]
 
 deed-responds : (w : WorldState) (k : ℕ) (shell : ShellState) (answer : Reply) (o : Option Request) (deed : Option Deed) → shell_at w k ≡ Some shell →
-    MovesBy (mark_in shell.phase) o answer deed → Responds w k answer o (applied w k shell.parts.codes (replied (input_of w k) shell.frames deed))
+    MovesBy (mark_in shell.phase) o answer deed → Responds w k answer o (turning_response w k shell.parts.codes (turning_of_deed (input_of w k) shell.frames deed))
 deed-responds w k shell answer None None is moves = λ request e. cc
 deed-responds w k shell answer None (Some deed) is moves = cc
 deed-responds w k shell answer (Some request) None is moves = λ other e. rw (same_some e) at moves
 deed-responds w k shell answer (Some request) (Some deed) is moves =
-    let t = settle deed shell.frames in
-    let moved = moved_in w t in (
+    let t = turn_of_deed deed shell.frames in
+    let moved = moved_at_turn w t in (
       moves.0,
       record {
         own = λ runs.
-            ap child_by (found-left w.shells k shell moved t is)
-            ∙ (settled-child k moved deed shell.frames (runs-done k shell (rw is at runs)) ∙ (moves.1 ∙ ap (λ m. behind_answer m request answer) (sym (ap mark_by is))));
+            ap child_of_shell (found-left w.shells k shell moved t is)
+            ∙ (settled-child k moved deed shell.frames (runs-done k shell (rw is at runs)) ∙ (moves.1 ∙ ap (λ m. child_after_answer m request answer) (sym (ap mark_of_shell is))));
         others = others-pending w.shells k shell moved t is;
         children = others-child w.shells k shell moved t is;
       },
     )
 
 shell-responds : (w : WorldState) (k : ℕ) (answer : Reply) (o : Option ShellState) → shell_at w k ≡ o →
-    Responds w k answer (pending_by o) (answered w k answer o)
+    Responds w k answer (request_of_shell o) (answer_response w k answer o)
 shell-responds w k answer None is = λ request e. cc
 shell-responds w k answer (Some shell) is =
     deed-responds w k shell answer (request_of shell.parts.number shell.phase) (answered_in (sink_in shell.frames) (start w shell) shell.phase answer) is
@@ -193,7 +193,7 @@ over-none w (suc i) e = none-left w.shells i (opposite (list_any is_some w.shell
 pub step-responds : (w : WorldState) (k : ℕ) (answer : Reply) → Responds w k answer (pending_of w k) (step_of w (Answer k answer))
 step-responds w k answer =
     elim (cases_Bool (is_over w)) [
-      | inl e ↦ rw e (λ request asked. absurd (never request (sym (ap pending_by (over-none w k e)) ∙ asked)))
+      | inl e ↦ rw e (λ request asked. absurd (never request (sym (ap request_of_shell (over-none w k e)) ∙ asked)))
       | inr e ↦ rw e (shell-responds w k answer (shell_at w k) refl)
     ]
   where

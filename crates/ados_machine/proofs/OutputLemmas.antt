@@ -7,7 +7,7 @@ use Rattle.ados_text.specs.declared.codes.Result2.{Result2}
 use Rattle.ados_ram.specs.Place.{Place}
 use Rattle.ados_find.specs.declared.codes.Codes.{Codes}
 use Rattle.ados_find.specs.Codes.{went_well}
-use Rattle.ados_find.specs.Targets.{open_at}
+use Rattle.ados_find.specs.Targets.{open_places}
 use Rattle.ados_flow.specs.Frames.{FrameState}
 use Rattle.ados_machine.specs.declared.answers.Answer.{Answer as Reply}
 use Rattle.ados_machine.specs.declared.answers.Answer.TheVariants.{Started, «Bytes» as Piece, End, PipeFault, Exit, Signal, WaitFault}
@@ -18,18 +18,18 @@ use Rattle.ados_machine.specs.declared.phases.Phase.TheVariants as phase
 use Rattle.ados_machine.specs.declared.phases.Starting.{Starting}
 use Rattle.ados_machine.specs.declared.phases.Wait.{Wait}
 use Rattle.ados_machine.specs.declared.phases.Wait.TheVariants.{ForAnswer, ForLines, ForStart, ForPiece, ForEnd}
-use Rattle.ados_machine.specs.Answers.{child_of, next_wait, with_break, started_deed, behind_piece, fault_in, piece_deed, is_piece, ended_deed, answered_deed, answered_in}
+use Rattle.ados_machine.specs.Answers.{child_of, next_wait, with_break, started_deed, child_after_piece, fault_in, piece_deed, is_piece, ended_deed, answered_deed, answered_in}
 use Rattle.ados_machine.specs.Breaks.{marked_if}
-use Rattle.ados_machine.specs.Children.{child_during, child_by}
-use Rattle.ados_machine.specs.Course.{Course, put, using}
+use Rattle.ados_machine.specs.Children.{child_during, child_of_shell}
+use Rattle.ados_machine.specs.Course.{Course, put, with_devices_used}
 use Rattle.ados_machine.specs.Deeds.{Waits}
 use Rattle.ados_machine.specs.InUse.{outputs_seen, outputs_held, is_running, runs_program, OutputsStayOpen, StartsOpenOutputs}
-use Rattle.ados_machine.specs.Opening.{Opened, opening, output_devices}
-use Rattle.ados_machine.specs.Settle.{settle}
+use Rattle.ados_machine.specs.Opening.{OpenedOutput, line_output, output_devices}
+use Rattle.ados_machine.specs.Settle.{turn_of_deed}
 use Rattle.ados_machine.specs.Shells.{ShellState, seen_of}
-use Rattle.ados_machine.specs.Sinks.{Sink, sink_in, sink_or, outputs_in, held_while, held_by}
-use Rattle.ados_machine.specs.Step.{Response, Refused, Accepted, left, moved_in, took, start, applied, answered, step_of}
-use Rattle.ados_machine.specs.Turning.{replied}
+use Rattle.ados_machine.specs.Sinks.{Sink, sink_in, sink_or, outputs_in, held_while, held_in_phase}
+use Rattle.ados_machine.specs.Step.{Response, Refused, Accepted, shell_after_turn, moved_at_turn, turn_taken, start, turning_response, answer_response, step_of}
+use Rattle.ados_machine.specs.Turning.{turning_of_deed}
 use Rattle.ados_machine.specs.World.{WorldState, shell_at, is_over, input_of}
 use Rattle.ados_machine.proofs.Lasting.{Watch, SeenBehind, Keeps, seen_by, is_held, step-keeps, waits-keeps}
 use Rattle.ados_machine.proofs.Rests.{IsIdle}
@@ -37,7 +37,7 @@ use Rattle.ados_machine.proofs.Shells.{found, found-left, shells_behind}
 
 -- the outputs that a shell holds above these frames, in a phase
 abbrev held_above : List FrameState → Phase → List Place
-held_above frames now = outputs_in frames ++ held_by now
+held_above frames now = outputs_in frames ++ held_in_phase now
 
 never : false ≡ true → ⊥
 never e = cc
@@ -62,30 +62,30 @@ idle-runs (phase.GoingOn parted) idle = refl
 idle-runs (phase.Waiting wait) idle = absurd idle
 
 -- an answer that does not end a program keeps its output
-next-held : (child : Child) → held_while (next_wait child) ≡ open_at child.output
+next-held : (child : Child) → held_while (next_wait child) ≡ open_places child.output
 next-held child =
     elim (cases_Bool child.marked) [
       | inl e ↦ rw e refl
       | inr e ↦ rw e refl
     ]
 
-break-held : (child : Child) → open_at (with_break child).output ≡ open_at child.output
+break-held : (child : Child) → open_places (with_break child).output ≡ open_places child.output
 break-held child =
     elim (cases_Bool child.marked) [
       | inl e ↦ rw e refl
       | inr e ↦ rw e refl
     ]
 
-put-held : (child : Child) (fault : Option Result2) → open_at (behind_piece child fault).output ≡ open_at child.output
+put-held : (child : Child) (fault : Option Result2) → open_places (child_after_piece child fault).output ≡ open_places child.output
 put-held child None = refl
 put-held child (Some fault) = refl
 
 piece-held : (frames : List FrameState) (child : Child) (bytes : Bytes) (sink : Sink) (course : Course) (fault : Option Result2) →
-    SeenBehind held_above frames (outputs_in frames ++ open_at child.output) (Some (piece_deed child bytes sink course fault))
+    SeenBehind held_above frames (outputs_in frames ++ open_places child.output) (Some (piece_deed child bytes sink course fault))
 piece-held frames child bytes sink course (Some fault) = ap (λ l. outputs_in frames ++ l) (next-held (with_break child) ∙ break-held child)
 piece-held frames child bytes sink course None =
     let fault = fault_in (put (sink_or child.output sink) bytes went_well course).codes in
-    ap (λ l. outputs_in frames ++ l) (next-held (behind_piece (with_break child) fault) ∙ (put-held (with_break child) fault ∙ break-held child))
+    ap (λ l. outputs_in frames ++ l) (next-held (child_after_piece (with_break child) fault) ∙ (put-held (with_break child) fault ∙ break-held child))
 
 ended-held : (frames : List FrameState) (outputs : List Place) (child : Child) (codes : Codes) (course : Course) (fault : Option Result2) →
     SeenBehind held_above frames outputs (Some (ended_deed child codes course fault))
@@ -130,7 +130,7 @@ outputs-same : (o : Option ShellState) → outputs_seen (option_map seen_of o) �
 outputs-same None = refl
 outputs-same (Some shell) = refl
 
-runs-same : (o : Option ShellState) → is_running (child_by o) ≡ is_held held_outputs o
+runs-same : (o : Option ShellState) → is_running (child_of_shell o) ≡ is_held held_outputs o
 runs-same None = refl
 runs-same (Some shell) = refl
 
@@ -146,40 +146,40 @@ HoldsBehind k outputs (Refused why) = Unit {0}
 HoldsBehind k outputs (Accepted world out items) = runs_program world k ≡ true → outputs_held world k ≡ outputs
 
 waits-hold : (w : WorldState) (k : ℕ) (shell : ShellState) (queue : List (List ℕ)) (wait : Wait) (course : Course) (outputs : List Place) → shell_at w k ≡ Some shell →
-    held_above shell.frames (phase.Waiting wait) ≡ outputs → HoldsBehind k outputs (took w k queue (settle (Waits wait course) shell.frames))
+    held_above shell.frames (phase.Waiting wait) ≡ outputs → HoldsBehind k outputs (turn_taken w k queue (turn_of_deed (Waits wait course) shell.frames))
 waits-hold w k shell queue wait course outputs is same = λ runs.
-    let t = settle (Waits wait course) shell.frames in
-    let moved = moved_in w t in
+    let t = turn_of_deed (Waits wait course) shell.frames in
+    let moved = moved_at_turn w t in
     let behind = found (shells_behind w.shells k moved t) k in
-    let there : behind ≡ left k moved t = found-left w.shells k shell moved t is in
+    let there : behind ≡ shell_after_turn k moved t = found-left w.shells k shell moved t is in
     outputs-same behind ∙ (ap (seen_by held_outputs) there
     ∙ waits-keeps held_outputs k moved outputs wait course shell.frames same (ap (is_held held_outputs) (sym there) ∙ (sym (runs-same behind) ∙ runs)))
 
-by-opening : (w : WorldState) (k : ℕ) (shell : ShellState) (starting : Starting) (opened : Opened) (result : Result Opened Result2) → shell_at w k ≡ Some shell →
+by-opening : (w : WorldState) (k : ℕ) (shell : ShellState) (starting : Starting) (opened : OpenedOutput) (result : Result OpenedOutput Result2) → shell_at w k ≡ Some shell →
     result ≡ Ok opened →
-    HoldsBehind k (outputs_in shell.frames ++ open_at opened.target)
-    (applied w k shell.parts.codes (replied (input_of w k) shell.frames (Some (started_deed starting (start w shell) result))))
+    HoldsBehind k (outputs_in shell.frames ++ open_places opened.target)
+    (turning_response w k shell.parts.codes (turning_of_deed (input_of w k) shell.frames (Some (started_deed starting (start w shell) result))))
 by-opening w k shell starting opened result is e =
     rw e
     (waits-hold w k shell (input_of w k).queue (next_wait (child_of starting opened.target None))
-    (using (output_devices starting.output) (record (start w shell) { shared = opened.shared })) (outputs_in shell.frames ++ open_at opened.target) is
+    (with_devices_used (output_devices starting.output) (record (start w shell) { shared = opened.shared })) (outputs_in shell.frames ++ open_places opened.target) is
     (ap (λ l. outputs_in shell.frames ++ l) (next-held (child_of starting opened.target None))))
 
-by-phase : (w : WorldState) (k : ℕ) (shell : ShellState) (starting : Starting) (opened : Opened) (now : Phase) → shell_at w k ≡ Some shell →
-    now ≡ phase.Waiting (ForStart starting) → opening (start w shell) starting.output ≡ Ok opened →
-    HoldsBehind k (outputs_in shell.frames ++ open_at opened.target)
-    (applied w k shell.parts.codes (replied (input_of w k) shell.frames (answered_in (sink_in shell.frames) (start w shell) now Started)))
+by-phase : (w : WorldState) (k : ℕ) (shell : ShellState) (starting : Starting) (opened : OpenedOutput) (now : Phase) → shell_at w k ≡ Some shell →
+    now ≡ phase.Waiting (ForStart starting) → line_output (start w shell) starting.output ≡ Ok opened →
+    HoldsBehind k (outputs_in shell.frames ++ open_places opened.target)
+    (turning_response w k shell.parts.codes (turning_of_deed (input_of w k) shell.frames (answered_in (sink_in shell.frames) (start w shell) now Started)))
 by-phase w k shell starting opened now is waits opens =
-    rw waits (by-opening w k shell starting opened (opening (start w shell) starting.output) is opens)
+    rw waits (by-opening w k shell starting opened (line_output (start w shell) starting.output) is opens)
 
-by-place : (w : WorldState) (k : ℕ) (shell : ShellState) (starting : Starting) (opened : Opened) (o : Option ShellState) → shell_at w k ≡ Some shell → o ≡ Some shell →
-    shell.phase ≡ phase.Waiting (ForStart starting) → opening (start w shell) starting.output ≡ Ok opened →
-    HoldsBehind k (outputs_in shell.frames ++ open_at opened.target) (answered w k Started o)
+by-place : (w : WorldState) (k : ℕ) (shell : ShellState) (starting : Starting) (opened : OpenedOutput) (o : Option ShellState) → shell_at w k ≡ Some shell → o ≡ Some shell →
+    shell.phase ≡ phase.Waiting (ForStart starting) → line_output (start w shell) starting.output ≡ Ok opened →
+    HoldsBehind k (outputs_in shell.frames ++ open_places opened.target) (answer_response w k Started o)
 by-place w k shell starting opened o is e waits opens = rw e (by-phase w k shell starting opened shell.phase is waits opens)
 
-started-holds : (w : WorldState) (k : ℕ) (shell : ShellState) (starting : Starting) (opened : Opened) → shell_at w k ≡ Some shell →
-    shell.phase ≡ phase.Waiting (ForStart starting) → opening (start w shell) starting.output ≡ Ok opened →
-    HoldsBehind k (outputs_in shell.frames ++ open_at opened.target) (step_of w (Answer k Started))
+started-holds : (w : WorldState) (k : ℕ) (shell : ShellState) (starting : Starting) (opened : OpenedOutput) → shell_at w k ≡ Some shell →
+    shell.phase ≡ phase.Waiting (ForStart starting) → line_output (start w shell) starting.output ≡ Ok opened →
+    HoldsBehind k (outputs_in shell.frames ++ open_places opened.target) (step_of w (Answer k Started))
 started-holds w k shell starting opened is waits opens =
     elim (cases_Bool (is_over w)) [
       | inl e ↦ rw e tt
@@ -188,5 +188,5 @@ started-holds w k shell starting opened is waits opens =
 
 pub starts-open : StartsOpenOutputs
 starts-open w k shell starting opened world out items here waits opens is runs =
-    let holds : HoldsBehind k (outputs_in shell.frames ++ open_at opened.target) (Accepted world out items) = rw is at (started-holds w k shell starting opened here waits opens) in
+    let holds : HoldsBehind k (outputs_in shell.frames ++ open_places opened.target) (Accepted world out items) = rw is at (started-holds w k shell starting opened here waits opens) in
     holds runs

@@ -21,11 +21,11 @@ use Rattle.ados_machine.specs.Runs.{world_after, IsAnswer}
 use Rattle.ados_machine.specs.Settle.{here_of}
 use Rattle.ados_machine.specs.Shells.{ShellState}
 use Rattle.ados_machine.specs.Sinks.{sink_in}
-use Rattle.ados_machine.specs.Step.{Response, Refused, Accepted, start, unflagged, applied, broken, turned, answered, typed, step_of}
-use Rattle.ados_machine.specs.Turning.{Input, Turning, Refuses, Ends, Takes, console_turning, input_turning, turning, in_place_of, flagged_turning, replied}
+use Rattle.ados_machine.specs.Step.{Response, Refused, Accepted, start, course_without_flag, turning_response, break_response, turn_response, answer_response, typing_response, step_of}
+use Rattle.ados_machine.specs.Turning.{Input, Turning, Refuses, Ends, Takes, console_turning, input_turning, turning_in_phase, turning_at_break, flagged_turning, turning_of_deed}
 use Rattle.ados_machine.specs.World.{WorldState, shell_at, input_of, takes_input, wants_input}
 use Rattle.ados_machine.specs.Laws.{is_breakable}
-use Rattle.ados_machine.specs.Given.{lines_taken, lines_typed, typed_in, taken_in, TypedLinesAreTakenInOrder}
+use Rattle.ados_machine.specs.Given.{lines_taken, lines_typed, all_lines_typed, all_lines_taken, TypedLinesAreTakenInOrder}
 use Rattle.ados_machine.proofs.StepCases.{of-step}
 
 -- a turn takes the first line that waits, if its shell takes a line of its input, and leaves these
@@ -46,7 +46,7 @@ input-takes [] false frames by_line by_end = tt
 input-takes (line ∷ rest) is_ended frames by_line by_end = refl
 
 turning-takes : (input : Input) (frames : List FrameState) (course : Course) (now : Phase) →
-    Takes_of (takes_input frames now) input.queue (turning input frames course now)
+    Takes_of (takes_input frames now) input.queue (turning_in_phase input frames course now)
 turning-takes input [] course Ready = console-takes input.queue input.is_ended course
 turning-takes input (frame ∷ frames) course Ready = refl
 turning-takes input frames course (GoingOn parted) = refl
@@ -60,7 +60,7 @@ turning-takes input frames course (Waiting (ForEnd child)) = tt
 
 -- a turn that finds the flag in a script takes no line
 in_place-takes : (now : Turning) (input : Input) (frames : List FrameState) (course : Course) →
-    Takes_of false input.queue (in_place_of now input frames course)
+    Takes_of false input.queue (turning_at_break now input frames course)
 in_place-takes (Refuses why) input frames course = tt
 in_place-takes Ends input frames course = refl
 in_place-takes (Takes queue t) input frames course = refl
@@ -69,7 +69,7 @@ flagged-takes : (flagged : Bool) (input : Input) (frames : List FrameState) (cou
     Takes_of (not (flagged && has_script frames) && takes_input frames now) input.queue (flagged_turning flagged input frames course now)
 flagged-takes flagged input frames course now =
     elim (cases_Bool (flagged && has_script frames)) [
-      | inl e ↦ rw e (in_place-takes (turning input frames course now) input frames course)
+      | inl e ↦ rw e (in_place-takes (turning_in_phase input frames course now) input frames course)
       | inr e ↦ rw e (turning-takes input frames course now)
     ]
 
@@ -79,27 +79,27 @@ Queues w event (Refused why) = Unit {0}
 Queues w event (Accepted world out items) = w.queue ++ lines_typed event ≡ lines_taken w event ++ world.queue
 
 first-queues : (w : WorldState) (shell : ShellState) (now : Turning) → shell_at w 1 ≡ Some shell →
-    Takes_of (not (shell.flagged && has_script shell.frames) && takes_input shell.frames shell.phase) w.queue now → Queues w (Turn 1) (applied w 1 shell.parts.codes now)
+    Takes_of (not (shell.flagged && has_script shell.frames) && takes_input shell.frames shell.phase) w.queue now → Queues w (Turn 1) (turning_response w 1 shell.parts.codes now)
 first-queues w shell (Refuses why) is takes = tt
 first-queues w shell Ends is takes = append-nil w.queue ∙ (rw (ap is_breakable is, ap wants_input is) takes)
 first-queues w shell (Takes queue t) is takes = append-nil w.queue ∙ (rw (ap is_breakable is, ap wants_input is) takes)
 
-other-queues : (w : WorldState) (k : ℕ) (codes : Codes) (now : Turning) → k ≢ 1 → Queues w (Turn k) (applied w k codes now)
+other-queues : (w : WorldState) (k : ℕ) (codes : Codes) (now : Turning) → k ≢ 1 → Queues w (Turn k) (turning_response w k codes now)
 other-queues w k codes (Refuses why) ne = tt
 other-queues w k codes Ends ne = rw (ne_eqb k 1 ne) (append-nil w.queue)
 other-queues w k codes (Takes queue t) ne = rw (ne_eqb k 1 ne) (append-nil w.queue)
 
-first-turned : (w : WorldState) (o : Option ShellState) → shell_at w 1 ≡ o → Queues w (Turn 1) (turned w 1 o)
+first-turned : (w : WorldState) (o : Option ShellState) → shell_at w 1 ≡ o → Queues w (Turn 1) (turn_response w 1 o)
 first-turned w None is = tt
 first-turned w (Some shell) is =
-    first-queues w shell (flagged_turning shell.flagged (input_of w 1) shell.frames (unflagged (start w shell)) shell.phase) is
-    (flagged-takes shell.flagged (input_of w 1) shell.frames (unflagged (start w shell)) shell.phase)
+    first-queues w shell (flagged_turning shell.flagged (input_of w 1) shell.frames (course_without_flag (start w shell)) shell.phase) is
+    (flagged-takes shell.flagged (input_of w 1) shell.frames (course_without_flag (start w shell)) shell.phase)
 
-other-turned : (w : WorldState) (k : ℕ) (o : Option ShellState) → k ≢ 1 → Queues w (Turn k) (turned w k o)
+other-turned : (w : WorldState) (k : ℕ) (o : Option ShellState) → k ≢ 1 → Queues w (Turn k) (turn_response w k o)
 other-turned w k None ne = tt
-other-turned w k (Some shell) ne = other-queues w k shell.parts.codes (flagged_turning shell.flagged (input_of w k) shell.frames (unflagged (start w shell)) shell.phase) ne
+other-turned w k (Some shell) ne = other-queues w k shell.parts.codes (flagged_turning shell.flagged (input_of w k) shell.frames (course_without_flag (start w shell)) shell.phase) ne
 
-turned-queues : (w : WorldState) (k : ℕ) → Queues w (Turn k) (turned w k (shell_at w k))
+turned-queues : (w : WorldState) (k : ℕ) → Queues w (Turn k) (turn_response w k (shell_at w k))
 turned-queues w k =
     elim (cases_eq k 1) [
       | inl same ↦ rw same (first-turned w (shell_at w 1) refl)
@@ -107,7 +107,7 @@ turned-queues w k =
     ]
 
 replied-queues : (w : WorldState) (k : ℕ) (reply : Reply) (codes : Codes) (frames : List FrameState) (deed : Option Deed) →
-    Queues w (Answer k reply) (applied w k codes (replied (input_of w k) frames deed))
+    Queues w (Answer k reply) (turning_response w k codes (turning_of_deed (input_of w k) frames deed))
 replied-queues w k reply codes frames None = tt
 replied-queues w k reply codes frames (Some deed) =
     elim (cases_Bool (k == 1)) [
@@ -115,7 +115,7 @@ replied-queues w k reply codes frames (Some deed) =
       | inr e ↦ rw e (append-nil w.queue)
     ]
 
-answered-queues : (w : WorldState) (k : ℕ) (reply : Reply) (o : Option ShellState) → Queues w (Answer k reply) (answered w k reply o)
+answered-queues : (w : WorldState) (k : ℕ) (reply : Reply) (o : Option ShellState) → Queues w (Answer k reply) (answer_response w k reply o)
 answered-queues w k reply None = tt
 answered-queues w k reply (Some shell) =
     replied-queues w k reply shell.parts.codes shell.frames (answered_in (sink_in shell.frames) (start w shell) shell.phase reply)
@@ -147,10 +147,10 @@ lines-in-order w (event ∷ events) (Err why ∷ outs) last run =
     lines-in-order w events outs last (rw (kept-world w why (step_of w event)) at run.1)
 lines-in-order w (event ∷ events) (Ok out ∷ outs) last run =
     let mid : WorldState = world_after w (Ok out) (step_of w event) in
-    let typed = typed_in events outs in
-    let taken = taken_in mid events outs in
-    sym (append_assoc w.queue (lines_typed event) typed)
-    ∙ (ap (λ lines. lines ++ typed) (after-queues w event out (step_of w event) run.0 (step-queues w event))
-    ∙ (append_assoc (lines_taken w event) mid.queue typed
+    let typing_response = all_lines_typed events outs in
+    let taken = all_lines_taken mid events outs in
+    sym (append_assoc w.queue (lines_typed event) typing_response)
+    ∙ (ap (λ lines. lines ++ typing_response) (after-queues w event out (step_of w event) run.0 (step-queues w event))
+    ∙ (append_assoc (lines_taken w event) mid.queue typing_response
     ∙ (ap (λ lines. lines_taken w event ++ lines) (lines-in-order mid events outs last run.1)
     ∙ sym (append_assoc (lines_taken w event) taken last.queue))))

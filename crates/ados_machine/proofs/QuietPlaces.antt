@@ -11,11 +11,11 @@ use Rattle.ados_find.specs.declared.outcomes.Renamed.{Renamed}
 use Rattle.ados_machine.specs.declared.phases.Phase.{Phase}
 use Rattle.ados_machine.specs.declared.phases.Phase.TheVariants.{Ready, GoingOn, Waiting}
 use Rattle.ados_machine.specs.declared.phases.Wait.TheVariants.{ForAnswer, ForLines, ForStart, ForPiece, ForEnd}
-use Rattle.ados_machine.specs.Breaks.{mark_in, marked_if, broken_shell, broken_place, broken_at, broken_number, broken_by}
-use Rattle.ados_machine.specs.Shells.{Begun, begun_shell, ShellState, seen_of}
+use Rattle.ados_machine.specs.Breaks.{mark_in, marked_if, broken_shell, broken_place, broken_at, broken_number, shells_after_break}
+use Rattle.ados_machine.specs.Shells.{ShellStart, begun_shell, ShellState, seen_of}
 use Rattle.ados_machine.specs.World.{flatten}
-use Rattle.ados_machine.specs.Carrying.{moved_by}
-use Rattle.ados_machine.specs.Step.{with_begun, ended_with}
+use Rattle.ados_machine.specs.Carrying.{moved_object}
+use Rattle.ados_machine.specs.Step.{with_begun, codes_of_ended}
 use Rattle.ados_machine.specs.Quiet.{marks_of}
 use Rattle.ados_machine.proofs.Shells.{found, found-set_other, runs_pos, place_before, IsFree}
 use Rattle.ados_machine.proofs.Moves.{placed-at}
@@ -48,7 +48,7 @@ own-shells (suc i) xs ys shell now alike is looks =
 pub own-ended : (j : ℕ) (xs ys : List Codes) (codes : Codes) → 0 < j → Alike Any j 1 xs ys → Alike Any j 1 (slice_set xs (j - 1) codes) ys
 own-ended j xs ys codes pos alike = alike-own Any j 1 xs ys (j - 1) codes alike (omega (arith, pos)) (λ x y there like. tt)
 
-pub own-ended_with : (j : ℕ) (xs ys : List Codes) (done : Bool) (codes : Codes) → 0 < j → Alike Any j 1 xs ys → Alike Any j 1 (ended_with done j codes xs) ys
+pub own-ended_with : (j : ℕ) (xs ys : List Codes) (done : Bool) (codes : Codes) → 0 < j → Alike Any j 1 xs ys → Alike Any j 1 (codes_of_ended done j codes xs) ys
 own-ended_with j xs ys true codes pos alike = own-ended j xs ys codes pos alike
 own-ended_with j xs ys false codes pos alike = alike
 
@@ -57,7 +57,7 @@ there-or-not : {X : Type 0} (o : Option X) → (is_some o && is_none o) ≡ fals
 there-or-not None = refl
 there-or-not (Some x) = refl
 
-pub still : (old new : SharedState) (renamed : Option Renamed) → new ≡ old → moved_by old new renamed ≡ None
+pub still : (old new : SharedState) (renamed : Option Renamed) → new ≡ old → moved_object old new renamed ≡ None
 still old new None e = refl
 still old new (Some renamed) e = rw (e, there-or-not (finite.get old.files (key_of renamed.from))) refl
 
@@ -69,7 +69,7 @@ running-found xs ys zero e = refl
 running-found xs ys (suc i) e = running-at xs ys i e
 
 -- no shell begins if the same numbers run after it
-never-begins : (xs : List (Option ShellState)) (begun : Begun) (n j : ℕ) (shell : ShellState) (now : Option ShellState) → IsFree xs (Some n) →
+never-begins : (xs : List (Option ShellState)) (begun : ShellStart) (n j : ℕ) (shell : ShellState) (now : Option ShellState) → IsFree xs (Some n) →
     found xs j ≡ Some shell → map is_some (slice_set (with_begun (Some begun) (Some n) xs) (j - 1) now) ≡ map is_some xs → ⊥
 never-begins xs begun n j shell now free is same =
     let there = placed-at xs n free.0 (Some (begun_shell n begun)) free.1 free.2 in
@@ -78,7 +78,7 @@ never-begins xs begun n j shell now free is same =
     let none = there.1 in
     cc (stands, none, runs)
 
-pub quiet-begun : (xs : List (Option ShellState)) (begun : Option Begun) (n : Option ℕ) (j : ℕ) (shell : ShellState) (now : Option ShellState) →
+pub quiet-begun : (xs : List (Option ShellState)) (begun : Option ShellStart) (n : Option ℕ) (j : ℕ) (shell : ShellState) (now : Option ShellState) →
     IsFree xs n → found xs j ≡ Some shell → map is_some (slice_set (with_begun begun n xs) (j - 1) now) ≡ map is_some xs → with_begun begun n xs ≡ xs
 quiet-begun xs None n j shell now free is same = refl
 quiet-begun xs (Some begun) None j shell now free is same = refl
@@ -98,14 +98,14 @@ running-broken_number : (breaks : Breaks) (n : ℕ) (shells : List (Option Shell
 running-broken_number breaks zero shells = refl
 running-broken_number breaks (suc m) shells = running-broken_at breaks m shells
 
-running-broken_by : (breaking : Option Breaking) (shells : List (Option ShellState)) → map is_some (broken_by breaking shells) ≡ map is_some shells
+running-broken_by : (breaking : Option Breaking) (shells : List (Option ShellState)) → map is_some (shells_after_break breaking shells) ≡ map is_some shells
 running-broken_by None shells = refl
 running-broken_by (Some breaking) shells = running-broken_number breaking.breaks breaking.shell shells
 
 pub running-broken : (breaking : Option Breaking) (shells : List (Option ShellState)) (i : ℕ) (now : Option ShellState) →
-    map is_some (slice_set (broken_by breaking shells) i now) ≡ map is_some (slice_set shells i now)
+    map is_some (slice_set (shells_after_break breaking shells) i now) ≡ map is_some (slice_set shells i now)
 running-broken breaking shells i now =
-    map-set is_some (broken_by breaking shells) i now
+    map-set is_some (shells_after_break breaking shells) i now
     ∙ (ap (λ r. slice_set r i (is_some now)) (running-broken_by breaking shells) ∙ sym (map-set is_some shells i now))
 
 -- a break that leaves the marks and flags of others as they were changes nothing of them
@@ -147,7 +147,7 @@ unbroken-number breaks zero xs i now e = refl
 unbroken-number breaks (suc m) xs i now e = unbroken-at breaks m xs i now e
 
 pub unbroken : (breaking : Option Breaking) (xs : List (Option ShellState)) (i : ℕ) (now : Option ShellState) →
-    slice_set (map (option_map marks_of) (slice_set (broken_by breaking xs) i now)) i None ≡ slice_set (map (option_map marks_of) xs) i None →
-    slice_set (broken_by breaking xs) i now ≡ slice_set xs i now
+    slice_set (map (option_map marks_of) (slice_set (shells_after_break breaking xs) i now)) i None ≡ slice_set (map (option_map marks_of) xs) i None →
+    slice_set (shells_after_break breaking xs) i now ≡ slice_set xs i now
 unbroken None xs i now e = refl
 unbroken (Some breaking) xs i now e = unbroken-number breaking.breaks breaking.shell xs i now e

@@ -14,8 +14,8 @@ use Rattle.ados_machine.specs.Lines.{answer_deed}
 use Rattle.ados_machine.specs.NewShells.{gathered_deed, joined_deed}
 use Rattle.ados_machine.specs.Settle.{here_of}
 use Rattle.ados_machine.specs.Shells.{ShellState}
-use Rattle.ados_machine.specs.Step.{is_accepted, start, unflagged, applied, turned}
-use Rattle.ados_machine.specs.Turning.{Input, Turning, Refuses, Ends, Takes, console_turning, input_turning, turning, in_place_of, flagged_turning}
+use Rattle.ados_machine.specs.Step.{is_accepted, start, course_without_flag, turning_response, turn_response}
+use Rattle.ados_machine.specs.Turning.{Input, Turning, Refuses, Ends, Takes, console_turning, input_turning, turning_in_phase, turning_at_break, flagged_turning}
 use Rattle.ados_machine.specs.World.{WorldState, shell_at, is_over, input_of, can_take, can_turn}
 use Rattle.ados_machine.specs.Given.{ReadyShellsAreTurned}
 use Rattle.ados_machine.proofs.MovedChildren.{over-none}
@@ -25,7 +25,7 @@ accepts (Refuses why) = false
 accepts Ends = true
 accepts (Takes queue t) = true
 
-applied-accepted : (w : WorldState) (k : ℕ) (codes : Codes) (now : Turning) → is_accepted (applied w k codes now) ≡ accepts now
+applied-accepted : (w : WorldState) (k : ℕ) (codes : Codes) (now : Turning) → is_accepted (turning_response w k codes now) ≡ accepts now
 applied-accepted w k codes (Refuses why) = refl
 applied-accepted w k codes Ends = refl
 applied-accepted w k codes (Takes queue t) = refl
@@ -46,7 +46,7 @@ input-accepts [] false frames by_line by_end = refl
 input-accepts (line ∷ rest) is_ended frames by_line by_end = rw (some-waits (length rest)) refl
 
 turning-accepts : (input : Input) (frames : List FrameState) (course : Course) (now : Phase) →
-    accepts (turning input frames course now) ≡ can_take input frames now
+    accepts (turning_in_phase input frames course now) ≡ can_take input frames now
 turning-accepts input [] course Ready = console-accepts input.queue input.is_ended course
 turning-accepts input (frame ∷ frames) course Ready = refl
 turning-accepts input frames course (GoingOn parted) = refl
@@ -59,7 +59,7 @@ turning-accepts input frames course (Waiting (ForPiece child)) = refl
 turning-accepts input frames course (Waiting (ForEnd child)) = refl
 
 in_place-accepts : (now : Turning) (input : Input) (frames : List FrameState) (course : Course) →
-    accepts (in_place_of now input frames course) ≡ accepts now
+    accepts (turning_at_break now input frames course) ≡ accepts now
 in_place-accepts (Refuses why) input frames course = refl
 in_place-accepts Ends input frames course = refl
 in_place-accepts (Takes queue t) input frames course = refl
@@ -68,15 +68,15 @@ flagged-accepts : (flagged : Bool) (input : Input) (frames : List FrameState) (c
     accepts (flagged_turning flagged input frames course now) ≡ can_take input frames now
 flagged-accepts flagged input frames course now =
     elim (cases_Bool (flagged && has_script frames)) [
-      | inl e ↦ rw e (in_place-accepts (turning input frames course now) input frames course ∙ turning-accepts input frames course now)
+      | inl e ↦ rw e (in_place-accepts (turning_in_phase input frames course now) input frames course ∙ turning-accepts input frames course now)
       | inr e ↦ rw e (turning-accepts input frames course now)
     ]
 
-shell-accepts : (w : WorldState) (k : ℕ) (o : Option ShellState) → is_accepted (turned w k o) ≡ can_turn (input_of w k) o
+shell-accepts : (w : WorldState) (k : ℕ) (o : Option ShellState) → is_accepted (turn_response w k o) ≡ can_turn (input_of w k) o
 shell-accepts w k None = refl
 shell-accepts w k (Some shell) =
-    applied-accepted w k shell.parts.codes (flagged_turning shell.flagged (input_of w k) shell.frames (unflagged (start w shell)) shell.phase)
-    ∙ flagged-accepts shell.flagged (input_of w k) shell.frames (unflagged (start w shell)) shell.phase
+    applied-accepted w k shell.parts.codes (flagged_turning shell.flagged (input_of w k) shell.frames (course_without_flag (start w shell)) shell.phase)
+    ∙ flagged-accepts shell.flagged (input_of w k) shell.frames (course_without_flag (start w shell)) shell.phase
 
 pub ready-turned : ReadyShellsAreTurned
 ready-turned w k =

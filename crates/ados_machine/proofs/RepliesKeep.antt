@@ -6,7 +6,7 @@ use Rattle.ados_line.specs.declared.lines.Expanded.TheVariants.{Ready}
 use Rattle.ados_find.specs.declared.codes.Codes.{Codes}
 use Rattle.ados_find.specs.Parts.{Parts}
 use Rattle.ados_machine.specs.Course.{Course}
-use Rattle.ados_machine.specs.Opening.{Opened, opening}
+use Rattle.ados_machine.specs.Opening.{OpenedOutput, line_output}
 use Rattle.ados_machine.specs.Deeds.{Deed}
 use Rattle.ados_machine.specs.Sinks.{Sink, sink_or}
 use Rattle.ados_find.specs.Codes.{went_well}
@@ -26,7 +26,7 @@ abbrev pub KeepsIf : Parts → Option Deed → Type 0
 KeepsIf parts None = Unit {0}
 KeepsIf parts (Some deed) = KeepsParts parts deed
 
-started-keeps : (starting : Starting) (course : Course) (opened : Result Opened Result2) → KeepsParts course.parts (started_deed starting course opened)
+started-keeps : (starting : Starting) (course : Course) (opened : Result OpenedOutput Result2) → KeepsParts course.parts (started_deed starting course opened)
 started-keeps starting course (Err fault) = refl
 started-keeps starting course (Ok opened) = refl
 
@@ -40,7 +40,7 @@ ended-keeps child codes course None = refl
 ended-keeps child codes course (Some fault) = refl
 
 wait-keeps : (sink : Sink) (course : Course) (wait : Wait) (answer : Answer) → KeepsIf course.parts (answered_deed sink course wait answer)
-wait-keeps sink course (ForStart starting) Started = started-keeps starting course (opening course starting.output)
+wait-keeps sink course (ForStart starting) Started = started-keeps starting course (line_output course starting.output)
 wait-keeps sink course (ForStart starting) NotFound = refl
 wait-keeps sink course (ForStart starting) Denied = refl
 wait-keeps sink course (ForStart starting) Memory = refl

@@ -3,10 +3,10 @@ use Rattle.std.proofs.Common.{◌≡◌, ℕ, ◌-◌, List, [], ◌∷◌, Bool
 use Rattle.std.proofs.lemmas.Bool.{cases_Bool}
 use Rattle.ados_text.specs.declared.codes.Result2.{Result2}
 use Rattle.ados_find.specs.declared.codes.Codes.{Codes}
-use Rattle.ados_find.specs.Codes.{failed}
+use Rattle.ados_find.specs.Codes.{fail_codes}
 use Rattle.ados_flow.specs.declared.kinds.Kind.{Kind}
 use Rattle.ados_flow.specs.declared.kinds.Kind.TheVariants.{Script, Lines, Tick}
-use Rattle.ados_flow.specs.Frames.{FrameState, is_ended, is_over, is_script, maker, limit_behind, entry_of}
+use Rattle.ados_flow.specs.Frames.{FrameState, is_ended, is_over, is_script, maker, limit_above_frames, entry_of}
 use Rattle.ados_machine.specs.declared.answers.Answer.{Answer as Reply}
 use Rattle.ados_machine.specs.declared.answers.Answer.TheVariants.{Started, NotFound, Denied, Memory, Other, «Bytes» as Piece, End, PipeFault, Exit, Signal, WaitFault}
 use Rattle.ados_machine.specs.declared.phases.Phase.{Phase}
@@ -14,31 +14,31 @@ use Rattle.ados_machine.specs.declared.phases.Phase.TheVariants.{Ready, GoingOn,
 use Rattle.ados_machine.specs.declared.phases.Wait.{Wait}
 use Rattle.ados_machine.specs.declared.phases.Wait.TheVariants.{ForStart, ForPiece, ForEnd}
 use Rattle.ados_machine.specs.Shells.{ShellState}
-use Rattle.ados_machine.specs.Course.{Course, shared_behind}
-use Rattle.ados_machine.specs.Deeds.{Deed, refused}
-use Rattle.ados_machine.specs.Settled.{Said, Settled, faulted, told, with_limit, after_end, finish}
-use Rattle.ados_machine.specs.Settle.{Turned, said_of, settle}
+use Rattle.ados_machine.specs.Course.{Course, shared_after_event}
+use Rattle.ados_machine.specs.Deeds.{Deed, refusal_deed}
+use Rattle.ados_machine.specs.Settled.{RuleState, RuleResult, with_fault_line, with_answer, with_limit, after_end, finish}
+use Rattle.ados_machine.specs.Settle.{TurnResult, said_of, turn_of_deed}
 use Rattle.ados_machine.specs.Answers.{answered_deed, answered_in}
 use Rattle.ados_machine.specs.Sinks.{Sink}
 use Rattle.ados_machine.specs.Step.{shell_of_turn}
-use Rattle.ados_machine.specs.Starts.{IsFailure, IsBehindEnd, HasAnswered, KeepsSettings}
+use Rattle.ados_machine.specs.Starts.{IsFailure, IsAfterEnd, HasAnswered, KeepsSettings}
 
 -- the shell that the code rule leaves
-abbrev pub settled_shell : Bool → Settled → ShellState
+abbrev pub settled_shell : Bool → RuleResult → ShellState
 settled_shell flagged settled =
     record { frames = settled.frames; phase = settled.phase; parts = settled.said.parts; kept = settled.said.kept; flagged = flagged }
 
 -- what the code rule changes
-pub record Rules (flagged : Bool) (frames : List FrameState) (said : Said) (settled : Settled) : Type 0 where
+pub record Rules (flagged : Bool) (frames : List FrameState) (said : RuleState) (settled : RuleResult) : Type 0 where
   pub parts : KeepsSettings said.parts settled.said.parts
   pub answered : HasAnswered frames said.kept (settled_shell flagged settled)
 
 -- what it changes after the end of a frame
-record EndRules (flagged : Bool) (kind : Kind) (frames : List FrameState) (said : Said) (settled : Settled) : Type 0 where
+record EndRules (flagged : Bool) (kind : Kind) (frames : List FrameState) (said : RuleState) (settled : RuleResult) : Type 0 where
   parts : KeepsSettings said.parts settled.said.parts
-  behind_end : IsBehindEnd kind (HasAnswered frames said.kept (settled_shell flagged settled)) frames said.kept (settled_shell flagged settled)
+  behind_end : IsAfterEnd kind (HasAnswered frames said.kept (settled_shell flagged settled)) frames said.kept (settled_shell flagged settled)
 
-end-rules : (flagged : Bool) (kind : Kind) (further : Settled) (frames : List FrameState) (said : Said) → Rules flagged frames said further →
+end-rules : (flagged : Bool) (kind : Kind) (further : RuleResult) (frames : List FrameState) (said : RuleState) → Rules flagged frames said further →
     EndRules flagged kind frames said (after_end kind further frames said)
 end-rules flagged (Script name command) further frames said rules = record { parts = rules.parts; behind_end = rules.answered }
 end-rules flagged Lines further frames said rules = record { parts = refl; behind_end = (refl, refl, refl) }
@@ -50,12 +50,12 @@ ends-may true over reached e = refl
 ends-may false true reached e = refl
 ends-may false false reached e = e
 
-finish-rules : (flagged : Bool) (word : List ℕ) (answer : Codes) (quits : Bool) (frames : List FrameState) (said : Said) →
+finish-rules : (flagged : Bool) (word : List ℕ) (answer : Codes) (quits : Bool) (frames : List FrameState) (said : RuleState) →
     Rules flagged frames said (finish word answer quits frames said)
 finish-rules flagged word answer quits [] said = record { parts = refl; answered = (refl, refl, refl) }
 finish-rules flagged word answer quits (frame ∷ frames) said =
-    let done = told word answer said in
-    let below = with_limit (limit_behind frames frame.limit) done in
+    let done = with_answer word answer said in
+    let below = with_limit (limit_above_frames frames frame.limit) done in
     let further = finish (maker frame.kind) answer false frames below in
     let more = finish-rules flagged (maker frame.kind) answer false frames below in
     let same : Rules flagged frames done further = record { parts = more.parts; answered = more.answered } in
@@ -67,8 +67,8 @@ finish-rules flagged word answer quits (frame ∷ frames) said =
     ]
 
 -- after a failure an event passes on what it began with, except for the codes
-pub record Keeps (frames : List FrameState) (course : Course) (t : Turned) : Type 0 where
-  pub shared : shared_behind t.course ≡ shared_behind course
+pub record Keeps (frames : List FrameState) (course : Course) (t : TurnResult) : Type 0 where
+  pub shared : shared_after_event t.course ≡ shared_after_event course
   pub renamed : t.course.renamed ≡ course.renamed
   pub breaking : t.course.breaking ≡ course.breaking
   pub flagged : t.course.flagged ≡ course.flagged
@@ -77,15 +77,15 @@ pub record Keeps (frames : List FrameState) (course : Course) (t : Turned) : Typ
   pub answered : HasAnswered frames course.kept (shell_of_turn t)
 
 refused-keeps : (word : List ℕ) (fault : Result2) (frames : List FrameState) (course : Course) →
-    Keeps frames course (settle (refused word fault course) frames)
+    Keeps frames course (turn_of_deed (refusal_deed word fault course) frames)
 refused-keeps word fault frames course =
-    let rules = finish-rules course.flagged word (failed fault) false frames (faulted word fault (said_of course)) in
+    let rules = finish-rules course.flagged word (fail_codes fault) false frames (with_fault_line word fault (said_of course)) in
     record { shared = refl; renamed = refl; breaking = refl; flagged = refl; begun = refl; parts = rules.parts; answered = rules.answered }
 
 -- a failure is taken only for a start, and finishes its command
 abbrev pub OnlyFinishes : List FrameState → Course → Option Deed → Type 0
 OnlyFinishes frames course None = Unit {0}
-OnlyFinishes frames course (Some deed) = Keeps frames course (settle deed frames)
+OnlyFinishes frames course (Some deed) = Keeps frames course (turn_of_deed deed frames)
 
 wait-finishes : (frames : List FrameState) (sink : Sink) (course : Course) (wait : Wait) (reply : Reply) → IsFailure reply →
     OnlyFinishes frames course (answered_deed sink course wait reply)

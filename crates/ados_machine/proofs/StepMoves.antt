@@ -11,9 +11,9 @@ use Rattle.ados_machine.specs.Breaks.{breaks_by}
 use Rattle.ados_machine.specs.declared.outs.Out.{Out}
 use Rattle.ados_machine.specs.declared.refusals.Refusal.{Refusal}
 use Rattle.ados_machine.specs.Shells.{ShellState}
-use Rattle.ados_machine.specs.Turning.{Turning, Refuses, Ends, Takes, flagged_turning, answering}
+use Rattle.ados_machine.specs.Turning.{Turning, Refuses, Ends, Takes, flagged_turning, turning_of_answer}
 use Rattle.ados_machine.specs.World.{WorldState, shell_at, input_of}
-use Rattle.ados_machine.specs.Step.{Response, Refused, Accepted, moved_in, start, unflagged, applied, turned, answered, broken, typed, step_of}
+use Rattle.ados_machine.specs.Step.{Response, Refused, Accepted, moved_at_turn, start, course_without_flag, turning_response, turn_response, answer_response, break_response, typing_response, step_of}
 use Rattle.ados_machine.specs.Runs.{world_after}
 use Rattle.ados_machine.specs.Trace.{items_after, own}
 use Rattle.ados_machine.specs.Stacks.{stack_of, standing_of}
@@ -40,24 +40,24 @@ ended-moves shells k shell j sane is none =
     ]
 
 applied-leads : (w : WorldState) (k : ℕ) (shell : ShellState) (codes : Codes) (turning : Turning) → AllSane w.shells →
-    shell_at w k ≡ Some shell → TurningGoes shell.parts shell.frames turning → Leads w (applied w k codes turning)
+    shell_at w k ≡ Some shell → TurningGoes shell.parts shell.frames turning → Leads w (turning_response w k codes turning)
 applied-leads w k shell codes (Refuses why) sane is goes = tt
 applied-leads w k shell codes Ends sane is goes = λ j. ended-moves w.shells k shell j sane is goes
-applied-leads w k shell codes (Takes queue t) sane is goes = λ j. turn-moves w.shells k shell (moved_in w t) t j sane is goes
+applied-leads w k shell codes (Takes queue t) sane is goes = λ j. turn-moves w.shells k shell (moved_at_turn w t) t j sane is goes
 
-turned-leads : (w : WorldState) (k : ℕ) (o : Option ShellState) → AllSane w.shells → shell_at w k ≡ o → Leads w (turned w k o)
+turned-leads : (w : WorldState) (k : ℕ) (o : Option ShellState) → AllSane w.shells → shell_at w k ≡ o → Leads w (turn_response w k o)
 turned-leads w k None sane is = tt
 turned-leads w k (Some shell) sane is =
-    applied-leads w k shell shell.parts.codes (flagged_turning shell.flagged (input_of w k) shell.frames (unflagged (start w shell)) shell.phase) sane is
-    (flagged-goes shell.flagged (input_of w k) shell.frames (unflagged (start w shell)) shell.phase (rw is at (sane.each k)))
+    applied-leads w k shell shell.parts.codes (flagged_turning shell.flagged (input_of w k) shell.frames (course_without_flag (start w shell)) shell.phase) sane is
+    (flagged-goes shell.flagged (input_of w k) shell.frames (course_without_flag (start w shell)) shell.phase (rw is at (sane.each k)))
 
-answered-leads : (w : WorldState) (k : ℕ) (reply : Reply) (o : Option ShellState) → AllSane w.shells → shell_at w k ≡ o → Leads w (answered w k reply o)
+answered-leads : (w : WorldState) (k : ℕ) (reply : Reply) (o : Option ShellState) → AllSane w.shells → shell_at w k ≡ o → Leads w (answer_response w k reply o)
 answered-leads w k reply None sane is = tt
 answered-leads w k reply (Some shell) sane is =
-    applied-leads w k shell shell.parts.codes (answering (input_of w k) shell.frames (start w shell) shell.phase reply) sane is
+    applied-leads w k shell shell.parts.codes (turning_of_answer (input_of w k) shell.frames (start w shell) shell.phase reply) sane is
     (answering-goes (input_of w k) shell.frames (start w shell) shell.phase reply (rw is at (sane.each k)))
 
-broken-leads : (w : WorldState) (k : ℕ) (kind : Kind) (o : Option ShellState) → AllSane w.shells → Leads w (broken w k kind o)
+broken-leads : (w : WorldState) (k : ℕ) (kind : Kind) (o : Option ShellState) → AllSane w.shells → Leads w (break_response w k kind o)
 broken-leads w k kind None sane = tt
 broken-leads w k kind (Some shell) sane = λ j. broken-moves (Some (record { shell = k; breaks = breaks_by kind })) j w.shells [] w.shells (stays w.shells j sane)
 

@@ -2,7 +2,7 @@
 use Rattle.std.proofs.Common.{◌≡◌, ℕ, zero, suc, ◌-◌, List, [], ◌∷◌, true, false, ◌&&◌, inl, inr, Option, Some, None, refl, arith}
 use Rattle.std.specs.List.{slice_get}
 use Rattle.ados_text.specs.Text.{Bytes, Text}
-use Rattle.ados_flow.specs.Frames.{FrameState, moved}
+use Rattle.ados_flow.specs.Frames.{FrameState, advanced_frame}
 use Rattle.ados_machine.specs.declared.answers.Answer.{Answer as Reply}
 use Rattle.ados_machine.specs.declared.phases.Phase.{Phase}
 use Rattle.ados_machine.specs.declared.phases.Phase.TheVariants.{Ready, GoingOn, Waiting}
@@ -14,27 +14,27 @@ use Rattle.ados_machine.specs.Deeds.{Deed, Passes, course_of}
 use Rattle.ados_machine.specs.Lines.{line_deed, parted_deed, answer_deed}
 use Rattle.ados_machine.specs.NewShells.{gathered_deed}
 use Rattle.ados_machine.specs.Answers.{answered_in}
-use Rattle.ados_machine.specs.Settle.{Turned, here_of, said_of, by_rule, ruled, settle}
-use Rattle.ados_machine.specs.Settled.{Said, Settled, broken_off}
+use Rattle.ados_machine.specs.Settle.{TurnResult, here_of, said_of, turn_by_rule, code_rule_of, turn_of_deed}
+use Rattle.ados_machine.specs.Settled.{RuleState, RuleResult, end_at_break}
 use Rattle.ados_machine.specs.Breaks.{break_text, has_script}
 use Rattle.ados_find.specs.declared.outcomes.Renamed.{Renamed}
 use Rattle.ados_machine.specs.declared.events.Event.TheVariants.{Turn}
-use Rattle.ados_machine.specs.Turning.{Takes, frame_turned, turning, replied}
+use Rattle.ados_machine.specs.Turning.{Takes, turn_of_frame, turning_in_phase, turning_of_deed}
 use Rattle.ados_machine.specs.World.{WorldState}
-use Rattle.ados_machine.specs.Carrying.{moved_by}
-use Rattle.ados_machine.specs.Step.{took, applied, step_of}
-use Rattle.ados_machine.specs.Whole.{Common, absorbed, flagless}
+use Rattle.ados_machine.specs.Carrying.{moved_object}
+use Rattle.ados_machine.specs.Step.{turn_taken, turning_response, step_of}
+use Rattle.ados_machine.specs.Whole.{Common, common_after_event, common_without_flag}
 use Rattle.ados_machine.proofs.Fronts.{front, fronted, broken-front, ruled-front}
 use Rattle.ados_machine.proofs.Alone.{go_by, turn_event, shell_of, standing, start_in, Go, does, line_event, deed_event, reply_event, event_in, exec}
 use Rattle.ados_flow.specs.declared.kinds.Kind.TheVariants.{Script, Lines, Tick}
-use Rattle.ados_flow.specs.Frames.{began, first_limit, scripts_in}
+use Rattle.ados_flow.specs.Frames.{new_frame, first_limit, scripts_in}
 use Rattle.std.proofs.lemmas.Bool.{cases_Bool, lt-leb}
 use Rattle.std.proofs.Common.{length}
 use Rattle.ados_machine.specs.declared.outs.EndReport.{EndReport}
 use Rattle.ados_machine.specs.Items.{Began, Answered, Ended, Broke, broken_codes, reports_of}
-use Rattle.ados_machine.specs.Whole.{Whole, Done, Broken, Late, Short, lines, at_bottom, opened_shell, opened, first_common}
-use Rattle.ados_machine.specs.Course.{Course, shared_behind, printing}
-use Rattle.ados_machine.specs.Told.{onto, told_on, told_reply, told_next, told, TellsReports, AloneTellsReports}
+use Rattle.ados_machine.specs.Whole.{Whole, Done, Broken, Late, Short, lines, at_bottom, opened_shell, world_with_opened, first_common}
+use Rattle.ados_machine.specs.Course.{Course, shared_after_event, with_bytes_printed}
+use Rattle.ados_machine.specs.Told.{reports_onto, collect_reports_after, collect_reports_of_reply, collect_next_reports, collect_reports, TellsReports, AloneTellsReports}
 use Rattle.ados_machine.proofs.Alone.{with_ends, Lone, Rested, Going, Unfed, exec-rests}
 use Rattle.ados_machine.proofs.DirectStates.{AgreesBy, ended, breaking}
 use Rattle.ados_machine.proofs.Direct.{agrees}
@@ -42,7 +42,7 @@ use Rattle.ados_machine.proofs.Places.{set-set}
 use Rattle.ados_machine.proofs.Systems.{none_below, free-two, opened-stands}
 use Rattle.ados_machine.proofs.Lonely.{Stands, world_of, no_input, stands-at, ended-at, stands-again, world-same, turn-is, answer-is, common_by}
 
-onto-ends : (k : ℕ) (log : List Item) (reports : List EndReport) → onto (reports_of k log) reports ≡ with_ends k log reports
+onto-ends : (k : ℕ) (log : List Item) (reports : List EndReport) → reports_onto (reports_of k log) reports ≡ with_ends k log reports
 onto-ends k [] reports = refl
 onto-ends k (Began depth kind limit ∷ log) reports = onto-ends k log reports
 onto-ends k (Answered depth entry ∷ log) reports = onto-ends k log reports
@@ -66,32 +66,32 @@ Goes = WorldState → List EndReport → Option (List EndReport)
 
 -- an event after which the code rule makes this of what was passed on
 took-rules : (k : ℕ) (w : WorldState) (go : Goes) (on : Go) (old : List FrameState) (phase : Phase) (common : Common) (course : Course)
-    (rule : Said → Settled) → Stands k common →
-    ((bytes : Bytes) (moved : Option Renamed) (said : Said) → rule (front bytes moved said) ≡ fronted bytes moved (rule said)) →
+    (rule : RuleState → RuleResult) → Stands k common →
+    ((bytes : Bytes) (advanced_frame : Option Renamed) (said : RuleState) → rule (front bytes advanced_frame said) ≡ fronted bytes advanced_frame (rule said)) →
     ((frames : List FrameState) (phase : Phase) (common : Common) → Stands k common →
     go (world_of k w frames phase common) common.reports ≡ told_by (on frames phase common)) →
-    told_on go common.reports (took (standing k w old phase common) k [] (by_rule course (rule (said_of course))))
-    ≡ told_by (go_by k on (absorbed common course) (rule (absorbed common course).said))
+    collect_reports_after go common.reports (turn_taken (standing k w old phase common) k [] (turn_by_rule course (rule (said_of course))))
+    ≡ told_by (go_by k on (common_after_event common course) (rule (common_after_event common course).said))
 took-rules k w go on old phase common course rule stands fronts same =
-    let moved = moved_by common.shared (shared_behind course) course.renamed in
+    let advanced_frame = moved_object common.shared (shared_after_event course) course.renamed in
     let settled = rule (said_of course) in
     rw (
-      fronts common.said.printed moved (said_of course),
+      fronts common.said.printed advanced_frame (said_of course),
       world-same k w old phase common course settled.frames settled.phase settled.said settled.log stands,
       onto-ends k settled.log common.reports,
     )
     (same settled.frames settled.phase (common_by k common course settled.said settled.log)
-    (stands-again k common course (front common.said.printed moved settled.said) settled.log stands))
+    (stands-again k common course (front common.said.printed advanced_frame settled.said) settled.log stands))
 
 -- an event that results in a deed
 took-does : (k : ℕ) (w : WorldState) (go : Goes) (on : Go) (old : List FrameState) (phase : Phase) (common : Common) (deed : Deed)
     (frames : List FrameState) → Stands k common →
     ((frames : List FrameState) (phase : Phase) (common : Common) → Stands k common →
     go (world_of k w frames phase common) common.reports ≡ told_by (on frames phase common)) →
-    told_on go common.reports (took (standing k w old phase common) k [] (settle deed frames)) ≡ told_by (does k on frames common deed)
+    collect_reports_after go common.reports (turn_taken (standing k w old phase common) k [] (turn_of_deed deed frames)) ≡ told_by (does k on frames common deed)
 took-does k w go on old phase common deed frames stands same =
-    took-rules k w go on old phase common (course_of deed) (ruled deed frames) stands
-    (λ bytes moved said. ruled-front bytes moved deed frames said) same
+    took-rules k w go on old phase common (course_of deed) (code_rule_of deed frames) stands
+    (λ bytes advanced_frame said. ruled-front bytes advanced_frame deed frames said) same
 
 -- the world continues as the shell does
 abbrev pub Same : ℕ → WorldState → Goes → Go → Type 0
@@ -100,36 +100,36 @@ Same k w go on = (frames : List FrameState) (phase : Phase) (common : Common) �
 
 line-same : (k : ℕ) (w : WorldState) (go : Goes) (on : Go) (frame : FrameState) (frames : List FrameState) (common : Common)
     (line : Option Text) → Stands k common → Same k w go on →
-    told_on go common.reports
-    (took (standing k w (frame ∷ frames) Ready common) k [] (frame_turned frame frames (start_in k (frame ∷ frames) Ready (flagless common)) line))
-    ≡ told_by (line_event k on frame frames (flagless common) line)
+    collect_reports_after go common.reports
+    (turn_taken (standing k w (frame ∷ frames) Ready common) k [] (turn_of_frame frame frames (start_in k (frame ∷ frames) Ready (common_without_flag common)) line))
+    ≡ told_by (line_event k on frame frames (common_without_flag common) line)
 line-same k w go on frame frames common None stands same =
-    took-does k w go on (frame ∷ frames) Ready common (Passes (start_in k (frame ∷ frames) Ready (flagless common))) (frame ∷ frames) stands same
+    took-does k w go on (frame ∷ frames) Ready common (Passes (start_in k (frame ∷ frames) Ready (common_without_flag common))) (frame ∷ frames) stands same
 line-same k w go on frame frames common (Some line) stands same =
     took-does k w go on (frame ∷ frames) Ready common
-    (line_deed line (here_of (moved frame ∷ frames)) (start_in k (frame ∷ frames) Ready (flagless common))) (moved frame ∷ frames) stands same
+    (line_deed line (here_of (advanced_frame frame ∷ frames)) (start_in k (frame ∷ frames) Ready (common_without_flag common))) (advanced_frame frame ∷ frames) stands same
 
 -- a turn, which may find the flag
 turn-same : (k : ℕ) (w : WorldState) (go : Goes) (on : Go) (frames : List FrameState) (common : Common) (phase : Phase) (queue : List (List ℕ))
-    (turned : Turned) (work : Common → Lone) → Stands k common → Same k w go on →
-    turning no_input frames (start_in k frames phase (flagless common)) phase ≡ Takes queue turned →
-    told_on go common.reports
-    (applied (standing k w frames phase common) k common.said.parts.codes (turning no_input frames (start_in k frames phase (flagless common)) phase))
-    ≡ told_by (work (flagless common)) →
-    told_on go common.reports (step_of (standing k w frames phase common) (Turn k)) ≡ told_by (turn_event k on frames common work)
+    (turned : TurnResult) (work : Common → Lone) → Stands k common → Same k w go on →
+    turning_in_phase no_input frames (start_in k frames phase (common_without_flag common)) phase ≡ Takes queue turned →
+    collect_reports_after go common.reports
+    (turning_response (standing k w frames phase common) k common.said.parts.codes (turning_in_phase no_input frames (start_in k frames phase (common_without_flag common)) phase))
+    ≡ told_by (work (common_without_flag common)) →
+    collect_reports_after go common.reports (step_of (standing k w frames phase common) (Turn k)) ≡ told_by (turn_event k on frames common work)
 turn-same k w go on frames common phase queue turned work stands same takes plain =
     rw (turn-is k w frames phase common stands)
     (elim (cases_Bool (common.flagged && has_script frames)) [
       | inl e ↦ rw (e, takes)
-          (took-rules k w go on frames phase common (printing break_text (start_in k frames phase (flagless common))) (broken_off frames) stands
-          (λ bytes moved said. broken-front bytes moved frames said) same)
+          (took-rules k w go on frames phase common (with_bytes_printed break_text (start_in k frames phase (common_without_flag common))) (end_at_break frames) stands
+          (λ bytes advanced_frame said. broken-front bytes advanced_frame frames said) same)
       | inr e ↦ rw e plain
     ])
 
 deed-same : (k : ℕ) (w : WorldState) (go : Goes) (on : Go) (frames : List FrameState) (phase : Phase) (common : Common)
     (deed : Option Deed) → Stands k common → Same k w go on →
-    told_on go common.reports
-    (applied (standing k w frames phase common) k common.said.parts.codes (replied no_input frames deed))
+    collect_reports_after go common.reports
+    (turning_response (standing k w frames phase common) k common.said.parts.codes (turning_of_deed no_input frames deed))
     ≡ told_by (deed_event k on frames common deed)
 deed-same k w go on frames phase common None stands same = refl
 deed-same k w go on frames phase common (Some deed) stands same = took-does k w go on frames phase common deed frames stands same
@@ -137,7 +137,7 @@ deed-same k w go on frames phase common (Some deed) stands same = took-does k w 
 reply-same : (k : ℕ) (w : WorldState) (go : List Reply → Goes) (on : List Reply → Go) (frames : List FrameState) (phase : Phase)
     (common : Common) (answers : List Reply) → Stands k common →
     ((answers : List Reply) → Same k w (go answers) (on answers)) →
-    told_reply go k (standing k w frames phase common) common.reports answers ≡ told_by (reply_event k on frames phase common answers)
+    collect_reports_of_reply go k (standing k w frames phase common) common.reports answers ≡ told_by (reply_event k on frames phase common answers)
 reply-same k w go on frames phase common [] stands same = refl
 reply-same k w go on frames phase common (reply ∷ answers) stands same =
     rw (answer-is k w frames phase common reply stands)
@@ -148,7 +148,7 @@ reply-same k w go on frames phase common (reply ∷ answers) stands same =
 event-same : (k : ℕ) (w : WorldState) (go : List Reply → Goes) (on : List Reply → Go) (n : ℕ) (answers : List Reply)
     (frame : FrameState) (frames : List FrameState) (common : Common) (phase : Phase) →
     Stands k common → ((answers : List Reply) → Same k w (go answers) (on answers)) →
-    told_next go k answers (standing k w (frame ∷ frames) phase common) common.reports
+    collect_next_reports go k answers (standing k w (frame ∷ frames) phase common) common.reports
     (Some (shell_of (frame ∷ frames) phase common))
     ≡ told_by (event_in k on answers frame frames common phase)
 event-same k w go on n answers frame frames common Ready stands same =
@@ -167,7 +167,7 @@ event-same k w go on n answers frame frames common (Waiting (ForLines gathering)
     turn-same k w (go answers) (on answers) (frame ∷ frames) common (Waiting (ForLines gathering)) _ _
     (λ now. does k (on answers) (frame ∷ frames) now (gathered_deed gathering (sink_in (frame ∷ frames)) (start_in k (frame ∷ frames) (Waiting (ForLines gathering)) now))) stands (same answers) refl
     (took-does k w (go answers) (on answers) (frame ∷ frames) (Waiting (ForLines gathering)) common
-    (gathered_deed gathering (sink_in (frame ∷ frames)) (start_in k (frame ∷ frames) (Waiting (ForLines gathering)) (flagless common)))
+    (gathered_deed gathering (sink_in (frame ∷ frames)) (start_in k (frame ∷ frames) (Waiting (ForLines gathering)) (common_without_flag common)))
     (frame ∷ frames) stands (same answers))
 event-same k w go on n answers frame frames common (Waiting (ForStart starting)) stands same =
     reply-same k w go on (frame ∷ frames) (Waiting (ForStart starting)) common answers stands same
@@ -176,13 +176,13 @@ event-same k w go on n answers frame frames common (Waiting (ForPiece child)) st
 event-same k w go on n answers frame frames common (Waiting (ForEnd child)) stands same =
     reply-same k w go on (frame ∷ frames) (Waiting (ForEnd child)) common answers stands same
 
-pub told-exec : (k : ℕ) (w : WorldState) (n : ℕ) (answers : List Reply) → Same k w (told k n answers) (exec k n answers)
+pub told-exec : (k : ℕ) (w : WorldState) (n : ℕ) (answers : List Reply) → Same k w (collect_reports k n answers) (exec k n answers)
 told-exec k w zero answers [] phase common stands = refl
 told-exec k w zero answers (frame ∷ frames) phase common stands = refl
 told-exec k w (suc n) answers [] phase common stands = rw (ended-at k w common stands) refl
 told-exec k w (suc n) answers (frame ∷ frames) phase common stands =
     rw (stands-at k w (frame ∷ frames) phase common stands)
-    (event-same k w (told k n) (exec k n) n answers frame frames common phase stands (λ rest. told-exec k w n rest))
+    (event-same k w (collect_reports k n) (exec k n) n answers frame frames common phase stands (λ rest. told-exec k w n rest))
 
 -- the frame of its lines is the last to end
 bottom-tells : (k n : ℕ) (frame : FrameState) (meaning : Whole) (lone : Lone) → frame.kind ≡ Lines →
@@ -194,12 +194,12 @@ bottom-tells k n frame (Broken left answers last common) lone lines h = absurd (
 
 pub alone-tells : AloneTellsReports
 alone-tells n k w command commands answers free =
-    let frame = began Lines (command ∷ commands) first_limit None in
+    let frame = new_frame Lines (command ∷ commands) first_limit None in
     let shell : ShellState = opened_shell k (command ∷ commands) in
     let common : Common = first_common w k (command ∷ commands) in
     let above = free-two w.shells k free in
     let stands : Stands k common = record { above = above; shell = shell; is = opened-stands w k (command ∷ commands) free } in
-    let steps : told k n answers (opened w k (command ∷ commands)) [] ≡ told_by (exec k n answers (frame ∷ []) Ready common) =
+    let steps : collect_reports k n answers (world_with_opened w k (command ∷ commands)) [] ≡ told_by (exec k n answers (frame ∷ []) Ready common) =
     rw (set-set w.shells (k - 1) (Some shell) (Some shell)) at (told-exec k w n answers (frame ∷ []) Ready common stands) in
     rw steps (bottom-tells k n frame (lines k (suc n) n answers common (at_bottom k (command ∷ commands)) None)
     (exec k n answers (frame ∷ []) Ready common) refl

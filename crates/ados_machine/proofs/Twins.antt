@@ -15,14 +15,14 @@ use Rattle.ados_machine.specs.declared.outs.Out.{Out}
 use Rattle.ados_machine.specs.declared.refusals.Refusal.{Refusal}
 use Rattle.ados_machine.specs.declared.refusals.Refusal.TheVariants.{Over, NoSuchShell, NotReady, WrongAnswer, QueueFull, LineTooLong, NoMemory}
 use Rattle.ados_machine.specs.Items.{Item}
-use Rattle.ados_machine.specs.Shells.{Begun, begun_shell, ShellState}
-use Rattle.ados_machine.specs.Settle.{Turned}
+use Rattle.ados_machine.specs.Shells.{ShellStart, begun_shell, ShellState}
+use Rattle.ados_machine.specs.Settle.{TurnResult}
 use Rattle.ados_machine.specs.Numbers.{free_number}
-use Rattle.ados_machine.specs.Turning.{Turning, Refuses, Ends, Takes, flagged_turning, answering}
+use Rattle.ados_machine.specs.Turning.{Turning, Refuses, Ends, Takes, flagged_turning, turning_of_answer}
 use Rattle.ados_machine.specs.World.{WorldState, flatten, shell_at, is_over, seen_in, input_of}
-use Rattle.ados_machine.specs.Course.{shared_behind}
-use Rattle.ados_machine.specs.Carrying.{moved_by, carried_shells}
-use Rattle.ados_machine.specs.Step.{Response, Refused, Accepted, of_shell, begun_items, with_begun, is_done, left, moved_in, ended_with, queue_behind, queue_limit, took, start, unflagged, applied, turned, answered, broken, typed, end_of_input, happened, step_of}
+use Rattle.ados_machine.specs.Course.{shared_after_event}
+use Rattle.ados_machine.specs.Carrying.{moved_object, carried_shells}
+use Rattle.ados_machine.specs.Step.{Response, Refused, Accepted, of_shell, begun_items, with_begun, is_done, shell_after_turn, moved_at_turn, codes_of_ended, queue_after_event, queue_limit, turn_taken, start, course_without_flag, turning_response, turn_response, answer_response, break_response, typing_response, end_of_input, event_response, step_of}
 use Rattle.ados_machine.specs.Runs.{MayWantMemory, IsAnswer, world_after}
 use Rattle.ados_machine.specs.Quiet.{shell_of}
 use Rattle.ados_machine.proofs.Shells.{shells_behind}
@@ -71,40 +71,40 @@ twins-start : (j : ℕ) (a b : WorldState) → Twins j a b → (shell : ShellSta
 twins-start j a b twins shell = rw (twins.shared, twins-seen j a b twins) refl
 
 -- the same turn of another shell in both
-begun-both : (j : ℕ) (xs ys : List (Option ShellState)) (begun : Option Begun) (n : Option ℕ) → Alike LooksLike j 1 xs ys →
+begun-both : (j : ℕ) (xs ys : List (Option ShellState)) (begun : Option ShellStart) (n : Option ℕ) → Alike LooksLike j 1 xs ys →
     Alike LooksLike j 1 (with_begun begun n xs) (with_begun begun n ys)
 begun-both j xs ys None n alike = alike
 begun-both j xs ys (Some begun) None alike = alike
 begun-both j xs ys (Some begun) (Some n) alike = alike-set LooksLike j 1 xs ys (n - 1) (Some (begun_shell n begun)) alike refl
 
 ended-both : (j : ℕ) (xs ys : List Codes) (done : Bool) (k : ℕ) (codes : Codes) → Alike Any j 1 xs ys →
-    Alike Any j 1 (ended_with done k codes xs) (ended_with done k codes ys)
+    Alike Any j 1 (codes_of_ended done k codes xs) (codes_of_ended done k codes ys)
 ended-both j xs ys true k codes alike = alike-set Any j 1 xs ys (k - 1) codes alike tt
 ended-both j xs ys false k codes alike = alike
 
-queue-both : (k : ℕ) (old old' now : List (List ℕ)) → (k ≢ 1 → old' ≡ old) → queue_behind k old' now ≡ queue_behind k old now
+queue-both : (k : ℕ) (old old' now : List (List ℕ)) → (k ≢ 1 → old' ≡ old) → queue_after_event k old' now ≡ queue_after_event k old now
 queue-both k old old' now same =
     elim (cases_eq k 1) [
       | inl e ↦ rw (eq-eqb k 1 e) refl
       | inr e ↦ rw (ne_eqb k 1 e) (same e)
     ]
 
-shells-both : (j : ℕ) (xs ys : List (Option ShellState)) (k : ℕ) (moved : Option Renamed) (t : Turned) → Alike LooksLike j 1 xs ys →
+shells-both : (j : ℕ) (xs ys : List (Option ShellState)) (k : ℕ) (moved : Option Renamed) (t : TurnResult) → Alike LooksLike j 1 xs ys →
     free_number ys ≡ free_number xs → Alike LooksLike j 1 (shells_behind xs k moved t) (shells_behind ys k moved t)
 shells-both j xs ys k moved t alike free =
-    rw free (alike-set LooksLike j 1 _ _ (k - 1) (left k moved t)
+    rw free (alike-set LooksLike j 1 _ _ (k - 1) (shell_after_turn k moved t)
     (alike-broken t.course.breaking j 1 (with_begun t.course.begun (free_number xs) (carried_shells moved xs)) (with_begun t.course.begun (free_number xs) (carried_shells moved ys))
     (begun-both j (carried_shells moved xs) (carried_shells moved ys) t.course.begun (free_number xs) (alike-carried moved j 1 xs ys alike))) refl)
 
-took-both : (j : ℕ) (a b : WorldState) (k : ℕ) (queue : List (List ℕ)) (t : Turned) → Twins j a b → k ≢ j →
-    Both j (took a k queue t) (took b k queue t)
+took-both : (j : ℕ) (a b : WorldState) (k : ℕ) (queue : List (List ℕ)) (t : TurnResult) → Twins j a b → k ≢ j →
+    Both j (turn_taken a k queue t) (turn_taken b k queue t)
 took-both j a b k queue t twins ne =
-    let moved : moved_in b t ≡ moved_in a t = ap (λ s. moved_by s (shared_behind t.course) t.course.renamed) twins.shared in (
+    let moved : moved_at_turn b t ≡ moved_at_turn a t = ap (λ s. moved_object s (shared_after_event t.course) t.course.renamed) twins.shared in (
       refl,
       ap (λ n. of_shell k t.log ++ begun_items t.course.begun n) (twins-free j a b twins),
       record {
         shared = refl;
-        shells = rw moved (shells-both j a.shells b.shells k (moved_in a t) t twins.shells (twins-free j a b twins));
+        shells = rw moved (shells-both j a.shells b.shells k (moved_at_turn a t) t twins.shells (twins-free j a b twins));
         ended = ended-both j a.ended b.ended (is_done k t.frames) k t.course.parts.codes twins.ended;
         queue = λ other. queue-both k a.queue b.queue queue (λ e. twins.queue other);
         input = twins.input;
@@ -112,7 +112,7 @@ took-both j a b k queue t twins ne =
     )
 
 applied-both : (j : ℕ) (a b : WorldState) (k : ℕ) (codes : Codes) (turning : Turning) → Twins j a b → k ≢ j →
-    Both j (applied a k codes turning) (applied b k codes turning)
+    Both j (turning_response a k codes turning) (turning_response b k codes turning)
 applied-both j a b k codes (Refuses why) twins ne = refl
 applied-both j a b k codes Ends twins ne = (
   refl,
@@ -127,21 +127,21 @@ applied-both j a b k codes Ends twins ne = (
 )
 applied-both j a b k codes (Takes queue t) twins ne = took-both j a b k queue t twins ne
 
-turned-both : (j : ℕ) (a b : WorldState) (k : ℕ) (o : Option ShellState) → Twins j a b → k ≢ j → Both j (turned a k o) (turned b k o)
+turned-both : (j : ℕ) (a b : WorldState) (k : ℕ) (o : Option ShellState) → Twins j a b → k ≢ j → Both j (turn_response a k o) (turn_response b k o)
 turned-both j a b k None twins ne = refl
 turned-both j a b k (Some shell) twins ne =
-    rw (twins-input j a b twins k ne, ap unflagged (twins-start j a b twins shell))
-    (applied-both j a b k shell.parts.codes (flagged_turning shell.flagged (input_of a k) shell.frames (unflagged (start a shell)) shell.phase) twins ne)
+    rw (twins-input j a b twins k ne, ap course_without_flag (twins-start j a b twins shell))
+    (applied-both j a b k shell.parts.codes (flagged_turning shell.flagged (input_of a k) shell.frames (course_without_flag (start a shell)) shell.phase) twins ne)
 
 answered-both : (j : ℕ) (a b : WorldState) (k : ℕ) (reply : Reply) (o : Option ShellState) → Twins j a b → k ≢ j →
-    Both j (answered a k reply o) (answered b k reply o)
+    Both j (answer_response a k reply o) (answer_response b k reply o)
 answered-both j a b k reply None twins ne = refl
 answered-both j a b k reply (Some shell) twins ne =
     rw (twins-input j a b twins k ne, twins-start j a b twins shell)
-    (applied-both j a b k shell.parts.codes (answering (input_of a k) shell.frames (start a shell) shell.phase reply) twins ne)
+    (applied-both j a b k shell.parts.codes (turning_of_answer (input_of a k) shell.frames (start a shell) shell.phase reply) twins ne)
 
 -- typed lines are another shell's if j is not 1
-typed-both : (j : ℕ) (a b : WorldState) (line : List ℕ) → Twins j a b → 1 ≢ j → Both j (typed a line) (typed b line)
+typed-both : (j : ℕ) (a b : WorldState) (line : List ℕ) → Twins j a b → 1 ≢ j → Both j (typing_response a line) (typing_response b line)
 typed-both j a b line twins ne =
     let one : j ≢ 1 = λ e. ne (sym e) in
     rw (twins.queue one, twins.input one)
@@ -174,7 +174,7 @@ end-both j a b twins ne =
       | inr e ↦ rw e (refl, refl, record { shared = twins.shared; shells = twins.shells; ended = twins.ended; queue = twins.queue; input = λ other. refl })
     ])
 
-broken-both : (j : ℕ) (a b : WorldState) (k : ℕ) (kind : Kind) (o : Option ShellState) → Twins j a b → Both j (broken a k kind o) (broken b k kind o)
+broken-both : (j : ℕ) (a b : WorldState) (k : ℕ) (kind : Kind) (o : Option ShellState) → Twins j a b → Both j (break_response a k kind o) (break_response b k kind o)
 broken-both j a b k kind None twins = refl
 broken-both j a b k kind (Some shell) twins = (
   refl,
@@ -188,7 +188,7 @@ broken-both j a b k kind (Some shell) twins = (
   },
 )
 
-happened-both : (j : ℕ) (a b : WorldState) (event : Event) → Twins j a b → shell_of event ≢ j → Both j (happened a event) (happened b event)
+happened-both : (j : ℕ) (a b : WorldState) (event : Event) → Twins j a b → shell_of event ≢ j → Both j (event_response a event) (event_response b event)
 happened-both j a b (Typed line) twins ne = typed-both j a b line twins ne
 happened-both j a b EndOfInput twins ne = end-both j a b twins ne
 happened-both j a b (Turn k) twins ne = rw (twins-found j a b twins k ne) (turned-both j a b k (shell_at a k) twins ne)

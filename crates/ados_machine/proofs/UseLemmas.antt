@@ -15,16 +15,16 @@ use Rattle.ados_machine.specs.declared.phases.Phase.TheVariants as phase
 use Rattle.ados_machine.specs.declared.phases.Starting.{Starting}
 use Rattle.ados_machine.specs.declared.phases.Wait.{Wait}
 use Rattle.ados_machine.specs.declared.phases.Wait.TheVariants.{ForAnswer, ForLines, ForStart, ForPiece, ForEnd}
-use Rattle.ados_machine.specs.Answers.{child_of, next_wait, with_break, started_deed, behind_piece, fault_in, piece_deed, is_piece, ended_deed, answered_deed, answered_in}
+use Rattle.ados_machine.specs.Answers.{child_of, next_wait, with_break, started_deed, child_after_piece, fault_in, piece_deed, is_piece, ended_deed, answered_deed, answered_in}
 use Rattle.ados_machine.specs.Breaks.{marked_if}
 use Rattle.ados_machine.specs.Course.{Course, put}
 use Rattle.ados_machine.specs.InUse.{entry_seen, EntriesStayInUse, IdleShellsUseNoEntry}
-use Rattle.ados_machine.specs.Opening.{Opened, opening}
+use Rattle.ados_machine.specs.Opening.{OpenedOutput, line_output}
 use Rattle.ados_machine.specs.Requests.{request_of}
 use Rattle.ados_machine.specs.Shells.{ShellState, seen_of, entry_while, entry_in}
 use Rattle.ados_machine.specs.Sinks.{Sink, sink_or}
 use Rattle.ados_machine.specs.Step.{Accepted}
-use Rattle.ados_machine.specs.World.{shell_at, pending_by}
+use Rattle.ados_machine.specs.World.{shell_at, request_of_shell}
 use Rattle.ados_machine.proofs.Lasting.{Watch, SeenBehind, Keeps, seen_by, is_held, step-keeps}
 use Rattle.ados_machine.proofs.Rests.{IsIdle}
 
@@ -66,12 +66,12 @@ break-entry child =
       | inr e ↦ rw e refl
     ]
 
-started-entry : (frames : List FrameState) (starting : Starting) (course : Course) (opened : Result Opened Result2) →
+started-entry : (frames : List FrameState) (starting : Starting) (course : Course) (opened : Result OpenedOutput Result2) →
     SeenBehind entry_above frames starting.entry (Some (started_deed starting course opened))
 started-entry frames starting course (Err fault) = next-entry (child_of starting None (Some fault))
 started-entry frames starting course (Ok opened) = next-entry (child_of starting opened.target None)
 
-put-entry : (child : Child) (fault : Option Result2) → (behind_piece child fault).entry ≡ child.entry
+put-entry : (child : Child) (fault : Option Result2) → (child_after_piece child fault).entry ≡ child.entry
 put-entry child None = refl
 put-entry child (Some fault) = refl
 
@@ -80,7 +80,7 @@ piece-entry : (frames : List FrameState) (child : Child) (bytes : Bytes) (sink :
 piece-entry frames child bytes sink course (Some fault) = next-entry (with_break child) ∙ break-entry child
 piece-entry frames child bytes sink course None =
     let fault = fault_in (put (sink_or child.output sink) bytes went_well course).codes in
-    next-entry (behind_piece (with_break child) fault) ∙ (put-entry (with_break child) fault ∙ break-entry child)
+    next-entry (child_after_piece (with_break child) fault) ∙ (put-entry (with_break child) fault ∙ break-entry child)
 
 ended-entry : (frames : List FrameState) (entry : Option Text) (child : Child) (codes : Codes) (course : Course) (fault : Option Result2) →
     SeenBehind entry_above frames entry (Some (ended_deed child codes course fault))
@@ -89,7 +89,7 @@ ended-entry frames entry child codes course None = tt
 
 wait-entry : (frames : List FrameState) (sink : Sink) (course : Course) (wait : Wait) (answer : Reply) →
     SeenBehind entry_above frames (entry_while wait) (answered_deed sink course wait answer)
-wait-entry frames sink course (ForStart starting) Started = started-entry frames starting course (opening course starting.output)
+wait-entry frames sink course (ForStart starting) Started = started-entry frames starting course (line_output course starting.output)
 wait-entry frames sink course (ForStart starting) NotFound = tt
 wait-entry frames sink course (ForStart starting) Denied = tt
 wait-entry frames sink course (ForStart starting) Memory = tt
@@ -138,7 +138,7 @@ any-number n (phase.Waiting (ForStart starting)) = refl
 any-number n (phase.Waiting (ForPiece child)) = refl
 any-number n (phase.Waiting (ForEnd child)) = refl
 
-asks-same : (o : Option ShellState) → is_some (pending_by o) ≡ is_held entries o
+asks-same : (o : Option ShellState) → is_some (request_of_shell o) ≡ is_held entries o
 asks-same None = refl
 asks-same (Some shell) = any-number shell.parts.number shell.phase
 
@@ -158,7 +158,7 @@ phase-idle n (phase.Waiting (ForStart starting)) idle = cc
 phase-idle n (phase.Waiting (ForPiece child)) idle = cc
 phase-idle n (phase.Waiting (ForEnd child)) idle = cc
 
-shell-idle : (o : Option ShellState) → pending_by o ≡ None → entry_seen (option_map seen_of o) ≡ None
+shell-idle : (o : Option ShellState) → request_of_shell o ≡ None → entry_seen (option_map seen_of o) ≡ None
 shell-idle None idle = refl
 shell-idle (Some shell) idle = phase-idle shell.parts.number shell.phase idle
 

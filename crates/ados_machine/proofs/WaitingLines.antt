@@ -9,10 +9,10 @@ use Rattle.ados_machine.specs.declared.phases.Wait.TheVariants.{ForAnswer, ForLi
 use Rattle.ados_machine.specs.Breaks.{has_script}
 use Rattle.ados_machine.specs.Course.{Course}
 use Rattle.ados_machine.specs.Shells.{ShellState}
-use Rattle.ados_machine.specs.Step.{start, unflagged, applied, turned}
-use Rattle.ados_machine.specs.Turning.{Input, Turning, Refuses, Ends, Takes, turning, in_place_of, flagged_turning}
+use Rattle.ados_machine.specs.Step.{start, course_without_flag, turning_response, turn_response}
+use Rattle.ados_machine.specs.Turning.{Input, Turning, Refuses, Ends, Takes, turning_in_phase, turning_at_break, flagged_turning}
 use Rattle.ados_machine.specs.World.{WorldState, shell_at, is_over}
-use Rattle.ados_machine.specs.Given.{waiting, FurtherLinesWait}
+use Rattle.ados_machine.specs.Given.{with_lines_waiting, FurtherLinesWait}
 
 abbrev leaving : List (List ℕ) → Turning → Turning
 leaving lines (Refuses why) = Refuses why
@@ -23,7 +23,7 @@ abbrev input_with : List (List ℕ) → Bool → Input
 input_with queue is_ended = record { queue = queue; is_ended = is_ended }
 
 turning-leaves : (line : List ℕ) (lines : List (List ℕ)) (is_ended : Bool) (frames : List FrameState) (course : Course) (now : Phase) →
-    turning (input_with (line ∷ lines) is_ended) frames course now ≡ leaving lines (turning (input_with (line ∷ []) is_ended) frames course now)
+    turning_in_phase (input_with (line ∷ lines) is_ended) frames course now ≡ leaving lines (turning_in_phase (input_with (line ∷ []) is_ended) frames course now)
 turning-leaves line lines is_ended [] course Ready = refl
 turning-leaves line lines is_ended (frame ∷ frames) course Ready = refl
 turning-leaves line lines is_ended frames course (GoingOn parted) = refl
@@ -34,8 +34,8 @@ turning-leaves line lines is_ended frames course (Waiting (ForPiece child)) = re
 turning-leaves line lines is_ended frames course (Waiting (ForEnd child)) = refl
 
 in_place-leaves : (line : List ℕ) (lines : List (List ℕ)) (is_ended : Bool) (frames : List FrameState) (course : Course) (now : Turning) →
-    in_place_of (leaving lines now) (input_with (line ∷ lines) is_ended) frames course
-    ≡ leaving lines (in_place_of now (input_with (line ∷ []) is_ended) frames course)
+    turning_at_break (leaving lines now) (input_with (line ∷ lines) is_ended) frames course
+    ≡ leaving lines (turning_at_break now (input_with (line ∷ []) is_ended) frames course)
 in_place-leaves line lines is_ended frames course (Refuses why) = refl
 in_place-leaves line lines is_ended frames course Ends = refl
 in_place-leaves line lines is_ended frames course (Takes queue t) = refl
@@ -46,8 +46,8 @@ flagged-leaves : (line : List ℕ) (lines : List (List ℕ)) (flagged is_ended :
 flagged-leaves line lines flagged is_ended frames course now =
     elim (cases_Bool (flagged && has_script frames)) [
       | inl e ↦ rw e
-          (ap (λ (t : Turning). in_place_of t (input_with (line ∷ lines) is_ended) frames course) (turning-leaves line lines is_ended frames course now)
-          ∙ in_place-leaves line lines is_ended frames course (turning (input_with (line ∷ []) is_ended) frames course now))
+          (ap (λ (t : Turning). turning_at_break t (input_with (line ∷ lines) is_ended) frames course) (turning-leaves line lines is_ended frames course now)
+          ∙ in_place-leaves line lines is_ended frames course (turning_in_phase (input_with (line ∷ []) is_ended) frames course now))
       | inr e ↦ rw e (turning-leaves line lines is_ended frames course now)
     ]
 
@@ -55,32 +55,32 @@ abbrev with_lines : WorldState → List (List ℕ) → WorldState
 with_lines w queue = record w { queue = queue }
 
 first-leaves : (w : WorldState) (line : List ℕ) (lines : List (List ℕ)) (codes : Codes) (now : Turning) →
-    applied (with_lines w (line ∷ lines)) 1 codes (leaving lines now) ≡ waiting lines (applied (with_lines w (line ∷ [])) 1 codes now)
+    turning_response (with_lines w (line ∷ lines)) 1 codes (leaving lines now) ≡ with_lines_waiting lines (turning_response (with_lines w (line ∷ [])) 1 codes now)
 first-leaves w line lines codes (Refuses why) = refl
 first-leaves w line lines codes Ends = refl
 first-leaves w line lines codes (Takes queue t) = refl
 
 other-leaves : (w : WorldState) (k : ℕ) (line : List ℕ) (lines : List (List ℕ)) (codes : Codes) (now : Turning) → k ≢ 1 →
-    applied (with_lines w (line ∷ lines)) k codes now ≡ waiting lines (applied (with_lines w (line ∷ [])) k codes now)
+    turning_response (with_lines w (line ∷ lines)) k codes now ≡ with_lines_waiting lines (turning_response (with_lines w (line ∷ [])) k codes now)
 other-leaves w k line lines codes (Refuses why) ne = refl
 other-leaves w k line lines codes Ends ne = refl
 other-leaves w k line lines codes (Takes queue t) ne = rw (ne_eqb k 1 ne) refl
 
 first-waits : (w : WorldState) (line : List ℕ) (lines : List (List ℕ)) (o : Option ShellState) →
-    turned (with_lines w (line ∷ lines)) 1 o ≡ waiting lines (turned (with_lines w (line ∷ [])) 1 o)
+    turn_response (with_lines w (line ∷ lines)) 1 o ≡ with_lines_waiting lines (turn_response (with_lines w (line ∷ [])) 1 o)
 first-waits w line lines None = refl
 first-waits w line lines (Some shell) =
-    rw (flagged-leaves line lines shell.flagged w.input_ended shell.frames (unflagged (start w shell)) shell.phase)
+    rw (flagged-leaves line lines shell.flagged w.input_ended shell.frames (course_without_flag (start w shell)) shell.phase)
     (first-leaves w line lines shell.parts.codes
-    (flagged_turning shell.flagged (input_with (line ∷ []) w.input_ended) shell.frames (unflagged (start w shell)) shell.phase))
+    (flagged_turning shell.flagged (input_with (line ∷ []) w.input_ended) shell.frames (course_without_flag (start w shell)) shell.phase))
 
 other-waits : (w : WorldState) (k : ℕ) (line : List ℕ) (lines : List (List ℕ)) (o : Option ShellState) → k ≢ 1 →
-    turned (with_lines w (line ∷ lines)) k o ≡ waiting lines (turned (with_lines w (line ∷ [])) k o)
+    turn_response (with_lines w (line ∷ lines)) k o ≡ with_lines_waiting lines (turn_response (with_lines w (line ∷ [])) k o)
 other-waits w k line lines None ne = refl
 other-waits w k line lines (Some shell) ne =
     rw (ne_eqb k 1 ne)
     (other-leaves w k line lines shell.parts.codes
-    (flagged_turning shell.flagged (input_with [] true) shell.frames (unflagged (start w shell)) shell.phase) ne)
+    (flagged_turning shell.flagged (input_with [] true) shell.frames (course_without_flag (start w shell)) shell.phase) ne)
 
 pub further-lines-wait : FurtherLinesWait
 further-lines-wait w k line lines =

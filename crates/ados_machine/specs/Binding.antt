@@ -2,7 +2,7 @@
 use Rattle.std.specs.Prelude.{◌≡◌, ◌⊎◌, ℕ, List, [], ◌∷◌, Option, Some, option_map, true}
 use Rattle.std.specs.List.{Contains}
 use Rattle.std.specs.FinMap as map
-use Rattle.ados_text.specs.Text.{Text, folded}
+use Rattle.ados_text.specs.Text.{Text, folded_text}
 use Rattle.ados_ram.specs.Place.{Place, key_of}
 use Rattle.ados_ram.specs.Files.{Files, is_some_directory}
 use Rattle.ados_assign.specs.Assigns.{AssignMap}
@@ -11,15 +11,15 @@ use Rattle.ados_assign.specs.declared.assigns.Assign.{Assign}
 use Rattle.ados_assign.specs.declared.bindings.Binding.TheVariants.{Dirs}
 use Rattle.ados_machine.specs.Items.{Item}
 use Rattle.ados_machine.specs.declared.outs.Out.{Out}
-use Rattle.ados_machine.specs.Settle.{Turned}
-use Rattle.ados_machine.specs.Step.{Accepted, took}
+use Rattle.ados_machine.specs.Settle.{TurnResult}
+use Rattle.ados_machine.specs.Step.{Accepted, turn_taken}
 use Rattle.ados_machine.specs.World.{WorldState}
 
 -- one of these assigns was bound, and stands for a directory now: it has the name, was a Defer, and was used
 pub record IsBound (used : List Text) (files : Files) (before : List Assign) (name : Text) (now : Option Assign) : Type 0 where
   pub assign : Assign
   pub was : Contains before assign
-  pub name_is : folded assign.name ≡ name
+  pub name_is : folded_text assign.name ≡ name
   pub defers : is_defer assign.binding ≡ true
   pub used_is : is_used used assign.name ≡ true
   pub place : Place
@@ -34,6 +34,6 @@ BindsOnly used files before after = (name : Text) → (map.get after name ≡ ma
 -- that are there after it
 abbrev pub EventsBindOnlyWhatTheyUsed : Type 0
 EventsBindOnlyWhatTheyUsed =
-    (w world : WorldState) (k : ℕ) (queue : List Text) (turned : Turned) (out : Out) (items : List (ℕ × Item)) →
-    took w k queue turned ≡ Accepted world out items →
+    (w world : WorldState) (k : ℕ) (queue : List Text) (turned : TurnResult) (out : Out) (items : List (ℕ × Item)) →
+    turn_taken w k queue turned ≡ Accepted world out items →
     BindsOnly turned.course.used world.shared.files turned.course.shared.assigns world.shared.assigns

@@ -3,19 +3,19 @@ use Rattle.std.specs.Prelude.{nat_lt, ℕ, zero, suc, ◌+◌, ◌-◌, List, []
 use Rattle.ados_text.specs.Text.{Text}
 use Rattle.ados_text.specs.declared.codes.Code.{Code}
 use Rattle.ados_text.specs.declared.codes.TheConstants.Result2.{TOO_MANY_LEVELS}
-use Rattle.ados_ram.specs.Place.{Place, carried}
+use Rattle.ados_ram.specs.Place.{Place, moved_place}
 use Rattle.ados_find.specs.declared.codes.Codes.{Codes}
 use Rattle.ados_find.specs.declared.outcomes.Renamed.{Renamed}
 use Rattle.ados_find.specs.declared.targets.Target.{Target}
-use Rattle.ados_find.specs.Codes.{failed}
+use Rattle.ados_find.specs.Codes.{fail_codes}
 use Rattle.ados_find.specs.Parts.{Parts}
 use Rattle.ados_find.specs.Settings.{first_settings}
 use Rattle.ados_find.specs.Shared.{SharedState}
-use Rattle.ados_find.specs.Targets.{open_at}
+use Rattle.ados_find.specs.Targets.{open_places}
 use Rattle.ados_flow.specs.declared.called.Called.{Called}
 use Rattle.ados_flow.specs.CodeRule.{is_reached}
 use Rattle.ados_flow.specs.declared.records.Record.{Record}
-use Rattle.ados_flow.specs.Frames.{ScriptLine, frame_limit, limit_for, last_line, last_codes, is_at_limit}
+use Rattle.ados_flow.specs.Frames.{ScriptLine, frame_limit, limit_above_scripts, last_line, last_codes, is_at_limit}
 use Rattle.ados_machine.specs.declared.outs.EndReport.{EndReport}
 use Rattle.ados_machine.specs.declared.answers.Answer.{Answer as Reply}
 use Rattle.ados_machine.specs.declared.phases.Parted.{Parted}
@@ -23,7 +23,7 @@ use Rattle.ados_machine.specs.declared.phases.Wait.{Wait}
 use Rattle.ados_machine.specs.declared.phases.Wait.TheVariants.{ForAnswer, ForLines}
 use Rattle.ados_machine.specs.Sinks.{Sink, Console, Kept, sink_or, held_while}
 use Rattle.ados_machine.specs.Names.{waiting_word}
-use Rattle.ados_machine.specs.Shells.{ShellState, Seen, begun_shell, entry_while, parts_in}
+use Rattle.ados_machine.specs.Shells.{ShellState, SeenShell, begun_shell, entry_while, parts_in}
 use Rattle.ados_machine.specs.Breaks.{break_text}
 use Rattle.ados_machine.specs.Course.{Course}
 use Rattle.ados_machine.specs.Items.{broken_codes}
@@ -31,9 +31,9 @@ use Rattle.ados_machine.specs.Deeds.{Here, Deed, Passes, Answers, Jumps, Calls, 
 use Rattle.ados_machine.specs.Lines.{line_deed, parted_deed, answer_deed}
 use Rattle.ados_machine.specs.NewShells.{gathered_deed}
 use Rattle.ados_machine.specs.Answers.{answered_deed}
-use Rattle.ados_machine.specs.Settled.{Said, faulted, told, with_limit, newest_kept, with_tick, without_tick}
+use Rattle.ados_machine.specs.Settled.{RuleState, with_fault_line, with_answer, with_limit, newest_kept, with_tick, without_tick}
 use Rattle.ados_machine.specs.World.{WorldState, seen_in}
-use Rattle.ados_machine.specs.Step.{behind_event}
+use Rattle.ados_machine.specs.Step.{after_event}
 
 -- what lines pass on: the shells (at the shell's own number it only matters that there is one), what all share, what the shell
 -- itself has: its parts, what its command substitutions put out, and what is printed; its scripts that ended, the newest first;
@@ -41,7 +41,7 @@ use Rattle.ados_machine.specs.Step.{behind_event}
 pub record Common : Type 0 where
   pub shells : List (Option ShellState)
   pub shared : SharedState
-  pub said : Said
+  pub said : RuleState
   pub reports : List EndReport
   pub flagged : Bool
 
@@ -105,7 +105,7 @@ name_at name None = name
 name_at name (Some wait) = waiting_word wait
 
 -- what is seen of it
-abbrev pub seen_at : At → Option Wait → Place → Seen
+abbrev pub seen_at : At → Option Wait → Place → SeenShell
 seen_at at wait directory = record {
   directory = directory;
   outputs = at.outputs ++ held_at wait;
@@ -129,17 +129,17 @@ start_at k at wait common = record {
 }
 
 -- a current directory moves with what was moved, if anything was
-abbrev pub carried_in : Option Renamed → Place → Place
-carried_in None directory = directory
-carried_in (Some moved) directory = carried moved.from moved.to directory
+abbrev pub directory_after_move : Option Renamed → Place → Place
+directory_after_move None directory = directory
+directory_after_move (Some moved) directory = moved_place moved.from moved.to directory
 
 abbrev pub carried_parts : Option Renamed → Parts → Parts
-carried_parts moved parts = record parts { directory = carried_in moved parts.directory }
+carried_parts moved parts = record parts { directory = directory_after_move moved parts.directory }
 
 -- an event ends, and what was printed is appended to what was printed before
-abbrev pub absorbed : Common → Course → Common
-absorbed common course =
-    (let behind = behind_event common.shared common.shells course in
+abbrev pub common_after_event : Common → Course → Common
+common_after_event common course =
+    (let behind = after_event common.shared common.shells course in
     record {
       reports = common.reports;
       shells = behind.shells;
@@ -150,22 +150,22 @@ absorbed common course =
 
 -- a command answered: the shell has its codes, and if its code reaches the limit it is printed that it failed
 abbrev pub says : Text → Codes → Common → Common
-says word answer common = record common { said = told word answer common.said }
+says word answer common = record common { said = with_answer word answer common.said }
 
 -- its record: the line at which it began, its codes, and the limit in force
-abbrev pub recorded : At → Codes → Common → Record
-recorded at answer common = record { line = at.line; codes = answer; limit = common.said.parts.limit }
+abbrev pub record_at : At → Codes → Common → Record
+record_at at answer common = record { line = at.line; codes = answer; limit = common.said.parts.limit }
 
 -- a command of these lines answered: a script ends here at its limit, or if it quits; other lines continue
 abbrev pub after_answer : Meaning → ℕ → List Reply → Common → At → Text → Codes → Bool → Whole
 after_answer go n answers common at word answer quits =
-    if at.in_script && (quits || is_reached common.said.parts.limit answer.code) then Done n answers (Some (recorded at answer common)) (says word answer common)
-    else go n answers (says word answer common) (record at { last = Some (recorded at answer common) }) None
+    if at.in_script && (quits || is_reached common.said.parts.limit answer.code) then Done n answers (Some (record_at at answer common)) (says word answer common)
+    else go n answers (says word answer common) (record at { last = Some (record_at at answer common) }) None
 
 -- the same if the command did its work itself: the text of its fault is printed first, which that of a script was already
-abbrev pub answered_at : Meaning → ℕ → List Reply → Common → At → Text → Codes → Bool → Whole
-answered_at go n answers common at word answer quits =
-    after_answer go n answers (record common { said = faulted word answer.result2 common.said }) at word answer quits
+abbrev pub after_own_answer : Meaning → ℕ → List Reply → Common → At → Text → Codes → Bool → Whole
+after_own_answer go n answers common at word answer quits =
+    after_answer go n answers (record common { said = with_fault_line word answer.result2 common.said }) at word answer quits
 
 -- where a script's lines begin, and those of a command substitution
 abbrev pub script_at : At → Option Target → Called → At
@@ -176,7 +176,7 @@ script_at at output called = record {
   scripts = suc at.scripts;
   depth = suc at.depth;
   lines = called.script;
-  outputs = open_at output ++ at.outputs;
+  outputs = open_places output ++ at.outputs;
   name = called.name;
   position = 0;
   line = 0;
@@ -223,14 +223,14 @@ with_report report common = record common { reports = report ∷ common.reports 
 -- that called it answers with 10 and 304, and otherwise these lines end too, at the same break
 abbrev pub after_broken : Meaning → ℕ → List Reply → Common → At → Code → Text → ℕ → Whole
 after_broken go n answers common at limit word zero =
-    after_answer go n answers (record common { said = with_limit (limit_for at.scripts limit) common.said }) at word broken_codes false
+    after_answer go n answers (record common { said = with_limit (limit_above_scripts at.scripts limit) common.said }) at word broken_codes false
 after_broken go n answers common at limit word (suc scripts) = Broken n answers at.last common
 
 -- after a script: it is reported, the limit of its beginning is restored, or 10 if no script is left; its last codes are
 -- the answer of the command that called it
 abbrev pub after_call : Meaning → At → Code → Text → Text → Whole → Whole
 after_call go at limit name word (Done n answers last common) =
-    after_answer go n answers (record (with_report (report_of at.shell name last) common) { said = with_limit (limit_for at.scripts limit) common.said })
+    after_answer go n answers (record (with_report (report_of at.shell name last) common) { said = with_limit (limit_above_scripts at.scripts limit) common.said })
     at word (last_codes last) false
 after_call go at limit name word (Broken n answers last common) =
     after_broken go n answers (with_report (report_broken at.shell name last) common) at limit word at.scripts
@@ -238,35 +238,35 @@ after_call go at limit name word (Late answers) = Late answers
 after_call go at limit name word Short = Short
 
 -- a command substitution begins to keep what is put out, and gives it to the line that continues after it
-abbrev pub ticking : Common → Common
-ticking common = record common { said = with_tick common.said }
+abbrev pub common_with_tick : Common → Common
+common_with_tick common = record common { said = with_tick common.said }
 
-abbrev pub ticked_out : Common → Common
-ticked_out common = record common { said = without_tick common.said }
+abbrev pub common_without_tick : Common → Common
+common_without_tick common = record common { said = without_tick common.said }
 
 abbrev pub after_tick : Meaning → At → Text → Text → Whole → Whole
 after_tick go at before after (Done n answers last common) =
-    go n answers (ticked_out common) at (Some (record { before = before; output = newest_kept common.said.kept; after = after }))
-after_tick go at before after (Broken n answers last common) = Broken n answers at.last (ticked_out common)
+    go n answers (common_without_tick common) at (Some (record { before = before; output = newest_kept common.said.kept; after = after }))
+after_tick go at before after (Broken n answers last common) = Broken n answers at.last (common_without_tick common)
 after_tick go at before after (Late answers) = Late answers
 after_tick go at before after Short = Short
 
 -- what a deed means after its event; `further` is what it means to wait
-abbrev pub behind_deed : (Common → Wait → Whole) → Meaning → ℕ → List Reply → Common → At → Deed → Whole
-behind_deed further go n answers common at (Passes course) = go n answers common at None
-behind_deed further go n answers common at (Answers word answer quits course) = answered_at go n answers common at word answer quits
-behind_deed further go n answers common at (Jumps word answer line course) =
-    answered_at go n answers common (record at { position = line - 1 }) word answer false
-behind_deed further go n answers common at (Calls word output called course) =
-    if is_deepest at then answered_at go n answers common at word (failed TOO_MANY_LEVELS) false
+abbrev pub after_deed : (Common → Wait → Whole) → Meaning → ℕ → List Reply → Common → At → Deed → Whole
+after_deed further go n answers common at (Passes course) = go n answers common at None
+after_deed further go n answers common at (Answers word answer quits course) = after_own_answer go n answers common at word answer quits
+after_deed further go n answers common at (Jumps word answer line course) =
+    after_own_answer go n answers common (record at { position = line - 1 }) word answer false
+after_deed further go n answers common at (Calls word output called course) =
+    if is_deepest at then after_own_answer go n answers common at word (fail_codes TOO_MANY_LEVELS) false
     else after_call go at common.said.parts.limit called.name word (go n answers common (script_at at output called) None)
-behind_deed further go n answers common at (Ticks before command after course) =
-    after_tick go at before after (go n answers (ticking common) (tick_at at command) None)
-behind_deed further go n answers common at (Waits wait course) = further common wait
+after_deed further go n answers common at (Ticks before command after course) =
+    after_tick go at before after (go n answers (common_with_tick common) (tick_at at command) None)
+after_deed further go n answers common at (Waits wait course) = further common wait
 
 -- what a deed means
 abbrev pub deed_of : (Common → Wait → Whole) → Meaning → ℕ → List Reply → Common → At → Deed → Whole
-deed_of further go n answers common at deed = behind_deed further go n answers (absorbed common (course_of deed)) at deed
+deed_of further go n answers common at deed = after_deed further go n answers (common_after_event common (course_of deed)) at deed
 
 -- an answer of another kind is treated as missing
 abbrev pub reply_of : (Deed → Whole) → Option Deed → Whole
@@ -274,19 +274,19 @@ reply_of meaning None = Short
 reply_of meaning (Some deed) = meaning deed
 
 -- a turn clears the flag
-abbrev pub flagless : Common → Common
-flagless common = record common { flagged = false }
+abbrev pub common_without_flag : Common → Common
+common_without_flag common = record common { flagged = false }
 
 -- a turn that finds the flag in a script
 abbrev pub breaks_at : Common → At → Bool
 breaks_at common at = common.flagged && nat_lt 0 at.scripts
 
-abbrev pub broken_in : Common → Common
-broken_in common = record common { said = record common.said { printed = common.said.printed ++ break_text }; flagged = false }
+abbrev pub common_after_break : Common → Common
+common_after_break common = record common { said = record common.said { printed = common.said.printed ++ break_text }; flagged = false }
 
 -- a turn does this, unless it finds the flag in a script
 abbrev pub turn_at : ℕ → List Reply → Common → At → (Common → Whole) → Whole
-turn_at n answers common at work = if breaks_at common at then Broken n answers at.last (broken_in common) else work (flagless common)
+turn_at n answers common at work = if breaks_at common at then Broken n answers at.last (common_after_break common) else work (common_without_flag common)
 
 -- what it means to wait, one event each: a prompt takes the end of input (and so would a Run that asks for more lines, as none
 -- does in lines); of a program the next answer is taken
@@ -304,8 +304,8 @@ waits k go at (suc n) (reply ∷ answers) common wait =
     (answered_deed at.sink (start_at k at (Some wait) common) wait reply)
 
 -- the place moves on before the command runs
-abbrev pub moved_on : At → At
-moved_on at = record at { position = at.position + 1; line = at.position + 1 }
+abbrev pub at_next_line : At → At
+at_next_line at = record at { position = at.position + 1; line = at.position + 1 }
 
 -- the next line, or the one that continues after its command substitution, takes an event; if no line is left that costs nothing
 abbrev pub next_of : ℕ → Meaning → ℕ → List Reply → Common → At → Option Parted → Option Text → Whole
@@ -316,8 +316,8 @@ next_of k go (suc n) answers common at (Some parted) line =
     (λ now. deed_of (waits k go at n answers) go n answers now at (parted_deed parted (here_at at) (start_at k at None now)))
 next_of k go (suc n) answers common at None (Some line) =
     turn_at n answers common at
-    (λ now. deed_of (waits k go (moved_on at) n answers) go n answers now (moved_on at)
-    (line_deed line (here_at (moved_on at)) (start_at k at None now)))
+    (λ now. deed_of (waits k go (at_next_line at) n answers) go n answers now (at_next_line at)
+    (line_deed line (here_at (at_next_line at)) (start_at k at None now)))
 
 -- what lines mean in the shell of a number, by a bound on how deep the calls go, which the events left never exceed
 abbrev pub lines : ℕ → ℕ → Meaning
@@ -346,13 +346,13 @@ opened_shell k commands =
     begun_shell k (record { directory = []; settings = first_settings k; commands = commands; output = None })
 
 -- a world in which it was opened
-abbrev pub opened : WorldState → ℕ → List Text → WorldState
-opened w k commands = record w { shells = slice_set w.shells (k - 1) (Some (opened_shell k commands)) }
+abbrev pub world_with_opened : WorldState → ℕ → List Text → WorldState
+world_with_opened w k commands = record w { shells = slice_set w.shells (k - 1) (Some (opened_shell k commands)) }
 
 -- what its lines are passed as they begin
 abbrev pub first_common : WorldState → ℕ → List Text → Common
 first_common w k commands = record {
-  shells = (opened w k commands).shells;
+  shells = (world_with_opened w k commands).shells;
   shared = w.shared;
   said = record { parts = parts_in k [] (first_settings k); kept = []; printed = [] };
   reports = [];

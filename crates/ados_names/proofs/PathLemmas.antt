@@ -9,7 +9,7 @@ use Rattle.std.proofs.lemmas.Bool.Decides.{nat_tests}
 use Rattle.std.proofs.lemmas.List.{length-take-le}
 use Rattle.std.proofs.lemmas.List.Folds.{list_all-append}
 use Rattle.ados_names.specs.Names.{is_colon, is_slash, is_name_byte, is_name}
-use Rattle.ados_names.specs.Path.{PathParts, IsPath, is_piece, is_device, is_step, are_parts, steps_of, parts_by, parts_of, path_limit, path_of, written, behind_name, device_text, text_of, longer}
+use Rattle.ados_names.specs.Path.{PathParts, IsPath, is_piece, is_device, is_step, are_parts, steps_of, parts_by_colon, parts_of, path_limit, path_of, steps_text, text_after_name, device_text, text_of, path_with_name}
 use Rattle.ados_names.specs.Lengths.{pieces_len}
 use Rattle.ados_names.specs.declared.steps.Step.{Step}
 use Rattle.ados_names.specs.declared.steps.Step.TheVariants.{Up, Name}
@@ -29,18 +29,18 @@ none_in_piece : (piece : List ℕ) → is_piece piece ≡ true → list_all no_c
 none_in_piece [] h = refl
 none_in_piece (c ∷ cs) h = no_colons (c ∷ cs) (name-parts (c ∷ cs) h).bytes
 
-none_behind : (steps : List Step) (text : List ℕ) → list_all no_colon text ≡ true → list_all no_colon (behind_name steps text) ≡ true
+none_behind : (steps : List Step) (text : List ℕ) → list_all no_colon text ≡ true → list_all no_colon (text_after_name steps text) ≡ true
 none_behind [] text h = h
 none_behind (s ∷ ss) text h = h
 
-none_written : (steps : List Step) → list_all is_step steps ≡ true → list_all no_colon (written steps) ≡ true
+none_written : (steps : List Step) → list_all is_step steps ≡ true → list_all no_colon (steps_text steps) ≡ true
 none_written [] h = refl
 none_written (Up ∷ rest) h = none_written rest h
 none_written (Name name ∷ rest) h =
     let both = and_parts (is_name name) (list_all is_step rest) h in
-    list_all-append no_colon name (behind_name rest (written rest))
-    ∙ and_from (list_all no_colon name) (list_all no_colon (behind_name rest (written rest)))
-    (no_colons name (name-parts name both.0).bytes) (none_behind rest (written rest) (none_written rest both.1))
+    list_all-append no_colon name (text_after_name rest (steps_text rest))
+    ∙ and_from (list_all no_colon name) (list_all no_colon (text_after_name rest (steps_text rest)))
+    (no_colons name (name-parts name both.0).bytes) (none_behind rest (steps_text rest) (none_written rest both.1))
 
 one_more : (n : ℕ) → 1 + n ≡ suc n
 one_more n = omega arith
@@ -71,19 +71,19 @@ colon_position device text h =
 
 -- the parts of a text that was written from parts
 pub parts-text : (device : Option (List ℕ)) (steps : List Step) → is_device device ≡ true → list_all is_step steps ≡ true
-    → parts_of (device_text device ++ written steps) ≡ record { device = device; steps = steps }
+    → parts_of (device_text device ++ steps_text steps) ≡ record { device = device; steps = steps }
 parts-text None steps d h =
-    ap (parts_by (written steps)) (no_position (written steps) (none_written steps h))
+    ap (parts_by_colon (steps_text steps)) (no_position (steps_text steps) (none_written steps h))
     ∙ ap (λ (s : List Step). record { device = None; steps = s }) (steps-written steps h)
 parts-text (Some device) steps d h =
-    let text = device ++ 58 ∷ written steps in
-    let one : (device ++ 58 ∷ []) ++ written steps ≡ text = append_assoc device (58 ∷ []) (written steps) in
-    let behind : drop (length device + 1) text ≡ written steps =
-    (let seam = drop-append_seam (device ++ 58 ∷ []) (written steps) in
+    let text = device ++ 58 ∷ steps_text steps in
+    let one : (device ++ 58 ∷ []) ++ steps_text steps ≡ text = append_assoc device (58 ∷ []) (steps_text steps) in
+    let behind : drop (length device + 1) text ≡ steps_text steps =
+    (let seam = drop-append_seam (device ++ 58 ∷ []) (steps_text steps) in
     ap (λ n. drop n text) (sym (length-append device (58 ∷ []))) ∙ ap (drop (length (device ++ 58 ∷ []))) (sym one) ∙ seam) in
     ap parts_of one
-    ∙ ap (parts_by text) (colon_position device (written steps) (none_in_piece device d))
-    ∙ ap (λ (t : List ℕ). record { device = Some t; steps = steps_of (slice_split is_slash (drop (length device + 1) text)) }) (take-append_seam device (58 ∷ written steps))
+    ∙ ap (parts_by_colon text) (colon_position device (steps_text steps) (none_in_piece device d))
+    ∙ ap (λ (t : List ℕ). record { device = Some t; steps = steps_of (slice_split is_slash (drop (length device + 1) text)) }) (take-append_seam device (58 ∷ steps_text steps))
     ∙ ap (λ (t : List ℕ). record { device = Some device; steps = steps_of (slice_split is_slash t) }) behind
     ∙ ap (λ (s : List Step). record { device = Some device; steps = s }) (steps-written steps h)
 
@@ -98,42 +98,42 @@ path-text path is =
     ∙ ap Ok same
 
 -- a text has no fewer bytes than the path that it names
-pub parts-le : (text : List ℕ) (colon : Option ℕ) → IfSome colon (λ place. place < length text) → length (text_of (parts_by text colon)) ≤ length text
+pub parts-le : (text : List ℕ) (colon : Option ℕ) → IfSome colon (λ place. place < length text) → length (text_of (parts_by_colon text colon)) ≤ length text
 parts-le text None h = written-le text
 parts-le text (Some place) h =
     let rest = drop (place + 1) text in
-    omega (arith, h, written-le rest, length-drop (place + 1) text, length-take-le place text (omega arith), length-append (take place text) (58 ∷ []), length-append (take place text ++ 58 ∷ []) (written (steps_of (slice_split is_slash rest))))
+    omega (arith, h, written-le rest, length-drop (place + 1) text, length-take-le place text (omega arith), length-append (take place text) (58 ∷ []), length-append (take place text ++ 58 ∷ []) (steps_text (steps_of (slice_split is_slash rest))))
 
 -- one more step at the end: each step before it is followed by a slash
-longer_steps : (steps : List Step) (name : List ℕ) → length (written (steps ++ Name name ∷ [])) ≡ pieces_len steps + length name
+longer_steps : (steps : List Step) (name : List ℕ) → length (steps_text (steps ++ Name name ∷ [])) ≡ pieces_len steps + length name
 longer_steps [] name = omega (arith, length-append name [])
 longer_steps (Up ∷ rest) name = omega (arith, longer_steps rest name)
 longer_steps (Name first ∷ []) name = omega (arith, length-append first (47 ∷ name ++ []), length-append name [])
 longer_steps (Name first ∷ next ∷ more) name =
-    omega (arith, longer_steps (next ∷ more) name, length-append first (47 ∷ written ((next ∷ more) ++ Name name ∷ [])))
+    omega (arith, longer_steps (next ∷ more) name, length-append first (47 ∷ steps_text ((next ∷ more) ++ Name name ∷ [])))
 
-pub longer-length : (path : PathParts) (name : List ℕ) → length (text_of (longer path name)) ≡ length (device_text path.device) + pieces_len path.steps + length name
+pub longer-length : (path : PathParts) (name : List ℕ) → length (text_of (path_with_name path name)) ≡ length (device_text path.device) + pieces_len path.steps + length name
 longer-length path name =
-    omega (arith, longer_steps path.steps name, length-append (device_text path.device) (written (path.steps ++ Name name ∷ [])))
+    omega (arith, longer_steps path.steps name, length-append (device_text path.device) (steps_text (path.steps ++ Name name ∷ [])))
 
-pieces-le : (steps : List Step) → pieces_len steps ≤ length (written steps) + 1
+pieces-le : (steps : List Step) → pieces_len steps ≤ length (steps_text steps) + 1
 pieces-le [] = omega arith
 pieces-le (Up ∷ rest) = omega (arith, pieces-le rest)
 pieces-le (Name name ∷ []) = omega (arith, length-append name [])
-pieces-le (Name name ∷ next ∷ more) = omega (arith, pieces-le (next ∷ more), length-append name (47 ∷ written (next ∷ more)))
+pieces-le (Name name ∷ next ∷ more) = omega (arith, pieces-le (next ∷ more), length-append name (47 ∷ steps_text (next ∷ more)))
 
 pub path-lengths : (path : PathParts) → IsPath path → length (device_text path.device) + pieces_len path.steps ≤ path_limit + 1
-path-lengths path is = omega (arith, is.fits, pieces-le path.steps, length-append (device_text path.device) (written path.steps))
+path-lengths path is = omega (arith, is.fits, pieces-le path.steps, length-append (device_text path.device) (steps_text path.steps))
 
 -- the test of a text, by the place of its first colon
-pub named : (text : List ℕ) (colon : Option ℕ) (b : Bool) → length text ≤ path_limit → colon ≡ position is_colon text → b ≡ are_parts (parts_by text colon) → b ≡ (nat_le (length text) path_limit && are_parts (parts_of text))
+pub named : (text : List ℕ) (colon : Option ℕ) (b : Bool) → length text ≤ path_limit → colon ≡ position is_colon text → b ≡ are_parts (parts_by_colon text colon) → b ≡ (nat_le (length text) path_limit && are_parts (parts_of text))
 named text colon b short at e =
     let fits : nat_le (length text) path_limit ≡ true = grind (arith, nat_tests) in
-    e ∙ ap (λ p. are_parts (parts_by text p)) at ∙ sym (ap (λ t. t && are_parts (parts_of text)) fits)
+    e ∙ ap (λ p. are_parts (parts_by_colon text p)) at ∙ sym (ap (λ t. t && are_parts (parts_of text)) fits)
 
 -- a path that is read from a text is one
-pub read-path : (text : List ℕ) (colon : Option ℕ) → are_parts (parts_of text) ≡ true → length text ≤ path_limit → colon ≡ position is_colon text → IfSome colon (λ place. place < length text) → IsPath (parts_by text colon)
+pub read-path : (text : List ℕ) (colon : Option ℕ) → are_parts (parts_of text) ≡ true → length text ≤ path_limit → colon ≡ position is_colon text → IfSome colon (λ place. place < length text) → IsPath (parts_by_colon text colon)
 read-path text colon parts short at within = record {
-  parts = ap (λ p. are_parts (parts_by text p)) at ∙ parts;
+  parts = ap (λ p. are_parts (parts_by_colon text p)) at ∙ parts;
   fits = omega (arith, parts-le text colon within);
 }

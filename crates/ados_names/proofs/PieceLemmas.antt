@@ -7,7 +7,7 @@ use Rattle.std.proofs.lemmas.List.{drop-drop, take_all}
 use Rattle.std.proofs.lemmas.List.Elements.{All-nil, All-cons}
 use Rattle.std.proofs.lemmas.List.Splits.{slice_split_none, slice_split_at, slice_split_first, length-slice_split, join_with_byte-slice_split}
 use Rattle.ados_names.specs.Names.{is_colon, is_slash, is_name_byte, is_name}
-use Rattle.ados_names.specs.Path.{is_piece, is_step, step_of, last_steps_of, steps_of, written, behind_name}
+use Rattle.ados_names.specs.Path.{is_piece, is_step, step_of, last_steps_of, steps_of, steps_text, text_after_name}
 use Rattle.ados_names.specs.declared.steps.Step.{Step}
 use Rattle.ados_names.specs.declared.steps.Step.TheVariants.{Up, Name}
 
@@ -89,9 +89,9 @@ step_of-name [] h = absurd (omega arith)
 step_of-name (c ∷ cs) h = refl
 
 -- steps are those of their text
-pub steps-written : (steps : List Step) → list_all is_step steps ≡ true → steps_of (slice_split is_slash (written steps)) ≡ steps
+pub steps-written : (steps : List Step) → list_all is_step steps ≡ true → steps_of (slice_split is_slash (steps_text steps)) ≡ steps
 steps-written [] h = refl
-steps-written (Up ∷ rest) h = steps-behind [] (written rest) ∙ ap (λ s. Up ∷ s) (steps-written rest h)
+steps-written (Up ∷ rest) h = steps-behind [] (steps_text rest) ∙ ap (λ s. Up ∷ s) (steps-written rest h)
 steps-written (Name name ∷ []) h =
     let is : IsName name = name-parts name (and_parts (is_name name) true h).0 in
     ap (λ t. steps_of (slice_split is_slash t)) (append-nil name)
@@ -100,26 +100,26 @@ steps-written (Name name ∷ []) h =
 steps-written (Name name ∷ next ∷ more) h =
     let both = and_parts (is_name name) (list_all is_step (next ∷ more)) h in
     let is : IsName name = name-parts name both.0 in
-    ap steps_of (slice_split_at is_slash name 47 (written (next ∷ more)) (no_slashes name is.bytes) refl)
-    ∙ steps-behind name (written (next ∷ more))
-    ∙ ap (λ s. s ∷ steps_of (slice_split is_slash (written (next ∷ more)))) (step_of-name name is.some)
+    ap steps_of (slice_split_at is_slash name 47 (steps_text (next ∷ more)) (no_slashes name is.bytes) refl)
+    ∙ steps-behind name (steps_text (next ∷ more))
+    ∙ ap (λ s. s ∷ steps_of (slice_split is_slash (steps_text (next ∷ more)))) (step_of-name name is.some)
     ∙ ap (λ s. Name name ∷ s) (steps-written (next ∷ more) both.1)
 
-behind_name-le : (steps : List Step) (text : List ℕ) → length (behind_name steps text) ≤ length text + 1
+behind_name-le : (steps : List Step) (text : List ℕ) → length (text_after_name steps text) ≤ length text + 1
 behind_name-le [] text = omega arith
 behind_name-le (s ∷ ss) text = omega arith
 
-joined-le : (pieces : List (List ℕ)) → length (written (steps_of pieces)) ≤ length (join_with_byte 47 pieces)
+joined-le : (pieces : List (List ℕ)) → length (steps_text (steps_of pieces)) ≤ length (join_with_byte 47 pieces)
 joined-le [] = omega arith
 joined-le ([] ∷ []) = omega arith
 joined-le ((c ∷ cs) ∷ []) = omega (arith, length-append (c ∷ cs) [])
 joined-le ([] ∷ next ∷ more) = omega (arith, joined-le (next ∷ more))
 joined-le ((c ∷ cs) ∷ next ∷ more) =
     let rest = steps_of (next ∷ more) in
-    omega (arith, joined-le (next ∷ more), behind_name-le rest (written rest), length-append (c ∷ cs) (behind_name rest (written rest)), length-append (c ∷ cs) (47 ∷ join_with_byte 47 (next ∷ more)))
+    omega (arith, joined-le (next ∷ more), behind_name-le rest (steps_text rest), length-append (c ∷ cs) (text_after_name rest (steps_text rest)), length-append (c ∷ cs) (47 ∷ join_with_byte 47 (next ∷ more)))
 
 -- the steps of a text are written out in no more bytes than it has
-pub written-le : (text : List ℕ) → length (written (steps_of (slice_split is_slash text))) ≤ length text
+pub written-le : (text : List ℕ) → length (steps_text (steps_of (slice_split is_slash text))) ≤ length text
 written-le text = omega (arith, joined-le (slice_split is_slash text), ap length (join_with_byte-slice_split 47 text))
 
 -- the elements of a slice from a place on

@@ -35,12 +35,12 @@ steps_of (last ∷ []) = last_steps_of last
 steps_of (piece ∷ next ∷ more) = step_of piece ∷ steps_of (next ∷ more)
 
 -- the parts of a text, by the place of its first colon: what follows it is split at each slash
-abbrev pub parts_by : List ℕ → Option ℕ → PathParts
-parts_by text None = record { device = None; steps = steps_of (slice_split is_slash text) }
-parts_by text (Some colon) = record { device = Some (take colon text); steps = steps_of (slice_split is_slash (drop (colon + 1) text)) }
+abbrev pub parts_by_colon : List ℕ → Option ℕ → PathParts
+parts_by_colon text None = record { device = None; steps = steps_of (slice_split is_slash text) }
+parts_by_colon text (Some colon) = record { device = Some (take colon text); steps = steps_of (slice_split is_slash (drop (colon + 1) text)) }
 
 abbrev pub parts_of : List ℕ → PathParts
-parts_of text = parts_by text (position is_colon text)
+parts_of text = parts_by_colon text (position is_colon text)
 
 -- a piece is empty or a name
 abbrev pub is_piece : List ℕ → Bool
@@ -65,14 +65,14 @@ abbrev pub path_of : List ℕ → Result PathParts Result2
 path_of text = if nat_le (length text) path_limit && are_parts (parts_of text) then Ok (parts_of text) else Err INVALID_NAME
 
 -- steps written out: a slash stands for each step up, and follows each name that is not the last step
-abbrev pub behind_name : List Step → List ℕ → List ℕ
-behind_name [] text = text
-behind_name (step ∷ more) text = 47 ∷ text
+abbrev pub text_after_name : List Step → List ℕ → List ℕ
+text_after_name [] text = text
+text_after_name (step ∷ more) text = 47 ∷ text
 
-abbrev pub written : List Step → List ℕ
-written [] = []
-written (Up ∷ rest) = 47 ∷ written rest
-written (Name name ∷ rest) = name ++ behind_name rest (written rest)
+abbrev pub steps_text : List Step → List ℕ
+steps_text [] = []
+steps_text (Up ∷ rest) = 47 ∷ steps_text rest
+steps_text (Name name ∷ rest) = name ++ text_after_name rest (steps_text rest)
 
 abbrev pub device_text : Option (List ℕ) → List ℕ
 device_text None = []
@@ -80,7 +80,7 @@ device_text (Some device) = device ++ 58 ∷ []
 
 -- the text of a path
 abbrev pub text_of : PathParts → List ℕ
-text_of path = device_text path.device ++ written path.steps
+text_of path = device_text path.device ++ steps_text path.steps
 
 -- what holds of each path: its device and its names are valid, and its text is not too long
 pub record IsPath (path : PathParts) : Type 0 where
@@ -88,11 +88,11 @@ pub record IsPath (path : PathParts) : Type 0 where
   pub fits : length (text_of path) ≤ path_limit
 
 -- the path with one more step, into a name; 210 for a text that is not a name, and if the path gets too long
-abbrev pub longer : PathParts → List ℕ → PathParts
-longer path name = record path { steps = path.steps ++ Name name ∷ [] }
+abbrev pub path_with_name : PathParts → List ℕ → PathParts
+path_with_name path name = record path { steps = path.steps ++ Name name ∷ [] }
 
-abbrev pub joined : PathParts → List ℕ → Result PathParts Result2
-joined path name = if is_name name && nat_le (length (text_of (longer path name))) path_limit then Ok (longer path name) else Err INVALID_NAME
+abbrev pub joined_path : PathParts → List ℕ → Result PathParts Result2
+joined_path path name = if is_name name && nat_le (length (text_of (path_with_name path name))) path_limit then Ok (path_with_name path name) else Err INVALID_NAME
 
 -- what a call returns, by a definition in which allocations never fail: that path, or its fault. A call runs out of
 -- memory only if there is a path

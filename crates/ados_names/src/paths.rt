@@ -1,7 +1,7 @@
 ghost use Rattle.std.specs.Prelude.{◌≡◌, ◌≤◌, ◌+◌, ◌&&◌, true, nat_le, Ok, IfOk, length};
 ghost use Rattle.std.specs.Option.{option_copied};
 ghost use Rattle.ados_names.specs.Names.{is_name};
-ghost use Rattle.ados_names.specs.Path.{parts_of, are_parts, path_limit, path_of, device_text, text_of, longer, joined, Gives};
+ghost use Rattle.ados_names.specs.Path.{parts_of, are_parts, path_limit, path_of, device_text, text_of, path_with_name, joined_path, Gives};
 ghost use Rattle.ados_names.specs.Lengths.{pieces_len};
 
 use crate::faults::NameFault;
@@ -54,7 +54,7 @@ impl Path {
     /// `Invalid` if the text is not a name, or the path's text would have more than 255 bytes; `NoMemory` only
     /// if there is a path.
     pub fn join(&self, name: &Text) -> Result<Path, NameFault>
-        ensures { Gives result (joined self.now name.now) }
+        ensures { Gives result (joined_path self.now name.now) }
     {
         if !is_name(name) || self.joined_len(name) > PATH_LIMIT {
             return Err(NameFault::Invalid);
@@ -95,7 +95,7 @@ impl Path {
     // How many bytes the text of the path has with one more name.
     fn joined_len(&self, name: &Text) -> usize
         requires { is_name name.now ≡ true }
-        ensures { result ≡ length (text_of (longer self.now name.now)) }
+        ensures { result ≡ length (text_of (path_with_name self.now name.now)) }
     {
         device_len(&self.device) + pieces_len(&self.steps) + name.as_bytes().len()
     }
@@ -103,8 +103,8 @@ impl Path {
     // The path with one more name.
     fn longer(&self, name: &Text) -> Result<Path, NoMemory>
         requires name { is_name name.now ≡ true }
-        requires fits { length (text_of (longer self.now name.now)) ≤ path_limit }
-        ensures { IfOk result (λ path. path ≡ longer self.now name.now) }
+        requires fits { length (text_of (path_with_name self.now name.now)) ≤ path_limit }
+        ensures { IfOk result (λ path. path ≡ path_with_name self.now name.now) }
     {
         let mut path = self.copy()?;
         path.steps.push(Step::Name(name.copy()?))?;

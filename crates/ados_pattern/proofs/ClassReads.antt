@@ -6,7 +6,7 @@ use Rattle.ados_pattern.specs.declared.tokens.Token.TheVariants.{Silent, Member,
 use Rattle.ados_pattern.specs.declared.tokens.Mode.TheVariants.{Plain, Class, Low, Ranged}
 use Rattle.ados_pattern.specs.Tokens.{begins_range, tokens_from}
 use Rattle.ados_pattern.specs.Fault.{closes, fault_from, is_bad_class}
-use Rattle.ados_pattern.specs.Build.{built_of, on_row, with_member}
+use Rattle.ados_pattern.specs.Build.{levels_of_tokens, on_row, with_member}
 use Rattle.ados_pattern.specs.Grammar.{AreMembers, Begins, IsNoRange, IsOne, any_of, none, alone, range, plain, quoted}
 use Rattle.ados_pattern.specs.Signs.{quote, dash, close_class}
 use Rattle.ados_pattern.proofs.Anys.{both-left, both-right}
@@ -119,10 +119,10 @@ with-one low high [] = refl
 with-one low high (m ∷ []) = refl
 with-one low high (m ∷ n ∷ ms) = refl
 
-pub built-told : {ts : List Token} {ms : List (ℕ × ℕ)} → Tells ts ms → (rest : List Token) → built_of (ts ++ ClassClose ∷ rest) ≡ (any_of ms, None) ∷ built_of rest
+pub built-told : {ts : List Token} {ms : List (ℕ × ℕ)} → Tells ts ms → (rest : List Token) → levels_of_tokens (ts ++ ClassClose ∷ rest) ≡ (any_of ms, None) ∷ levels_of_tokens rest
 built-told no_more rest = refl
 built-told (silent ts ms t) rest = built-told t rest
-built-told (member ts low high ms t) rest = ap (on_row (with_member low high)) (built-told t rest) ∙ ap (λ f. (f, None) ∷ built_of rest) (with-one low high ms)
+built-told (member ts low high ms t) rest = ap (on_row (with_member low high)) (built-told t rest) ∙ ap (λ f. (f, None) ∷ levels_of_tokens rest) (with-one low high ms)
 
 -- a prefix of the text is members, and the class's end follows it
 pub record IsCut (text : List ℕ) : Type 0 where

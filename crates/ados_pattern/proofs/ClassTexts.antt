@@ -5,7 +5,7 @@ use Rattle.ados_pattern.specs.declared.tokens.Mode.TheVariants.{Plain, Begun, Cl
 use Rattle.ados_pattern.specs.Tokens.{tokens_from}
 use Rattle.ados_pattern.specs.Fault.{closes, fault_from, is_bad_class}
 use Rattle.ados_pattern.specs.Form.{Form, Outside}
-use Rattle.ados_pattern.specs.Build.{built_of, on_row}
+use Rattle.ados_pattern.specs.Build.{levels_of_tokens, on_row}
 use Rattle.ados_pattern.specs.Grammar.{AreMembers, AreUpward, Begins, IsClass, IsClassRow, any_of, within, outside}
 use Rattle.ados_pattern.specs.FaultPlace.{IsClassText, within as within_text, outside as outside_text}
 use Rattle.ados_pattern.specs.Signs.{close_class, tilde}
@@ -53,9 +53,9 @@ pub class-good : {s : List ℕ} {f : Form} → IsClass s f → (rest : List ℕ)
 class-good (within t ms b row) rest = let w = members-told row.members rest in ap (is_bad_class false) (begun-within t rest b ∙ w.joined) ∙ bad-told w.tells false (tokens_from Plain rest) ∙ row-good row
 class-good (outside t ms row) rest = let w = members-told row.members rest in ap (is_bad_class false) w.joined ∙ bad-told w.tells false (tokens_from Plain rest) ∙ row-good row
 
-pub class-built : {s : List ℕ} {f : Form} → IsClass s f → (rest : List ℕ) → built_of (tokens_from Begun (s ++ close_class ∷ rest)) ≡ (f, None) ∷ built_of (tokens_from Plain rest)
-class-built (within t ms b row) rest = let w = members-told row.members rest in ap built_of (begun-within t rest b ∙ w.joined) ∙ built-told w.tells (tokens_from Plain rest)
-class-built (outside t ms row) rest = let w = members-told row.members rest in ap (λ ts. on_row Outside (built_of ts)) w.joined ∙ ap (on_row Outside) (built-told w.tells (tokens_from Plain rest))
+pub class-built : {s : List ℕ} {f : Form} → IsClass s f → (rest : List ℕ) → levels_of_tokens (tokens_from Begun (s ++ close_class ∷ rest)) ≡ (f, None) ∷ levels_of_tokens (tokens_from Plain rest)
+class-built (within t ms b row) rest = let w = members-told row.members rest in ap levels_of_tokens (begun-within t rest b ∙ w.joined) ∙ built-told w.tells (tokens_from Plain rest)
+class-built (outside t ms row) rest = let w = members-told row.members rest in ap (λ ts. on_row Outside (levels_of_tokens ts)) w.joined ∙ ap (on_row Outside) (built-told w.tells (tokens_from Plain rest))
 
 pub upward-step : (m : ℕ × ℕ) (b c : Bool) → nat_lt m.1 m.0 ≡ b → (if b then true else c) ≡ false → (m.0 ≤ m.1) × (c ≡ false)
 upward-step m true c l e = absurd cc

@@ -8,7 +8,7 @@ use Rattle.ados_pattern.specs.Tokens.{tokens_from, tokens_of}
 use Rattle.ados_pattern.specs.Fault.{closes, fault_from, has_nothing, is_bad_class}
 use Rattle.ados_pattern.specs.FaultPlace.{EndsRow}
 use Rattle.ados_pattern.specs.Form.{Form, Empty, Char, Any, Many, Other, Then, Either}
-use Rattle.ados_pattern.specs.Build.{Level, built_of, closed_at, item_many, item_other, on_row, parted_at, whole_at, whole_of, whole_row, with_item}
+use Rattle.ados_pattern.specs.Build.{Level, levels_of_tokens, with_group, item_many, item_other, on_row, with_bar, form_of_levels, form_of_tokens, whole_row, with_item}
 use Rattle.ados_pattern.specs.Grammar.{IsPattern, Kind, Says, Alternatives, Row, Item, character, quoted, any, nothing, many, other, group, class, end, item, one, either}
 use Rattle.ados_pattern.specs.Signs.{bar, close_class, close_group, hash, open_class, open_group, percent, question, quote, tilde}
 use Rattle.ados_pattern.proofs.ClassTexts.{class-built, text-fault}
@@ -98,16 +98,16 @@ some-front text [] behind e j ends = let f : true ≡ false = sym (ap (λ x. has
 some-front text (c ∷ s) behind e j ends = omega arith
 
 -- a group at the beginning
-pub levels-group : {d : ℕ} {text : List ℕ} {ls : List Level} → Levels d text ls → (e : ℕ) → d ≡ e + 1 → closes 0 (tokens_from Plain text) ≡ true → Levels e (open_group ∷ text) (closed_at ls)
+pub levels-group : {d : ℕ} {text : List ℕ} {ls : List Level} → Levels d text ls → (e : ℕ) → d ≡ e + 1 → closes 0 (tokens_from Plain text) ≡ true → Levels e (open_group ∷ text) (with_group ls)
 levels-group (last d text l r) e k c = let f : false ≡ true = sym (pattern-level text (whole_row l.0 l.1) (ready-says text l.0 l.1 r)) ∙ c in absurd cc
 levels-group (above d text front behind l ls j r below) e k c =
     let same : d ≡ e = omega (arith, k) in
-    let P : List ℕ → Type 0 = λ t. Levels e t (closed_at (l ∷ ls)) in
+    let P : List ℕ → Type 0 = λ t. Levels e t (with_group (l ∷ ls)) in
     subst P (ap (λ x. open_group ∷ x) (append_assoc front (close_group ∷ []) behind ∙ sym j))
     (levels-item (open_group ∷ front ++ close_group ∷ []) (whole_row l.0 l.1) (group front (whole_row l.0 l.1) (ready-says front l.0 l.1 r)) (subst (λ n. Levels n behind ls) same below))
 
 -- a `|` at the beginning
-pub levels-bar : {d : ℕ} {text : List ℕ} {ls : List Level} → Levels d text ls → Levels d (bar ∷ text) (parted_at ls)
+pub levels-bar : {d : ℕ} {text : List ℕ} {ls : List Level} → Levels d text ls → Levels d (bar ∷ text) (with_bar ls)
 levels-bar (last d text l r) = last d (bar ∷ text) (Empty, Some (whole_row l.0 l.1)) (record { front = []; behind = text; joined = refl; first = end; second = ready-says text l.0 l.1 r })
 levels-bar (above d text front behind l ls j r below) =
     above d (bar ∷ text) (bar ∷ front) behind (Empty, Some (whole_row l.0 l.1)) ls (ap (λ x. bar ∷ x) j)
@@ -119,14 +119,14 @@ by-none true place x e = absurd cc
 by-none false place x e = (refl, e)
 
 abbrev pub Builds : ℕ → List ℕ → Type 0
-Builds n text = length text ≤ n → (d place : ℕ) → fault_from d place (tokens_from Plain text) ≡ None → Levels d text (built_of (tokens_from Plain text))
+Builds n text = length text ≤ n → (d place : ℕ) → fault_from d place (tokens_from Plain text) ≡ None → Levels d text (levels_of_tokens (tokens_from Plain text))
 
-pub levels-close : (d place : ℕ) (rest : List ℕ) → fault_from d place (tokens_from Plain (close_group ∷ rest)) ≡ None → (fault_from (d - 1) (place + 1) (tokens_from Plain rest) ≡ None → Levels (d - 1) rest (built_of (tokens_from Plain rest))) → Levels d (close_group ∷ rest) ((Empty, None) ∷ built_of (tokens_from Plain rest))
+pub levels-close : (d place : ℕ) (rest : List ℕ) → fault_from d place (tokens_from Plain (close_group ∷ rest)) ≡ None → (fault_from (d - 1) (place + 1) (tokens_from Plain rest) ≡ None → Levels (d - 1) rest (levels_of_tokens (tokens_from Plain rest))) → Levels d (close_group ∷ rest) ((Empty, None) ∷ levels_of_tokens (tokens_from Plain rest))
 levels-close zero place rest e again = absurd cc
 levels-close (suc d) place rest e again =
     let w = by-none (suc d == 0) place (fault_from (suc d - 1) (place + 1) (tokens_from Plain rest)) e in
     let k : suc d - 1 ≡ d = omega arith in
-    above d (close_group ∷ rest) [] rest (Empty, None) (built_of (tokens_from Plain rest)) refl end (subst (λ n. Levels n rest (built_of (tokens_from Plain rest))) k (again w.1))
+    above d (close_group ∷ rest) [] rest (Empty, None) (levels_of_tokens (tokens_from Plain rest)) refl end (subst (λ n. Levels n rest (levels_of_tokens (tokens_from Plain rest))) k (again w.1))
 
 pub build-step : {text : List ℕ} → View text → (n : ℕ) → ((r : List ℕ) → Builds n r) → Builds (suc n) text
 build-step at_end n again l d place e = last d [] (Empty, None) end
@@ -138,9 +138,9 @@ build-step (at_open_class rest o) n again l d place e =
 build-step (at_class s rest k g) n again l d place e =
     let w = by-none (is_bad_class false (tokens_from Begun (s ++ close_class ∷ rest))) place (fault_from d (place + 1) (tokens_from Begun (s ++ close_class ∷ rest))) e in
     let c = g w.0 in
-    let P : List ℕ → Type 0 = λ t. Levels d t (closed_at (built_of (tokens_from Begun (s ++ close_class ∷ rest)))) in
+    let P : List ℕ → Type 0 = λ t. Levels d t (with_group (levels_of_tokens (tokens_from Begun (s ++ close_class ∷ rest)))) in
     subst P (ap (λ x. open_class ∷ x) (append_assoc s (close_class ∷ []) rest))
-    (subst (λ ls. Levels d ((open_class ∷ s ++ close_class ∷ []) ++ rest) (closed_at ls)) (sym (class-built c.1 rest))
+    (subst (λ ls. Levels d ((open_class ∷ s ++ close_class ∷ []) ++ rest) (with_group ls)) (sym (class-built c.1 rest))
     (levels-item (open_class ∷ s ++ close_class ∷ []) c.0 (class s c.0 c.1) (again rest (omega (arith, l, length-append s (close_class ∷ rest))) d (place + 1 + length s + 1) (sym (text-fault k d (place + 1) rest) ∙ w.1))))
 build-step (at_any rest) n again l d place e = levels-item (question ∷ []) Any any (again rest (omega (arith, l)) d (place + 1) e)
 build-step (at_nothing rest) n again l d place e = levels-item (percent ∷ []) Empty nothing (again rest (omega (arith, l)) d (place + 1) e)
@@ -156,17 +156,17 @@ build-step (at_open rest) n again l d place e =
     levels-group (again rest (omega (arith, l)) (d + 1) (place + 1) w.1) d refl (not-false (closes 0 (tokens_from Plain rest)) w.0)
 build-step (at_close rest) n again l d place e = levels-close d place rest e (again rest (omega (arith, l)) (d - 1) (place + 1))
 build-step (at_char c rest k) n again l d place e =
-    subst (Levels d (c ∷ rest)) (sym (ap built_of (char-tokens c rest k))) (levels-item (c ∷ []) (Char c) (character c k) (again rest (omega (arith, l)) d (place + 1) (sym (ap (fault_from d place) (char-tokens c rest k)) ∙ e)))
+    subst (Levels d (c ∷ rest)) (sym (ap levels_of_tokens (char-tokens c rest k))) (levels-item (c ∷ []) (Char c) (character c k) (again rest (omega (arith, l)) d (place + 1) (sym (ap (fault_from d place) (char-tokens c rest k)) ∙ e)))
 
 pub build-all : (n : ℕ) (text : List ℕ) → Builds n text
 build-all zero [] l d place e = last d [] (Empty, None) end
 build-all zero (c ∷ text) l d place e = absurd (omega (arith, l))
 build-all (suc n) text l d place e = build-step (view text) n (λ r. build-all n r) l d place e
 
-pub level-says : {d : ℕ} {text : List ℕ} {ls : List Level} → Levels d text ls → d ≡ 0 → IsPattern text (whole_at ls)
+pub level-says : {d : ℕ} {text : List ℕ} {ls : List Level} → Levels d text ls → d ≡ 0 → IsPattern text (form_of_levels ls)
 level-says (last d text l r) e = ready-says text l.0 l.1 r
 level-says (above d text front behind l ls j r below) e = absurd (omega (arith, e))
 
 -- a text without a fault is a pattern, and says what its tokens say
-pub kept-pattern : (text : List ℕ) → fault_from 0 0 (tokens_of text) ≡ None → IsPattern text (whole_of (tokens_of text))
+pub kept-pattern : (text : List ℕ) → fault_from 0 0 (tokens_of text) ≡ None → IsPattern text (form_of_tokens (tokens_of text))
 kept-pattern text e = level-says (build-all (length text) text (omega arith) 0 0 e) refl

@@ -7,7 +7,7 @@ use Rattle.ados_pattern.specs.declared.tokens.Mode.TheVariants.{Plain, Begun}
 use Rattle.ados_pattern.specs.Tokens.{tokens_from, tokens_of}
 use Rattle.ados_pattern.specs.Fault.{closes, fault_from, has_nothing, is_bad_class}
 use Rattle.ados_pattern.specs.Form.{Form, Empty, Char, Any, Many, Other, Then, Either}
-use Rattle.ados_pattern.specs.Build.{Level, built_of, closed_at, item_many, item_other, on_row, parted_at, whole_at, whole_of, whole_row, with_item}
+use Rattle.ados_pattern.specs.Build.{Level, levels_of_tokens, with_group, item_many, item_other, on_row, with_bar, form_of_levels, form_of_tokens, whole_row, with_item}
 use Rattle.ados_pattern.specs.Grammar.{IsClass, IsPattern, Kind, Says, Alternatives, Row, Item, character, quoted, any, nothing, many, other, group, class, end, item, one, either}
 use Rattle.ados_pattern.specs.Signs.{bar, close_class, close_group, hash, is_sign, open_class, open_group, percent, question, quote, tilde}
 use Rattle.ados_pattern.proofs.ClassReads.{if-false}
@@ -17,7 +17,7 @@ use Rattle.ados_pattern.proofs.Views.{char-tokens}
 
 -- the tokens of the text change the levels in this way, show no fault and close no group
 pub record Passes (text : List ℕ) (change : List Level → List Level) : Type 0 where
-  pub built : (rest : List ℕ) → built_of (tokens_from Plain (text ++ rest)) ≡ change (built_of (tokens_from Plain rest))
+  pub built : (rest : List ℕ) → levels_of_tokens (tokens_from Plain (text ++ rest)) ≡ change (levels_of_tokens (tokens_from Plain rest))
   pub kept : (d place : ℕ) (rest : List ℕ) → fault_from d place (tokens_from Plain (text ++ rest)) ≡ fault_from d (place + length text) (tokens_from Plain rest)
   pub level : (d : ℕ) (rest : List ℕ) → closes d (tokens_from Plain (text ++ rest)) ≡ closes d (tokens_from Plain rest)
 
@@ -37,11 +37,11 @@ pub record ReadsRow (text : List ℕ) (form : Form) : Type 0 where
 -- alternatives before the end of a group, or of the text
 pub record IsLevel (text rest : List ℕ) (form : Form) (below : List Level) : Type 0 where
   pub level : Level
-  pub built : built_of (tokens_from Plain (text ++ rest)) ≡ level ∷ below
+  pub built : levels_of_tokens (tokens_from Plain (text ++ rest)) ≡ level ∷ below
   pub whole : whole_row level.0 level.1 ≡ form
 
 pub record ReadsAlternatives (text : List ℕ) (form : Form) : Type 0 where
-  pub built : (rest : List ℕ) (below : List Level) → built_of (tokens_from Plain rest) ≡ (Empty, None) ∷ below → IsLevel text rest form below
+  pub built : (rest : List ℕ) (below : List Level) → levels_of_tokens (tokens_from Plain rest) ≡ (Empty, None) ∷ below → IsLevel text rest form below
   pub kept : (d place : ℕ) (rest : List ℕ) → fault_from d place (tokens_from Plain (text ++ rest)) ≡ fault_from d (place + length text) (tokens_from Plain rest)
   pub level : (d : ℕ) (rest : List ℕ) → closes d (tokens_from Plain (text ++ rest)) ≡ closes d (tokens_from Plain rest)
 
@@ -59,7 +59,7 @@ no-fault b place behind e = if-false b (Some place) behind e
 pub reads-char : (c : ℕ) → is_sign c ≡ false → ReadsItem (c ∷ []) (Char c)
 reads-char c e = record {
   passes = record {
-    built = λ rest. ap built_of (char-tokens c rest e);
+    built = λ rest. ap levels_of_tokens (char-tokens c rest e);
     kept = λ d place rest. ap (fault_from d place) (char-tokens c rest e);
     level = λ d rest. ap (closes d) (char-tokens c rest e);
   };
@@ -93,7 +93,7 @@ other-first f (l ∷ ls) = refl
 pub reads-many : (t : List ℕ) (f : Form) → ReadsItem t f → ReadsItem (hash ∷ t) (Many f)
 reads-many t f i = record {
   passes = record {
-    built = λ rest. ap (on_row item_many) (i.passes.built rest) ∙ many-first f (built_of (tokens_from Plain rest));
+    built = λ rest. ap (on_row item_many) (i.passes.built rest) ∙ many-first f (levels_of_tokens (tokens_from Plain rest));
     kept = λ d place rest.
         no-fault (has_nothing (tokens_from Plain (t ++ rest))) place (fault_from d (place + 1) (tokens_from Plain (t ++ rest))) (i.begins rest)
         ∙ i.passes.kept d (place + 1) rest ∙ at-place d (place + 1 + length t) (place + length (hash ∷ t)) (tokens_from Plain rest) (omega arith);
@@ -105,7 +105,7 @@ reads-many t f i = record {
 pub reads-other : (t : List ℕ) (f : Form) → ReadsItem t f → ReadsItem (tilde ∷ t) (Other f)
 reads-other t f i = record {
   passes = record {
-    built = λ rest. ap (on_row item_other) (i.passes.built rest) ∙ other-first f (built_of (tokens_from Plain rest));
+    built = λ rest. ap (on_row item_other) (i.passes.built rest) ∙ other-first f (levels_of_tokens (tokens_from Plain rest));
     kept = λ d place rest.
         no-fault (has_nothing (tokens_from Plain (t ++ rest))) place (fault_from d (place + 1) (tokens_from Plain (t ++ rest))) (i.begins rest)
         ∙ i.passes.kept d (place + 1) rest ∙ at-place d (place + 1 + length t) (place + length (tilde ∷ t)) (tokens_from Plain rest) (omega arith);
@@ -125,8 +125,8 @@ pub reads-group : (t : List ℕ) (f : Form) → ReadsAlternatives t f → ReadsI
 reads-group t f a = record {
   passes = record {
     built = λ rest.
-        let w = a.built (close_group ∷ rest) (built_of (tokens_from Plain rest)) refl in
-        ap (λ x. closed_at (built_of (tokens_from Plain x))) (append_assoc t (close_group ∷ []) rest) ∙ ap closed_at w.built ∙ ap (λ g. with_item g (built_of (tokens_from Plain rest))) w.whole;
+        let w = a.built (close_group ∷ rest) (levels_of_tokens (tokens_from Plain rest)) refl in
+        ap (λ x. with_group (levels_of_tokens (tokens_from Plain x))) (append_assoc t (close_group ∷ []) rest) ∙ ap with_group w.built ∙ ap (λ g. with_item g (levels_of_tokens (tokens_from Plain rest))) w.whole;
     kept = λ d place rest.
         let e = append_assoc t (close_group ∷ []) rest in
         no-fault (not (closes 0 (tokens_from Plain ((t ++ close_group ∷ []) ++ rest)))) place (fault_from (d + 1) (place + 1) (tokens_from Plain ((t ++ close_group ∷ []) ++ rest))) (ap not (ap (λ x. closes 0 (tokens_from Plain x)) e ∙ a.level 0 (close_group ∷ rest)))
@@ -140,7 +140,7 @@ reads-group t f a = record {
 pub reads-class : (t : List ℕ) (f : Form) → IsClass t f → ReadsItem (open_class ∷ t ++ close_class ∷ []) f
 reads-class t f c = record {
   passes = record {
-    built = λ rest. ap (λ x. closed_at (built_of (tokens_from Begun x))) (append_assoc t (close_class ∷ []) rest) ∙ ap closed_at (class-built c rest);
+    built = λ rest. ap (λ x. with_group (levels_of_tokens (tokens_from Begun x))) (append_assoc t (close_class ∷ []) rest) ∙ ap with_group (class-built c rest);
     kept = λ d place rest.
         let e = append_assoc t (close_class ∷ []) rest in
         no-fault (is_bad_class false (tokens_from Begun ((t ++ close_class ∷ []) ++ rest))) place (fault_from d (place + 1) (tokens_from Begun ((t ++ close_class ∷ []) ++ rest))) (ap (λ x. is_bad_class false (tokens_from Begun x)) e ∙ class-good c rest)
@@ -162,7 +162,7 @@ row-more f g (l ∷ ls) = refl
 pub reads-end : ReadsRow [] Empty
 reads-end = record {
   passes = record {
-    built = λ rest. sym (row-none (built_of (tokens_from Plain rest)));
+    built = λ rest. sym (row-none (levels_of_tokens (tokens_from Plain rest)));
     kept = λ d place rest. at-place d place (place + 0) (tokens_from Plain rest) (omega arith);
     level = λ d rest. refl;
   };
@@ -172,7 +172,7 @@ reads-end = record {
 pub reads-more : (s t : List ℕ) (f g : Form) → ReadsItem s f → ReadsRow t g → ReadsRow (s ++ t) (Then f g)
 reads-more s t f g i r = record {
   passes = record {
-    built = λ rest. ap (λ x. built_of (tokens_from Plain x)) (append_assoc s t rest) ∙ i.passes.built (t ++ rest) ∙ ap (with_item f) (r.passes.built rest) ∙ row-more f g (built_of (tokens_from Plain rest));
+    built = λ rest. ap (λ x. levels_of_tokens (tokens_from Plain x)) (append_assoc s t rest) ∙ i.passes.built (t ++ rest) ∙ ap (with_item f) (r.passes.built rest) ∙ row-more f g (levels_of_tokens (tokens_from Plain rest));
     kept = λ d place rest.
         ap (λ x. fault_from d place (tokens_from Plain x)) (append_assoc s t rest) ∙ i.passes.kept d place (t ++ rest) ∙ r.passes.kept d (place + length s) rest
         ∙ at-place d (place + length s + length t) (place + length (s ++ t)) (tokens_from Plain rest) (omega (arith, length-append s t));
@@ -194,7 +194,7 @@ reads-either s t f g r a = record {
       let w = a.built rest below e in
       record {
         level = (row_before f Empty, Some (whole_row w.level.0 w.level.1));
-        built = ap (λ x. built_of (tokens_from Plain x)) (append_assoc s (bar ∷ t) rest) ∙ r.passes.built (bar ∷ (t ++ rest)) ∙ ap (λ ls. on_row (row_before f) (parted_at ls)) w.built;
+        built = ap (λ x. levels_of_tokens (tokens_from Plain x)) (append_assoc s (bar ∷ t) rest) ∙ r.passes.built (bar ∷ (t ++ rest)) ∙ ap (λ ls. on_row (row_before f) (with_bar ls)) w.built;
         whole = ap (λ x. Either x (whole_row w.level.0 w.level.1)) r.ends ∙ ap (Either f) w.whole;
       };
   kept = λ d place rest.
@@ -218,11 +218,11 @@ says-reads (one t f r) = reads-one t f (says-reads r)
 says-reads (either s t f g r a) = reads-either s t f g (says-reads r) (says-reads a)
 
 -- a pattern's tokens say its form
-pub pattern-form : (text : List ℕ) (form : Form) → IsPattern text form → whole_of (tokens_of text) ≡ form
+pub pattern-form : (text : List ℕ) (form : Form) → IsPattern text form → form_of_tokens (tokens_of text) ≡ form
 pattern-form text form p =
     let a : ReadsAlternatives text form = says-reads p in
     let w = a.built [] [] refl in
-    ap (λ x. whole_of (tokens_of x)) (sym (append-nil text)) ∙ ap whole_at w.built ∙ w.whole
+    ap (λ x. form_of_tokens (tokens_of x)) (sym (append-nil text)) ∙ ap form_of_levels w.built ∙ w.whole
 
 -- a pattern has no fault
 pub pattern-kept : (text : List ℕ) (form : Form) → IsPattern text form → fault_from 0 0 (tokens_of text) ≡ None

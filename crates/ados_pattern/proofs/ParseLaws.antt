@@ -14,7 +14,7 @@ use Rattle.ados_pattern.specs.Grammar.{IsPattern}
 use Rattle.ados_pattern.specs.Literal.{name_in}
 use Rattle.ados_pattern.specs.Meaning.{Meaning, meaning_of}
 use Rattle.ados_pattern.specs.Tokens.{tokens_of}
-use Rattle.ados_pattern.specs.Build.{whole_of}
+use Rattle.ados_pattern.specs.Build.{form_of_tokens}
 use Rattle.ados_pattern.proofs.FirstFaults.{fault-found, first-found, first-is-found}
 use Rattle.ados_pattern.proofs.GrammarBuilds.{kept-pattern}
 use Rattle.ados_pattern.proofs.GrammarNames.{pattern-name}
@@ -100,7 +100,7 @@ pub pattern-or-fault : (text : List ℕ) → ((form : Form) × IsPattern text fo
 pattern-or-fault text = go (fault_from 0 0 (tokens_of text)) refl
   where
     go : (found : Option ℕ) → fault_from 0 0 (tokens_of text) ≡ found → ((form : Form) × IsPattern text form) ⊎ ((place : ℕ) × IsFirstFault text place)
-    go None e = inl (whole_of (tokens_of text), kept-pattern text e)
+    go None e = inl (form_of_tokens (tokens_of text), kept-pattern text e)
     go (Some place) e = inr (place, first-found text place e)
 
 pub pattern-no-fault : (text : List ℕ) (form : Form) (place : ℕ) → IsPattern text form → FaultAt text place → ⊥

@@ -33,13 +33,13 @@ abbrev pub whole_row : Form → Option Form → Form
 whole_row row None = row
 whole_row row (Some rest) = Either row rest
 
-abbrev pub parted_at : List Level → List Level
-parted_at [] = []
-parted_at (l ∷ ls) = (Empty, Some (whole_row l.0 l.1)) ∷ ls
+abbrev pub with_bar : List Level → List Level
+with_bar [] = []
+with_bar (l ∷ ls) = (Empty, Some (whole_row l.0 l.1)) ∷ ls
 
-abbrev pub closed_at : List Level → List Level
-closed_at [] = []
-closed_at (l ∷ ls) = with_item (whole_row l.0 l.1) ls
+abbrev pub with_group : List Level → List Level
+with_group [] = []
+with_group (l ∷ ls) = with_item (whole_row l.0 l.1) ls
 
 -- a member of a class, and the members after it
 abbrev pub with_member : ℕ → ℕ → Form → Form
@@ -47,30 +47,30 @@ with_member low high Empty = Range low high
 with_member low high row = Either (Range low high) row
 
 -- the levels with one more token before them
-abbrev pub added_to : Token → List Level → List Level
-added_to Silent ls = ls
-added_to (CharMark c) ls = with_item (Char c) ls
-added_to AnyMark ls = with_item Any ls
-added_to Nothing ls = with_item Empty ls
-added_to ManyMark ls = on_row item_many ls
-added_to OtherMark ls = on_row item_other ls
-added_to Bar ls = parted_at ls
-added_to Close ls = (Empty, None) ∷ ls
-added_to Open ls = closed_at ls
-added_to ClassClose ls = (Empty, None) ∷ ls
-added_to (Member low high) ls = on_row (with_member low high) ls
-added_to Negated ls = on_row Outside ls
-added_to ClassOpen ls = closed_at ls
-added_to Hanging ls = ls
+abbrev pub with_token : Token → List Level → List Level
+with_token Silent ls = ls
+with_token (CharMark c) ls = with_item (Char c) ls
+with_token AnyMark ls = with_item Any ls
+with_token Nothing ls = with_item Empty ls
+with_token ManyMark ls = on_row item_many ls
+with_token OtherMark ls = on_row item_other ls
+with_token Bar ls = with_bar ls
+with_token Close ls = (Empty, None) ∷ ls
+with_token Open ls = with_group ls
+with_token ClassClose ls = (Empty, None) ∷ ls
+with_token (Member low high) ls = on_row (with_member low high) ls
+with_token Negated ls = on_row Outside ls
+with_token ClassOpen ls = with_group ls
+with_token Hanging ls = ls
 
-abbrev pub built_of : List Token → List Level
-built_of [] = (Empty, None) ∷ []
-built_of (t ∷ ts) = added_to t (built_of ts)
+abbrev pub levels_of_tokens : List Token → List Level
+levels_of_tokens [] = (Empty, None) ∷ []
+levels_of_tokens (t ∷ ts) = with_token t (levels_of_tokens ts)
 
-abbrev pub whole_at : List Level → Form
-whole_at [] = Empty
-whole_at (l ∷ ls) = whole_row l.0 l.1
+abbrev pub form_of_levels : List Level → Form
+form_of_levels [] = Empty
+form_of_levels (l ∷ ls) = whole_row l.0 l.1
 
 -- what the tokens say
-abbrev pub whole_of : List Token → Form
-whole_of ts = whole_at (built_of ts)
+abbrev pub form_of_tokens : List Token → Form
+form_of_tokens ts = form_of_levels (levels_of_tokens ts)

@@ -17,26 +17,26 @@ abbrev pub has_nothing : List Token → Bool
 has_nothing [] = true
 has_nothing (t ∷ ts) = ends_row t
 
-abbrev pub closes_by : ℕ → Token → Bool → Bool → Bool → Bool
-closes_by depth Open deeper higher same = deeper
-closes_by depth Close deeper higher same = if depth == 0 then true else higher
-closes_by depth _ deeper higher same = same
+abbrev pub closes_with_token : ℕ → Token → Bool → Bool → Bool → Bool
+closes_with_token depth Open deeper higher same = deeper
+closes_with_token depth Close deeper higher same = if depth == 0 then true else higher
+closes_with_token depth _ deeper higher same = same
 
 -- whether the tokens, which begin inside `depth` inner groups, close the group around those
 abbrev pub closes : ℕ → List Token → Bool
 closes depth [] = false
-closes depth (t ∷ ts) = closes_by depth t (closes (depth + 1) ts) (closes (depth - 1) ts) (closes depth ts)
+closes depth (t ∷ ts) = closes_with_token depth t (closes (depth + 1) ts) (closes (depth - 1) ts) (closes depth ts)
 
 -- whether a class is bad, by a token of it, given whether the rest is bad with and without a member before
-abbrev pub bad_by : Bool → Token → Bool → Bool → Bool
-bad_by has ClassClose with_one same = not has
-bad_by has (Member low high) with_one same = if nat_lt high low then true else with_one
-bad_by has _ with_one same = same
+abbrev pub is_bad_with_token : Bool → Token → Bool → Bool → Bool
+is_bad_with_token has ClassClose with_one same = not has
+is_bad_with_token has (Member low high) with_one same = if nat_lt high low then true else with_one
+is_bad_with_token has _ with_one same = same
 
 -- the class is open, empty or has a descending range
 abbrev pub is_bad_class : Bool → List Token → Bool
 is_bad_class has [] = true
-is_bad_class has (t ∷ ts) = bad_by has t (is_bad_class true ts) (is_bad_class has ts)
+is_bad_class has (t ∷ ts) = is_bad_with_token has t (is_bad_class true ts) (is_bad_class has ts)
 
 -- whether a token is a fault, inside `depth` groups, by what follows it
 abbrev pub is_fault : ℕ → Token → List Token → Bool

@@ -4,7 +4,7 @@ use Rattle.std.specs.Coded.{Coded, code_by, coded×, coded_ℕ, coded_list, code
 use Rattle.ados_text.specs.Text.{Text}
 use Rattle.ados_pattern.specs.Form.{Form}
 use Rattle.ados_pattern.specs.FormCode.{form_code}
-use Rattle.ados_pattern.specs.Build.{whole_of}
+use Rattle.ados_pattern.specs.Build.{form_of_tokens}
 use Rattle.ados_pattern.specs.Literal.{literal_name}
 use Rattle.ados_pattern.specs.Tokens.{tokens_of}
 
@@ -19,4 +19,4 @@ meaning_code =
 
 -- what a text says, if it is a pattern
 abbrev pub meaning_of : Text → Meaning
-meaning_of text = record { form = whole_of (tokens_of text); name = literal_name text }
+meaning_of text = record { form = form_of_tokens (tokens_of text); name = literal_name text }

@@ -2,7 +2,7 @@
 
 ghost use Rattle.std.specs.Prelude.{◌≡◌, IfOk, option_map};
 ghost use Rattle.ados_pattern.specs.Form.{Outside, form_of};
-ghost use Rattle.ados_pattern.specs.Build.{added_to, built_of, closed_at, item_many, item_other, levels_of, on_row, parted_at, whole_of, whole_row, with_item, with_member};
+ghost use Rattle.ados_pattern.specs.Build.{with_token, levels_of_tokens, with_group, item_many, item_other, levels_of, on_row, with_bar, form_of_tokens, whole_row, with_item, with_member};
 ghost use Rattle.ados_pattern.specs.Tokens.{tokens_from, tokens_of};
 
 use crate::parts::Part;
@@ -20,7 +20,7 @@ pub enum Stack {
 
 /// What a pattern's text says.
 pub fn whole(alloc: Global, bytes: &[u8]) -> Result<Part, NoMemory>
-    ensures { IfOk result (λ p. form_of p ≡ whole_of (tokens_of bytes.now)) }
+    ensures { IfOk result (λ p. form_of p ≡ form_of_tokens (tokens_of bytes.now)) }
 {
     let stack = built(alloc, Mode::Plain, bytes)?;
     match stack {
@@ -30,7 +30,7 @@ pub fn whole(alloc: Global, bytes: &[u8]) -> Result<Part, NoMemory>
 }
 
 fn built(alloc: Global, mode: Mode, bytes: &[u8]) -> Result<Stack, NoMemory>
-    ensures { IfOk result (λ s. levels_of s ≡ built_of (tokens_from mode bytes.now)) }
+    ensures { IfOk result (λ s. levels_of s ≡ levels_of_tokens (tokens_from mode bytes.now)) }
 {
     match bytes {
         [] => level(alloc, Stack::Bottom),
@@ -42,7 +42,7 @@ fn built(alloc: Global, mode: Mode, bytes: &[u8]) -> Result<Stack, NoMemory>
 }
 
 fn added(alloc: Global, token: Token, stack: Stack) -> Result<Stack, NoMemory>
-    ensures { IfOk result (λ s. levels_of s ≡ added_to token (levels_of stack)) }
+    ensures { IfOk result (λ s. levels_of s ≡ with_token token (levels_of stack)) }
 {
     match token {
         Token::Silent => Ok(stack),
@@ -63,7 +63,7 @@ fn added(alloc: Global, token: Token, stack: Stack) -> Result<Stack, NoMemory>
 }
 
 fn level(alloc: Global, stack: Stack) -> Result<Stack, NoMemory>
-    ensures { IfOk result (λ s. levels_of s ≡ added_to Token.Close (levels_of stack)) }
+    ensures { IfOk result (λ s. levels_of s ≡ with_token Token.Close (levels_of stack)) }
 {
     Ok(Stack::Level(Part::Empty, None, Box::new(alloc, stack)?))
 }
@@ -123,7 +123,7 @@ fn first_denied(alloc: Global, row: Part) -> Result<Part, NoMemory>
 }
 
 fn parted(alloc: Global, stack: Stack) -> Result<Stack, NoMemory>
-    ensures { IfOk result (λ s. levels_of s ≡ parted_at (levels_of stack)) }
+    ensures { IfOk result (λ s. levels_of s ≡ with_bar (levels_of stack)) }
 {
     match stack {
         Stack::Bottom => Ok(Stack::Bottom),
@@ -144,7 +144,7 @@ fn row_and_rest(alloc: Global, row: Part, rest: Option<Part>) -> Result<Part, No
 }
 
 fn closed(alloc: Global, stack: Stack) -> Result<Stack, NoMemory>
-    ensures { IfOk result (λ s. levels_of s ≡ closed_at (levels_of stack)) }
+    ensures { IfOk result (λ s. levels_of s ≡ with_group (levels_of stack)) }
 {
     match stack {
         Stack::Bottom => Ok(Stack::Bottom),

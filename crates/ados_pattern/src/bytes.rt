@@ -3,7 +3,7 @@
 ghost use Rattle.std.specs.Prelude.{◌≡◌};
 ghost use Rattle.ados_pattern.specs.Form.{form_of};
 ghost use Rattle.ados_pattern.specs.Matches.{in_range};
-ghost use Rattle.ados_pattern.specs.Range.{is_between_of, raised_of};
+ghost use Rattle.ados_pattern.specs.Range.{is_between_of, upper_of};
 ghost use Rattle.ados_pattern.specs.CharTest.{has_test, test_in, test_of};
 
 use crate::parts::Part;
@@ -71,7 +71,7 @@ fn is_between(low: u8, high: u8, byte: u8) -> bool
 }
 
 fn raised(byte: u8) -> u8
-    ensures { result ≡ raised_of byte }
+    ensures { result ≡ upper_of byte }
 {
     byte.to_ascii_uppercase()
 }

@@ -6,19 +6,19 @@ use Rattle.std.proofs.lemmas.Bool.{cases_Bool, cases_eq}
 use Rattle.std.proofs.lemmas.Grind.{common_steps}
 use Rattle.std.proofs.lemmas.Option.{slice_get_past}
 use Rattle.ados_machine.specs.declared.children.ChildState.TheVariants.{Closed}
-use Rattle.ados_machine.specs.Children.{child_by, child_in}
-use Rattle.ados_machine.specs.World.{WorldState, flatten, running}
+use Rattle.ados_machine.specs.Children.{child_of_shell, child_in}
+use Rattle.ados_machine.specs.World.{WorldState, flatten, running_numbers}
 use Rattle.ados_launcher.specs.declared.calls.Call.{Call}
-use Rattle.ados_launcher.specs.Lives.{Life, Between, life_in, life_of}
+use Rattle.ados_launcher.specs.Lives.{Life, Between, life_for_state, life_of}
 use Rattle.ados_launch.specs.Agreement.{Agrees}
 use Rattle.ados_launch.proofs.Over.{size-of}
 
 past-numbers : (w : WorldState) (k : ℕ) → length w.shells ≡ 20 → 21 ≤ k → child_in w k ≡ Closed
 past-numbers w zero size past = refl
-past-numbers w (suc i) size past = ap (λ found. child_by (flatten found)) (slice_get_past w.shells i (rw size (grind (arith, common_steps))))
+past-numbers w (suc i) size past = ap (λ found. child_of_shell (flatten found)) (slice_get_past w.shells i (rw size (grind (arith, common_steps))))
 
-pub reopened : (w : WorldState) (calls : List Call) (n : ℕ) (table : List Bool) → table ≡ running w → length table ≡ 20 → 21 ≤ n →
-    ((k : ℕ) → life_of k calls ≡ (if nat_lt k n then life_in (child_in w k) else Between)) → Agrees w calls
+pub reopened : (w : WorldState) (calls : List Call) (n : ℕ) (table : List Bool) → table ≡ running_numbers w → length table ≡ 20 → 21 ≤ n →
+    ((k : ℕ) → life_of k calls ≡ (if nat_lt k n then life_for_state (child_in w k) else Between)) → Agrees w calls
 reopened w calls n table is size all rows k =
     elim (cases_Bool (nat_lt k n)) [
       | inl low ↦ rows k ∙ rw low refl
@@ -33,12 +33,12 @@ other-row n k life apart = grind (arith, common_steps)
 
 -- one more number
 pub one-more : (w : WorldState) (before after : List Call) (n : ℕ) →
-    ((k : ℕ) → life_of k before ≡ (if nat_lt k n then life_in (child_in w k) else Between)) →
-    life_of n after ≡ life_in (child_in w n) → ((k : ℕ) → k ≢ n → life_of k after ≡ life_of k before) →
-    (k : ℕ) → life_of k after ≡ (if nat_lt k (n + 1) then life_in (child_in w k) else Between)
+    ((k : ℕ) → life_of k before ≡ (if nat_lt k n then life_for_state (child_in w k) else Between)) →
+    life_of n after ≡ life_for_state (child_in w n) → ((k : ℕ) → k ≢ n → life_of k after ≡ life_of k before) →
+    (k : ℕ) → life_of k after ≡ (if nat_lt k (n + 1) then life_for_state (child_in w k) else Between)
 one-more w before after n rows own others k =
     elim (cases_eq k n) [
-      | inl same ↦ subst (λ m. life_of m after ≡ (if nat_lt m (n + 1) then life_in (child_in w m) else Between)) (sym same)
-          (own ∙ last-row n (life_in (child_in w n)))
-      | inr apart ↦ others k apart ∙ (rows k ∙ other-row n k (life_in (child_in w k)) apart)
+      | inl same ↦ subst (λ m. life_of m after ≡ (if nat_lt m (n + 1) then life_for_state (child_in w m) else Between)) (sym same)
+          (own ∙ last-row n (life_for_state (child_in w n)))
+      | inr apart ↦ others k apart ∙ (rows k ∙ other-row n k (life_for_state (child_in w k)) apart)
     ]

@@ -1,6 +1,6 @@
 // A launcher for a world in which children may be open.
 ghost use Rattle.std.specs.Prelude.{◌≡◌, ◌≢◌, ◌<◌, ℕ, IfOk, OnOk};
-ghost use Rattle.ados_launcher.specs.Lives.{Between, InReads, BehindReads, life_in, life_of};
+ghost use Rattle.ados_launcher.specs.Lives.{Between, InReads, BehindReads, life_for_state, life_of};
 ghost use Rattle.ados_launch.specs.Agreement.{Agrees};
 
 use crate::lines::answer_of;
@@ -55,7 +55,7 @@ fn reopen(
 ) -> Result<(), NoMemory>
     requires number { number < 21 }
     requires none { life_of number launcher.old.calls ≡ Between }
-    ensures own { OnOk result (life_of number launcher.new.calls ≡ life_in child) }
+    ensures own { OnOk result (life_of number launcher.new.calls ≡ life_for_state child) }
     ensures others { OnOk result ((k : ℕ) → k ≢ number → life_of k launcher.new.calls ≡ life_of k launcher.old.calls) }
 {
     match child {

@@ -14,8 +14,8 @@ use Rattle.std.specs.FinMap.{is_sorted, find, put}
 use Rattle.std.specs.FinMap.Entries.{below_all, by_order}
 use Rattle.ados_text.specs.Name.{Name, name_cmp, name_cmp_total, name_cmp_exact}
 use Rattle.ados_ram.specs.Files.{Rows}
-use Rattle.ados_ram.specs.Tree.{Kid, Kids, kids_with, kids_without}
-use Rattle.ados_ram.specs.Blocks.{all_kids, begins_by, AllFull, AreBlocks, AllBefore, IsBlockOf}
+use Rattle.ados_ram.specs.Tree.{Kid, Kids, replace_kid, remove_kid}
+use Rattle.ados_ram.specs.Blocks.{all_kids, first_is_at_most, AllFull, AreBlocks, AllBefore, IsBlockOf}
 use Rattle.ados_ram.proofs.RowsLemmas.{first, second}
 use Rattle.ados_ram.proofs.TreeLemmas.{holds}
 
@@ -86,7 +86,7 @@ upto n k x p h =
     ] refl h
 
 -- a name before all of some blocks is before a name that is at least the first name of one of them
-before-begin : (n x : Name) (bs : List Kids) (j : ℕ) (d : Kids) → T (below_all name_cmp n (all_kids bs)) → AllFull bs → j < length bs → begins_by x (slice_index_or bs j d) ≡ true → name_cmp n x ≡ Less
+before-begin : (n x : Name) (bs : List Kids) (j : ℕ) (d : Kids) → T (below_all name_cmp n (all_kids bs)) → AllFull bs → j < length bs → first_is_at_most x (slice_index_or bs j d) ≡ true → name_cmp n x ≡ Less
 before-begin n x [] j d h f l t = absurd (omega arith)
 before-begin n x ([] ∷ bs) zero d h f l t = absurd (omega (arith, f.0))
 before-begin n x ((k ∷ ks) ∷ bs) zero d h f l t = upto n k.0 x (less _ (first _ _ h)) t
@@ -96,7 +96,7 @@ le_less : (o : Ordering) → o ≡ Less → is_le o ≡ true
 le_less o p = ap is_le p
 
 -- the blocks that begin with the name, or one before it, come first
-pub parts : (x : Name) (bs : List Kids) → T (is_sorted name_cmp (all_kids bs)) → AllFull bs → IsPartitionedBy (begins_by x) bs
+pub parts : (x : Name) (bs : List Kids) → T (is_sorted name_cmp (all_kids bs)) → AllFull bs → IsPartitionedBy (first_is_at_most x) bs
 parts x [] s f i j d p q t = absurd (omega arith)
 parts x (b ∷ bs) s f zero zero d p q t = t
 parts x ([] ∷ bs) s f zero (suc j) d p q t = absurd (omega (arith, f.0))
@@ -113,7 +113,7 @@ before-append x [] b h g = g
 before-append x (k ∷ a) b h g = (h.0, before-append x a b h.1 g)
 
 -- the names in the blocks before one that begins with the name or one before it
-before_at : (x : Name) (bs : List Kids) (j : ℕ) (d : Kids) → T (is_sorted name_cmp (all_kids bs)) → AllFull bs → j < length bs → begins_by x (slice_index_or bs j d) ≡ true → AllBefore x (all_kids (take j bs))
+before_at : (x : Name) (bs : List Kids) (j : ℕ) (d : Kids) → T (is_sorted name_cmp (all_kids bs)) → AllFull bs → j < length bs → first_is_at_most x (slice_index_or bs j d) ≡ true → AllBefore x (all_kids (take j bs))
 before_at x [] j d s f l t = absurd (omega arith)
 before_at x (b ∷ bs) zero d s f l t = tt
 before_at x (b ∷ bs) (suc j) d s f l t =
@@ -122,7 +122,7 @@ before_at x (b ∷ bs) (suc j) d s f l t =
     (before_at x bs j d (sorted-back b (all_kids bs) s) f.1 (omega arith) t)
 
 -- the names in the blocks from the first on that begins after the name
-after_at : (x : Name) (bs : List Kids) (i : ℕ) → T (is_sorted name_cmp (all_kids bs)) → AllFull bs → AllWithin (λ b. begins_by x b ≡ false) bs i (length bs) → T (below_all name_cmp x (all_kids (drop i bs)))
+after_at : (x : Name) (bs : List Kids) (i : ℕ) → T (is_sorted name_cmp (all_kids bs)) → AllFull bs → AllWithin (λ b. first_is_at_most x b ≡ false) bs i (length bs) → T (below_all name_cmp x (all_kids (drop i bs)))
 after_at x [] zero s f h = tt
 after_at x [] (suc i) s f h = tt
 after_at x ([] ∷ bs) zero s f h = absurd (omega (arith, f.0))
@@ -141,7 +141,7 @@ drop-behind x [] h = tt
 drop-behind x (b ∷ bs) h = below-back x b (all_kids bs) h
 
 -- the block before the first that begins after the name
-pub parted : (x : Name) (bs : List Kids) (i : ℕ) → AreBlocks bs → i ≤ length bs → IsPartitionPoint (λ b. begins_by x b ≡ true) (λ b. begins_by x b ≡ false) bs i → IsBlockOf x bs (i - 1)
+pub parted : (x : Name) (bs : List Kids) (i : ℕ) → AreBlocks bs → i ≤ length bs → IsPartitionPoint (λ b. first_is_at_most x b ≡ true) (λ b. first_is_at_most x b ≡ false) bs i → IsBlockOf x bs (i - 1)
 parted x bs zero are l p =
     let e : 0 ≡ zero - 1 = omega arith in
     subst (λ (j : ℕ). IsBlockOf x bs j) e (record { before = tt; after = is_true _ (drop-behind x bs (after_at x bs 0 (holds _ are.sorted) are.full p.1)) })
@@ -178,15 +178,15 @@ put-after x r (k ∷ m) c h =
       | Greater ↦ ap (λ (ks : Kids). k ∷ ks) (put-after x r m c h)
     ]
 
-without-before : (x : Name) (a rest : Kids) → AllBefore x a → kids_without x (a ++ rest) ≡ a ++ kids_without x rest
+without-before : (x : Name) (a rest : Kids) → AllBefore x a → remove_kid x (a ++ rest) ≡ a ++ remove_kid x rest
 without-before x [] rest h = refl
-without-before x (k ∷ a) rest h = ap (λ o. cond (is_eq o) (kids_without x (a ++ rest)) (k ∷ kids_without x (a ++ rest))) h.0 ∙ ap (λ (ks : Kids). k ∷ ks) (without-before x a rest h.1)
+without-before x (k ∷ a) rest h = ap (λ o. cond (is_eq o) (remove_kid x (a ++ rest)) (k ∷ remove_kid x (a ++ rest))) h.0 ∙ ap (λ (ks : Kids). k ∷ ks) (without-before x a rest h.1)
 
-without-after : (x : Name) (m c : Kids) → T (below_all name_cmp x c) → kids_without x (m ++ c) ≡ kids_without x m ++ c
+without-after : (x : Name) (m c : Kids) → T (below_all name_cmp x c) → remove_kid x (m ++ c) ≡ remove_kid x m ++ c
 without-after x [] [] h = refl
-without-after x [] (k ∷ c) h = ap (λ o. cond (is_eq o) (kids_without x c) (k ∷ kids_without x c)) (less _ (first _ _ h)) ∙ ap (λ (ks : Kids). k ∷ ks) (without-after x [] c (second _ _ h))
+without-after x [] (k ∷ c) h = ap (λ o. cond (is_eq o) (remove_kid x c) (k ∷ remove_kid x c)) (less _ (first _ _ h)) ∙ ap (λ (ks : Kids). k ∷ ks) (without-after x [] c (second _ _ h))
 without-after x (k ∷ m) c h =
-    elim (is_eq (name_cmp x k.0)) as (λ b. cond b (kids_without x (m ++ c)) (k ∷ kids_without x (m ++ c)) ≡ cond b (kids_without x m) (k ∷ kids_without x m) ++ c) [
+    elim (is_eq (name_cmp x k.0)) as (λ b. cond b (remove_kid x (m ++ c)) (k ∷ remove_kid x (m ++ c)) ≡ cond b (remove_kid x m) (k ∷ remove_kid x m) ++ c) [
       | true ↦ without-after x m c h
       | false ↦ ap (λ (ks : Kids). k ∷ ks) (without-after x m c h)
     ]
@@ -194,7 +194,7 @@ without-after x (k ∷ m) c h =
 find-middle : (x : Name) (a m c : Kids) → AllBefore x a → T (below_all name_cmp x c) → find name_cmp x (a ++ (m ++ c)) ≡ find name_cmp x m
 find-middle x a m c h g = find-before x a (m ++ c) h ∙ find-after x m c g
 
-with-middle : (x : Name) (new : Option Kid) (a m c : Kids) → AllBefore x a → T (below_all name_cmp x c) → kids_with x new (a ++ (m ++ c)) ≡ a ++ (kids_with x new m ++ c)
+with-middle : (x : Name) (new : Option Kid) (a m c : Kids) → AllBefore x a → T (below_all name_cmp x c) → replace_kid x new (a ++ (m ++ c)) ≡ a ++ (replace_kid x new m ++ c)
 with-middle x None a m c h g = without-before x a (m ++ c) h ∙ ap (λ (ks : Kids). a ++ ks) (without-after x m c g)
 with-middle x (Some k) a m c h g = put-before x k.1 a (m ++ c) h ∙ ap (λ (ks : Kids). a ++ ks) (put-after x k.1 m c g)
 
@@ -232,26 +232,26 @@ drop-next (c ∷ bs) rest zero b e = cc
 drop-next (c ∷ bs) rest (suc i) b e = let n : suc i + 1 ≡ suc (i + 1) = omega arith in ap (λ (j : ℕ). drop j (c ∷ bs)) n ∙ drop-next bs rest i b e
 
 pub changed_in : (x : Name) (new : Option Kid) (bs front rest : List Kids) (i : ℕ) (b out : Kids) (made : List Kids) → IsBlockOf x bs i → front ≡ take i bs → drop i bs ≡ b ∷ rest
-    → out ≡ kids_with x new b → all_kids made ≡ (all_kids front ++ out) ++ all_kids rest → all_kids made ≡ kids_with x new (all_kids bs)
+    → out ≡ replace_kid x new b → all_kids made ≡ (all_kids front ++ out) ++ all_kids rest → all_kids made ≡ replace_kid x new (all_kids bs)
 changed_in x new bs front rest i b out made at f d o m =
     let whole : all_kids bs ≡ all_kids (take i bs) ++ (b ++ all_kids rest) = ap all_kids (sym (take-append-drop i bs) ∙ ap (λ (t : List Kids). take i bs ++ t) d) ∙ all-append (take i bs) (b ∷ rest) in
     let after : IsTrue (below_all name_cmp x (all_kids rest)) = subst (λ (t : List Kids). IsTrue (below_all name_cmp x (all_kids t))) (drop-next bs rest i b d) at.after in
     m ∙ ap (λ (t : List Kids). (all_kids t ++ out) ++ all_kids rest) f ∙ append_assoc (all_kids (take i bs)) out (all_kids rest)
     ∙ ap (λ (ks : Kids). all_kids (take i bs) ++ (ks ++ all_kids rest)) o
-    ∙ sym (ap (kids_with x new) whole ∙ with-middle x new (all_kids (take i bs)) b (all_kids rest) at.before (holds _ after))
+    ∙ sym (ap (replace_kid x new) whole ∙ with-middle x new (all_kids (take i bs)) b (all_kids rest) at.before (holds _ after))
 
 none-left : (bs : List Kids) → length bs ≡ 0 → bs ≡ []
 none-left [] e = refl
 none-left (b ∷ bs) e = absurd (omega arith)
 
 pub changed_behind : (x : Name) (new : Option Kid) (bs front rest : List Kids) (i : ℕ) (out : Kids) (made : List Kids) → IsBlockOf x bs i → front ≡ take i bs → rest ≡ drop i bs → length rest ≡ 0
-    → out ≡ kids_with x new [] → all_kids made ≡ all_kids front ++ out → all_kids made ≡ kids_with x new (all_kids bs)
+    → out ≡ replace_kid x new [] → all_kids made ≡ all_kids front ++ out → all_kids made ≡ replace_kid x new (all_kids bs)
 changed_behind x new bs front rest i out made at f d l o m =
     let e : drop i bs ≡ [] = sym d ∙ none-left rest l in
     let whole : bs ≡ take i bs = sym (take-append-drop i bs) ∙ ap (λ (t : List Kids). take i bs ++ t) e ∙ append-nil (take i bs) in
     let own : all_kids bs ≡ all_kids (take i bs) ++ [] = ap all_kids whole ∙ sym (append-nil (all_kids (take i bs))) in
-    m ∙ ap (λ (t : List Kids). all_kids t ++ out) f ∙ ap (λ (ks : Kids). all_kids (take i bs) ++ ks) (o ∙ sym (append-nil (kids_with x new [])))
-    ∙ sym (ap (kids_with x new) own ∙ with-middle x new (all_kids (take i bs)) [] [] at.before tt)
+    m ∙ ap (λ (t : List Kids). all_kids t ++ out) f ∙ ap (λ (ks : Kids). all_kids (take i bs) ++ ks) (o ∙ sym (append-nil (replace_kid x new [])))
+    ∙ sym (ap (replace_kid x new) own ∙ with-middle x new (all_kids (take i bs)) [] [] at.before tt)
 
 pub none-in : (bs : List Kids) → AllFull bs → (length (all_kids bs) == 0) ≡ (length bs == 0)
 none-in [] f = refl

@@ -9,7 +9,7 @@ use Rattle.std.specs.Ordering.{ordering_reverse, is_eq, is_lt}
 use Rattle.std.specs.FinMap as map
 use Rattle.std.specs.FinMap.{find, is_sorted, get-entries, entries_sorted}
 use Rattle.std.specs.FinMap.Entries.{below_all}
-use Rattle.ados_text.specs.Text.{fold_of, folded}
+use Rattle.ados_text.specs.Text.{fold_of, folded_text}
 use Rattle.ados_ram.specs.declared.entries.Entry.{Entry}
 use Rattle.ados_ram.specs.Place.{Key, key_of, place_cmp, place_cmp_total, is_same_key, is_below, is_child}
 use Rattle.ados_ram.specs.Entry.{is_directory}
@@ -130,10 +130,10 @@ files-law files all d =
 fold-twice : (b : ℕ) → fold_of (fold_of b) ≡ fold_of b
 fold-twice b = grind (arith, nat_tests)
 
-folded-twice : (bytes : List ℕ) → folded (folded bytes) ≡ folded bytes
+folded-twice : (bytes : List ℕ) → folded_text (folded_text bytes) ≡ folded_text bytes
 folded-twice [] = refl
-folded-twice (c ∷ cs) = ap (λ d. d ∷ folded (folded cs)) (fold-twice c) ∙ ap (λ ds. fold_of c ∷ ds) (folded-twice cs)
+folded-twice (c ∷ cs) = ap (λ d. d ∷ folded_text (folded_text cs)) (fold-twice c) ∙ ap (λ ds. fold_of c ∷ ds) (folded-twice cs)
 
 pub key-twice : (place : Key) → key_of (key_of place) ≡ key_of place
 key-twice [] = refl
-key-twice (n ∷ ns) = ap (λ m. m ∷ key_of (key_of ns)) (folded-twice n) ∙ ap (λ ms. folded n ∷ ms) (key-twice ns)
+key-twice (n ∷ ns) = ap (λ m. m ∷ key_of (key_of ns)) (folded-twice n) ∙ ap (λ ms. folded_text n ∷ ms) (key-twice ns)

@@ -11,9 +11,9 @@ use Rattle.std.specs.FinMap.Entries.{below_all}
 use Rattle.std.specs.Cmp.{eq_by_cmp_equiv}
 use Rattle.ados_text.specs.Name.{name_cmp, name_cmp_exact, name_cmp_total}
 use Rattle.ados_ram.specs.declared.entries.Entry.{Entry}
-use Rattle.ados_ram.specs.Place.{Key, place_cmp, place_cmp_total, is_same_key, behind, has_names, is_below}
+use Rattle.ados_ram.specs.Place.{Key, place_cmp, place_cmp_total, is_same_key, path_below, has_names, is_below}
 use Rattle.ados_ram.specs.Files.{Rows}
-use Rattle.ados_ram.specs.Contents.{put_behind, contents, contents_cmp}
+use Rattle.ados_ram.specs.Contents.{put_after_contents, contents, contents_cmp}
 use Rattle.ados_ram.proofs.FilesLemmas.{equal, same, clash}
 
 -- the order of contents
@@ -25,7 +25,7 @@ below-first [] [] h = clash h
 below-first [] (n ∷ ns) h = refl
 below-first (n ∷ ns) [] h = clash h
 below-first (n ∷ ns) (x ∷ xs) h =
-    elim (is_eq (name_cmp n x)) as (λ b. is_eq (name_cmp n x) ≡ b → has_names (cond b (behind ns xs) None) ≡ true → contents_cmp (x ∷ xs) (n ∷ ns) ≡ Less) [
+    elim (is_eq (name_cmp n x)) as (λ b. is_eq (name_cmp n x) ≡ b → has_names (cond b (path_below ns xs) None) ≡ true → contents_cmp (x ∷ xs) (n ∷ ns) ≡ Less) [
       | true ↦ λ t g. ap (λ o. ordering_then o (contents_cmp xs ns)) (back n x (equal (name_cmp n x) t)) ∙ below-first ns xs g
       | false ↦ λ t g. clash g
     ] refl h
@@ -35,7 +35,7 @@ aside-first [] [] e h = cc
 aside-first [] (y ∷ ys) e h = clash (sym h)
 aside-first (x ∷ xs) [] e h = cc
 aside-first (x ∷ xs) (y ∷ ys) e h =
-    elim (name_cmp x y) as (λ o. ordering_then o (place_cmp xs ys) ≡ Less → has_names (cond (is_eq o) (behind xs ys) None) ≡ false → ordering_then o (contents_cmp xs ys) ≡ Less) [
+    elim (name_cmp x y) as (λ o. ordering_then o (place_cmp xs ys) ≡ Less → has_names (cond (is_eq o) (path_below xs ys) None) ≡ false → ordering_then o (contents_cmp xs ys) ≡ Less) [
       | Less ↦ λ f g. refl
       | Equal ↦ λ f g. aside-first xs ys f g
       | Greater ↦ λ f g. cc
@@ -96,42 +96,42 @@ all-at P [] x h c = none x c
 all-at P (y ∷ ys) x h c = elim (cases y x ys c) [ inl e ↦ subst P e h.0 | inr e ↦ all-at P ys x h.1 e ]
 
 -- a place inserted after those below it
-put-has : (p q : Key) (ps : List Key) → (p ≡ q) ⊎ Contains ps q → Contains (put_behind p ps) q
+put-has : (p q : Key) (ps : List Key) → (p ≡ q) ⊎ Contains ps q → Contains (put_after_contents p ps) q
 put-has p q [] h = elim h [ inl e ↦ subst (Contains (p ∷ [])) e (here p []) | inr e ↦ none q e ]
 put-has p q (x ∷ xs) h =
-    elim (is_below p x) as (λ b. Contains (cond b (x ∷ put_behind p xs) (p ∷ x ∷ xs)) q) [
+    elim (is_below p x) as (λ b. Contains (cond b (x ∷ put_after_contents p xs) (p ∷ x ∷ xs)) q) [
       | true ↦ elim h [
-        | inl e ↦ there x q (put_behind p xs) (put-has p q xs (inl e))
-        | inr e ↦ elim (cases x q xs e) [ inl f ↦ subst (Contains (x ∷ put_behind p xs)) f (here x (put_behind p xs)) | inr f ↦ there x q (put_behind p xs) (put-has p q xs (inr f)) ]
+        | inl e ↦ there x q (put_after_contents p xs) (put-has p q xs (inl e))
+        | inr e ↦ elim (cases x q xs e) [ inl f ↦ subst (Contains (x ∷ put_after_contents p xs)) f (here x (put_after_contents p xs)) | inr f ↦ there x q (put_after_contents p xs) (put-has p q xs (inr f)) ]
       ]
       | false ↦ elim h [ inl e ↦ subst (Contains (p ∷ x ∷ xs)) e (here p (x ∷ xs)) | inr e ↦ there p q (x ∷ xs) e ]
     ]
 
-put-only : (p q : Key) (ps : List Key) → Contains (put_behind p ps) q → (p ≡ q) ⊎ Contains ps q
+put-only : (p q : Key) (ps : List Key) → Contains (put_after_contents p ps) q → (p ≡ q) ⊎ Contains ps q
 put-only p q [] h = inl (only p q h)
 put-only p q (x ∷ xs) h =
-    elim (is_below p x) as (λ b. Contains (cond b (x ∷ put_behind p xs) (p ∷ x ∷ xs)) q → (p ≡ q) ⊎ Contains (x ∷ xs) q) [
-      | true ↦ λ c. elim (cases x q (put_behind p xs) c) [
+    elim (is_below p x) as (λ b. Contains (cond b (x ∷ put_after_contents p xs) (p ∷ x ∷ xs)) q → (p ≡ q) ⊎ Contains (x ∷ xs) q) [
+      | true ↦ λ c. elim (cases x q (put_after_contents p xs) c) [
         | inl e ↦ inr (subst (Contains (x ∷ xs)) e (here x xs))
         | inr e ↦ elim (put-only p q xs e) [ inl f ↦ inl f | inr f ↦ inr (there x q xs f) ]
       ]
       | false ↦ λ c. cases p q (x ∷ xs) c
     ] h
 
-put-all : (P : Key → Type 0) (p : Key) (ps : List Key) → P p → AllByRecursion P ps → AllByRecursion P (put_behind p ps)
+put-all : (P : Key → Type 0) (p : Key) (ps : List Key) → P p → AllByRecursion P ps → AllByRecursion P (put_after_contents p ps)
 put-all P p [] h all = (h, tt)
-put-all P p (x ∷ xs) h all = elim (is_below p x) as (λ b. AllByRecursion P (cond b (x ∷ put_behind p xs) (p ∷ x ∷ xs))) [ true ↦ (all.0, put-all P p xs h all.1) | false ↦ (h, all) ]
+put-all P p (x ∷ xs) h all = elim (is_below p x) as (λ b. AllByRecursion P (cond b (x ∷ put_after_contents p xs) (p ∷ x ∷ xs))) [ true ↦ (all.0, put-all P p xs h all.1) | false ↦ (h, all) ]
 
 -- a place before one is before all that come after that one
 all-later : (p x : Key) (xs : List Key) → contents_cmp p x ≡ Less → AllByRecursion (λ q. contents_cmp x q ≡ Less) xs → AllByRecursion (λ q. contents_cmp p q ≡ Less) xs
 all-later p x [] e h = tt
 all-later p x (y ∷ ys) e h = (later-first p x y e h.0, all-later p x ys e h.1)
 
-put-sorted : (p : Key) (ps : List Key) → AllByRecursion (λ q. place_cmp p q ≡ Less) ps → IsStrictlySortedBy contents_cmp ps → IsStrictlySortedBy contents_cmp (put_behind p ps)
+put-sorted : (p : Key) (ps : List Key) → AllByRecursion (λ q. place_cmp p q ≡ Less) ps → IsStrictlySortedBy contents_cmp ps → IsStrictlySortedBy contents_cmp (put_after_contents p ps)
 unfolding IsStrictlySortedBy
 put-sorted p [] after sorted = (tt, tt)
 put-sorted p (x ∷ xs) after sorted =
-    elim (is_below p x) as (λ b. is_below p x ≡ b → IsStrictlySortedBy contents_cmp (cond b (x ∷ put_behind p xs) (p ∷ x ∷ xs))) [
+    elim (is_below p x) as (λ b. is_below p x ≡ b → IsStrictlySortedBy contents_cmp (cond b (x ∷ put_after_contents p xs) (p ∷ x ∷ xs))) [
       | true ↦ λ t. (put-all (λ q. contents_cmp x q ≡ Less) p xs (below-first p x t) sorted.0, put-sorted p xs after.1 sorted.1)
       | false ↦ λ t. let e = aside-first p x after.0 t in ((e, all-later p x xs e sorted.0), sorted)
     ] refl
@@ -163,7 +163,7 @@ contents-after : (d p : Key) (es : Rows) → T (below_all place_cmp p es) → Al
 contents-after d p [] h = tt
 contents-after d p (e ∷ es) h =
     let rest = contents-after d p es (both-second (is_lt (place_cmp p e.0)) (below_all place_cmp p es) h) in
-    elim (is_below d e.0) as (λ b. AllByRecursion (λ q. place_cmp p q ≡ Less) (cond b (put_behind e.0 (contents d es)) (contents d es))) [
+    elim (is_below d e.0) as (λ b. AllByRecursion (λ q. place_cmp p q ≡ Less) (cond b (put_after_contents e.0 (contents d es)) (contents d es))) [
       | true ↦ put-all (λ q. place_cmp p q ≡ Less) e.0 (contents d es) (less (place_cmp p e.0) (both-first (is_lt (place_cmp p e.0)) (below_all place_cmp p es) h)) rest
       | false ↦ rest
     ]
@@ -173,7 +173,7 @@ unfolding IsStrictlySortedBy
 contents-sorted d [] h = tt
 contents-sorted d (e ∷ es) h =
     let rest = contents-sorted d es (both-second (below_all place_cmp e.0 es) (is_sorted place_cmp es) h) in
-    elim (is_below d e.0) as (λ b. IsStrictlySortedBy contents_cmp (cond b (put_behind e.0 (contents d es)) (contents d es))) [
+    elim (is_below d e.0) as (λ b. IsStrictlySortedBy contents_cmp (cond b (put_after_contents e.0 (contents d es)) (contents d es))) [
       | true ↦ put-sorted e.0 (contents d es) (contents-after d e.0 es (both-first (below_all place_cmp e.0 es) (is_sorted place_cmp es) h)) rest
       | false ↦ rest
     ]
@@ -181,7 +181,7 @@ contents-sorted d (e ∷ es) h =
 pub contents-only : (d q : Key) (es : Rows) → Contains (contents d es) q → IsSome (find place_cmp q es) × IsTrue (is_below d q)
 contents-only d q [] c = none q c
 contents-only d q (e ∷ es) c =
-    elim (is_below d e.0) as (λ b. is_below d e.0 ≡ b → Contains (cond b (put_behind e.0 (contents d es)) (contents d es)) q → IsSome (find place_cmp q (e ∷ es)) × IsTrue (is_below d q)) [
+    elim (is_below d e.0) as (λ b. is_below d e.0 ≡ b → Contains (cond b (put_after_contents e.0 (contents d es)) (contents d es)) q → IsSome (find place_cmp q (e ∷ es)) × IsTrue (is_below d q)) [
       | true ↦ λ t g. elim (put-only e.0 q (contents d es) g) [
         | inl k ↦ (found-here q e es k, subst (λ (p : Key). is_below d p ≡ true) k t)
         | inr k ↦ let r = contents-only d q es k in (found-later q e es r.0, r.1)
@@ -195,8 +195,8 @@ contents-told d q (e ∷ es) h below =
     elim (is_same_key q e.0) as (λ b. is_same_key q e.0 ≡ b → IsSome (cond b (Some e.1) (find place_cmp q es)) → Contains (contents d (e ∷ es)) q) [
       | true ↦ λ t g.
           let k : q ≡ e.0 = same q e.0 t in
-          subst (λ (b : Bool). Contains (cond b (put_behind e.0 (contents d es)) (contents d es)) q) (sym (subst (λ (p : Key). is_below d p ≡ true) k below)) (put-has e.0 q (contents d es) (inl (sym k)))
+          subst (λ (b : Bool). Contains (cond b (put_after_contents e.0 (contents d es)) (contents d es)) q) (sym (subst (λ (p : Key). is_below d p ≡ true) k below)) (put-has e.0 q (contents d es) (inl (sym k)))
       | false ↦ λ t g.
           let rest = contents-told d q es g below in
-          elim (is_below d e.0) as (λ b. Contains (cond b (put_behind e.0 (contents d es)) (contents d es)) q) [ true ↦ put-has e.0 q (contents d es) (inr rest) | false ↦ rest ]
+          elim (is_below d e.0) as (λ b. Contains (cond b (put_after_contents e.0 (contents d es)) (contents d es)) q) [ true ↦ put-has e.0 q (contents d es) (inr rest) | false ↦ rest ]
     ] refl h

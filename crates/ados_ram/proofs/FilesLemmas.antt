@@ -13,13 +13,13 @@ use Rattle.ados_text.specs.declared.codes.Result2.{Result2}
 use Rattle.ados_text.specs.declared.codes.TheConstants.Result2.{OBJECT_IN_USE, WRONG_TYPE, DIRECTORY_NOT_EMPTY, DISK_FULL, DELETE_PROTECTED}
 use Rattle.ados_text.specs.Name.{name_cmp_total}
 use Rattle.ados_ram.specs.declared.entries.Entry.{Entry}
-use Rattle.ados_ram.specs.Place.{place_cmp, place_cmp_total, place_cmp_exact, is_same_key, is_root, behind, has_names, is_below}
-use Rattle.ados_ram.specs.Entry.{is_directory, is_directory_body, bytes_of_body, fresh_bits, size_of, written, written_as, new_directory}
+use Rattle.ados_ram.specs.Place.{place_cmp, place_cmp_total, place_cmp_exact, is_same_key, is_root, path_below, has_names, is_below}
+use Rattle.ados_ram.specs.Entry.{is_directory, is_directory_body, bytes_of_body, fresh_bits, size_of, file_entry, file_entry_with_bits, new_directory}
 use Rattle.ados_ram.specs.Files.{Files, Rows, AreFiles, is_some_directory, is_some_file, bytes_at, total_of, file_limit, bytes_limit, objects_limit}
-use Rattle.ados_ram.specs.FileOperations.{on_the_way, way_fault, write_target_fault, full_fault, limit_fault, write_of, write_fault, write_as_of, append_of, is_put, put_open_of, put_open_fault, free_fault, make_dir_of, make_dir_fault, any_below, delete_target_fault, delete_fault}
+use Rattle.ados_ram.specs.FileOperations.{fault_above, way_fault, write_target_fault, full_fault, limit_fault, write_of, write_fault, write_as_of, append_of, is_put, put_open_of, put_open_fault, free_fault, make_dir_of, make_dir_fault, any_below, delete_target_fault, delete_fault}
 use Rattle.ados_ram.specs.InUse.{InUse, is_in_use}
 use Rattle.ados_ram.specs.declared.entries.Bits.{Bits}
-use Rattle.ados_ram.specs.Rows.{rows_without}
+use Rattle.ados_ram.specs.Rows.{other_rows}
 use Rattle.ados_ram.specs.declared.entries.Body.{Body}
 use Rattle.ados_ram.proofs.RowsLemmas.{AreRowsOf, size-written, own_rows, entries_rows, deleted_rows, total-insert, len-insert, total-without, length-without, total-found, length-found}
 
@@ -35,7 +35,7 @@ clear_dir : (b : Bool) (rest : Option Result2) → cond b rest (Some WRONG_TYPE)
 clear_dir true rest h = refl
 clear_dir false rest h = cc
 
-clear_step : (o : Option Entry) (rest : Option Result2) → on_the_way o rest ≡ None → IsTrue (is_some_directory o)
+clear_step : (o : Option Entry) (rest : Option Result2) → fault_above o rest ≡ None → IsTrue (is_some_directory o)
 clear_step None rest h = cc
 clear_step (Some e) rest h = clear_dir (is_directory e) rest h
 
@@ -43,7 +43,7 @@ dir_rest : (b : Bool) (rest : Option Result2) → cond b rest (Some WRONG_TYPE) 
 dir_rest true rest h = h
 dir_rest false rest h = cc
 
-clear_rest : (o : Option Entry) (rest : Option Result2) → on_the_way o rest ≡ None → rest ≡ None
+clear_rest : (o : Option Entry) (rest : Option Result2) → fault_above o rest ≡ None → rest ≡ None
 clear_rest None rest h = cc
 clear_rest (Some e) rest h = dir_rest (is_directory e) rest h
 
@@ -128,22 +128,22 @@ abbrev pub nothing : Option Entry
 nothing = None
 
 -- the path from a place to that place followed by more
-pub behind-append : (place way : List (List ℕ)) → behind place (place ++ way) ≡ Some way
+pub behind-append : (place way : List (List ℕ)) → path_below place (place ++ way) ≡ Some way
 behind-append [] way = refl
 behind-append (n ∷ ns) way =
-    ap (λ b. cond b (behind ns (ns ++ way)) None) ((eq_by_cmp_equiv name_cmp_total).refl n) ∙ behind-append ns way
+    ap (λ b. cond b (path_below ns (ns ++ way)) None) ((eq_by_cmp_equiv name_cmp_total).refl n) ∙ behind-append ns way
 
 -- the bits of a new file do not affect the sizes
 same_total : (m : Files) (key : List (List ℕ)) (name bytes : List ℕ) (bits : Bits) → total_of (map.entries (write_of m key name bytes)) ≡ total_of (map.entries (write_as_of m key name bytes bits))
 same_total m key name bytes bits =
     total-insert m key _
-    ∙ ap (λ s. s + total_of (rows_without key (map.entries m))) (size-written fresh_bits (map.get m key) name bytes ∙ sym (size-written bits (map.get m key) name bytes))
+    ∙ ap (λ s. s + total_of (other_rows key (map.entries m))) (size-written fresh_bits (map.get m key) name bytes ∙ sym (size-written bits (map.get m key) name bytes))
     ∙ sym (total-insert m key _)
 
 -- after a write that is not refused
 pub written_files : {m : Files} (is_open : Bool) (key : List (List ℕ)) (name bytes : List ℕ) (bits : Bits) → AreFiles m → write_fault is_open m key name bytes ≡ None → AreFiles (write_as_of m key name bytes bits)
 written_files {m} is_open key name bytes bits files e =
-    let new = written_as bits (map.get m key) name bytes in
+    let new = file_entry_with_bits bits (map.get m key) name bytes in
     let way = or_first (way_fault m [] key) _ e in
     let rest = or_second (way_fault m [] key) _ e in
     let within = no_limit_fault _ _ _ (or_second (write_target_fault is_open (map.get m key)) _ rest) in
@@ -176,7 +176,7 @@ put_open_files {m} key name bytes files e =
     elim (is_put (map.get m key) bytes) as (λ b. is_put (map.get m key) bytes ≡ b → cond b (full_fault (length (bytes_at (map.get m key) ++ bytes)) (append_of m key name bytes)) None ≡ None → AreFiles (cond b (append_of m key name bytes) m)) [
       | true ↦ λ t g.
           let within = no_limit_fault _ _ _ g in
-          put_files key (written (map.get m key) name (bytes_at (map.get m key) ++ bytes)) files
+          put_files key (file_entry (map.get m key) name (bytes_at (map.get m key) ++ bytes)) files
           (λ place n more p. files.above place n more (subst (λ (q : List (List ℕ)). IsSome (map.get m q)) (sym p) (there (map.get m key) _ t)))
           (λ d. absurd (a_file (map.get m key) _ t d))
           (subst (λ (n : ℕ). n ≤ file_limit) (sym (size-written fresh_bits (map.get m key) name (bytes_at (map.get m key) ++ bytes))) within.size)
@@ -203,8 +203,8 @@ changed_files {m} key change e files found body =
     let small : size_of e ≤ file_limit = subst (λ (o : Option Entry). length (bytes_at o) ≤ file_limit) found (files.each_file key) in
     let all = files.all_bytes in
     let count = files.objects in
-    let total : total_of (map.entries (map.insert m key (change e))) ≡ size_of (change e) + total_of (rows_without key (map.entries m)) = total-insert m key (change e) in
-    let number : map.len (map.insert m key (change e)) ≡ 1 + length (rows_without key (map.entries m)) = len-insert m key (change e) in
+    let total : total_of (map.entries (map.insert m key (change e))) ≡ size_of (change e) + total_of (other_rows key (map.entries m)) = total-insert m key (change e) in
+    let number : map.len (map.insert m key (change e)) ≡ 1 + length (other_rows key (map.entries m)) = len-insert m key (change e) in
     put_files key (change e) files
     (λ place name rest t. files.above place name rest (subst (λ (o : Option Entry). IsSome o) (sym (ap (map.get m) t ∙ found)) refl))
     (λ d. subst (λ (b : Body). IsTrue (is_directory_body b)) (sym body) (subst (λ (o : Option Entry). IsTrue (is_some_directory o)) found d))
@@ -252,8 +252,8 @@ above_left {m} key place name rest files empty =
 -- after an object with nothing below it was removed
 pub removed_files : {m : Files} (key : List (List ℕ)) → AreFiles m → is_root key ≡ false → any_below key (map.entries m) ≡ false → AreFiles (map.remove m key)
 removed_files {m} key files not_root empty =
-    let r : AreRowsOf (rows_without key (map.entries m)) (map.remove m key) = deleted_rows key (own_rows m) refl in
-    let left : map.entries (map.remove m key) ≡ rows_without key (map.entries m) = entries_rows (rows_without key (map.entries m)) r in
+    let r : AreRowsOf (other_rows key (map.entries m)) (map.remove m key) = deleted_rows key (own_rows m) refl in
+    let left : map.entries (map.remove m key) ≡ other_rows key (map.entries m) = entries_rows (other_rows key (map.entries m)) r in
     let all = files.all_bytes in
     let objects = files.objects in
     record {

@@ -10,7 +10,7 @@ use Rattle.std.specs.FinMap.Entries.{below_all, by_order}
 use Rattle.ados_ram.specs.Files.{Rows}
 use Rattle.ados_text.specs.Name.{name_cmp, name_cmp_total, name_cmp_exact}
 use Rattle.ados_ram.proofs.RowsLemmas.{first, second}
-use Rattle.ados_ram.specs.Tree.{Kids, kids_without, IsKid, IsKidGap, IsKidPosition}
+use Rattle.ados_ram.specs.Tree.{Kids, remove_kid, IsKid, IsKidGap, IsKidPosition}
 
 less : (o : Ordering) → T (is_lt o) → o ≡ Less
 less Less p = refl
@@ -21,20 +21,20 @@ turned : (a b : List ℕ) (r : Ordering) → name_cmp a b ≡ r → name_cmp b a
 turned a b r p = name_cmp_total.antisymm b a ∙ ap ordering_reverse p
 
 -- a name before all objects is the name of none
-pub above_all : (k q : List ℕ) (es : Kids) → name_cmp k q ≡ Less → T (below_all name_cmp q es) → kids_without k es ≡ es
+pub above_all : (k q : List ℕ) (es : Kids) → name_cmp k q ≡ Less → T (below_all name_cmp q es) → remove_kid k es ≡ es
 above_all k q [] p h = refl
 above_all k q (e ∷ es) p h =
-    ap (λ r. cond (is_eq r) (kids_without k es) (e ∷ kids_without k es)) (name_cmp_total.trans k q e.0 p (less _ (first _ _ h))) ∙ ap (λ (r : Kids). e ∷ r) (above_all k q es p (second _ _ h))
+    ap (λ r. cond (is_eq r) (remove_kid k es) (e ∷ remove_kid k es)) (name_cmp_total.trans k q e.0 p (less _ (first _ _ h))) ∙ ap (λ (r : Kids). e ∷ r) (above_all k q es p (second _ _ h))
 
 pub none_above : (k q : List ℕ) (es : Kids) → name_cmp k q ≡ Less → T (below_all name_cmp q es) → find name_cmp k es ≡ None
 none_above k q [] p h = refl
 none_above k q (e ∷ es) p h =
     ap (λ r. cond (is_eq r) (Some e.1) (find name_cmp k es)) (name_cmp_total.trans k q e.0 p (less _ (first _ _ h))) ∙ none_above k q es p (second _ _ h)
 
-pub tied_all : (k q : List ℕ) (es : Kids) → name_cmp k q ≡ Equal → T (below_all name_cmp q es) → kids_without k es ≡ es
+pub tied_all : (k q : List ℕ) (es : Kids) → name_cmp k q ≡ Equal → T (below_all name_cmp q es) → remove_kid k es ≡ es
 tied_all k q [] p h = refl
 tied_all k q (e ∷ es) p h =
-    ap (λ r. cond (is_eq r) (kids_without k es) (e ∷ kids_without k es)) (name_cmp_total.congr k q e.0 p ∙ less _ (first _ _ h)) ∙ ap (λ (r : Kids). e ∷ r) (tied_all k q es p (second _ _ h))
+    ap (λ r. cond (is_eq r) (remove_kid k es) (e ∷ remove_kid k es)) (name_cmp_total.congr k q e.0 p ∙ less _ (first _ _ h)) ∙ ap (λ (r : Kids). e ∷ r) (tied_all k q es p (second _ _ h))
 
 -- a name before all objects is before each
 below_at : (q : List ℕ) (es : Kids) (i : ℕ) (d : List ℕ × Rows) → T (below_all name_cmp q es) → i < length es → name_cmp q (slice_index_or es i d).0 ≡ Less
@@ -71,7 +71,7 @@ past_there key e es i g t =
       name = λ d. t.name d;
       found = λ d. ap (λ r. cond (is_eq r) (Some e.1) (find name_cmp key es)) g ∙ t.found d;
       put = λ new. ap (λ r. by_order r ((key, new) ∷ e ∷ es) ((e.0, new) ∷ es) (e ∷ put name_cmp key new es)) g ∙ ap (λ (xs : Kids). e ∷ xs) (t.put new);
-      without = ap (λ r. cond (is_eq r) (kids_without key es) (e ∷ kids_without key es)) g ∙ ap (λ (xs : Kids). e ∷ xs) t.without;
+      without = ap (λ r. cond (is_eq r) (remove_kid key es) (e ∷ remove_kid key es)) g ∙ ap (λ (xs : Kids). e ∷ xs) t.without;
     }
 
 past_gap : (key : List ℕ) (e : List ℕ × Rows) (es : Kids) (i : ℕ) → name_cmp key e.0 ≡ Greater → IsKidGap key es i → IsKidGap key (e ∷ es) (suc i)
@@ -81,7 +81,7 @@ past_gap key e es i g t =
       within = omega arith;
       absent = ap (λ r. cond (is_eq r) (Some e.1) (find name_cmp key es)) g ∙ t.absent;
       put = λ new. ap (λ r. by_order r ((key, new) ∷ e ∷ es) ((e.0, new) ∷ es) (e ∷ put name_cmp key new es)) g ∙ ap (λ (xs : Kids). e ∷ xs) (t.put new);
-      without = ap (λ r. cond (is_eq r) (kids_without key es) (e ∷ kids_without key es)) g ∙ ap (λ (xs : Kids). e ∷ xs) t.without;
+      without = ap (λ r. cond (is_eq r) (remove_kid key es) (e ∷ remove_kid key es)) g ∙ ap (λ (xs : Kids). e ∷ xs) t.without;
     }
 
 there : (key : List ℕ) (es : Kids) (i : ℕ) → T (is_sorted name_cmp es) → i < length es → HoldsAt (λ e. name_cmp e.0 key ≡ Equal) es i → IsKid key es i
@@ -93,7 +93,7 @@ there key (e ∷ es) zero h p at =
       name = λ d. name_cmp_exact e.0 key (at e);
       found = λ d. ap (λ r. cond (is_eq r) (Some e.1) (find name_cmp key es)) tied;
       put = λ new. ap (λ r. by_order r ((key, new) ∷ e ∷ es) ((e.0, new) ∷ es) (e ∷ put name_cmp key new es)) tied ∙ ap (λ (k : List ℕ). (k, new) ∷ es) (name_cmp_exact e.0 key (at e));
-      without = ap (λ r. cond (is_eq r) (kids_without key es) (e ∷ kids_without key es)) tied ∙ tied_all key e.0 es tied (first _ _ h);
+      without = ap (λ r. cond (is_eq r) (remove_kid key es) (e ∷ remove_kid key es)) tied ∙ tied_all key e.0 es tied (first _ _ h);
     }
 there key (e ∷ es) (suc i) h p at =
     let before : name_cmp e.0 key ≡ Less = subst (λ (k : List ℕ). name_cmp e.0 k ≡ Less) (name_cmp_exact _ key (at e)) (below_at e.0 es i e (first _ _ h) (omega arith)) in
@@ -108,7 +108,7 @@ gap key (e ∷ es) zero h p low high =
       within = omega arith;
       absent = ap (λ r. cond (is_eq r) (Some e.1) (find name_cmp key es)) before ∙ none_above key e.0 es before (first _ _ h);
       put = λ new. ap (λ r. by_order r ((key, new) ∷ e ∷ es) ((e.0, new) ∷ es) (e ∷ put name_cmp key new es)) before;
-      without = ap (λ r. cond (is_eq r) (kids_without key es) (e ∷ kids_without key es)) before ∙ ap (λ (xs : Kids). e ∷ xs) (above_all key e.0 es before (first _ _ h));
+      without = ap (λ r. cond (is_eq r) (remove_kid key es) (e ∷ remove_kid key es)) before ∙ ap (λ (xs : Kids). e ∷ xs) (above_all key e.0 es before (first _ _ h));
     }
 gap key (e ∷ es) (suc i) h p low high =
     past_gap key e es i (turned e.0 key Less (low 0 e (omega arith) (omega arith)))

@@ -5,28 +5,28 @@ use Rattle.std.specs.Option.{option_map}
 use Rattle.std.specs.FinMap as map
 use Rattle.ados_text.specs.Name.{Name}
 use Rattle.ados_ram.specs.declared.entries.Entry.{Entry}
-use Rattle.ados_ram.specs.Place.{Key, behind, is_at_or_below}
-use Rattle.ados_ram.specs.Entry.{renamed}
+use Rattle.ados_ram.specs.Place.{Key, path_below, is_at_or_below}
+use Rattle.ados_ram.specs.Entry.{renamed_entry}
 use Rattle.ados_ram.specs.Files.{Files}
 use Rattle.ados_ram.specs.FileOperations.{way_fault, rename_of}
-use Rattle.ados_ram.specs.Renames.{named, RenamesMove}
+use Rattle.ados_ram.specs.Renames.{entry_with_name, RenamesMove}
 use Rattle.ados_ram.proofs.FilesLemmas.{nothing, or_second}
 use Rattle.ados_ram.proofs.RenameLemmas.{CanMove, Within, get-moved_in, get-moved_out}
 use Rattle.ados_ram.proofs.RenamedFiles.{can_move, none_of, within_from}
 use Rattle.ados_ram.proofs.StayLemmas.{rename-stays}
 
-itself : (name : Name) (there : Option Entry) → option_map (renamed name []) there ≡ option_map (named name) there
+itself : (name : Name) (there : Option Entry) → option_map (renamed_entry name []) there ≡ option_map (entry_with_name name) there
 itself name None = refl
 itself name (Some e) = refl
 
-below : (name first : Name) (way : Key) (there : Option Entry) → option_map (renamed name (first ∷ way)) there ≡ there
+below : (name first : Name) (way : Key) (there : Option Entry) → option_map (renamed_entry name (first ∷ way)) there ≡ there
 below name first way None = refl
 below name first way (Some e) = refl
 
 gone : (files : Files) (from to : Key) (name : Name) (place : Key) → is_at_or_below from place ≡ true → is_at_or_below to place ≡ false →
     map.get (rename_of files from to name) place ≡ nothing
 gone files from to name place was out =
-    get-moved_out files from to name place (none_of (behind to place) out) ∙ ap (λ b. cond b nothing (map.get files place)) was
+    get-moved_out files from to name place (none_of (path_below to place) out) ∙ ap (λ b. cond b nothing (map.get files place)) was
 
 pub renames-move : RenamesMove
 renames-move busy files from to name are clear =
@@ -35,7 +35,7 @@ renames-move busy files from to name are clear =
     record {
       itself =
           ap (map.get (rename_of files from to name)) (sym (append-nil to)) ∙ get-moved_in files from to name [] within
-          ∙ ap (λ place. option_map (renamed name []) (map.get files place)) (append-nil from) ∙ itself name (map.get files from);
+          ∙ ap (λ place. option_map (renamed_entry name []) (map.get files place)) (append-nil from) ∙ itself name (map.get files from);
       below = λ first way. get-moved_in files from to name (first ∷ way) within ∙ below name first way (map.get files (from ++ first ∷ way));
       gone = gone files from to name;
       others = rename-stays files from to name;

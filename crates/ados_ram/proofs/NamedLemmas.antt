@@ -6,17 +6,17 @@ use Rattle.std.specs.Option.{option_map}
 use Rattle.std.specs.FinMap as map
 use Rattle.std.specs.FinMap.{find, get-from_entries, get-insert, get-remove}
 use Rattle.std.specs.Prelude.{codes}
-use Rattle.ados_text.specs.Text.{Bytes, Text, folded}
+use Rattle.ados_text.specs.Text.{Bytes, Text, folded_text}
 use Rattle.ados_text.specs.Name.{Name}
 use Rattle.ados_ram.specs.declared.entries.Bits.{Bits}
 use Rattle.ados_ram.specs.declared.entries.Entry.{Entry}
-use Rattle.ados_ram.specs.Place.{Key, Place, behind, is_at_or_below, is_same_key, key_of, last_name, place_cmp, place_cmp_total}
-use Rattle.ados_ram.specs.Entry.{new_directory, written_as, with_bits, with_comment}
+use Rattle.ados_ram.specs.Place.{Key, Place, path_below, is_at_or_below, is_same_key, key_of, last_name, place_cmp, place_cmp_total}
+use Rattle.ados_ram.specs.Entry.{new_directory, file_entry_with_bits, with_bits, with_comment}
 use Rattle.ados_ram.specs.Files.{Files, Rows, AreFiles, bytes_at, directory_row, first_files}
-use Rattle.ados_ram.specs.FileOperations.{append_of, changed, comment_of, is_put, make_dir_of, protect_of, put_open_of, rename_fault, rename_of, write_as_of, write_of}
+use Rattle.ados_ram.specs.FileOperations.{append_of, with_entry_changed, comment_of, is_put, make_dir_of, protect_of, put_open_of, rename_fault, rename_of, write_as_of, write_of}
 use Rattle.ados_ram.specs.InUse.{InUse}
 use Rattle.ados_ram.specs.Named.{AreNamed, IsNamedBy}
-use Rattle.ados_ram.specs.Renames.{HasMoved, named}
+use Rattle.ados_ram.specs.Renames.{HasMoved, entry_with_name}
 use Rattle.ados_ram.proofs.ChangeLemmas.{last-deeper}
 use Rattle.ados_ram.proofs.ContentsLaws.{key-twice}
 use Rattle.ados_ram.proofs.FilesLemmas.{behind-append, nothing, same}
@@ -24,10 +24,10 @@ use Rattle.ados_ram.proofs.MoveLemmas.{renames-move}
 use Rattle.ados_ram.proofs.RenameLemmas.{behind-exact}
 
 -- the last name of a key
-last-folded : (place : Place) → last_name (key_of place) ≡ folded (last_name place)
+last-folded : (place : Place) → last_name (key_of place) ≡ folded_text (last_name place)
 last-folded [] = refl
 last-folded (x ∷ []) = refl
-last-folded (x ∷ y ∷ ys) = last-deeper (folded x) (folded y) (key_of ys) ∙ (last-folded (y ∷ ys) ∙ ap folded (sym (last-deeper x y ys)))
+last-folded (x ∷ y ∷ ys) = last-deeper (folded_text x) (folded_text y) (key_of ys) ∙ (last-folded (y ∷ ys) ∙ ap folded_text (sym (last-deeper x y ys)))
 
 last-behind : (above : Key) (first : Name) (way : Key) → last_name (above ++ first ∷ way) ≡ last_name (first ∷ way)
 last-behind [] first way = refl
@@ -36,7 +36,7 @@ last-behind (x ∷ y ∷ ys) first way = last-deeper x y (ys ++ first ∷ way) �
 
 -- an object under the last name of its place
 by-place : (place : Place) (e : Entry) → e.name ≡ last_name place → IsNamedBy (key_of place) e
-by-place place e own = record { folded_key = key-twice place; own = ap folded own ∙ sym (last-folded place) }
+by-place place e own = record { folded_key = key-twice place; own = ap folded_text own ∙ sym (last-folded place) }
 
 insert-named : (files : Files) (key : Key) (new : Entry) → AreNamed files → IsNamedBy key new → AreNamed (map.insert files key new)
 insert-named files key new are it other e h =
@@ -49,8 +49,8 @@ insert-named files key new are it other e h =
     (λ elsewhere g. are other e g)) (sym (get-insert place_cmp_total files key new other) ∙ h)
 
 written-named : (files : Files) (place : Place) (bits : Bits) (bytes : Bytes) (there : Option Entry) → AreNamed files → map.get files (key_of place) ≡ there →
-    IsNamedBy (key_of place) (written_as bits there (last_name place) bytes)
-written-named files place bits bytes None are h = by-place place (written_as bits None (last_name place) bytes) refl
+    IsNamedBy (key_of place) (file_entry_with_bits bits there (last_name place) bytes)
+written-named files place bits bytes None are h = by-place place (file_entry_with_bits bits None (last_name place) bytes) refl
 written-named files place bits bytes (Some e) are h =
     let it = are (key_of place) e h in
     record { folded_key = it.folded_key; own = it.own }
@@ -79,11 +79,11 @@ delete-named files key are other e h =
     (sym (get-remove place_cmp_total files key other) ∙ h)
 
 changed-named : (files : Files) (key : Key) (change : Entry → Entry) (there : Option Entry) → ((e : Entry) → (change e).name ≡ e.name) → map.get files key ≡ there →
-    AreNamed files → AreNamed (changed files key change there)
+    AreNamed files → AreNamed (with_entry_changed files key change there)
 changed-named files key change None keeps h are = are
 changed-named files key change (Some e) keeps h are =
     let it = are key e h in
-    insert-named files key (change e) are (record { folded_key = it.folded_key; own = ap folded (keeps e) ∙ it.own })
+    insert-named files key (change e) are (record { folded_key = it.folded_key; own = ap folded_text (keeps e) ∙ it.own })
 
 pub protect-named : (files : Files) (key : Key) (bits : Bits) → AreNamed files → AreNamed (protect_of files key bits)
 protect-named files key bits are = changed-named files key (with_bits bits) (map.get files key) (λ e. refl) refl are
@@ -95,22 +95,22 @@ comment-named files key comment are = changed-named files key (with_comment comm
 same-way : (a b : Key) → Some a ≡ Some b → a ≡ b
 same-way a b e = ap (λ (o : Option Key). unwrap_or o a) e
 
-moved-itself : (files : Files) (to : Place) (e : Entry) (there : Option Entry) → option_map (named (last_name to)) there ≡ Some e → IsNamedBy (key_of to) e
+moved-itself : (files : Files) (to : Place) (e : Entry) (there : Option Entry) → option_map (entry_with_name (last_name to)) there ≡ Some e → IsNamedBy (key_of to) e
 moved-itself files to e None h = cc
 moved-itself files to e (Some found) h =
-    let it : named (last_name to) found ≡ e = cc in
-    subst (λ x. IsNamedBy (key_of to) x) it (by-place to (named (last_name to) found) refl)
+    let it : entry_with_name (last_name to) found ≡ e = cc in
+    subst (λ x. IsNamedBy (key_of to) x) it (by-place to (entry_with_name (last_name to) found) refl)
 
 -- the names of a path from one place down to another that are in lower case are so after each such place
 moved-below : (from to : Place) (first : Name) (way : Key) (e : Entry) → IsNamedBy (key_of from ++ first ∷ way) e → IsNamedBy (key_of to ++ first ∷ way) e
 moved-below from to first way e it =
     let deep = first ∷ way in
     let all : key_of from ++ key_of deep ≡ key_of from ++ deep =
-    ap (λ k. k ++ key_of deep) (sym (key-twice from)) ∙ sym (map-append folded (key_of from) deep) ∙ it.folded_key in
+    ap (λ k. k ++ key_of deep) (sym (key-twice from)) ∙ sym (map-append folded_text (key_of from) deep) ∙ it.folded_key in
     let ways : key_of deep ≡ deep =
-    same-way (key_of deep) deep (sym (behind-append (key_of from) (key_of deep)) ∙ ap (behind (key_of from)) all ∙ behind-append (key_of from) deep) in
+    same-way (key_of deep) deep (sym (behind-append (key_of from) (key_of deep)) ∙ ap (path_below (key_of from)) all ∙ behind-append (key_of from) deep) in
     record {
-      folded_key = map-append folded (key_of to) deep ∙ ap (λ k. k ++ key_of deep) (key-twice to) ∙ ap (λ w. key_of to ++ w) ways;
+      folded_key = map-append folded_text (key_of to) deep ∙ ap (λ k. k ++ key_of deep) (key-twice to) ∙ ap (λ w. key_of to ++ w) ways;
       own = it.own ∙ last-behind (key_of from) first way ∙ sym (last-behind (key_of to) first way);
     }
 
@@ -133,7 +133,7 @@ pub rename-named : (busy : InUse) (files : Files) (from to : Place) → AreFiles
 rename-named busy files from to tree clear are key e h =
     let new = rename_of files (key_of from) (key_of to) (last_name to) in
     let moves = renames-move busy files (key_of from) (key_of to) (last_name to) tree clear in
-    elim (behind (key_of to) key) as (λ o. behind (key_of to) key ≡ o → IsNamedBy key e) [
+    elim (path_below (key_of to) key) as (λ o. path_below (key_of to) key ≡ o → IsNamedBy key e) [
       | Some way ↦ λ p.
           let is : key ≡ key_of to ++ way = behind-exact (key_of to) key way p in
           subst (λ k. IsNamedBy k e) (sym is) (moved-to files from to new are moves way e (ap (map.get new) (sym is) ∙ h))

@@ -10,10 +10,10 @@ use Rattle.std.specs.FinMap.Entries.{below_all, is_sorted-put, is_sorted-where_k
 use Rattle.ados_ram.specs.declared.entries.Entry.{Entry}
 use Rattle.ados_ram.specs.declared.entries.Bits.{Bits}
 use Rattle.ados_ram.specs.Place.{place_cmp, place_cmp_total, place_cmp_exact, is_same_key}
-use Rattle.ados_ram.specs.Entry.{written_as, size_of}
+use Rattle.ados_ram.specs.Entry.{file_entry_with_bits, size_of}
 use Rattle.ados_ram.specs.Files.{Files, Rows, bytes_at, total_of}
 use Rattle.ados_ram.specs.FileOperations.{moved_rows, rename_of}
-use Rattle.ados_ram.specs.Rows.{rows_without}
+use Rattle.ados_ram.specs.Rows.{other_rows}
 
 pub second : (a b : Bool) → T (a && b) → T b
 second true b p = p
@@ -29,20 +29,20 @@ tied Equal p = absurd p
 tied Greater p = absurd p
 
 -- a place before all rows is the place of none
-pub above_all : (k q : List (List ℕ)) (es : Rows) → place_cmp k q ≡ Less → T (below_all place_cmp q es) → rows_without k es ≡ es
+pub above_all : (k q : List (List ℕ)) (es : Rows) → place_cmp k q ≡ Less → T (below_all place_cmp q es) → other_rows k es ≡ es
 above_all k q [] p h = refl
 above_all k q (e ∷ es) p h =
-    ap (λ r. cond (is_eq r) (rows_without k es) (e ∷ rows_without k es)) (place_cmp_total.trans k q e.0 p (tied _ (first _ _ h))) ∙ ap (λ (r : Rows). e ∷ r) (above_all k q es p (second _ _ h))
+    ap (λ r. cond (is_eq r) (other_rows k es) (e ∷ other_rows k es)) (place_cmp_total.trans k q e.0 p (tied _ (first _ _ h))) ∙ ap (λ (r : Rows). e ∷ r) (above_all k q es p (second _ _ h))
 
 pub none_above : (k q : List (List ℕ)) (es : Rows) → place_cmp k q ≡ Less → T (below_all place_cmp q es) → find place_cmp k es ≡ None
 none_above k q [] p h = refl
 none_above k q (e ∷ es) p h =
     ap (λ r. cond (is_eq r) (Some e.1) (find place_cmp k es)) (place_cmp_total.trans k q e.0 p (tied _ (first _ _ h))) ∙ none_above k q es p (second _ _ h)
 
-pub tied_all : (k q : List (List ℕ)) (es : Rows) → place_cmp k q ≡ Equal → T (below_all place_cmp q es) → rows_without k es ≡ es
+pub tied_all : (k q : List (List ℕ)) (es : Rows) → place_cmp k q ≡ Equal → T (below_all place_cmp q es) → other_rows k es ≡ es
 tied_all k q [] p h = refl
 tied_all k q (e ∷ es) p h =
-    ap (λ r. cond (is_eq r) (rows_without k es) (e ∷ rows_without k es)) (place_cmp_total.congr k q e.0 p ∙ tied _ (first _ _ h)) ∙ ap (λ (r : Rows). e ∷ r) (tied_all k q es p (second _ _ h))
+    ap (λ r. cond (is_eq r) (other_rows k es) (e ∷ other_rows k es)) (place_cmp_total.congr k q e.0 p ∙ tied _ (first _ _ h)) ∙ ap (λ (r : Rows). e ∷ r) (tied_all k q es p (second _ _ h))
 
 pub holds : (b : Bool) → IsTrue b → T b
 holds b h = subst T (sym h) tt
@@ -67,19 +67,19 @@ past : (a b n m : ℕ) → n ≡ b + m → a + n ≡ b + (a + m)
 past a b n m e = omega arith
 
 -- a row put at its place adds its size to that of the others
-pub total-put : (k : List (List ℕ)) (v : Entry) (es : Rows) → T (is_sorted place_cmp es) → total_of (put place_cmp k v es) ≡ size_of v + total_of (rows_without k es)
+pub total-put : (k : List (List ℕ)) (v : Entry) (es : Rows) → T (is_sorted place_cmp es) → total_of (put place_cmp k v es) ≡ size_of v + total_of (other_rows k es)
 total-put k v [] h = refl
 total-put k v (e ∷ es) h =
-    elim (place_cmp k e.0) as (λ r. place_cmp k e.0 ≡ r → total_of (by_order r ((k, v) ∷ e ∷ es) ((e.0, v) ∷ es) (e ∷ put place_cmp k v es)) ≡ size_of v + total_of (cond (is_eq r) (rows_without k es) (e ∷ rows_without k es))) [
+    elim (place_cmp k e.0) as (λ r. place_cmp k e.0 ≡ r → total_of (by_order r ((k, v) ∷ e ∷ es) ((e.0, v) ∷ es) (e ∷ put place_cmp k v es)) ≡ size_of v + total_of (cond (is_eq r) (other_rows k es) (e ∷ other_rows k es))) [
       | Less ↦ λ p. ap (λ (xs : Rows). size_of v + (size_of e.1 + total_of xs)) (sym (above_all k e.0 es p (first _ _ h)))
       | Equal ↦ λ p. ap (λ (xs : Rows). size_of v + total_of xs) (sym (tied_all k e.0 es p (first _ _ h)))
       | Greater ↦ λ p. past (size_of e.1) (size_of v) _ _ (total-put k v es (second _ _ h))
     ] refl
 
-pub length-put_without : (k : List (List ℕ)) (v : Entry) (es : Rows) → T (is_sorted place_cmp es) → length (put place_cmp k v es) ≡ 1 + length (rows_without k es)
+pub length-put_without : (k : List (List ℕ)) (v : Entry) (es : Rows) → T (is_sorted place_cmp es) → length (put place_cmp k v es) ≡ 1 + length (other_rows k es)
 length-put_without k v [] h = omega arith
 length-put_without k v (e ∷ es) h =
-    elim (place_cmp k e.0) as (λ r. place_cmp k e.0 ≡ r → length (by_order r ((k, v) ∷ e ∷ es) ((e.0, v) ∷ es) (e ∷ put place_cmp k v es)) ≡ 1 + length (cond (is_eq r) (rows_without k es) (e ∷ rows_without k es))) [
+    elim (place_cmp k e.0) as (λ r. place_cmp k e.0 ≡ r → length (by_order r ((k, v) ∷ e ∷ es) ((e.0, v) ∷ es) (e ∷ put place_cmp k v es)) ≡ 1 + length (cond (is_eq r) (other_rows k es) (e ∷ other_rows k es))) [
       | Less ↦ λ p. rw (above_all k e.0 es p (first _ _ h)) (omega arith)
       | Equal ↦ λ p. rw (tied_all k e.0 es p (first _ _ h)) (omega arith)
       | Greater ↦ λ p. omega (arith, length-put_without k v es (second _ _ h))
@@ -93,19 +93,19 @@ pub sorted_put : (k : List (List ℕ)) (v : Entry) (es : Rows) → IsTrue (is_so
 sorted_put k v es h = is_true _ (is_sorted-put place_cmp place_cmp_total k v es (holds _ h))
 
 -- a file that is written has the size of the written bytes
-pub size-written : (bits : Bits) (o : Option Entry) (name bytes : List ℕ) → size_of (written_as bits o name bytes) ≡ length bytes
+pub size-written : (bits : Bits) (o : Option Entry) (name bytes : List ℕ) → size_of (file_entry_with_bits bits o name bytes) ≡ length bytes
 size-written bits None name bytes = refl
 size-written bits (Some e) name bytes = refl
 
-as_filter : (k : List (List ℕ)) (es : Rows) → rows_without k es ≡ where_key place_cmp (λ x. not (eq_by_cmp place_cmp k x)) es
+as_filter : (k : List (List ℕ)) (es : Rows) → other_rows k es ≡ where_key place_cmp (λ x. not (eq_by_cmp place_cmp k x)) es
 as_filter k [] = refl
 as_filter k (e ∷ es) =
-    elim (eq_by_cmp place_cmp k e.0) as (λ b. cond b (rows_without k es) (e ∷ rows_without k es) ≡ cond (not b) (e ∷ where_key place_cmp (λ x. not (eq_by_cmp place_cmp k x)) es) (where_key place_cmp (λ x. not (eq_by_cmp place_cmp k x)) es)) [
+    elim (eq_by_cmp place_cmp k e.0) as (λ b. cond b (other_rows k es) (e ∷ other_rows k es) ≡ cond (not b) (e ∷ where_key place_cmp (λ x. not (eq_by_cmp place_cmp k x)) es) (where_key place_cmp (λ x. not (eq_by_cmp place_cmp k x)) es)) [
       | true ↦ as_filter k es
       | false ↦ ap (λ (r : Rows). e ∷ r) (as_filter k es)
     ]
 
-pub sorted_without : (k : List (List ℕ)) (es : Rows) → IsTrue (is_sorted place_cmp es) → IsTrue (is_sorted place_cmp (rows_without k es))
+pub sorted_without : (k : List (List ℕ)) (es : Rows) → IsTrue (is_sorted place_cmp es) → IsTrue (is_sorted place_cmp (other_rows k es))
 sorted_without k es h = is_true _ (subst (λ (r : Rows). T (is_sorted place_cmp r)) (sym (as_filter k es)) (is_sorted-where_key place_cmp _ es (holds _ h)))
 
 pub entries_rows : {m : Files} (es : Rows) → AreRowsOf es m → map.entries m ≡ es
@@ -129,10 +129,10 @@ sorted_of_rows (e ∷ es) =
     }
 
 -- the entry at a place and the others are all entries
-pub total-rest : (k : List (List ℕ)) (es : Rows) → T (is_sorted place_cmp es) → length (bytes_at (find place_cmp k es)) + total_of (rows_without k es) ≡ total_of es
+pub total-rest : (k : List (List ℕ)) (es : Rows) → T (is_sorted place_cmp es) → length (bytes_at (find place_cmp k es)) + total_of (other_rows k es) ≡ total_of es
 total-rest k [] h = refl
 total-rest k (e ∷ es) h =
-    elim (place_cmp k e.0) as (λ r. place_cmp k e.0 ≡ r → length (bytes_at (cond (is_eq r) (Some e.1) (find place_cmp k es))) + total_of (cond (is_eq r) (rows_without k es) (e ∷ rows_without k es)) ≡ size_of e.1 + total_of es) [
+    elim (place_cmp k e.0) as (λ r. place_cmp k e.0 ≡ r → length (bytes_at (cond (is_eq r) (Some e.1) (find place_cmp k es))) + total_of (cond (is_eq r) (other_rows k es) (e ∷ other_rows k es)) ≡ size_of e.1 + total_of es) [
       | Less ↦ λ p. omega (arith, total-rest k es (second _ _ h))
       | Equal ↦ λ p. ap (λ (xs : Rows). size_of e.1 + total_of xs) (tied_all k e.0 es p (first _ _ h))
       | Greater ↦ λ p. omega (arith, total-rest k es (second _ _ h))
@@ -142,10 +142,10 @@ abbrev pub one_if : Bool → ℕ
 one_if true = 1
 one_if false = 0
 
-pub length-rest : (k : List (List ℕ)) (es : Rows) → T (is_sorted place_cmp es) → one_if (is_some (find place_cmp k es)) + length (rows_without k es) ≡ length es
+pub length-rest : (k : List (List ℕ)) (es : Rows) → T (is_sorted place_cmp es) → one_if (is_some (find place_cmp k es)) + length (other_rows k es) ≡ length es
 length-rest k [] h = omega arith
 length-rest k (e ∷ es) h =
-    elim (place_cmp k e.0) as (λ r. place_cmp k e.0 ≡ r → one_if (is_some (cond (is_eq r) (Some e.1) (find place_cmp k es))) + length (cond (is_eq r) (rows_without k es) (e ∷ rows_without k es)) ≡ length (e ∷ es)) [
+    elim (place_cmp k e.0) as (λ r. place_cmp k e.0 ≡ r → one_if (is_some (cond (is_eq r) (Some e.1) (find place_cmp k es))) + length (cond (is_eq r) (other_rows k es) (e ∷ other_rows k es)) ≡ length (e ∷ es)) [
       | Less ↦ λ p. omega (arith, length-rest k es (second _ _ h))
       | Equal ↦ λ p. let e = ap length (tied_all k e.0 es p (first _ _ h)) in omega arith
       | Greater ↦ λ p. omega (arith, length-rest k es (second _ _ h))
@@ -163,7 +163,7 @@ turned true x y = refl
 turned false x y = refl
 
 -- the rows without a place are the map with it removed
-pub without_rows : {m : Files} (es : Rows) (k : List (List ℕ)) → map.from_sorted es ≡ m → IsTrue (is_sorted place_cmp es) → map.from_sorted (rows_without k es) ≡ map.remove m k
+pub without_rows : {m : Files} (es : Rows) (k : List (List ℕ)) → map.from_sorted es ≡ m → IsTrue (is_sorted place_cmp es) → map.from_sorted (other_rows k es) ≡ map.remove m k
 without_rows es k e sorted = same_map place_cmp_total place_cmp_exact _ _ (λ q.
     get-from_sorted place_cmp _ q (holds _ (sorted_without k es sorted))
     ∙ ap (find place_cmp q) (as_filter k es)
@@ -174,39 +174,39 @@ without_rows es k e sorted = same_map place_cmp_total place_cmp_exact _ _ (λ q.
     ∙ sym (get-remove place_cmp_total _ k q))
 
 -- the rows without a place
-pub deleted_rows : {m : Files} {es new : Rows} (key : List (List ℕ)) → AreRowsOf es m → new ≡ rows_without key es → AreRowsOf new (map.remove m key)
+pub deleted_rows : {m : Files} {es new : Rows} (key : List (List ℕ)) → AreRowsOf es m → new ≡ other_rows key es → AreRowsOf new (map.remove m key)
 deleted_rows {m} {es} {new} key r e = record {
   is = ap map.from_sorted e ∙ without_rows es key r.is r.sorted;
   sorted = rw e (sorted_without key es r.sorted);
 }
 
 -- the size and number of the rows of a map with an entry inserted
-pub total-insert : (m : Files) (key : List (List ℕ)) (new : Entry) → total_of (map.entries (map.insert m key new)) ≡ size_of new + total_of (rows_without key (map.entries m))
+pub total-insert : (m : Files) (key : List (List ℕ)) (new : Entry) → total_of (map.entries (map.insert m key new)) ≡ size_of new + total_of (other_rows key (map.entries m))
 total-insert m key new = ap total_of (entries-insert place_cmp_total m key new) ∙ total-put key new (map.entries m) (entries_sorted m)
 
-pub len-insert : (m : Files) (key : List (List ℕ)) (new : Entry) → map.len (map.insert m key new) ≡ 1 + length (rows_without key (map.entries m))
+pub len-insert : (m : Files) (key : List (List ℕ)) (new : Entry) → map.len (map.insert m key new) ≡ 1 + length (other_rows key (map.entries m))
 len-insert m key new = len-entries _ ∙ ap length (entries-insert place_cmp_total m key new) ∙ length-put_without key new (map.entries m) (entries_sorted m)
 
 -- the same, by the old entry
 pub total-beside : {m : Files} (es : Rows) (key : List (List ℕ)) (new : Entry) → AreRowsOf es m → total_of (map.entries (map.insert m key new)) ≡ size_of new + (total_of es - length (bytes_at (map.get m key)))
 total-beside {m} es key new r =
     let all = entries_rows es r in
-    let rest : length (bytes_at (find place_cmp key es)) + total_of (rows_without key es) ≡ total_of es = total-rest key es (holds _ r.sorted) in
+    let rest : length (bytes_at (find place_cmp key es)) + total_of (other_rows key es) ≡ total_of es = total-rest key es (holds _ r.sorted) in
     let found : length (bytes_at (map.get m key)) ≡ length (bytes_at (find place_cmp key es)) = ap (λ (o : Option Entry). length (bytes_at o)) (get_rows es key r.is r.sorted) in
-    let sum : total_of (map.entries (map.insert m key new)) ≡ size_of new + total_of (rows_without key es) = total-insert m key new ∙ ap (λ (xs : Rows). size_of new + total_of (rows_without key xs)) all in
+    let sum : total_of (map.entries (map.insert m key new)) ≡ size_of new + total_of (other_rows key es) = total-insert m key new ∙ ap (λ (xs : Rows). size_of new + total_of (other_rows key xs)) all in
     omega arith
 
 pub bytes-within : {m : Files} (es : Rows) (key : List (List ℕ)) → AreRowsOf es m → length (bytes_at (map.get m key)) ≤ total_of es
 bytes-within {m} es key r =
-    let rest : length (bytes_at (find place_cmp key es)) + total_of (rows_without key es) ≡ total_of es = total-rest key es (holds _ r.sorted) in
+    let rest : length (bytes_at (find place_cmp key es)) + total_of (other_rows key es) ≡ total_of es = total-rest key es (holds _ r.sorted) in
     let found : length (bytes_at (map.get m key)) ≡ length (bytes_at (find place_cmp key es)) = ap (λ (o : Option Entry). length (bytes_at o)) (get_rows es key r.is r.sorted) in
     omega arith
 
 pub len-beside : {m : Files} (es : Rows) (key : List (List ℕ)) (new : Entry) → AreRowsOf es m → one_if (is_some (map.get m key)) + map.len (map.insert m key new) ≡ 1 + length es
 len-beside {m} es key new r =
-    let rest : one_if (is_some (find place_cmp key es)) + length (rows_without key es) ≡ length es = length-rest key es (holds _ r.sorted) in
+    let rest : one_if (is_some (find place_cmp key es)) + length (other_rows key es) ≡ length es = length-rest key es (holds _ r.sorted) in
     let found : one_if (is_some (map.get m key)) ≡ one_if (is_some (find place_cmp key es)) = ap (λ (o : Option Entry). one_if (is_some o)) (get_rows es key r.is r.sorted) in
-    let count : map.len (map.insert m key new) ≡ 1 + length (rows_without key es) = len-insert m key new ∙ ap (λ (xs : Rows). 1 + length (rows_without key xs)) (entries_rows es r) in
+    let count : map.len (map.insert m key new) ≡ 1 + length (other_rows key es) = len-insert m key new ∙ ap (λ (xs : Rows). 1 + length (other_rows key xs)) (entries_rows es r) in
     omega arith
 
 -- the rows after a rename
@@ -222,34 +222,34 @@ some_same : (a b : Entry) → Some a ≡ Some b → a ≡ b
 some_same a b e = ap (λ (o : Option Entry). unwrap_or o a) e
 
 -- what is removed takes its size with it
-pub total-without : (k : List (List ℕ)) (es : Rows) → total_of (rows_without k es) ≤ total_of es
+pub total-without : (k : List (List ℕ)) (es : Rows) → total_of (other_rows k es) ≤ total_of es
 total-without k [] = omega arith
 total-without k (e ∷ es) =
-    elim (is_same_key k e.0) as (λ b. total_of (cond b (rows_without k es) (e ∷ rows_without k es)) ≤ size_of e.1 + total_of es) [
+    elim (is_same_key k e.0) as (λ b. total_of (cond b (other_rows k es) (e ∷ other_rows k es)) ≤ size_of e.1 + total_of es) [
       | true ↦ omega (arith, total-without k es)
       | false ↦ omega (arith, total-without k es)
     ]
 
-pub length-without : (k : List (List ℕ)) (es : Rows) → length (rows_without k es) ≤ length es
+pub length-without : (k : List (List ℕ)) (es : Rows) → length (other_rows k es) ≤ length es
 length-without k [] = omega arith
 length-without k (e ∷ es) =
-    elim (is_same_key k e.0) as (λ b. length (cond b (rows_without k es) (e ∷ rows_without k es)) ≤ length (e ∷ es)) [
+    elim (is_same_key k e.0) as (λ b. length (cond b (other_rows k es) (e ∷ other_rows k es)) ≤ length (e ∷ es)) [
       | true ↦ omega (arith, length-without k es)
       | false ↦ omega (arith, length-without k es)
     ]
 
-pub total-found : (k : List (List ℕ)) (v : Entry) (es : Rows) → find place_cmp k es ≡ Some v → size_of v + total_of (rows_without k es) ≤ total_of es
+pub total-found : (k : List (List ℕ)) (v : Entry) (es : Rows) → find place_cmp k es ≡ Some v → size_of v + total_of (other_rows k es) ≤ total_of es
 total-found k v [] h = cc
 total-found k v (e ∷ es) h =
-    elim (is_same_key k e.0) as (λ b. cond b (Some e.1) (find place_cmp k es) ≡ Some v → size_of v + total_of (cond b (rows_without k es) (e ∷ rows_without k es)) ≤ size_of e.1 + total_of es) [
+    elim (is_same_key k e.0) as (λ b. cond b (Some e.1) (find place_cmp k es) ≡ Some v → size_of v + total_of (cond b (other_rows k es) (e ∷ other_rows k es)) ≤ size_of e.1 + total_of es) [
       | true ↦ λ g. let same : size_of e.1 ≡ size_of v = ap size_of (some_same _ _ g) in omega (arith, total-without k es)
       | false ↦ λ g. omega (arith, total-found k v es g)
     ] h
 
-pub length-found : (k : List (List ℕ)) (v : Entry) (es : Rows) → find place_cmp k es ≡ Some v → 1 + length (rows_without k es) ≤ length es
+pub length-found : (k : List (List ℕ)) (v : Entry) (es : Rows) → find place_cmp k es ≡ Some v → 1 + length (other_rows k es) ≤ length es
 length-found k v [] h = cc
 length-found k v (e ∷ es) h =
-    elim (is_same_key k e.0) as (λ b. cond b (Some e.1) (find place_cmp k es) ≡ Some v → 1 + length (cond b (rows_without k es) (e ∷ rows_without k es)) ≤ length (e ∷ es)) [
+    elim (is_same_key k e.0) as (λ b. cond b (Some e.1) (find place_cmp k es) ≡ Some v → 1 + length (cond b (other_rows k es) (e ∷ other_rows k es)) ≤ length (e ∷ es)) [
       | true ↦ λ g. omega (arith, length-without k es)
       | false ↦ λ g. omega (arith, length-found k v es g)
     ] h

@@ -5,11 +5,11 @@ use Rattle.std.specs.Option.{option_map}
 use Rattle.std.specs.FinMap as map
 use Rattle.std.specs.FinMap.{find, is_sorted, get-from_entries, entries_sorted}
 use Rattle.std.specs.FinMap.Entries.{below_all}
-use Rattle.ados_ram.specs.Place.{Key, place_cmp, place_cmp_total, is_same_key, behind}
-use Rattle.ados_ram.specs.Entry.{size_of, renamed}
+use Rattle.ados_ram.specs.Place.{Key, place_cmp, place_cmp_total, is_same_key, path_below}
+use Rattle.ados_ram.specs.Entry.{size_of, renamed_entry}
 use Rattle.ados_ram.specs.Files.{Files, Rows, total_of}
 use Rattle.ados_ram.specs.FileOperations.{moved_row, moved_rows, rename_of}
-use Rattle.ados_ram.specs.Rows.{rows_without}
+use Rattle.ados_ram.specs.Rows.{other_rows}
 use Rattle.ados_ram.proofs.RowsLemmas.{holds, first, second, tied, sorted_of, sorted_of_rows, get_rows, entries_rows, total-put, length-put_without}
 use Rattle.ados_ram.proofs.FilesLemmas.{clash, nothing}
 use Rattle.ados_ram.proofs.RenameLemmas.{Within, later, here, behind-exact, false_of, find-moved_in, find-moved_out, total-moved_rows, length-moved_rows}
@@ -20,10 +20,10 @@ abbrev Distinct : Rows → Type 0
 Distinct [] = Unit {0}
 Distinct (e ∷ es) = (find place_cmp e.0 es ≡ nothing) × Distinct es
 
-left : (k : Key) (es : Rows) → find place_cmp k es ≡ nothing → rows_without k es ≡ es
+left : (k : Key) (es : Rows) → find place_cmp k es ≡ nothing → other_rows k es ≡ es
 left k [] h = refl
 left k (e ∷ es) h =
-    elim (is_same_key k e.0) as (λ b. cond b (Some e.1) (find place_cmp k es) ≡ nothing → cond b (rows_without k es) (e ∷ rows_without k es) ≡ e ∷ es) [
+    elim (is_same_key k e.0) as (λ b. cond b (Some e.1) (find place_cmp k es) ≡ nothing → cond b (other_rows k es) (e ∷ other_rows k es) ≡ e ∷ es) [
       | true ↦ λ g. cc
       | false ↦ λ g. ap (λ (r : Rows). e ∷ r) (left k es g)
     ] h
@@ -40,7 +40,7 @@ total-distinct (e ∷ es) d =
 length-distinct : (es : Rows) → Distinct es → length (sorted_of es) ≡ length es
 length-distinct [] d = refl
 length-distinct (e ∷ es) d =
-    let rest : length (rows_without e.0 (sorted_of es)) ≡ length es = ap (λ (r : Rows). length r) (left e.0 (sorted_of es) (absent e.0 es d.0)) ∙ length-distinct es d.1 in
+    let rest : length (other_rows e.0 (sorted_of es)) ≡ length es = ap (λ (r : Rows). length r) (left e.0 (sorted_of es) (absent e.0 es d.0)) ∙ length-distinct es d.1 in
     omega (arith, length-put_without e.0 e.1 (sorted_of es) (holds _ (sorted_of_rows es).sorted))
 
 -- what moved is apart from what else moved and from what stayed
@@ -49,12 +49,12 @@ distinct-moved from to name [] s within = tt
 distinct-moved from to name (e ∷ es) s within =
     let on : Within to from es = λ k h. within k (later k e es h) in
     let alone : find place_cmp e.0 es ≡ nothing = own e.0 es (first _ _ s) in (
-      elim (behind from e.0) as (λ o. behind from e.0 ≡ o → find place_cmp (moved_row to name e.0 e.1 o).0 (moved_rows from to name es) ≡ nothing) [
+      elim (path_below from e.0) as (λ o. path_below from e.0 ≡ o → find place_cmp (moved_row to name e.0 e.1 o).0 (moved_rows from to name es) ≡ nothing) [
         | None ↦ λ p.
-            let out : behind to e.0 ≡ None = none_of (behind to e.0) (false_of _ (λ h. clash (sym (ap is_some p) ∙ within e.0 (here e es) h))) in
+            let out : path_below to e.0 ≡ None = none_of (path_below to e.0) (false_of _ (λ h. clash (sym (ap is_some p) ∙ within e.0 (here e es) h))) in
             find-moved_out from to name es e.0 out ∙ ap (λ b. cond b nothing (find place_cmp e.0 es)) (ap is_some p) ∙ alone
         | Some w ↦ λ p.
-            find-moved_in from to name es w on ∙ ap (λ (k : Key). option_map (renamed name w) (find place_cmp k es)) (sym (behind-exact from e.0 w p)) ∙ ap (option_map (renamed name w)) alone
+            find-moved_in from to name es w on ∙ ap (λ (k : Key). option_map (renamed_entry name w) (find place_cmp k es)) (sym (behind-exact from e.0 w p)) ∙ ap (option_map (renamed_entry name w)) alone
       ] refl,
       distinct-moved from to name es (second _ _ s) on,
     )

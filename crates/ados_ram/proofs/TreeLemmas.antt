@@ -7,9 +7,9 @@ use Rattle.std.specs.FinMap.{is_sorted, find}
 use Rattle.std.specs.FinMap.Entries.{below_all}
 use Rattle.ados_text.specs.Name.{name_cmp, name_cmp_total}
 use Rattle.ados_ram.specs.declared.entries.Entry.{Entry}
-use Rattle.ados_ram.specs.Place.{Key, key_of, place_cmp, behind}
+use Rattle.ados_ram.specs.Place.{Key, key_of, place_cmp, path_below}
 use Rattle.ados_ram.specs.Files.{Rows}
-use Rattle.ados_ram.specs.Tree.{Kids, under, flatten, rows_of, with_way, rows_from, rows_found}
+use Rattle.ados_ram.specs.Tree.{Kids, rows_under_name, flatten, rows_of, with_way, subtree_rows, rows_found}
 use Rattle.ados_ram.proofs.RowsLemmas.{first, second}
 
 less : (o : Ordering) → T (is_lt o) → o ≡ Less
@@ -30,13 +30,13 @@ with_append : (o : Option Key) (e : Entry) (a b : Rows) → with_way o e a ++ b 
 with_append None e a b = refl
 with_append (Some w) e a b = refl
 
-from_under : (x n : List ℕ) (xs : Key) (r rest : Rows) → rows_from (x ∷ xs) (under n r ++ rest) ≡ cond (is_eq (name_cmp x n)) (rows_from xs r ++ rows_from (x ∷ xs) rest) (rows_from (x ∷ xs) rest)
-from_under x n xs [] rest = elim (is_eq (name_cmp x n)) as (λ b. rows_from (x ∷ xs) rest ≡ cond b (rows_from (x ∷ xs) rest) (rows_from (x ∷ xs) rest)) [ true ↦ refl | false ↦ refl ]
+from_under : (x n : List ℕ) (xs : Key) (r rest : Rows) → subtree_rows (x ∷ xs) (rows_under_name n r ++ rest) ≡ cond (is_eq (name_cmp x n)) (subtree_rows xs r ++ subtree_rows (x ∷ xs) rest) (subtree_rows (x ∷ xs) rest)
+from_under x n xs [] rest = elim (is_eq (name_cmp x n)) as (λ b. subtree_rows (x ∷ xs) rest ≡ cond b (subtree_rows (x ∷ xs) rest) (subtree_rows (x ∷ xs) rest)) [ true ↦ refl | false ↦ refl ]
 from_under x n xs (e ∷ r) rest =
     let next = from_under x n xs r rest in
-    let old = rows_from (x ∷ xs) rest in
-    elim (is_eq (name_cmp x n)) as (λ b. rows_from (x ∷ xs) (under n r ++ rest) ≡ cond b (rows_from xs r ++ old) old → with_way (cond b (behind xs e.0) None) e.1 (rows_from (x ∷ xs) (under n r ++ rest)) ≡ cond b (with_way (behind xs e.0) e.1 (rows_from xs r) ++ old) old) [
-      | true ↦ λ h. ap (λ (rows : Rows). with_way (behind xs e.0) e.1 rows) h ∙ sym (with_append (behind xs e.0) e.1 (rows_from xs r) old)
+    let old = subtree_rows (x ∷ xs) rest in
+    elim (is_eq (name_cmp x n)) as (λ b. subtree_rows (x ∷ xs) (rows_under_name n r ++ rest) ≡ cond b (subtree_rows xs r ++ old) old → with_way (cond b (path_below xs e.0) None) e.1 (subtree_rows (x ∷ xs) (rows_under_name n r ++ rest)) ≡ cond b (with_way (path_below xs e.0) e.1 (subtree_rows xs r) ++ old) old) [
+      | true ↦ λ h. ap (λ (rows : Rows). with_way (path_below xs e.0) e.1 rows) h ∙ sym (with_append (path_below xs e.0) e.1 (subtree_rows xs r) old)
       | false ↦ λ h. h
     ] next
 
@@ -45,63 +45,63 @@ append-nil [] = refl
 append-nil (e ∷ r) = ap (λ (t : Rows). e ∷ t) (append-nil r)
 
 -- the rows from a place are found in the object of the first name
-none_from : (x n : List ℕ) (xs : Key) (ks : Kids) → name_cmp x n ≡ Less → T (below_all name_cmp n ks) → rows_from (x ∷ xs) (flatten ks) ≡ []
+none_from : (x n : List ℕ) (xs : Key) (ks : Kids) → name_cmp x n ≡ Less → T (below_all name_cmp n ks) → subtree_rows (x ∷ xs) (flatten ks) ≡ []
 none_from x n xs [] p h = refl
 none_from x n xs (k ∷ ks) p h =
     from_under x k.0 xs k.1 (flatten ks)
-    ∙ ap (λ r. cond (is_eq r) (rows_from xs k.1 ++ rows_from (x ∷ xs) (flatten ks)) (rows_from (x ∷ xs) (flatten ks))) (name_cmp_total.trans x n k.0 p (less _ (first _ _ h)))
+    ∙ ap (λ r. cond (is_eq r) (subtree_rows xs k.1 ++ subtree_rows (x ∷ xs) (flatten ks)) (subtree_rows (x ∷ xs) (flatten ks))) (name_cmp_total.trans x n k.0 p (less _ (first _ _ h)))
     ∙ none_from x n xs ks p (second _ _ h)
 
-none_tied : (x n : List ℕ) (xs : Key) (ks : Kids) → name_cmp x n ≡ Equal → T (below_all name_cmp n ks) → rows_from (x ∷ xs) (flatten ks) ≡ []
+none_tied : (x n : List ℕ) (xs : Key) (ks : Kids) → name_cmp x n ≡ Equal → T (below_all name_cmp n ks) → subtree_rows (x ∷ xs) (flatten ks) ≡ []
 none_tied x n xs [] p h = refl
 none_tied x n xs (k ∷ ks) p h =
     from_under x k.0 xs k.1 (flatten ks)
-    ∙ ap (λ r. cond (is_eq r) (rows_from xs k.1 ++ rows_from (x ∷ xs) (flatten ks)) (rows_from (x ∷ xs) (flatten ks))) (name_cmp_total.congr x n k.0 p ∙ less _ (first _ _ h))
+    ∙ ap (λ r. cond (is_eq r) (subtree_rows xs k.1 ++ subtree_rows (x ∷ xs) (flatten ks)) (subtree_rows (x ∷ xs) (flatten ks))) (name_cmp_total.congr x n k.0 p ∙ less _ (first _ _ h))
     ∙ none_tied x n xs ks p (second _ _ h)
 
-pub from-flatten : (x : List ℕ) (xs : Key) (ks : Kids) → T (is_sorted name_cmp ks) → rows_from (x ∷ xs) (flatten ks) ≡ rows_from xs (rows_found (find name_cmp x ks))
+pub from-flatten : (x : List ℕ) (xs : Key) (ks : Kids) → T (is_sorted name_cmp ks) → subtree_rows (x ∷ xs) (flatten ks) ≡ subtree_rows xs (rows_found (find name_cmp x ks))
 from-flatten x xs [] h = refl
 from-flatten x xs (k ∷ ks) h =
     let rest = from-flatten x xs ks (second _ _ h) in
     from_under x k.0 xs k.1 (flatten ks)
-    ∙ elim (name_cmp x k.0) as (λ o. name_cmp x k.0 ≡ o → cond (is_eq o) (rows_from xs k.1 ++ rows_from (x ∷ xs) (flatten ks)) (rows_from (x ∷ xs) (flatten ks)) ≡ rows_from xs (rows_found (cond (is_eq o) (Some k.1) (find name_cmp x ks)))) [
+    ∙ elim (name_cmp x k.0) as (λ o. name_cmp x k.0 ≡ o → cond (is_eq o) (subtree_rows xs k.1 ++ subtree_rows (x ∷ xs) (flatten ks)) (subtree_rows (x ∷ xs) (flatten ks)) ≡ subtree_rows xs (rows_found (cond (is_eq o) (Some k.1) (find name_cmp x ks)))) [
       | Less ↦ λ p. rest
-      | Equal ↦ λ p. ap (λ (t : Rows). rows_from xs k.1 ++ t) (none_tied x k.0 xs ks p (first _ _ h)) ∙ append-nil (rows_from xs k.1)
+      | Equal ↦ λ p. ap (λ (t : Rows). subtree_rows xs k.1 ++ t) (none_tied x k.0 xs ks p (first _ _ h)) ∙ append-nil (subtree_rows xs k.1)
       | Greater ↦ λ p. rest
     ] refl
 
 -- a look-up of the place itself
-pub find-from : (key q : Key) (es : Rows) → find place_cmp q (rows_from key es) ≡ find place_cmp (key ++ q) es
+pub find-from : (key q : Key) (es : Rows) → find place_cmp q (subtree_rows key es) ≡ find place_cmp (key ++ q) es
 find-from key q [] = refl
 find-from key q (e ∷ es) =
     let next = find-from key q es in
-    past key q e.0 e.1 (rows_from key es) (find place_cmp (key ++ q) es) next
+    past key q e.0 e.1 (subtree_rows key es) (find place_cmp (key ++ q) es) next
   where
-    past : (key q p : Key) (e : Entry) (rows : Rows) (old : Option Entry) → find place_cmp q rows ≡ old → find place_cmp q (with_way (behind key p) e rows) ≡ cond (is_eq (place_cmp (key ++ q) p)) (Some e) old
+    past : (key q p : Key) (e : Entry) (rows : Rows) (old : Option Entry) → find place_cmp q rows ≡ old → find place_cmp q (with_way (path_below key p) e rows) ≡ cond (is_eq (place_cmp (key ++ q) p)) (Some e) old
     past [] q p e rows old h = ap (λ o. cond (is_eq (place_cmp q p)) (Some e) o) h
     past (n ∷ ns) q [] e rows old h = h
     past (n ∷ ns) q (x ∷ xs) e rows old h =
-        elim (name_cmp n x) as (λ o. find place_cmp q (with_way (cond (is_eq o) (behind ns xs) None) e rows) ≡ cond (is_eq (ordering_then o (place_cmp (ns ++ q) xs))) (Some e) old) [
+        elim (name_cmp n x) as (λ o. find place_cmp q (with_way (cond (is_eq o) (path_below ns xs) None) e rows) ≡ cond (is_eq (ordering_then o (place_cmp (ns ++ q) xs))) (Some e) old) [
           | Less ↦ h
           | Equal ↦ past ns q xs e rows old h
           | Greater ↦ h
         ]
 
 -- every row is from the root
-pub from-root : (es : Rows) → rows_from [] es ≡ es
+pub from-root : (es : Rows) → subtree_rows [] es ≡ es
 from-root [] = refl
 from-root (e ∷ es) = ap (λ (t : Rows). e ∷ t) (from-root es)
 
 -- from the object of the first name
-pub from_kid : (entry : Entry) (ks : Kids) (rows : Rows) (x : List ℕ) (xs key : Key) → rows_of entry ks ≡ rows → IsTrue (is_sorted name_cmp ks) → key ≡ x ∷ xs → rows_from key rows ≡ rows_from xs (rows_found (find name_cmp x ks))
-from_kid entry ks rows x xs key view sorted is = ap (λ (k : Key). rows_from k rows) is ∙ ap (rows_from (x ∷ xs)) (sym view) ∙ from-flatten x xs ks (holds _ sorted)
+pub from_kid : (entry : Entry) (ks : Kids) (rows : Rows) (x : List ℕ) (xs key : Key) → rows_of entry ks ≡ rows → IsTrue (is_sorted name_cmp ks) → key ≡ x ∷ xs → subtree_rows key rows ≡ subtree_rows xs (rows_found (find name_cmp x ks))
+from_kid entry ks rows x xs key view sorted is = ap (λ (k : Key). subtree_rows k rows) is ∙ ap (subtree_rows (x ∷ xs)) (sym view) ∙ from-flatten x xs ks (holds _ sorted)
 
-pub from_none : (names : Key) (rows : Rows) → length names ≡ 0 → rows ≡ rows_from (key_of names) rows
+pub from_none : (names : Key) (rows : Rows) → length names ≡ 0 → rows ≡ subtree_rows (key_of names) rows
 from_none [] rows e = sym (from-root rows)
 from_none (n ∷ ns) rows e = absurd (omega arith)
 
 -- the entry at a place is at the empty path from there
-pub find-here : (key : Key) (es r : Rows) → r ≡ rows_from key es → find place_cmp [] r ≡ find place_cmp key es
+pub find-here : (key : Key) (es r : Rows) → r ≡ subtree_rows key es → find place_cmp [] r ≡ find place_cmp key es
 find-here key es r e = ap (find place_cmp []) e ∙ find-from key [] es ∙ ap (λ (k : Key). find place_cmp k es) (keys-nil key)
   where
     keys-nil : (k : Key) → k ++ [] ≡ k
@@ -109,16 +109,16 @@ find-here key es r e = ap (find place_cmp []) e ∙ find-from key [] es ∙ ap (
     keys-nil (n ∷ ns) = ap (λ (t : Key). n ∷ t) (keys-nil ns)
 
 -- deeper from a place
-further : (key more p : Key) (e : Entry) (rows : Rows) → rows_from more (with_way (behind key p) e rows) ≡ with_way (behind (key ++ more) p) e (rows_from more rows)
+further : (key more p : Key) (e : Entry) (rows : Rows) → subtree_rows more (with_way (path_below key p) e rows) ≡ with_way (path_below (key ++ more) p) e (subtree_rows more rows)
 further [] more p e rows = refl
 further (n ∷ ns) more [] e rows = refl
 further (n ∷ ns) more (x ∷ xs) e rows =
-    elim (name_cmp n x) as (λ o. rows_from more (with_way (cond (is_eq o) (behind ns xs) None) e rows) ≡ with_way (cond (is_eq o) (behind (ns ++ more) xs) None) e (rows_from more rows)) [
+    elim (name_cmp n x) as (λ o. subtree_rows more (with_way (cond (is_eq o) (path_below ns xs) None) e rows) ≡ with_way (cond (is_eq o) (path_below (ns ++ more) xs) None) e (subtree_rows more rows)) [
       | Less ↦ refl
       | Equal ↦ further ns more xs e rows
       | Greater ↦ refl
     ]
 
-pub from-further : (key more : Key) (es : Rows) → rows_from more (rows_from key es) ≡ rows_from (key ++ more) es
+pub from-further : (key more : Key) (es : Rows) → subtree_rows more (subtree_rows key es) ≡ subtree_rows (key ++ more) es
 from-further key more [] = refl
-from-further key more (e ∷ es) = further key more e.0 e.1 (rows_from key es) ∙ ap (with_way (behind (key ++ more) e.0) e.1) (from-further key more es)
+from-further key more (e ∷ es) = further key more e.0 e.1 (subtree_rows key es) ∙ ap (with_way (path_below (key ++ more) e.0) e.1) (from-further key more es)

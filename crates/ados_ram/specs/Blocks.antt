@@ -21,9 +21,9 @@ pub record AreBlocks (bs : List Kids) : Type 0 where
   pub full : AllFull bs
 
 -- the first name of a block is this one, or one before it
-abbrev pub begins_by : Name → Kids → Bool
-begins_by x [] = false
-begins_by x (k ∷ ks) = is_le (name_cmp k.0 x)
+abbrev pub first_is_at_most : Name → Kids → Bool
+first_is_at_most x [] = false
+first_is_at_most x (k ∷ ks) = is_le (name_cmp k.0 x)
 
 -- each object has a name before this one
 abbrev pub AllBefore : Name → Kids → Type 0

@@ -17,14 +17,14 @@ children directory [] = []
 children directory (e ∷ es) = cond (is_child directory e.0) (e.0 ∷ children directory es) (children directory es)
 
 -- a place inserted after those below it that a list begins with
-abbrev pub put_behind : Key → List Key → List Key
-put_behind place [] = place ∷ []
-put_behind place (q ∷ qs) = cond (is_below place q) (q ∷ put_behind place qs) (place ∷ q ∷ qs)
+abbrev pub put_after_contents : Key → List Key → List Key
+put_after_contents place [] = place ∷ []
+put_after_contents place (q ∷ qs) = cond (is_below place q) (q ∷ put_after_contents place qs) (place ∷ q ∷ qs)
 
 -- the places below a directory, in order, except that each directory comes after what is in it
 abbrev pub contents : Key → Rows → List Key
 contents directory [] = []
-contents directory (e ∷ es) = cond (is_below directory e.0) (put_behind e.0 (contents directory es)) (contents directory es)
+contents directory (e ∷ es) = cond (is_below directory e.0) (put_after_contents e.0 (contents directory es)) (contents directory es)
 
 -- the second place is below the first, at any depth or directly
 abbrev pub is_within : Bool → Key → Key → Bool

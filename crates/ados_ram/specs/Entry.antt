@@ -33,8 +33,8 @@ abbrev pub fresh_bits : Bits
 fresh_bits = record { hold = false; script = false; pure = false; archive = false; read = true; write = true; execute = true; delete = true }
 
 -- the same bits without bit a
-abbrev pub unarchived : Bits → Bits
-unarchived b = record b { archive = false }
+abbrev pub without_archive_bit : Bits → Bits
+without_archive_bit b = record b { archive = false }
 
 -- a new directory, with nothing in it
 abbrev pub new_directory : Name → Entry
@@ -42,13 +42,13 @@ new_directory name = record { name = name; body = Directory; bits = fresh_bits; 
 
 -- a file that holds the bytes: a new one with the name and the bits, or the old one, which keeps its name, comment and
 -- bits except bit a
-abbrev pub written_as : Bits → Option Entry → Name → Bytes → Entry
-written_as bits None name bytes = record { name = name; body = File bytes; bits = bits; comment = [] }
-written_as bits (Some e) name bytes = record e { body = File bytes; bits = unarchived e.bits }
+abbrev pub file_entry_with_bits : Bits → Option Entry → Name → Bytes → Entry
+file_entry_with_bits bits None name bytes = record { name = name; body = File bytes; bits = bits; comment = [] }
+file_entry_with_bits bits (Some e) name bytes = record e { body = File bytes; bits = without_archive_bit e.bits }
 
 -- the same, if a new one has the bits of a new object
-abbrev pub written : Option Entry → Name → Bytes → Entry
-written o name bytes = written_as fresh_bits o name bytes
+abbrev pub file_entry : Option Entry → Name → Bytes → Entry
+file_entry o name bytes = file_entry_with_bits fresh_bits o name bytes
 
 -- an entry with other bits, or another comment
 abbrev pub with_bits : Bits → Entry → Entry
@@ -58,9 +58,9 @@ abbrev pub with_comment : Text → Entry → Entry
 with_comment comment e = record e { comment = comment }
 
 -- an entry that moved, by its path from the object that was renamed: that object itself takes the new name
-abbrev pub renamed : Name → Key → Entry → Entry
-renamed name [] e = record e { name = name }
-renamed name (n ∷ ns) e = e
+abbrev pub renamed_entry : Name → Key → Entry → Entry
+renamed_entry name [] e = record e { name = name }
+renamed_entry name (n ∷ ns) e = e
 
 -- how an entry is stored: as its fields
 abbrev pub option_of_body : Body → Option Bytes

@@ -6,21 +6,21 @@ use Rattle.ados_ram.specs.declared.children.Children.TheInside as children
 use Rattle.ados_ram.specs.declared.children.Block.TheInside as block
 use Rattle.ados_ram.specs.declared.branches.Branch.TheDeep.{deep-Node}
 use Rattle.ados_ram.specs.Files.{Rows}
-use Rattle.ados_ram.specs.Tree.{Kid, Kids, under, flatten, rows_of}
+use Rattle.ados_ram.specs.Tree.{Kid, Kids, rows_under_name, flatten, rows_of}
 use Rattle.ados_ram.specs.Blocks.{all_kids}
 use denote.Param.Weighed.{most}
 
-length-under : (n : List ℕ) (es : Rows) → length (under n es) ≡ length es
+length-under : (n : List ℕ) (es : Rows) → length (rows_under_name n es) ≡ length es
 length-under n [] = refl
 length-under n (e ∷ es) = omega (arith, length-under n es)
 
 most_kids : (ks : Kids) → most (λ (k : Kid). 3 * length k.1 + 1) ks ≤ 3 * length (flatten ks) + 1
 most_kids [] = omega arith
-most_kids (k ∷ ks) = omega (arith, most_kids ks, length-append (under k.0 k.1) (flatten ks), length-under k.0 k.1)
+most_kids (k ∷ ks) = omega (arith, most_kids ks, length-append (rows_under_name k.0 k.1) (flatten ks), length-under k.0 k.1)
 
 length-flatten : (a b : Kids) → length (flatten (a ++ b)) ≡ length (flatten a) + length (flatten b)
 length-flatten [] b = omega arith
-length-flatten (k ∷ a) b = omega (arith, length-append (under k.0 k.1) (flatten (a ++ b)), length-append (under k.0 k.1) (flatten a), length-flatten a b)
+length-flatten (k ∷ a) b = omega (arith, length-append (rows_under_name k.0 k.1) (flatten (a ++ b)), length-append (rows_under_name k.0 k.1) (flatten a), length-flatten a b)
 
 most_blocks : (bs : List Kids) → most (λ (b : Kids). 3 * length (flatten b) + 1 + 1) bs ≤ 3 * length (flatten (all_kids bs)) + 2
 most_blocks [] = omega arith

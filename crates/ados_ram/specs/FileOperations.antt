@@ -7,8 +7,8 @@ use Rattle.ados_text.specs.declared.codes.Result2.{Result2}
 use Rattle.ados_text.specs.declared.codes.TheConstants.Result2.{OBJECT_IN_USE, OBJECT_EXISTS, DIRECTORY_NOT_FOUND, OBJECT_NOT_FOUND, WRONG_TYPE, DIRECTORY_NOT_EMPTY, COMMENT_TOO_LONG, DISK_FULL, DELETE_PROTECTED, WRITE_PROTECTED, READ_PROTECTED}
 use Rattle.ados_text.specs.Text.{Text, Bytes}
 use Rattle.ados_text.specs.Name.{Name}
-use Rattle.ados_ram.specs.Place.{Key, key_of, any_same, is_root, is_same_key, behind, is_below, is_child}
-use Rattle.ados_ram.specs.Entry.{is_directory, new_directory, written, written_as, with_bits, with_comment, renamed}
+use Rattle.ados_ram.specs.Place.{Key, key_of, any_same, is_root, is_same_key, path_below, is_below, is_child}
+use Rattle.ados_ram.specs.Entry.{is_directory, new_directory, file_entry, file_entry_with_bits, with_bits, with_comment, renamed_entry}
 use Rattle.ados_ram.specs.Files.{Files, Rows, is_some_file, bytes_at, total_of, file_limit, bytes_limit, objects_limit}
 use Rattle.ados_ram.specs.InUse.{InUse, is_in_use, holds_output}
 use Rattle.ados_ram.specs.declared.entries.Bits.{Bits}
@@ -32,14 +32,14 @@ Gives (Err (Refused fault)) (Ok y) = ⊥
 Gives (Err NoMemory) given = Unit {0}
 
 -- the fault of a directory above: it does not exist, or is a file; otherwise what follows
-abbrev pub on_the_way : Option Entry → Option Result2 → Option Result2
-on_the_way None further = Some DIRECTORY_NOT_FOUND
-on_the_way (Some e) further = cond (is_directory e) further (Some WRONG_TYPE)
+abbrev pub fault_above : Option Entry → Option Result2 → Option Result2
+fault_above None further = Some DIRECTORY_NOT_FOUND
+fault_above (Some e) further = cond (is_directory e) further (Some WRONG_TYPE)
 
 -- the fault of the directories above a place, from the root down
 abbrev pub way_fault : Files → Key → Key → Option Result2
 way_fault m above [] = None
-way_fault m above (name ∷ rest) = on_the_way (map.get m above) (way_fault m (above ++ name ∷ []) rest)
+way_fault m above (name ∷ rest) = fault_above (map.get m above) (way_fault m (above ++ name ∷ []) rest)
 
 -- the fault of the limits, for the size of one file, of all files, and the number of objects
 abbrev pub limit_fault : ℕ → ℕ → ℕ → Option Result2
@@ -76,7 +76,7 @@ names_in directory (e ∷ es) = cond (is_child directory e.0) (e.1.name ∷ name
 
 -- Write
 abbrev pub write_of : Files → Key → Name → Bytes → Files
-write_of m key name bytes = map.insert m key (written (map.get m key) name bytes)
+write_of m key name bytes = map.insert m key (file_entry (map.get m key) name bytes)
 
 abbrev pub write_target_fault : Bool → Option Entry → Option Result2
 write_target_fault is_open None = None
@@ -90,7 +90,7 @@ write_fault is_open m key name bytes =
 
 -- Write, with other bits for a new file; the faults are those of writing
 abbrev pub write_as_of : Files → Key → Name → Bytes → Bits → Files
-write_as_of m key name bytes bits = map.insert m key (written_as bits (map.get m key) name bytes)
+write_as_of m key name bytes bits = map.insert m key (file_entry_with_bits bits (map.get m key) name bytes)
 
 -- Append: write the old bytes followed by the new ones
 abbrev pub append_of : Files → Key → Name → Bytes → Files
@@ -141,11 +141,11 @@ delete_fault busy m key = delete_target_fault busy (map.entries m) key (map.get 
 -- the last name of the new place
 abbrev pub moved_row : Key → Name → Key → Entry → Option Key → Key × Entry
 moved_row to name key e None = (key, e)
-moved_row to name key e (Some way) = (to ++ way, renamed name way e)
+moved_row to name key e (Some way) = (to ++ way, renamed_entry name way e)
 
 abbrev pub moved_rows : Key → Key → Name → Rows → Rows
 moved_rows from to name [] = []
-moved_rows from to name (e ∷ es) = moved_row to name e.0 e.1 (behind from e.0) ∷ moved_rows from to name es
+moved_rows from to name (e ∷ es) = moved_row to name e.0 e.1 (path_below from e.0) ∷ moved_rows from to name es
 
 abbrev pub rename_of : Files → Key → Key → Name → Files
 rename_of m from to name = map.from_entries (moved_rows from to name (map.entries m))
@@ -160,22 +160,22 @@ abbrev pub rename_fault : InUse → Files → Key → Key → Option Result2
 rename_fault busy m from to = option_or (way_fault m [] to) (rename_target_fault busy from to (map.get m from) (map.get m to))
 
 -- Protect and comment: the files with an entry changed
-abbrev pub changed : Files → Key → (Entry → Entry) → Option Entry → Files
-changed m key change None = m
-changed m key change (Some e) = map.insert m key (change e)
+abbrev pub with_entry_changed : Files → Key → (Entry → Entry) → Option Entry → Files
+with_entry_changed m key change None = m
+with_entry_changed m key change (Some e) = map.insert m key (change e)
 
 abbrev pub change_fault : Key → Option Entry → Option Result2
 change_fault key None = Some OBJECT_NOT_FOUND
 change_fault key (Some e) = cond (is_root key) (Some WRONG_TYPE) None
 
 abbrev pub protect_of : Files → Key → Bits → Files
-protect_of m key bits = changed m key (with_bits bits) (map.get m key)
+protect_of m key bits = with_entry_changed m key (with_bits bits) (map.get m key)
 
 abbrev pub protect_fault : Files → Key → Option Result2
 protect_fault m key = change_fault key (map.get m key)
 
 abbrev pub comment_of : Files → Key → Text → Files
-comment_of m key comment = changed m key (with_comment comment) (map.get m key)
+comment_of m key comment = with_entry_changed m key (with_comment comment) (map.get m key)
 
 abbrev pub comment_fault : Files → Key → Text → Option Result2
 comment_fault m key comment =

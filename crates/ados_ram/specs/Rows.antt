@@ -15,14 +15,14 @@ pub record AreRows (es : Rows) (total count : ℕ) : Type 0 where
   pub few : count ≤ objects_limit
 
 -- the rows without a place
-abbrev pub rows_without : Key → Rows → Rows
-rows_without key [] = []
-rows_without key (e ∷ es) = cond (is_same_key key e.0) (rows_without key es) (e ∷ rows_without key es)
+abbrev pub other_rows : Key → Rows → Rows
+other_rows key [] = []
+other_rows key (e ∷ es) = cond (is_same_key key e.0) (other_rows key es) (e ∷ other_rows key es)
 
 -- the rows of the objects directly in a directory, or of all that are below it
-abbrev pub rows_within : Bool → Key → Rows → Rows
-rows_within all directory [] = []
-rows_within all directory (e ∷ es) = cond (is_within all directory e.0) (e ∷ rows_within all directory es) (rows_within all directory es)
+abbrev pub inner_rows : Bool → Key → Rows → Rows
+inner_rows all directory [] = []
+inner_rows all directory (e ∷ es) = cond (is_within all directory e.0) (e ∷ inner_rows all directory es) (inner_rows all directory es)
 
 -- the initial rows
 abbrev pub first_rows : Rows

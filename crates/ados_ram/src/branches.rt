@@ -2,11 +2,11 @@
 ghost use Rattle.std.specs.Prelude.{◌≡◌, ◌++◌, IfOk, OnOk, Some, [], false};
 ghost use Rattle.std.specs.Option.{option_copied};
 ghost use Rattle.std.specs.FinMap as map;
-ghost use Rattle.ados_text.specs.Text.{folded};
+ghost use Rattle.ados_text.specs.Text.{folded_text};
 ghost use Rattle.ados_ram.specs.Place.{key_of, place_cmp, is_root};
-ghost use Rattle.ados_ram.specs.Tree.{AreKids, IsReplaced, MayStand, rows_at, rows_from, rows_of, rows_to, rows_way, rows_written, ways_to, with_flat, IsEntryAt};
+ghost use Rattle.ados_ram.specs.Tree.{AreKids, IsReplaced, MayStand, branch_rows, subtree_rows, rows_of, rows_by_root, rows_way, rows_written, places_of_ways, with_flat, IsEntryAt};
 ghost use Rattle.ados_ram.specs.Contents.{contents};
-ghost use Rattle.ados_ram.specs.Rows.{rows_within};
+ghost use Rattle.ados_ram.specs.Rows.{inner_rows};
 ghost use Rattle.ados_ram.specs.FileOperations.{any_below};
 
 use crate::children::Children;
@@ -40,14 +40,14 @@ pub struct Head {
 }
 
 impl Model for Branch {
-    ghost use Rattle.ados_text.specs.Text.{folded};
+    ghost use Rattle.ados_text.specs.Text.{folded_text};
     ghost use Rattle.ados_ram.specs.Tree.{Kid, coded_kid, rows_of, AreKids};
 
     ghost Value = { Kid };
 
     ghost coded = { coded_kid };
 
-    ghost view = { λ b. (folded b.node.value.head.value.name, rows_of b.node.value.head.value.entry b.node.value.kids) };
+    ghost view = { λ b. (folded_text b.node.value.head.value.name, rows_of b.node.value.head.value.entry b.node.value.kids) };
 
     ghost invariant = { λ b. AreKids b.node.value.kids };
 
@@ -64,7 +64,7 @@ impl Branch {
     /// An object with these objects in it.
     pub fn new(name: Name, entry: Entry, kids: Children) -> Result<Branch, NoMemory>
         requires { AreKids kids }
-        ensures { IfOk result (λ b. b ≡ (folded name, rows_of entry kids)) }
+        ensures { IfOk result (λ b. b ≡ (folded_text name, rows_of entry kids)) }
     {
         let alloc = kids.allocator();
         let head = Rc::new(alloc, Head { name, entry })?;
@@ -75,7 +75,7 @@ impl Branch {
 
     /// An object with nothing in it.
     pub fn leaf(alloc: Global, name: Name, entry: Entry) -> Result<Branch, NoMemory>
-        ensures { IfOk result (λ b. b ≡ (folded name, rows_of entry [])) }
+        ensures { IfOk result (λ b. b ≡ (folded_text name, rows_of entry [])) }
     {
         Branch::new(name, entry, Children::none(alloc))
     }
@@ -91,7 +91,7 @@ impl Branch {
 
     /// The name, in some spelling.
     pub fn name(&self) -> &Name
-        ensures { folded result.now ≡ self.now.0 }
+        ensures { folded_text result.now ≡ self.now.0 }
     {
         &self.node.head.name
     }
@@ -105,7 +105,7 @@ impl Branch {
 
     /// The branch at a place below this one.
     pub fn at(&self, names: &[Name]) -> Option<&Branch>
-        ensures { rows_at (option_copied result) ≡ rows_from (key_of names.now) self.now.1 }
+        ensures { branch_rows (option_copied result) ≡ subtree_rows (key_of names.now) self.now.1 }
     {
         let Some((name, rest)) = names.split_first() else {
             return Some(self);
@@ -167,7 +167,7 @@ impl Branch {
     /// Appends the rows of the objects directly in this directory, or of all that are below it; the directory is at the
     /// place.
     pub fn add_rows(&self, place: &Place, all: bool, rows: &mut Vec<Row>) -> Result<(), NoMemory>
-        ensures { OnOk result (rows.new.items ≡ rows.old.items ++ rows_to (key_of place.now) (rows_within all [] self.now.1)) }
+        ensures { OnOk result (rows.new.items ≡ rows.old.items ++ rows_by_root (key_of place.now) (inner_rows all [] self.now.1)) }
     {
         for kid in &self.node.kids.each()? {
             let at = place.copy()?.with(kid.name().copy()?)?;
@@ -181,7 +181,7 @@ impl Branch {
 
     /// Appends the places of all that is below this directory, which is at the place, each directory after what is in it.
     pub fn add_contents(&self, place: &Place, places: &mut Vec<Place>) -> Result<(), NoMemory>
-        ensures { OnOk result (places.new.items ≡ places.old.items ++ ways_to place.now (contents [] self.now.1)) }
+        ensures { OnOk result (places.new.items ≡ places.old.items ++ places_of_ways place.now (contents [] self.now.1)) }
     {
         for kid in &self.node.kids.each()? {
             let name = folded(self.node.kids.allocator(), kid.name())?;
@@ -197,7 +197,7 @@ impl Branch {
         requires place { is_root (key_of names.now) ≡ false }
         requires stands { MayStand (key_of names.now) new self.now.1 }
         ensures name { IfOk result (λ b. b.0 ≡ self.now.0) }
-        ensures rows { IfOk result (λ b. IsReplaced (key_of names.now) (rows_at new) self.now.1 b.1) }
+        ensures rows { IfOk result (λ b. IsReplaced (key_of names.now) (branch_rows new) self.now.1 b.1) }
     {
         let Some((name, rest)) = names.split_first() else {
             unreachable!();
@@ -225,7 +225,7 @@ impl Branch {
 
     /// The object with another name and entry, and the same objects in it.
     pub fn with_entry(&self, name: Name, entry: Entry) -> Result<Branch, NoMemory>
-        ensures name { IfOk result (λ b. b.0 ≡ folded name) }
+        ensures name { IfOk result (λ b. b.0 ≡ folded_text name) }
         ensures rows { IfOk result (λ b. IsEntryAt entry self.now.1 b.1) }
     {
         Branch::new(name, entry, self.node.kids.share()?)

@@ -2,10 +2,10 @@
 ghost use Rattle.std.specs.Prelude.{◌≡◌, ◌+◌, ◌≤◌, ◌++◌, ◌==◌, [], take, drop, length, IfOk, IfSome, OnOk, IsTrue};
 ghost use Rattle.std.specs.Option.{option_copied};
 ghost use Rattle.std.specs.FinMap as map;
-ghost use Rattle.ados_text.specs.Text.{folded};
+ghost use Rattle.ados_text.specs.Text.{folded_text};
 ghost use Rattle.ados_text.specs.Name.{name_cmp};
-ghost use Rattle.ados_ram.specs.Tree.{kids_with, rows_at, rows_found};
-ghost use Rattle.ados_ram.specs.Blocks.{all_kids, begins_by, AllFull, AreBlocks, IsBlockOf};
+ghost use Rattle.ados_ram.specs.Tree.{replace_kid, branch_rows, rows_found};
+ghost use Rattle.ados_ram.specs.Blocks.{all_kids, first_is_at_most, AllFull, AreBlocks, IsBlockOf};
 
 use crate::branches::Branch;
 use crate::kids::{begins_by, changed, kid_at, share_kids};
@@ -137,8 +137,8 @@ impl Children {
 
     /// The object of this name.
     pub fn find(&self, name: &Name) -> Option<&Branch>
-        ensures name { IfSome result (λ kid. kid.now.0 ≡ folded name.now) }
-        ensures rows { rows_at (option_copied result) ≡ rows_found (map.find name_cmp (folded name.now) self.now) }
+        ensures name { IfSome result (λ kid. kid.now.0 ≡ folded_text name.now) }
+        ensures rows { branch_rows (option_copied result) ≡ rows_found (map.find name_cmp (folded_text name.now) self.now) }
     {
         match self.blocks.get(block_of(&self.blocks, name)) {
             None => None,
@@ -159,8 +159,8 @@ impl Children {
 
     /// The objects with another one of this name, or none.
     pub fn with(&self, name: &Name, new: Option<Branch>) -> Result<Children, NoMemory>
-        requires { IfSome new (λ kid. kid.0 ≡ folded name.now) }
-        ensures { IfOk result (λ children. children ≡ kids_with (folded name.now) new self.now) }
+        requires { IfSome new (λ kid. kid.0 ≡ folded_text name.now) }
+        ensures { IfOk result (λ children. children ≡ replace_kid (folded_text name.now) new self.now) }
     {
         let at = block_of(&self.blocks, name);
         let (before, rest) = self.blocks.split_at(at);
@@ -183,7 +183,7 @@ impl Children {
 fn block_of(blocks: &[Block], name: &Name) -> usize
     requires { AreBlocks blocks.now }
     ensures within { result ≤ length blocks.now }
-    ensures parted { IsBlockOf (folded name.now) blocks.now result }
+    ensures parted { IsBlockOf (folded_text name.now) blocks.now result }
 {
     blocks
         .partition_point(|block| begins_by(block.kids(), name))

@@ -2,9 +2,9 @@
 ghost use Rattle.std.specs.Prelude.{◌≡◌, ◌∷◌, []};
 ghost use Rattle.std.specs.Option.{option_copied};
 ghost use Rattle.std.specs.FinMap as map;
-ghost use Rattle.ados_text.specs.Text.{folded};
+ghost use Rattle.ados_text.specs.Text.{folded_text};
 ghost use Rattle.ados_ram.specs.Place.{place_cmp};
-ghost use Rattle.ados_ram.specs.Tree.{rows_at, rows_from};
+ghost use Rattle.ados_ram.specs.Tree.{branch_rows, subtree_rows};
 
 use crate::branches::Branch;
 use crate::entries::Entry;
@@ -22,17 +22,17 @@ pub struct Cursor<'a> {
 impl<'a> Model for Cursor<'a> {
     ghost use Rattle.std.specs.Option.{option_copied};
     ghost use Rattle.ados_ram.specs.Files.{Rows};
-    ghost use Rattle.ados_ram.specs.Tree.{rows_at};
+    ghost use Rattle.ados_ram.specs.Tree.{branch_rows};
 
     ghost Value = { Rows };
 
-    ghost view = { λ c. rows_at (option_copied c.branch) };
+    ghost view = { λ c. branch_rows (option_copied c.branch) };
 }
 
 impl<'a> Cursor<'a> {
     /// The place of a branch, or a place with nothing at it.
     pub fn new(branch: Option<&'a Branch>) -> Cursor<'a>
-        ensures { result ≡ rows_at (option_copied branch.entry) }
+        ensures { result ≡ branch_rows (option_copied branch.entry) }
     {
         Cursor { branch }
     }
@@ -49,7 +49,7 @@ impl<'a> Cursor<'a> {
 
     /// The place of a name in this one. Nothing is allocated.
     pub fn child(&self, name: &Name) -> Cursor<'a>
-        ensures { result ≡ rows_from (folded name.now ∷ []) self.now }
+        ensures { result ≡ subtree_rows (folded_text name.now ∷ []) self.now }
     {
         match self.branch {
             None => Cursor::new(None),

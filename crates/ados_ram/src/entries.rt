@@ -37,7 +37,7 @@ pub struct Bits {
 }
 
 impl Bits {
-    ghost use Rattle.ados_ram.specs.Entry.{unarchived};
+    ghost use Rattle.ados_ram.specs.Entry.{without_archive_bit};
 
     /// The bits of a new object: `----rwed`.
     pub const FRESH: Bits = Bits {
@@ -53,7 +53,7 @@ impl Bits {
 
     /// The same bits without a.
     pub(crate) fn unarchived(self) -> Bits
-        ensures { result ≡ unarchived self }
+        ensures { result ≡ without_archive_bit self }
     {
         Bits {
             archive: false,
@@ -72,7 +72,7 @@ pub struct Entry {
 }
 
 impl Entry {
-    ghost use Rattle.ados_ram.specs.Entry.{is_directory, bytes_of, new_directory, written_as, with_bits, with_comment, renamed};
+    ghost use Rattle.ados_ram.specs.Entry.{is_directory, bytes_of, new_directory, file_entry_with_bits, with_bits, with_comment, renamed_entry};
 
     /// Whether it is a directory.
     pub fn is_directory(&self) -> bool
@@ -115,7 +115,7 @@ impl Entry {
         bytes: FileBytes,
         bits: Bits,
     ) -> Result<Entry, NoMemory>
-        ensures { IfOk result (λ entry. entry ≡ written_as bits (option_copied old.entry) name bytes) }
+        ensures { IfOk result (λ entry. entry ≡ file_entry_with_bits bits (option_copied old.entry) name bytes) }
     {
         match old {
             None => Ok(Entry {
@@ -142,7 +142,7 @@ impl Entry {
 
     /// The entry under another name.
     pub(crate) fn renamed(&self, name: &Name) -> Result<Entry, NoMemory>
-        ensures { IfOk result (λ entry. entry ≡ renamed name.now [] self.now) }
+        ensures { IfOk result (λ entry. entry ≡ renamed_entry name.now [] self.now) }
     {
         Ok(Entry {
             name: name.copy()?,

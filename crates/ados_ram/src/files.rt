@@ -8,7 +8,7 @@ ghost use Rattle.ados_ram.specs.InUse.{is_output};
 ghost use Rattle.ados_ram.specs.FileOperations.{Answers, read_fault, list_fault, names_in, write_of, write_fault, write_as_of, append_of, append_fault, put_open_of, put_open_fault};
 ghost use Rattle.ados_ram.specs.FileOperations.{make_dir_of, make_dir_fault, delete_fault, rename_of, rename_fault, protect_of, protect_fault, comment_of, comment_fault};
 ghost use Rattle.ados_ram.specs.Contents.{children, contents, files_below};
-ghost use Rattle.ados_ram.specs.Tree.{rows_from};
+ghost use Rattle.ados_ram.specs.Tree.{subtree_rows};
 ghost use Rattle.ados_ram.specs.Written.{written_place, full_path};
 
 use crate::contents::{children, files_below, names_in};
@@ -67,7 +67,7 @@ impl Ram {
 
     /// The entries at a place and below it, for look-ups from there without a walk from the root. Nothing is allocated.
     pub fn below(&self, place: &Place) -> Cursor<'_>
-        ensures { result ≡ rows_from (key_of place.now) (map.entries self.now) }
+        ensures { result ≡ subtree_rows (key_of place.now) (map.entries self.now) }
     {
         self.table.below(place.names())
     }

@@ -2,10 +2,10 @@
 ghost use Rattle.std.specs.Prelude.{◌≡◌, ◌++◌, IfOk, IfSome, IsTrue, OnOk};
 ghost use Rattle.std.specs.Option.{option_copied};
 ghost use Rattle.std.specs.FinMap as map;
-ghost use Rattle.ados_text.specs.Text.{folded};
+ghost use Rattle.ados_text.specs.Text.{folded_text};
 ghost use Rattle.ados_text.specs.Name.{name_cmp};
-ghost use Rattle.ados_ram.specs.Tree.{IsKidPosition, kids_with, rows_at, rows_found};
-ghost use Rattle.ados_ram.specs.Blocks.{begins_by};
+ghost use Rattle.ados_ram.specs.Tree.{IsKidPosition, replace_kid, branch_rows, rows_found};
+ghost use Rattle.ados_ram.specs.Blocks.{first_is_at_most};
 
 use crate::branches::Branch;
 use ados_text::{Name, NoMemory};
@@ -14,14 +14,14 @@ use std::cmp::Ordering;
 
 // How the name of a branch compares to another.
 fn order(kid: &Branch, name: &Name) -> Ordering
-    ensures { result ≡ name_cmp kid.now.0 (folded name.now) }
+    ensures { result ≡ name_cmp kid.now.0 (folded_text name.now) }
 {
     kid.name().cmp(name)
 }
 
 /// Whether the first object has the name, or one before it.
 pub fn begins_by(kids: &[Branch], name: &Name) -> bool
-    ensures { result ≡ begins_by (folded name.now) kids.now }
+    ensures { result ≡ first_is_at_most (folded_text name.now) kids.now }
 {
     match kids.first() {
         None => false,
@@ -32,7 +32,7 @@ pub fn begins_by(kids: &[Branch], name: &Name) -> bool
 /// The index of the object of a name, or the index at which it would be.
 pub fn position(kids: &[Branch], name: &Name) -> Result<usize, usize>
     requires { IsTrue (map.is_sorted name_cmp kids.now) }
-    ensures { IsKidPosition (folded name.now) kids.now result }
+    ensures { IsKidPosition (folded_text name.now) kids.now result }
 {
     kids.binary_search_by(|kid| order(kid, name))
 }
@@ -40,8 +40,8 @@ pub fn position(kids: &[Branch], name: &Name) -> Result<usize, usize>
 /// The object of a name.
 pub fn kid_at<'a>(kids: &'a [Branch], name: &Name) -> Option<&'a Branch>
     requires { IsTrue (map.is_sorted name_cmp kids.now) }
-    ensures name { IfSome result (λ kid. kid.now.0 ≡ folded name.now) }
-    ensures rows { rows_at (option_copied result) ≡ rows_found (map.find name_cmp (folded name.now) kids.now) }
+    ensures name { IfSome result (λ kid. kid.now.0 ≡ folded_text name.now) }
+    ensures rows { branch_rows (option_copied result) ≡ rows_found (map.find name_cmp (folded_text name.now) kids.now) }
 {
     match position(kids, name) {
         Ok(at) => Some(&kids[at]),
@@ -67,8 +67,8 @@ pub fn changed(
     new: Option<Branch>,
 ) -> Result<Vec<Branch>, NoMemory>
     requires sorted { IsTrue (map.is_sorted name_cmp kids.now) }
-    requires new { IfSome new (λ k. k.0 ≡ folded name.now) }
-    ensures { IfOk result (λ v. v.items ≡ kids_with (folded name.now) new kids.now) }
+    requires new { IfSome new (λ k. k.0 ≡ folded_text name.now) }
+    ensures { IfOk result (λ v. v.items ≡ replace_kid (folded_text name.now) new kids.now) }
 {
     let mut out = Vec::with_capacity(alloc, kids.len() + 1)?;
     share_kids(&mut out, kids)?;

@@ -2,8 +2,8 @@ ghost use Rattle.std.specs.Prelude.{◌≡◌, IfOk, OnOk, [], ◌++◌, ◌∷�
 ghost use Rattle.std.specs.Option.{option_copied, option_map};
 ghost use Rattle.std.specs.Cmp.{partial_equiv_from_equiv};
 ghost use Rattle.std.proofs.lemmas.Cmp.{on_equiv, eq_by_cmp_equiv};
-ghost use Rattle.ados_text.specs.Text.{folded};
-ghost use Rattle.ados_ram.specs.Place.{key_of, place_cmp_total, is_same_key, is_same_place, last_name, parent_of, behind, is_below, carried, any_same, any_at_or_below};
+ghost use Rattle.ados_text.specs.Text.{folded_text};
+ghost use Rattle.ados_ram.specs.Place.{key_of, place_cmp_total, is_same_key, is_same_place, last_name, parent_of, path_below, is_below, moved_place, any_same, any_at_or_below};
 
 use ados_text::{Name, NoMemory, Text, fold};
 use std::alloc::Global;
@@ -91,7 +91,7 @@ impl Place {
 
     /// Where this place is after a rename: a place at the old one or below it moves along.
     pub fn carried(&self, from: &Place, to: &Place) -> Result<Place, NoMemory>
-        ensures { IfOk result (λ place. place ≡ carried from.now to.now self.now) }
+        ensures { IfOk result (λ place. place ≡ moved_place from.now to.now self.now) }
     {
         if behind(&from.names, &self.names).is_some() {
             to.joined(self.names_behind(from))
@@ -145,7 +145,7 @@ pub fn is_same(a: &[Name], b: &[Name]) -> bool
 /// The names that lead from a directory down to a place, if the place is at it or below it.
 #[tactic(auto, using(ados_text::proofs::NameLemmas::alike))]
 pub fn behind<'a>(directory: &[Name], place: &'a [Name]) -> Option<&'a [Name]>
-    ensures { option_map key_of (option_copied result) ≡ behind (key_of directory.now) (key_of place.now) }
+    ensures { option_map key_of (option_copied result) ≡ path_below (key_of directory.now) (key_of place.now) }
 {
     let Some((x, xs)) = directory.split_first() else {
         return Some(place);
@@ -192,7 +192,7 @@ pub fn any_at_or_below(places: &[Place], names: &[Name]) -> bool
 
 /// A name in lower case.
 pub fn folded(alloc: Global, name: &Name) -> Result<Name, NoMemory>
-    ensures { IfOk result (λ low. low ≡ folded name.now) }
+    ensures { IfOk result (λ low. low ≡ folded_text name.now) }
 {
     let bytes = name.text().as_bytes();
     let mut text = Text::new(alloc);

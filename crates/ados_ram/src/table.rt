@@ -9,9 +9,9 @@ ghost use Rattle.ados_ram.specs.Entry.{size_of};
 ghost use Rattle.ados_ram.specs.Files.{AreFiles, bytes_at, total_of, bytes_limit, first_files};
 ghost use Rattle.ados_ram.specs.FileOperations.{any_below, rename_of, way_fault};
 ghost use Rattle.ados_ram.specs.Contents.{contents};
-ghost use Rattle.ados_ram.specs.Rows.{rows_within};
+ghost use Rattle.ados_ram.specs.Rows.{inner_rows};
 ghost use Rattle.ados_ram.specs.Written.{written_place};
-ghost use Rattle.ados_ram.specs.Tree.{above, first_kid, first_kids, rows_at, rows_from, IsEntryAt, IsRenamed, MayMove};
+ghost use Rattle.ados_ram.specs.Tree.{key_above, first_kid, first_kids, branch_rows, subtree_rows, IsEntryAt, IsRenamed, MayMove};
 
 use crate::branches::Branch;
 use crate::children::Children;
@@ -72,7 +72,7 @@ impl Table {
 
     /// The entries at a place and below it.
     pub fn below(&self, names: &[Name]) -> Cursor<'_>
-        ensures { result ≡ rows_from (key_of names.now) (map.entries self.now) }
+        ensures { result ≡ subtree_rows (key_of names.now) (map.entries self.now) }
     {
         Cursor::new(self.root.at(names))
     }
@@ -103,7 +103,7 @@ impl Table {
 
     /// The rows of the objects directly in a directory, or of all that are below it, in order.
     pub fn rows_below(&self, directory: &Place, all: bool) -> Result<Vec<Row>, NoMemory>
-        ensures { IfOk result (λ rows. rows.items ≡ rows_within all (key_of directory.now) (map.entries self.now)) }
+        ensures { IfOk result (λ rows. rows.items ≡ inner_rows all (key_of directory.now) (map.entries self.now)) }
     {
         let mut rows = Vec::new(self.alloc);
         let Some(branch) = self.root.at(directory.names()) else {
@@ -164,7 +164,7 @@ impl Table {
     /// The table without the object at a place, which is not the root, and has nothing below it.
     pub fn without(&self, names: &[Name]) -> Result<Table, NoMemory>
         requires root { is_root (key_of names.now) ≡ false }
-        requires inside { IsSome (map.get self.now (above (key_of names.now))) }
+        requires inside { IsSome (map.get self.now (key_above (key_of names.now))) }
         requires empty { any_below (key_of names.now) (map.entries self.now) ≡ false }
         ensures { IfOk result (λ new. new ≡ map.remove self.now (key_of names.now)) }
     {
@@ -225,7 +225,7 @@ fn with_entry(
     entry: Entry,
 ) -> Result<Branch, NoMemory>
     ensures name { IfOk result (λ b. b.0 ≡ last_name (key_of place.now)) }
-    ensures rows { IfOk result (λ b. IsEntryAt entry (rows_at (option_copied there.entry)) b.1) }
+    ensures rows { IfOk result (λ b. IsEntryAt entry (branch_rows (option_copied there.entry)) b.1) }
 {
     let name = place.last_name()?;
     match there {

@@ -1,6 +1,6 @@
 // Places as paths.
 ghost use Rattle.std.specs.Prelude.{◌≡◌, ◌++◌, IfOk, OnOk};
-ghost use Rattle.ados_ram.specs.Written.{slash_before, slashed, spelled_path};
+ghost use Rattle.ados_ram.specs.Written.{slash_before, slash_joined, spelled_path};
 
 use crate::places::Place;
 use ados_text::{Name, NoMemory, Text};
@@ -19,7 +19,7 @@ impl Place {
 
 // Appends names to a text, with a slash between each two.
 fn push_names(text: &mut Text, names: &[Name]) -> Result<(), NoMemory>
-    ensures { OnOk result (text.new ≡ text.old ++ slashed names.now) }
+    ensures { OnOk result (text.new ≡ text.old ++ slash_joined names.now) }
 {
     let Some((name, rest)) = names.split_first() else {
         return Ok(());

@@ -15,7 +15,7 @@ use Rattle.ados_readargs.specs.Options.{takes_value, qualifiers_at}
 use Rattle.ados_readargs.specs.Readings.{Readings, is_filled}
 use Rattle.ados_readargs.specs.Meanings.{is_full}
 use Rattle.ados_readargs.specs.Phrases.{Phrase, words_in, fillings, plain_words, may_fill, IsPhrase, IsLast, ArePhrases}
-use Rattle.ados_readargs.specs.FirstFault.{IsFaultAt, GoOn}
+use Rattle.ados_readargs.specs.FirstFault.{IsFaultAt, MayContinue}
 use Rattle.ados_readargs.proofs.PhraseLemmas.{Said, with_phrase, says-more}
 
 -- phrases that are the first of these words, with the words after them, and what was read after the phrases
@@ -24,7 +24,7 @@ pub record Leads (options : List TemplateOption) (line : List ℕ) (before after
   pub said : ArePhrases options line before.given phrases
   pub given : after.given ≡ before.given ++ flat_map fillings phrases
   pub plain : after.plain ≡ before.plain ++ flat_map plain_words phrases
-  pub onward : GoOn phrases
+  pub onward : MayContinue phrases
 
 -- what words give: all are phrases, or phrases lead to words at which a fault is
 abbrev pub Comes : List TemplateOption → List ℕ → Readings → List LineWord → Result Readings ArgFault → Type 0

@@ -11,15 +11,15 @@ use Rattle.ados_readargs.specs.declared.words.LineWord.{LineWord}
 use Rattle.ados_readargs.specs.declared.words.LineWord.TheVariants as word
 use Rattle.ados_readargs.specs.declared.meanings.Pending.TheVariants.{Free}
 use Rattle.ados_readargs.specs.declared.meanings.Meaning.TheVariants as says
-use Rattle.ados_readargs.specs.Readings.{Readings, nothing_read}
+use Rattle.ados_readargs.specs.Readings.{Readings, no_readings}
 use Rattle.ados_readargs.specs.Words.{line_words_of}
 use Rattle.ados_readargs.specs.Meanings.{read_from, read_of, with_quotes, quotes_first}
-use Rattle.ados_readargs.specs.Phrases.{Phrase, words_in, fillings, plain_words, said_by, IsFilled}
-use Rattle.ados_readargs.specs.FirstFault.{IsFaultAt, GoOn, Stand, is_unclosed, IsFirstFault, at_words, open_behind, left_over, missing, no_number, LinesHaveTheirFirstFault}
+use Rattle.ados_readargs.specs.Phrases.{Phrase, words_in, fillings, plain_words, readings_of_phrases, IsFilled}
+use Rattle.ados_readargs.specs.FirstFault.{IsFaultAt, MayContinue, ArePhrasesAndWords, is_unclosed, IsFirstFault, at_words, open_behind, left_over, missing, no_number, LinesHaveTheirFirstFault}
 use Rattle.ados_readargs.specs.Shares.{TakesAll, is_left}
 use Rattle.ados_readargs.specs.Args.{args_of}
 use Rattle.ados_readargs.specs.Checks.{lacks, has_bad}
-use Rattle.ados_readargs.specs.Fill.{checked_args, args_read, args_for, LosesNoWord}
+use Rattle.ados_readargs.specs.Fill.{checked_args, args_of_readings, args_for, LosesNoWord}
 use Rattle.ados_readargs.proofs.PhraseLemmas.{Said}
 use Rattle.ados_readargs.proofs.ReadingLemmas.{words-come}
 
@@ -28,7 +28,7 @@ quotes-not unclosed (Ok found) readings e = e
 quotes-not unclosed (Err fault) readings e = cc
 
 read-phrases : (options : List TemplateOption) (line : List ℕ) (readings : Readings) → read_of options line (line_words_of line) ≡ Ok readings
-    → Said options line nothing_read readings (line_words_of line)
+    → Said options line no_readings readings (line_words_of line)
 read-phrases options line readings e =
     words-come options line (line_words_of line) (Ok readings) (quotes-not _ _ readings e)
 
@@ -40,11 +40,11 @@ args-of options left found args =
     cond_both (has_bad options found) (Err fault.BadNumber) (Ok found) P (λ _ e. cc) (λ _ e. cc)))
 
 by-read : (options : List TemplateOption) (line : List ℕ) (read : Result Readings ArgFault) (args : List Arg) → read_of options line (line_words_of line) ≡ read
-    → args_read options line read ≡ Ok args → IfOk read (λ readings. TakesAll options readings) → IsFilled options line args
+    → args_of_readings options line read ≡ Ok args → IfOk read (λ readings. TakesAll options readings) → IsFilled options line args
 by-read options line (Ok readings) args e given taken =
     let p = read-phrases options line readings e in
     let a = p.1 in
-    let same : said_by p.0 ≡ readings =
+    let same : readings_of_phrases p.0 ≡ readings =
     ap (λ l. record { given = l; plain = flat_map plain_words p.0 }) (sym a.given) ∙ ap (λ l. record { given = readings.given; plain = l }) (sym a.plain) in (
       p.0,
       record {
@@ -63,13 +63,13 @@ filled (Ok value) args options line e taken = by-read options line _ args refl e
 filled (Err fault) args options line e taken = tt
 
 -- what was read is what the phrases say, if they begin with nothing read
-all-said : (phrases : List Phrase) (readings : Readings) → readings.given ≡ flat_map fillings phrases → readings.plain ≡ flat_map plain_words phrases → said_by phrases ≡ readings
+all-said : (phrases : List Phrase) (readings : Readings) → readings.given ≡ flat_map fillings phrases → readings.plain ≡ flat_map plain_words phrases → readings_of_phrases phrases ≡ readings
 all-said phrases readings given plain =
     ap (λ l. record { given = l; plain = flat_map plain_words phrases }) (sym given) ∙ ap (λ l. record { given = readings.given; plain = l }) (sym plain)
 
 -- a fault at words, and whether a quote that is not closed comes before it
-at-fault : (options : List TemplateOption) (line : List ℕ) (found told : ArgFault) (phrases : List Phrase) (behind : List LineWord) → Stand options line phrases behind → GoOn phrases
-    → IsFaultAt options line (said_by phrases).given behind found → quotes_first (is_unclosed line) found ≡ told → IsFirstFault options line told
+at-fault : (options : List TemplateOption) (line : List ℕ) (found told : ArgFault) (phrases : List Phrase) (behind : List LineWord) → ArePhrasesAndWords options line phrases behind → MayContinue phrases
+    → IsFaultAt options line (readings_of_phrases phrases).given behind found → quotes_first (is_unclosed line) found ≡ told → IsFirstFault options line told
 at-fault options line fault.TooMany told phrases behind stand onward here e =
     let P : ArgFault → Type 0 = λ f. f ≡ told → IsFirstFault options line told in
     cond_both (is_unclosed line) fault.Unmatched fault.TooMany P
@@ -83,7 +83,7 @@ at-fault options line fault.Unmatched told phrases behind stand onward here e = 
 at-fault options line fault.NoMemory told phrases behind stand onward here e = subst (λ f. IsFirstFault options line f) e (at_words phrases behind fault.NoMemory stand onward here (λ h. cc))
 
 -- the words are not all read
-words-fault : (options : List TemplateOption) (line : List ℕ) (read : Result Readings ArgFault) (told : ArgFault) → read_from options line nothing_read Free (line_words_of line) ≡ read
+words-fault : (options : List TemplateOption) (line : List ℕ) (read : Result Readings ArgFault) (told : ArgFault) → read_from options line no_readings Free (line_words_of line) ≡ read
     → with_quotes (is_unclosed line) read ≡ Err told → IsFirstFault options line told
 words-fault options line (Ok readings) told e refused = cc
 words-fault options line (Err found) told e refused =
@@ -95,12 +95,12 @@ words-fault options line (Err found) told e refused =
     at-fault options line found told p.2 p.1 (record { words = s.words; said = s.said }) s.onward (subst P (sym same) p.4) told_is
 
 -- all words are read
-args-fault : (options : List TemplateOption) (line : List ℕ) (phrases : List Phrase) (told : ArgFault) → Stand options line phrases []
-    → checked_args options (is_left options (said_by phrases)) (args_of options line (said_by phrases)) ≡ Err told → IsFirstFault options line told
+args-fault : (options : List TemplateOption) (line : List ℕ) (phrases : List Phrase) (told : ArgFault) → ArePhrasesAndWords options line phrases []
+    → checked_args options (is_left options (readings_of_phrases phrases)) (args_of options line (readings_of_phrases phrases)) ≡ Err told → IsFirstFault options line told
 args-fault options line phrases told stand =
-    let found = args_of options line (said_by phrases) in
+    let found = args_of options line (readings_of_phrases phrases) in
     let P : Result (List Arg) ArgFault → Type 0 = λ r. r ≡ Err told → IsFirstFault options line told in
-    cond_both (is_left options (said_by phrases)) (Err fault.TooMany) _ P (λ left e. is fault.TooMany (Err fault.TooMany) refl e (left_over phrases stand left)) (λ none.
+    cond_both (is_left options (readings_of_phrases phrases)) (Err fault.TooMany) _ P (λ left e. is fault.TooMany (Err fault.TooMany) refl e (left_over phrases stand left)) (λ none.
     cond_both (lacks options found) (Err fault.ArgumentMissing) _ P (λ lack e. is fault.ArgumentMissing (Err fault.ArgumentMissing) refl e (missing phrases stand none lack)) (λ has.
     cond_both (has_bad options found) (Err fault.BadNumber) (Ok found) P (λ bad e. is fault.BadNumber (Err fault.BadNumber) refl e (no_number phrases stand none has bad)) (λ _ e. cc)))
   where
@@ -108,10 +108,10 @@ args-fault options line phrases told stand =
     is found r one two it = let same : found ≡ told = cc in subst (λ f. IsFirstFault options line f) same it
 
 line-fault : (options : List TemplateOption) (line : List ℕ) (read : Result Readings ArgFault) (told : ArgFault) → read_of options line (line_words_of line) ≡ read
-    → args_read options line read ≡ Err told → IsFirstFault options line told
+    → args_of_readings options line read ≡ Err told → IsFirstFault options line told
 line-fault options line (Err found) told e refused =
     let same : found ≡ told = cc in
-    words-fault options line (read_from options line nothing_read Free (line_words_of line)) told refl (e ∙ ap Err same)
+    words-fault options line (read_from options line no_readings Free (line_words_of line)) told refl (e ∙ ap Err same)
 line-fault options line (Ok readings) told e refused =
     let p = read-phrases options line readings e in
     let a = p.1 in

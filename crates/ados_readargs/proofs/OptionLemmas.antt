@@ -7,20 +7,20 @@ use Rattle.std.proofs.lemmas.Bool.Decides.{nat_tests}
 use Rattle.std.proofs.lemmas.List.{length-map}
 use Rattle.std.proofs.lemmas.Iterator.Adapters.{position_from-zero}
 use Rattle.std.proofs.lemmas.Slice.Eq.{bytes_eq-Decides}
-use Rattle.ados_text.specs.Text.{fold_of, folded, is_same}
+use Rattle.ados_text.specs.Text.{fold_of, folded_text, is_same}
 use Rattle.ados_readargs.specs.NameLengths.{is_as_long, has_as_long, one_is_as_long}
 use Rattle.ados_readargs.specs.Meanings.{is_keyword}
 use Rattle.std.proofs.lemmas.List.Quantifiers.{position-Some}
 use Rattle.ados_readargs.specs.declared.options.TemplateOption.{TemplateOption}
 use Rattle.ados_readargs.specs.declared.args.Arg.{Arg}
-use Rattle.ados_readargs.specs.Options.{is_required, takes_number, unqualified}
+use Rattle.ados_readargs.specs.Options.{is_required, takes_number, no_qualifiers}
 use Rattle.ados_readargs.specs.Checks.{lacks, has_bad}
 use Rattle.ados_readargs.specs.Shares.{is_middle, middle_of, vacant_count}
 use Rattle.ados_readargs.specs.Readings.{is_vacant}
 use Rattle.ados_readargs.specs.declared.readings.Reading.{Reading}
 
 abbrev no_option : TemplateOption
-no_option = record { names = []; qualifiers = unqualified }
+no_option = record { names = []; qualifiers = no_qualifiers }
 
 place-within : (options : List TemplateOption) (found : Option ℕ) → middle_of options ≡ found → IfSome found (λ middle. middle < length options)
 place-within options None e = tt
@@ -55,7 +55,7 @@ none_bad (option ∷ options) (arg ∷ args) e =
 other-length : (own name : List ℕ) → (length own == length name) ≡ false → is_same own name ≡ false
 other-length own name e =
     false_from_ne_true (is_same own name) (λ same.
-    let equal : folded own ≡ folded name = (bytes_eq-Decides (folded own) (folded name)).0 same in
+    let equal : folded_text own ≡ folded_text name = (bytes_eq-Decides (folded_text own) (folded_text name)).0 same in
     let alike : length own ≡ length name = sym (length-map own fold_of) ∙ ap length equal ∙ length-map name fold_of in
     absurd (grind (arith, nat_tests, e, alike)))
 

@@ -15,9 +15,9 @@ use Rattle.ados_readargs.specs.declared.options.TemplateOption.{TemplateOption}
 use Rattle.ados_readargs.specs.declared.words.LineWord.{LineWord}
 use Rattle.ados_readargs.specs.declared.words.LineWord.TheVariants as word
 use Rattle.ados_readargs.specs.declared.meanings.Meaning.TheVariants as says
-use Rattle.ados_readargs.specs.Options.{unqualified}
+use Rattle.ados_readargs.specs.Options.{no_qualifiers}
 use Rattle.ados_readargs.specs.Readings.{Readings}
-use Rattle.ados_readargs.specs.Meanings.{is_keyword, keyword_of, trimmed_from}
+use Rattle.ados_readargs.specs.Meanings.{is_keyword, keyword_of, trimmed_end}
 use Rattle.ados_readargs.specs.Phrases.{Phrase, words_in, fillings, plain_words, IsKeyword, EndsInBlanks, IsPhrase, IsLast, ArePhrases}
 
 -- phrases that are these words, and what was read after them by what was read before
@@ -57,8 +57,8 @@ keyword-is options line (word.Run from key to) place =
     let test = is_keyword (bytes_between line from key) (key == to) in
     let P : Option ℕ → Type 0 = λ found. found ≡ Some place → IsKeyword options line place (word.Run from key to) in
     cond_both (from == key) None (position test options) P (λ _ e. cc) (λ apart e.
-    let at = position-Some test options place (record { names = []; qualifiers = unqualified }) e in
-    (apart, get_or options place (record { names = []; qualifiers = unqualified }), slice_get-get_or options place _ at.0, at.1))
+    let at = position-Some test options place (record { names = []; qualifiers = no_qualifiers }) e in
+    (apart, get_or options place (record { names = []; qualifiers = no_qualifiers }), slice_get-get_or options place _ at.0, at.1))
 keyword-is options line (word.Quoted from to) place = λ e. cc
 keyword-is options line (word.Open from) place = λ e. cc
 
@@ -86,7 +86,7 @@ blank-more line end place so_far here k above below =
 
 pub trimmed-is : (line bytes : List ℕ) (place end : ℕ) → bytes ≡ drop place line → place ≤ length line
     → ((k : ℕ) → end ≤ k → k < place → is_blank (slice_index line k) ≡ true)
-    → (end ≡ 0) ⊎ (is_blank (slice_index line (end - 1)) ≡ false) → EndsInBlanks line (trimmed_from end place bytes)
+    → (end ≡ 0) ⊎ (is_blank (slice_index line (end - 1)) ≡ false) → EndsInBlanks line (trimmed_end end place bytes)
 trimmed-is line [] place end e within blank text =
     let left : length (drop place line) ≡ length line - place = length-drop place line in
     let none : 0 ≡ length (drop place line) = ap length e in
@@ -98,7 +98,7 @@ trimmed-is line (c ∷ cs) place end e within blank text =
     let more : c ∷ cs ≡ slice_index line place ∷ drop (place + 1) line = e ∙ drop_more line place 0 inside in
     let first : c ≡ slice_index line place = cc in
     let rest : cs ≡ drop (place + 1) line = cc in
-    let P : ℕ → Type 0 = λ at. EndsInBlanks line (trimmed_from at (place + 1) cs) in
+    let P : ℕ → Type 0 = λ at. EndsInBlanks line (trimmed_end at (place + 1) cs) in
     cond_both (is_blank c) end (place + 1) P
     (λ h. trimmed-is line cs (place + 1) end rest (omega arith) (blank-more line end place blank (ap is_blank (sym first) ∙ h)) text)
     (λ h. trimmed-is line cs (place + 1) (place + 1) rest (omega arith) (λ k above below. absurd (omega arith))

@@ -6,7 +6,7 @@ use Rattle.std.proofs.lemmas.List.{drop_all}
 use Rattle.ados_items.specs.Items.{is_blank, bytes_between, item_at}
 use Rattle.ados_items.specs.declared.items.Item.TheVariants as item
 use Rattle.ados_readargs.specs.Faults.{IsFaultOf}
-use Rattle.ados_readargs.specs.Meanings.{is_keyword, word_meaning, meaning_of, read_from, read_end, read_behind}
+use Rattle.ados_readargs.specs.Meanings.{is_keyword, word_meaning, meaning_of, read_from, read_end, read_by_meaning}
 use Rattle.ados_readargs.specs.Readings.{Readings}
 use Rattle.ados_readargs.specs.Options.{is_rest}
 use Rattle.ados_readargs.specs.Words.{item_of, run_end, word_of, words_from}
@@ -33,10 +33,10 @@ pub read-some : (whole : Result Readings ArgFault) (options : List TemplateOptio
     (word : LineWord) (behind : ℕ) (meaning : Meaning) → Some (word, behind) ≡ word_of line (item_at true line place)
     → meaning ≡ meaning_of options line readings.given pending word
     → whole ≡ read_from options line readings pending (words_from (suc n) line place)
-    → whole ≡ read_behind (λ more next. read_from options line more next (words_from n line behind)) readings meaning
+    → whole ≡ read_by_meaning (λ more next. read_from options line more next (words_from n line behind)) readings meaning
 read-some whole options line readings pending n place word behind meaning e m h =
     h ∙ ap (λ words. read_from options line readings pending words) (words-step n line place (Some (word, behind)) e)
-    ∙ ap (λ said. read_behind (λ more next. read_from options line more next (words_from n line behind)) readings said) (sym m)
+    ∙ ap (λ said. read_by_meaning (λ more next. read_from options line more next (words_from n line behind)) readings said) (sym m)
 
 pub refused : (defined : Result Readings ArgFault) (e : ArgFault) → defined ≡ Err e → IsFaultOf defined e
 refused defined fault.BadTemplate h = h

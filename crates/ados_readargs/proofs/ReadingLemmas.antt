@@ -15,11 +15,11 @@ use Rattle.ados_readargs.specs.declared.meanings.Pending.TheVariants.{Free, Valu
 use Rattle.ados_readargs.specs.declared.meanings.Meaning.{Meaning}
 use Rattle.ados_readargs.specs.declared.meanings.Meaning.TheVariants as says
 use Rattle.ados_readargs.specs.Options.{takes_value, qualifiers_at}
-use Rattle.ados_readargs.specs.Readings.{Readings, is_filled, nothing_read}
+use Rattle.ados_readargs.specs.Readings.{Readings, is_filled, no_readings}
 use Rattle.ados_readargs.specs.Words.{item_of, is_open_quote, is_equal}
-use Rattle.ados_readargs.specs.Meanings.{keyword_of, trimmed_from, is_full, given_meaning, value_behind, switch_meaning, keyword_meaning, plain_meaning, word_meaning, value_meaning, next_meaning, rest_of, free_meaning, next_open, read_behind, read_from}
+use Rattle.ados_readargs.specs.Meanings.{keyword_of, trimmed_end, is_full, given_meaning, keyword_value_meaning, switch_meaning, keyword_meaning, plain_meaning, word_meaning, value_meaning, next_meaning, rest_of, free_meaning, next_open, read_by_meaning, read_from}
 use Rattle.ados_readargs.specs.Phrases.{Phrase, Switch, Joined, Parted, Direct, Rest, Plain, words_in, fillings, plain_words, IsKeyword, is_whole, has_value, may_fill, is_rest_next, IsBetween, IsPlainWord, IsPhrase, IsLast}
-use Rattle.ados_readargs.specs.FirstFault.{IsPassedOver, IsFaultAt, twice, full_joined, full_parted, no_value, open_value, open_word}
+use Rattle.ados_readargs.specs.FirstFault.{IsSkippedEqual, IsFaultAt, twice, full_joined, full_parted, no_value, open_value, open_word}
 use Rattle.ados_readargs.proofs.PhraseLemmas.{Said, with_phrase, says-none, keyword-is, no-keyword, trimmed-is}
 use Rattle.ados_readargs.proofs.FaultSteps.{Comes, comes-more, first-free, full-is, full-not, given-nil, named-not, plain-nil, stop, switch-not, takes-not, toggle-free}
 
@@ -48,7 +48,7 @@ GoesOn options line words answer = (readings : Readings) (pending : Pending) (fr
 
 -- what was read with a word, by what it says
 abbrev Ends : List TemplateOption → List ℕ → List LineWord → Readings → Result Readings ArgFault → Meaning → Type 0
-Ends options line words readings answer meaning = read_behind (λ more next. read_from options line more next words) readings meaning ≡ answer
+Ends options line words readings answer meaning = read_by_meaning (λ more next. read_from options line more next words) readings meaning ≡ answer
 
 -- a word that fills the option at a place
 given-said : (options : List TemplateOption) (line : List ℕ) (words : List LineWord) (readings : Readings) (answer : Result Readings ArgFault) (full : Bool) (place : ℕ) (it : Item) (whole : List LineWord)
@@ -76,7 +76,7 @@ filling-said options line words readings answer phrase reading fills nothing her
 value-said : (options : List TemplateOption) (line : List ℕ) (words : List LineWord) (readings : Readings) (answer : Result Readings ArgFault) (place : ℕ) (keyword : LineWord)
     → IsKeyword options line place keyword → takes_value (qualifiers_at options place) ≡ true → is_rest_next options readings.given ≡ false
     → GoesOn options line words answer
-    → Ends options line words readings answer (value_behind (is_full (qualifiers_at options place) (is_filled place readings.given)) place keyword)
+    → Ends options line words readings answer (keyword_value_meaning (is_full (qualifiers_at options place) (is_filled place readings.given)) place keyword)
     → Comes options line readings (keyword ∷ words) answer
 value-said options line words readings answer place (word.Run from key to) named takes no_rest goes =
     let keyword = word.Run from key to in
@@ -154,7 +154,7 @@ free-said options line words readings answer said (Some place) open_is goes =
     let ends = trimmed-is line line 0 0 refl (omega arith) (λ k above below. absurd (omega arith)) (inl refl) in
     let Q : Result Readings ArgFault → Type 0 = λ r. Comes options line readings (said ∷ words) r in
     subst Q e (
-      Rest place said words (trimmed_from 0 0 line) ∷ [],
+      Rest place said words (trimmed_end 0 0 line) ∷ [],
       record {
         words = ap (λ l. said ∷ l) (append-nil words);
         said = ((open_is, rw open_is last, ends), refl, tt);
@@ -207,7 +207,7 @@ between-is keyword said equal [] p other = ap (λ b. b && is_equal said) (sym p)
 between-is keyword said equal (one ∷ []) p other = p.1
 between-is keyword said equal (one ∷ two ∷ more) p other = absurd p
 
-over-is : (keyword : LineWord) (equal : Bool) (passed : List LineWord) → IsPassed keyword equal passed → IsPassedOver keyword passed
+over-is : (keyword : LineWord) (equal : Bool) (passed : List LineWord) → IsPassed keyword equal passed → IsSkippedEqual keyword passed
 over-is keyword equal [] p = tt
 over-is keyword equal (one ∷ []) p = p.1
 over-is keyword equal (one ∷ two ∷ more) p = absurd p
@@ -284,5 +284,5 @@ read-said options line (said ∷ words) answer readings (Value place equal) fron
 
 -- the words of a line, of which nothing is read yet
 pub words-come : (options : List TemplateOption) (line : List ℕ) (words : List LineWord) (answer : Result Readings ArgFault)
-    → read_from options line nothing_read Free words ≡ answer → Comes options line nothing_read words answer
-words-come options line words answer = read-said options line words answer nothing_read Free [] refl
+    → read_from options line no_readings Free words ≡ answer → Comes options line no_readings words answer
+words-come options line words answer = read-said options line words answer no_readings Free [] refl

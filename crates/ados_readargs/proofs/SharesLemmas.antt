@@ -9,11 +9,11 @@ use Rattle.ados_readargs.specs.declared.options.Qualifiers.{Qualifiers}
 use Rattle.ados_readargs.specs.declared.options.TemplateOption.{TemplateOption}
 use Rattle.ados_readargs.specs.declared.readings.Reading.{Reading}
 use Rattle.ados_readargs.specs.Readings.{Readings, is_vacant}
-use Rattle.ados_readargs.specs.Options.{unqualified, qualifiers_of, qualifiers_at}
-use Rattle.ados_readargs.specs.Shares.{vacant_count, front_share, middle_share, back_share, share_by, shares_to}
+use Rattle.ados_readargs.specs.Options.{no_qualifiers, qualifiers_of, qualifiers_at}
+use Rattle.ados_readargs.specs.Shares.{vacant_count, front_share, middle_share, back_share, option_share, first_shares}
 
 abbrev no_option : TemplateOption
-no_option = record { names = []; qualifiers = unqualified }
+no_option = record { names = []; qualifiers = no_qualifiers }
 
 -- how much an option counts
 abbrev counted : Bool → ℕ → Qualifiers → List Reading → ℕ
@@ -68,7 +68,7 @@ front-step options readings n h =
 
 -- the first options take the first words
 to-front-none : (options : List TemplateOption) (readings : Readings) (n : ℕ) → n ≤ length options
-    → shares_to None n options readings ≡ take (vacant_count false 0 (take n options) readings.given) readings.plain
+    → first_shares None n options readings ≡ take (vacant_count false 0 (take n options) readings.given) readings.plain
 to-front-none options readings zero h = refl
 to-front-none options readings (suc n) h =
     let e : n + 1 ≡ suc n = omega arith in
@@ -76,29 +76,29 @@ to-front-none options readings (suc n) h =
     ∙ front-step options readings n (omega arith) ∙ ap (λ i. take (vacant_count false 0 (take i options) readings.given) readings.plain) e
 
 share-front : (m n : ℕ) (options : List TemplateOption) (readings : Readings) → n < m
-    → share_by (Some m) options readings n ≡ front_share options readings n
+    → option_share (Some m) options readings n ≡ front_share options readings n
 share-front m n options readings h = grind (arith, nat_tests, h)
 
 share-middle : (m : ℕ) (options : List TemplateOption) (readings : Readings)
-    → share_by (Some m) options readings m ≡ middle_share options readings m
+    → option_share (Some m) options readings m ≡ middle_share options readings m
 share-middle m options readings = grind (arith, nat_tests)
 
 share-back : (m n : ℕ) (options : List TemplateOption) (readings : Readings) → m < n
-    → share_by (Some m) options readings n ≡ back_share options readings m n
+    → option_share (Some m) options readings n ≡ back_share options readings m n
 share-back m n options readings h = grind (arith, nat_tests, h)
 
 to-front-some : (m : ℕ) (options : List TemplateOption) (readings : Readings) (n : ℕ) → m < length options → n ≤ m
-    → shares_to (Some m) n options readings ≡ take (vacant_count false 0 (take n options) readings.given) readings.plain
+    → first_shares (Some m) n options readings ≡ take (vacant_count false 0 (take n options) readings.given) readings.plain
 to-front-some m options readings zero w h = refl
 to-front-some m options readings (suc n) w h =
     let e : n + 1 ≡ suc n = omega arith in
-    ap (λ s. s ++ share_by (Some m) options readings n) (to-front-some m options readings n w (omega arith))
+    ap (λ s. s ++ option_share (Some m) options readings n) (to-front-some m options readings n w (omega arith))
     ∙ ap (λ s. take (vacant_count false 0 (take n options) readings.given) readings.plain ++ s) (share-front m n options readings (omega arith))
     ∙ front-step options readings n (omega arith) ∙ ap (λ i. take (vacant_count false 0 (take i options) readings.given) readings.plain) e
 
 shares-more : (mo : Option ℕ) (options : List TemplateOption) (readings : Readings) (n k : ℕ) → n ≡ suc k
-    → shares_to mo n options readings ≡ shares_to mo k options readings ++ share_by mo options readings k
-shares-more mo options readings n k e = ap (λ i. shares_to mo i options readings) e
+    → first_shares mo n options readings ≡ first_shares mo k options readings ++ option_share mo options readings k
+shares-more mo options readings n k e = ap (λ i. first_shares mo i options readings) e
 
 back-last : (b : Bool) (front behind count : ℕ) (plain : List Item) → nat_lt behind (length plain - front) ≡ b → count ≡ 1 + behind
     → take (front + (length plain - front - count)) plain ++ (if b then take 1 (drop (length plain - 1 - behind) plain) else [])
@@ -133,12 +133,12 @@ kept m n options readings =
     take (front + (length readings.plain - front - vacant_count true n (drop n options) readings.given)) readings.plain
 
 to-back : (m : ℕ) (options : List TemplateOption) (readings : Readings) (j n : ℕ) → m < length options
-    → n ≡ m + 1 + j → n ≤ length options → shares_to (Some m) n options readings ≡ kept m n options readings
+    → n ≡ m + 1 + j → n ≤ length options → first_shares (Some m) n options readings ≡ kept m n options readings
 to-back m options readings zero n w e h =
     let front = vacant_count false 0 (take m options) readings.given in
     let e1 : m + 1 ≡ n = omega arith in
     shares-more (Some m) options readings n m (omega arith)
-    ∙ ap (λ s. s ++ share_by (Some m) options readings m) (to-front-some m options readings m w (omega arith))
+    ∙ ap (λ s. s ++ option_share (Some m) options readings m) (to-front-some m options readings m w (omega arith))
     ∙ ap (λ s. take front readings.plain ++ s) (share-middle m options readings)
     ∙ sym (take-add front (length readings.plain - front - vacant_count true (m + 1) (drop (m + 1) options) readings.given) readings.plain)
     ∙ ap (λ i. kept m i options readings) e1
@@ -146,21 +146,21 @@ to-back m options readings (suc j) n w e h =
     let k = m + 1 + j in
     let e1 : k + 1 ≡ n = omega arith in
     shares-more (Some m) options readings n k (omega arith)
-    ∙ ap (λ s. s ++ share_by (Some m) options readings k) (to-back m options readings j k w refl (omega arith))
+    ∙ ap (λ s. s ++ option_share (Some m) options readings k) (to-back m options readings j k w refl (omega arith))
     ∙ ap (λ s. kept m k options readings ++ s) (share-back m k options readings (omega arith))
     ∙ back-words (is_vacant k (qualifiers_at options k) readings.given) (qualifiers_at options k).required (vacant_count false 0 (take m options) readings.given)
     (vacant_count true (k + 1) (drop (k + 1) options) readings.given) (vacant_count true k (drop k options) readings.given) readings.plain (back-less options readings.given k (omega arith))
     ∙ ap (λ i. kept m i options readings) e1
 
 pub takes_all-none : (options : List TemplateOption) (readings : Readings)
-    → nat_lt (vacant_count false 0 options readings.given) (length readings.plain) ≡ false → shares_to None (length options) options readings ≡ readings.plain
+    → nat_lt (vacant_count false 0 options readings.given) (length readings.plain) ≡ false → first_shares None (length options) options readings ≡ readings.plain
 takes_all-none options readings t =
     let few : length readings.plain ≤ vacant_count false 0 options readings.given = grind (arith, nat_tests, t) in
     to-front-none options readings (length options) (omega arith)
     ∙ ap (λ os. take (vacant_count false 0 os readings.given) readings.plain) (take_all (length options) options (omega arith)) ∙ take_all _ readings.plain few
 
 pub takes_all-some : (m : ℕ) (options : List TemplateOption) (readings : Readings) → m < length options
-    → shares_to (Some m) (length options) options readings ≡ readings.plain
+    → first_shares (Some m) (length options) options readings ≡ readings.plain
 takes_all-some m options readings w =
     let none : vacant_count true (length options) (drop (length options) options) readings.given ≡ 0 = ap (λ os. vacant_count true (length options) os readings.given) (drop_all (length options) options (omega arith)) in
     to-back m options readings (length options - m - 1) (length options) w (omega arith) (omega arith)

@@ -14,9 +14,9 @@ use Rattle.ados_readargs.specs.Readings.{Readings, named_count}
 use Rattle.ados_readargs.specs.Shares.{held_items}
 
 -- a switch or toggle that is on or not
-abbrev pub on_where : Bool → Arg
-on_where true = On
-on_where false = Absent
+abbrev pub switch_arg : Bool → Arg
+switch_arg true = On
+switch_arg false = Absent
 
 -- the texts of the items, for /M
 abbrev pub many_of : Bytes → List Item → Arg
@@ -34,7 +34,7 @@ is_named q named = if q.switch then nat_lt 0 named else named % 2 == 1
 
 -- the argument of a switch or toggle that was named `named` times
 abbrev pub named_arg : Qualifiers → ℕ → Arg
-named_arg q named = on_where (is_named q named)
+named_arg q named = switch_arg (is_named q named)
 
 -- the argument of an option that takes values and holds the items
 abbrev pub value_arg : Qualifiers → Bytes → List Item → Arg

@@ -21,22 +21,22 @@ checked_args options left args =
     (if has_bad options args then Err fault.BadNumber else Ok args))
 
 -- the arguments by what the words of the line say
-abbrev pub args_read : List TemplateOption → Bytes → Result Readings ArgFault → Result (List Arg) ArgFault
-args_read options line (Err fault) = Err fault
-args_read options line (Ok readings) = checked_args options (is_left options readings) (args_of options line readings)
+abbrev pub args_of_readings : List TemplateOption → Bytes → Result Readings ArgFault → Result (List Arg) ArgFault
+args_of_readings options line (Err fault) = Err fault
+args_of_readings options line (Ok readings) = checked_args options (is_left options readings) (args_of options line readings)
 
 -- the arguments that a line gives to options
 abbrev pub args_for : List TemplateOption → Bytes → Result (List Arg) ArgFault
-args_for options line = args_read options line (read_of options line (line_words_of line))
+args_for options line = args_of_readings options line (read_of options line (line_words_of line))
 
 -- the same, if there are options
-abbrev pub fill_by : Bytes → Option (List TemplateOption) → Result (List Arg) ArgFault
-fill_by line None = Err fault.BadTemplate
-fill_by line (Some options) = args_for options line
+abbrev pub args_for_template : Bytes → Option (List TemplateOption) → Result (List Arg) ArgFault
+args_for_template line None = Err fault.BadTemplate
+args_for_template line (Some options) = args_for options line
 
 -- The arguments that a line gives to the options of a template's text, or the first fault that holds.
 abbrev pub fill_of : Text → Bytes → Result (List Arg) ArgFault
-fill_of template line = fill_by line (template_of template)
+fill_of template line = args_for_template line (template_of template)
 
 -- each plain word of the line is taken by one option, in the order of the line
 abbrev pub LosesNoWord : List TemplateOption → Bytes → Type 0

@@ -11,7 +11,7 @@ use Rattle.ados_readargs.specs.Args.{args_of}
 use Rattle.ados_readargs.specs.Checks.{lacks, has_bad}
 use Rattle.ados_readargs.specs.Fill.{args_for}
 use Rattle.ados_readargs.specs.Options.{takes_value, qualifiers_at}
-use Rattle.ados_readargs.specs.Phrases.{Phrase, words_in, IsKeyword, IsBetween, IsLast, ArePhrases, has_value, is_rest_next, is_whole, may_fill, said_by}
+use Rattle.ados_readargs.specs.Phrases.{Phrase, words_in, IsKeyword, IsBetween, IsLast, ArePhrases, has_value, is_rest_next, is_whole, may_fill, readings_of_phrases}
 use Rattle.ados_readargs.specs.Readings.{is_filled}
 use Rattle.ados_readargs.specs.Shares.{is_left}
 use Rattle.ados_readargs.specs.Words.{is_equal, is_open_quote, line_words_of}
@@ -23,10 +23,10 @@ pub record TakesValue (options : List TemplateOption) (line : Bytes) (before : L
   pub takes : takes_value (qualifiers_at options place) ≡ true
 
 -- nothing follows a keyword, or only an `=` alone that is skipped
-abbrev pub IsPassedOver : LineWord → List LineWord → Type 0
-IsPassedOver keyword [] = Unit {0}
-IsPassedOver keyword (equal ∷ []) = (is_whole keyword && is_equal equal) ≡ true
-IsPassedOver keyword (equal ∷ other ∷ more) = ⊥
+abbrev pub IsSkippedEqual : LineWord → List LineWord → Type 0
+IsSkippedEqual keyword [] = Unit {0}
+IsSkippedEqual keyword (equal ∷ []) = (is_whole keyword && is_equal equal) ≡ true
+IsSkippedEqual keyword (equal ∷ other ∷ more) = ⊥
 
 -- The fault at the beginning of words, after these fillings: a switch that was set before; a value for an option that
 -- takes no more, after the `=` of its keyword or as a word of its own; a keyword without a value; and a quote that is not
@@ -41,7 +41,7 @@ pub data IsFaultAt (options : List TemplateOption) (line : Bytes) (before : List
       → TakesValue options line before place keyword → has_value keyword ≡ false → IsBetween keyword between value → is_open_quote value ≡ false
       → may_fill options before place ≡ false → IsFaultAt options line before ((keyword ∷ between) ++ value ∷ behind) TooMany
   no_value : (place : ℕ) (keyword : LineWord) (between : List LineWord) → TakesValue options line before place keyword → has_value keyword ≡ false
-      → IsPassedOver keyword between → IsFaultAt options line before (keyword ∷ between) ValueMissing
+      → IsSkippedEqual keyword between → IsFaultAt options line before (keyword ∷ between) ValueMissing
   open_value : (place : ℕ) (keyword : LineWord) (between : List LineWord) (value : LineWord) (behind : List LineWord)
       → TakesValue options line before place keyword → has_value keyword ≡ false → IsBetween keyword between value → is_open_quote value ≡ true
       → IsFaultAt options line before ((keyword ∷ between) ++ value ∷ behind) Unmatched
@@ -49,12 +49,12 @@ pub data IsFaultAt (options : List TemplateOption) (line : Bytes) (before : List
       → IsFaultAt options line before (word ∷ behind) Unmatched
 
 -- words may follow these phrases: none of them is the rest of the line
-abbrev pub GoOn : List Phrase → Type 0
-GoOn [] = Unit {0}
-GoOn (phrase ∷ phrases) = ((behind : List Phrase) → IsLast phrase behind) × GoOn phrases
+abbrev pub MayContinue : List Phrase → Type 0
+MayContinue [] = Unit {0}
+MayContinue (phrase ∷ phrases) = ((behind : List Phrase) → IsLast phrase behind) × MayContinue phrases
 
 -- the words of the line are these phrases, and then these words
-pub record Stand (options : List TemplateOption) (line : Bytes) (phrases : List Phrase) (behind : List LineWord) : Type 0 where
+pub record ArePhrasesAndWords (options : List TemplateOption) (line : Bytes) (phrases : List Phrase) (behind : List LineWord) : Type 0 where
   pub words : flat_map words_in phrases ++ behind ≡ line_words_of line
   pub said : ArePhrases options line [] phrases
 
@@ -66,15 +66,15 @@ is_unclosed line = list_any is_open_quote (line_words_of line)
 -- word too many; or, if all words are phrases, a plain word that is left over, then an option with /A that was given nothing,
 -- then a value that is not a number.
 pub data IsFirstFault (options : List TemplateOption) (line : Bytes) : ArgFault → Type 0 where
-  at_words : (phrases : List Phrase) (behind : List LineWord) (fault : ArgFault) → Stand options line phrases behind → GoOn phrases
-      → IsFaultAt options line (said_by phrases).given behind fault → (fault ≡ TooMany → is_unclosed line ≡ false) → IsFirstFault options line fault
-  open_behind : (phrases : List Phrase) (behind : List LineWord) → Stand options line phrases behind → GoOn phrases
-      → IsFaultAt options line (said_by phrases).given behind TooMany → is_unclosed line ≡ true → IsFirstFault options line Unmatched
-  left_over : (phrases : List Phrase) → Stand options line phrases [] → is_left options (said_by phrases) ≡ true → IsFirstFault options line TooMany
-  missing : (phrases : List Phrase) → Stand options line phrases [] → is_left options (said_by phrases) ≡ false
-      → lacks options (args_of options line (said_by phrases)) ≡ true → IsFirstFault options line ArgumentMissing
-  no_number : (phrases : List Phrase) → Stand options line phrases [] → is_left options (said_by phrases) ≡ false
-      → lacks options (args_of options line (said_by phrases)) ≡ false → has_bad options (args_of options line (said_by phrases)) ≡ true
+  at_words : (phrases : List Phrase) (behind : List LineWord) (fault : ArgFault) → ArePhrasesAndWords options line phrases behind → MayContinue phrases
+      → IsFaultAt options line (readings_of_phrases phrases).given behind fault → (fault ≡ TooMany → is_unclosed line ≡ false) → IsFirstFault options line fault
+  open_behind : (phrases : List Phrase) (behind : List LineWord) → ArePhrasesAndWords options line phrases behind → MayContinue phrases
+      → IsFaultAt options line (readings_of_phrases phrases).given behind TooMany → is_unclosed line ≡ true → IsFirstFault options line Unmatched
+  left_over : (phrases : List Phrase) → ArePhrasesAndWords options line phrases [] → is_left options (readings_of_phrases phrases) ≡ true → IsFirstFault options line TooMany
+  missing : (phrases : List Phrase) → ArePhrasesAndWords options line phrases [] → is_left options (readings_of_phrases phrases) ≡ false
+      → lacks options (args_of options line (readings_of_phrases phrases)) ≡ true → IsFirstFault options line ArgumentMissing
+  no_number : (phrases : List Phrase) → ArePhrasesAndWords options line phrases [] → is_left options (readings_of_phrases phrases) ≡ false
+      → lacks options (args_of options line (readings_of_phrases phrases)) ≡ false → has_bad options (args_of options line (readings_of_phrases phrases)) ≡ true
       → IsFirstFault options line BadNumber
 
 -- a line that does not fill options has its first fault

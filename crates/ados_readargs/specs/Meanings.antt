@@ -19,7 +19,7 @@ use Rattle.ados_readargs.specs.declared.meanings.Meaning.{Meaning}
 use Rattle.ados_readargs.specs.declared.meanings.Meaning.TheVariants.{Read, Plain, Wait, Stop, Refuse}
 use Rattle.ados_readargs.specs.Options.{has_name, is_rest, takes_value, qualifiers_at}
 use Rattle.ados_readargs.specs.Words.{item_of, start_of, is_open_quote, is_equal}
-use Rattle.ados_readargs.specs.Readings.{Readings, nothing_read, is_filled, first_vacant}
+use Rattle.ados_readargs.specs.Readings.{Readings, no_readings, is_filled, first_vacant}
 
 -- a run whose first Word is the name, and which ends there or not, is a keyword of the option
 abbrev pub is_keyword : Bytes → Bool → TemplateOption → Bool
@@ -33,9 +33,9 @@ keyword_of options line (word.Quoted from to) = None
 keyword_of options line (word.Open from) = None
 
 -- the place after the last byte that is not a blank, or `end` if there is none, in a text that begins at `place`
-abbrev pub trimmed_from : ℕ → ℕ → Bytes → ℕ
-trimmed_from end place [] = end
-trimmed_from end place (c ∷ cs) = trimmed_from (if is_blank c then end else place + 1) (place + 1) cs
+abbrev pub trimmed_end : ℕ → ℕ → Bytes → ℕ
+trimmed_end end place [] = end
+trimmed_end end place (c ∷ cs) = trimmed_end (if is_blank c then end else place + 1) (place + 1) cs
 
 -- the option takes no more: it was filled, and has no /M
 abbrev pub is_full : Qualifiers → Bool → Bool
@@ -46,10 +46,10 @@ abbrev pub given_meaning : Bool → ℕ → Item → Meaning
 given_meaning full place item = if full then Refuse fault.TooMany else Read (Given place item)
 
 -- what a run says whose first Word is a keyword of the option at a place: it gives what follows its `=`, or waits for the next word
-abbrev pub value_behind : Bool → ℕ → LineWord → Meaning
-value_behind full place (word.Run from key to) = if nat_lt (key + 1) to then given_meaning full place (item.Word (key + 1) to) else Wait place (key == to)
-value_behind full place (word.Quoted from to) = Wait place false
-value_behind full place (word.Open from) = Wait place false
+abbrev pub keyword_value_meaning : Bool → ℕ → LineWord → Meaning
+keyword_value_meaning full place (word.Run from key to) = if nat_lt (key + 1) to then given_meaning full place (item.Word (key + 1) to) else Wait place (key == to)
+keyword_value_meaning full place (word.Quoted from to) = Wait place false
+keyword_value_meaning full place (word.Open from) = Wait place false
 
 -- a switch is named once; `filled` says that it was
 abbrev pub switch_meaning : Bool → ℕ → Meaning
@@ -59,7 +59,7 @@ switch_meaning filled place = if filled then Refuse fault.TooMany else Read (Nam
 abbrev pub keyword_meaning : Qualifiers → Bool → ℕ → LineWord → Meaning
 keyword_meaning q filled place word =
     if q.toggle then Read (Named place) else
-    (if q.switch then switch_meaning filled place else value_behind (is_full q filled) place word)
+    (if q.switch then switch_meaning filled place else keyword_value_meaning (is_full q filled) place word)
 
 -- a plain word: in a template with /F it fills the first vacant option
 abbrev pub plain_meaning : Option ℕ → LineWord → Meaning
@@ -84,7 +84,7 @@ next_meaning options line given word vacant =
 
 -- the text from a word to the line's end, without the blanks there
 abbrev pub rest_of : Bytes → LineWord → Item
-rest_of line word = item.Word (start_of word) (trimmed_from 0 0 line)
+rest_of line word = item.Word (start_of word) (trimmed_end 0 0 line)
 
 -- what a word says, by the first vacant option of a template with /F: if that is the /F, no other is vacant
 abbrev pub free_meaning : List TemplateOption → Bytes → List Reading → LineWord → Option ℕ → Meaning
@@ -107,18 +107,18 @@ read_end readings Free = Ok readings
 read_end readings (Value place equal) = Err fault.ValueMissing
 
 -- the readings by what a word says, if `next` gives the rest
-abbrev pub read_behind : (Readings → Pending → Result Readings ArgFault) → Readings → Meaning → Result Readings ArgFault
-read_behind next readings (Read reading) = next (record readings { given = readings.given ++ reading ∷ [] }) Free
-read_behind next readings (Plain item) = next (record readings { plain = readings.plain ++ item ∷ [] }) Free
-read_behind next readings (Wait place equal) = next readings (Value place equal)
-read_behind next readings (Stop reading) = Ok (record readings { given = readings.given ++ reading ∷ [] })
-read_behind next readings (Refuse fault) = Err fault
+abbrev pub read_by_meaning : (Readings → Pending → Result Readings ArgFault) → Readings → Meaning → Result Readings ArgFault
+read_by_meaning next readings (Read reading) = next (record readings { given = readings.given ++ reading ∷ [] }) Free
+read_by_meaning next readings (Plain item) = next (record readings { plain = readings.plain ++ item ∷ [] }) Free
+read_by_meaning next readings (Wait place equal) = next readings (Value place equal)
+read_by_meaning next readings (Stop reading) = Ok (record readings { given = readings.given ++ reading ∷ [] })
+read_by_meaning next readings (Refuse fault) = Err fault
 
 -- the readings of the words, after the readings so far
 abbrev pub read_from : List TemplateOption → Bytes → Readings → Pending → List LineWord → Result Readings ArgFault
 read_from options line readings pending [] = read_end readings pending
 read_from options line readings pending (word ∷ words) =
-    read_behind (λ more next. read_from options line more next words) readings (meaning_of options line readings.given pending word)
+    read_by_meaning (λ more next. read_from options line more next words) readings (meaning_of options line readings.given pending word)
 
 -- if a quote is not closed, that comes before a word too many
 abbrev pub quotes_first : Bool → ArgFault → ArgFault
@@ -137,4 +137,4 @@ with_quotes unclosed (Err fault) = Err (quotes_first unclosed fault)
 
 -- What the words of a line say, or the first fault: an open quote comes before a word too many.
 abbrev pub read_of : List TemplateOption → Bytes → List LineWord → Result Readings ArgFault
-read_of options line words = with_quotes (list_any is_open_quote words) (read_from options line nothing_read Free words)
+read_of options line words = with_quotes (list_any is_open_quote words) (read_from options line no_readings Free words)

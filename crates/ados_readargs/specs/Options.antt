@@ -22,8 +22,8 @@ abbrev pub takes_number : TemplateOption → Bool
 takes_number option = option.qualifiers.number
 
 -- no qualifier
-abbrev pub unqualified : Qualifiers
-unqualified = record { required = false; keyword = false; switch = false; toggle = false; number = false; many = false; rest = false }
+abbrev pub no_qualifiers : Qualifiers
+no_qualifiers = record { required = false; keyword = false; switch = false; toggle = false; number = false; many = false; rest = false }
 
 -- none of /K, /S and /T
 abbrev pub is_plain : Qualifiers → Bool
@@ -35,7 +35,7 @@ takes_value q = not (q.switch || q.toggle)
 
 -- the qualifiers of an option, if there is one
 abbrev pub qualifiers_of : Option TemplateOption → Qualifiers
-qualifiers_of None = unqualified
+qualifiers_of None = no_qualifiers
 qualifiers_of (Some option) = option.qualifiers
 
 -- the qualifiers of the option at a place

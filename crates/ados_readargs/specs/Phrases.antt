@@ -145,16 +145,16 @@ ArePhrases options line before (phrase ∷ behind) =
     IsPhrase options line before phrase × IsLast phrase behind × ArePhrases options line (before ++ fillings phrase) behind
 
 -- what the phrases say: the fillings and the plain words, in order
-abbrev pub said_by : List Phrase → Readings
-said_by phrases = record { given = flat_map fillings phrases; plain = flat_map plain_words phrases }
+abbrev pub readings_of_phrases : List Phrase → Readings
+readings_of_phrases phrases = record { given = flat_map fillings phrases; plain = flat_map plain_words phrases }
 
 -- The words of the line are these phrases, in order; each plain word is taken by one option, in order; and the arguments
 -- are what the fillings and the plain words give to the options.
 pub record IsFilledBy (options : List TemplateOption) (line : Bytes) (args : List Arg) (phrases : List Phrase) : Type 0 where
   pub words : flat_map words_in phrases ≡ line_words_of line
   pub said : ArePhrases options line [] phrases
-  pub taken : TakesAll options (said_by phrases)
-  pub gives : args ≡ args_of options line (said_by phrases)
+  pub taken : TakesAll options (readings_of_phrases phrases)
+  pub gives : args ≡ args_of options line (readings_of_phrases phrases)
 
 -- A line gives these arguments to options: its words are phrases that say so.
 abbrev pub IsFilled : List TemplateOption → Bytes → List Arg → Type 0

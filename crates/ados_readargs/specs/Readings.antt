@@ -14,17 +14,17 @@ pub record Readings : Type 0 where
   pub plain : List Item
 
 -- nothing is read yet
-abbrev pub nothing_read : Readings
-nothing_read = record { given = []; plain = [] }
+abbrev pub no_readings : Readings
+no_readings = record { given = []; plain = [] }
 
 -- the reading fills the option at a place
-abbrev pub fills : ℕ → Reading → Bool
-fills place (Named option) = option == place
-fills place (Given option item) = option == place
+abbrev pub fills_option : ℕ → Reading → Bool
+fills_option place (Named option) = option == place
+fills_option place (Given option item) = option == place
 
 -- one of the readings fills the option at a place
 abbrev pub is_filled : ℕ → List Reading → Bool
-is_filled place given = list_any (fills place) given
+is_filled place given = list_any (fills_option place) given
 
 -- the option is plain, and no reading fills it
 abbrev pub is_vacant : ℕ → Qualifiers → List Reading → Bool
@@ -41,19 +41,19 @@ abbrev pub first_vacant : List TemplateOption → List Reading → Option ℕ
 first_vacant options given = first_vacant_from 0 options given
 
 -- what a reading gives to the option at a place
-abbrev pub given_to : ℕ → Reading → Option Item
-given_to place (Named option) = None
-given_to place (Given option item) = if option == place then Some item else None
+abbrev pub given_item : ℕ → Reading → Option Item
+given_item place (Named option) = None
+given_item place (Given option item) = if option == place then Some item else None
 
 -- what the option at a place is given
 abbrev pub given_items : ℕ → List Reading → List Item
-given_items place given = filter_map (given_to place) given
+given_items place given = filter_map (given_item place) given
 
 -- the reading names the option at a place
-abbrev pub names : ℕ → Reading → Bool
-names place (Named option) = option == place
-names place (Given option item) = false
+abbrev pub names_option : ℕ → Reading → Bool
+names_option place (Named option) = option == place
+names_option place (Given option item) = false
 
 -- how often the option at a place is named
 abbrev pub named_count : ℕ → List Reading → ℕ
-named_count place given = count_by (names place) given
+named_count place given = count_by (names_option place) given

@@ -41,30 +41,30 @@ back_share options readings middle place =
     then take 1 (drop (length readings.plain - 1 - behind) readings.plain) else []
 
 -- the plain words that the option at a place takes
-abbrev pub share_by : Option ℕ → List TemplateOption → Readings → ℕ → List Item
-share_by None options readings place = front_share options readings place
-share_by (Some middle) options readings place =
+abbrev pub option_share : Option ℕ → List TemplateOption → Readings → ℕ → List Item
+option_share None options readings place = front_share options readings place
+option_share (Some middle) options readings place =
     if nat_lt place middle then front_share options readings place else
     (if place == middle then middle_share options readings middle else back_share options readings middle place)
 
 -- more plain words than vacant options, and no /M
-abbrev pub is_left_by : Option ℕ → List TemplateOption → Readings → Bool
-is_left_by None options readings = nat_lt (vacant_count false 0 options readings.given) (length readings.plain)
-is_left_by (Some middle) options readings = false
+abbrev pub has_word_left : Option ℕ → List TemplateOption → Readings → Bool
+has_word_left None options readings = nat_lt (vacant_count false 0 options readings.given) (length readings.plain)
+has_word_left (Some middle) options readings = false
 
 -- a plain word is left over
 abbrev pub is_left : List TemplateOption → Readings → Bool
-is_left options readings = is_left_by (middle_of options) options readings
+is_left options readings = has_word_left (middle_of options) options readings
 
 -- What the option at a place holds: what keywords give it, and after that its plain words.
 abbrev pub held_items : List TemplateOption → Readings → ℕ → List Item
-held_items options readings place = given_items place readings.given ++ share_by (middle_of options) options readings place
+held_items options readings place = given_items place readings.given ++ option_share (middle_of options) options readings place
 
 -- the plain words that the first n options take, in order
-abbrev pub shares_to : Option ℕ → ℕ → List TemplateOption → Readings → List Item
-shares_to middle zero options readings = []
-shares_to middle (suc n) options readings = shares_to middle n options readings ++ share_by middle options readings n
+abbrev pub first_shares : Option ℕ → ℕ → List TemplateOption → Readings → List Item
+first_shares middle zero options readings = []
+first_shares middle (suc n) options readings = first_shares middle n options readings ++ option_share middle options readings n
 
 -- Each plain word is taken by one option, in the order of the line.
 abbrev pub TakesAll : List TemplateOption → Readings → Type 0
-TakesAll options readings = shares_to (middle_of options) (length options) options readings ≡ readings.plain
+TakesAll options readings = first_shares (middle_of options) (length options) options readings ≡ readings.plain

@@ -23,16 +23,16 @@ IsPlainAt options line place word =
     × ((given : List Reading) → meaning_of options line given Free (Run word.from word.to word.to) ≡ Plain (item.Word word.from word.to))
 
 -- the readings if the line says no more, and otherwise what `next` gives from a place on
-abbrev pub goes_on : (ℕ → Result Readings ArgFault) → Readings → Option ℕ → Result Readings ArgFault
-goes_on next readings None = Ok readings
-goes_on next readings (Some behind) = next behind
+abbrev pub next_readings : (ℕ → Result Readings ArgFault) → Readings → Option ℕ → Result Readings ArgFault
+next_readings next readings None = Ok readings
+next_readings next readings (Some behind) = next behind
 
 -- Reading goes on: what the words from a place on say after some readings is what those from the next place say after others;
 -- if there is no next place, the others are all.
 abbrev pub ReadsOn : List TemplateOption → Bytes → ℕ → Readings → Pending → Readings → Pending → Option ℕ → Type 0
 ReadsOn options line place before awaited now awaited_now next =
     (n : ℕ) → read_from options line before awaited (words_from (suc n) line place)
-    ≡ goes_on (λ after. read_from options line now awaited_now (words_from n line after)) now next
+    ≡ next_readings (λ after. read_from options line now awaited_now (words_from n line after)) now next
 
 -- reading stops: the words from a place on have this fault
 abbrev pub StopsReading : List TemplateOption → Bytes → ℕ → Readings → Pending → ArgFault → Type 0

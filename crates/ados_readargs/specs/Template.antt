@@ -4,7 +4,7 @@ use Rattle.std.specs.List.{slice_split, list_any, count_by}
 use Rattle.ados_text.specs.Text.{Bytes, Text, fold_of, to_ascii, is_same}
 use Rattle.ados_readargs.specs.declared.options.Qualifiers.{Qualifiers}
 use Rattle.ados_readargs.specs.declared.options.TemplateOption.{TemplateOption}
-use Rattle.ados_readargs.specs.Options.{has_name, is_rest, unqualified}
+use Rattle.ados_readargs.specs.Options.{has_name, is_rest, no_qualifiers}
 
 -- the qualifiers with one more, by its letter in lower case; none if it is unknown or there already
 abbrev pub with_letter : ℕ → Qualifiers → Option Qualifiers
@@ -24,22 +24,22 @@ with_piece (c ∷ []) q = with_letter (fold_of c) q
 with_piece (c ∷ d ∷ more) q = None
 
 -- the same if there are qualifiers
-abbrev pub letters_behind : (Qualifiers → Option Qualifiers) → Option Qualifiers → Option Qualifiers
-letters_behind next None = None
-letters_behind next (Some q) = next q
+abbrev pub if_qualifiers : (Qualifiers → Option Qualifiers) → Option Qualifiers → Option Qualifiers
+if_qualifiers next None = None
+if_qualifiers next (Some q) = next q
 
 -- the qualifiers with those of the pieces
 abbrev pub qualifiers_from : Qualifiers → List Bytes → Option Qualifiers
 qualifiers_from q [] = Some q
-qualifiers_from q (piece ∷ pieces) = letters_behind (λ more. qualifiers_from more pieces) (with_piece piece q)
+qualifiers_from q (piece ∷ pieces) = if_qualifiers (λ more. qualifiers_from more pieces) (with_piece piece q)
 
 -- /S and /T occur with no other qualifier
-abbrev pub alone : ℕ → Qualifiers → Option Qualifiers
-alone count q = if (q.switch || q.toggle) && nat_lt 1 count then None else Some q
+abbrev pub qualifiers_if_alone : ℕ → Qualifiers → Option Qualifiers
+qualifiers_if_alone count q = if (q.switch || q.toggle) && nat_lt 1 count then None else Some q
 
 -- the qualifiers that the pieces of an option say
 abbrev pub qualifiers_of_pieces : List Bytes → Option Qualifiers
-qualifiers_of_pieces pieces = letters_behind (alone (length pieces)) (qualifiers_from unqualified pieces)
+qualifiers_of_pieces pieces = if_qualifiers (qualifiers_if_alone (length pieces)) (qualifiers_from no_qualifiers pieces)
 
 -- the two bytes are equal
 abbrev pub is_byte : ℕ → ℕ → Bool
@@ -64,23 +64,23 @@ abbrev pub option_of : Bytes → Option TemplateOption
 option_of text = option_of_pieces (slice_split (is_byte 47) text)
 
 -- the options with one more, if there is one, after which `next` continues
-abbrev pub options_behind : (List TemplateOption → Option (List TemplateOption)) → List TemplateOption → Option TemplateOption → Option (List TemplateOption)
-options_behind next done None = None
-options_behind next done (Some option) = next (done ++ option ∷ [])
+abbrev pub options_with : (List TemplateOption → Option (List TemplateOption)) → List TemplateOption → Option TemplateOption → Option (List TemplateOption)
+options_with next done None = None
+options_with next done (Some option) = next (done ++ option ∷ [])
 
 -- the options of the texts, after those so far
 abbrev pub options_from : List TemplateOption → List Bytes → Option (List TemplateOption)
 options_from done [] = Some done
-options_from done (text ∷ texts) = options_behind (λ more. options_from more texts) done (option_of text)
+options_from done (text ∷ texts) = options_with (λ more. options_from more texts) done (option_of text)
 
 -- the name is not empty, and is among the names or in one of the options
-abbrev pub stands_again : Text → List Text → List TemplateOption → Bool
-stands_again name names later = nat_lt 0 (length name) && (list_any (is_same name) names || list_any (has_name name) later)
+abbrev pub occurs_again : Text → List Text → List TemplateOption → Bool
+occurs_again name names later = nat_lt 0 (length name) && (list_any (is_same name) names || list_any (has_name name) later)
 
 -- one of the names occurs twice in the option, or in a later option
 abbrev pub is_twice : List Text → List TemplateOption → Bool
 is_twice [] later = false
-is_twice (name ∷ names) later = stands_again name names later || is_twice names later
+is_twice (name ∷ names) later = occurs_again name names later || is_twice names later
 
 -- a name occurs twice
 abbrev pub has_twice : List TemplateOption → Bool
@@ -98,14 +98,14 @@ is_template options =
     (not (list_any is_rest (take (length options - 1) options)) && not (has_twice options)))
 
 -- the options, if they are a template
-abbrev pub checked : Option (List TemplateOption) → Option (List TemplateOption)
-checked None = None
-checked (Some options) = if is_template options then Some options else None
+abbrev pub checked_options : Option (List TemplateOption) → Option (List TemplateOption)
+checked_options None = None
+checked_options (Some options) = if is_template options then Some options else None
 
 -- The options of a template's text, which commas separate; none if the text is not a template.
 abbrev pub template_of : Text → Option (List TemplateOption)
 template_of [] = Some []
-template_of (c ∷ cs) = checked (options_from [] (slice_split (is_byte 44) (c ∷ cs)))
+template_of (c ∷ cs) = checked_options (options_from [] (slice_split (is_byte 44) (c ∷ cs)))
 
 -- the options of a template, if there is one
 abbrev pub options_or_none : Option (List TemplateOption) → List TemplateOption

@@ -8,17 +8,17 @@ use Rattle.ados_readargs.specs.declared.words.LineWord.{LineWord}
 use Rattle.ados_readargs.specs.declared.words.LineWord.TheVariants.{Run, Quoted, Open}
 
 -- where a run ends that has reached a place, by the item there, if `next` gives the end from a place on
-abbrev pub run_end_behind : (ℕ → ℕ) → ℕ → Item → ℕ
-run_end_behind next place (item.Word from to) = if from == place then next to else place
-run_end_behind next place (item.Equal from) = if from == place then next (from + 1) else place
-run_end_behind next place (item.Quoted from to) = place
-run_end_behind next place (item.End from) = place
-run_end_behind next place (item.Unmatched from) = place
+abbrev pub run_end_by_item : (ℕ → ℕ) → ℕ → Item → ℕ
+run_end_by_item next place (item.Word from to) = if from == place then next to else place
+run_end_by_item next place (item.Equal from) = if from == place then next (from + 1) else place
+run_end_by_item next place (item.Quoted from to) = place
+run_end_by_item next place (item.End from) = place
+run_end_by_item next place (item.Unmatched from) = place
 
 -- where the touching Word and Equal items from a place on end, at most `count` of them
 abbrev pub run_end_from : ℕ → Bytes → ℕ → ℕ
 run_end_from zero line place = place
-run_end_from (suc count) line place = run_end_behind (λ to. run_end_from count line to) place (item_at true line place)
+run_end_from (suc count) line place = run_end_by_item (λ to. run_end_from count line to) place (item_at true line place)
 
 -- where the run that has reached a place ends
 abbrev pub run_end : Bytes → ℕ → ℕ
@@ -33,14 +33,14 @@ word_of line (item.Unmatched from) = Some (Open from, length line)
 word_of line (item.End from) = None
 
 -- the words from one that was found on, if `next` gives those from a place on
-abbrev pub words_behind : (ℕ → List LineWord) → Option (LineWord × ℕ) → List LineWord
-words_behind next None = []
-words_behind next (Some (word, behind)) = word ∷ next behind
+abbrev pub words_from_found : (ℕ → List LineWord) → Option (LineWord × ℕ) → List LineWord
+words_from_found next None = []
+words_from_found next (Some (word, behind)) = word ∷ next behind
 
 -- the words of a line from a place on, at most `count`
 abbrev pub words_from : ℕ → Bytes → ℕ → List LineWord
 words_from zero line place = []
-words_from (suc count) line place = words_behind (λ to. words_from count line to) (word_of line (item_at true line place))
+words_from (suc count) line place = words_from_found (λ to. words_from count line to) (word_of line (item_at true line place))
 
 -- The words of a line, in order, by their places; a quote that is never closed is the last. A line has no more words than bytes.
 abbrev pub line_words_of : Bytes → List LineWord

@@ -1,7 +1,7 @@
 ghost use Rattle.std.specs.Prelude.{◌≡◌, Ok, false, IfErr, OnOk};
 ghost use Rattle.ados_readargs.specs.Checks.{has_bad};
 ghost use Rattle.ados_readargs.specs.Faults.{IsFaultOf};
-ghost use Rattle.ados_readargs.specs.Fill.{args_read};
+ghost use Rattle.ados_readargs.specs.Fill.{args_of_readings};
 ghost use Rattle.ados_readargs.specs.Shares.{TakesAll};
 
 use crate::checks::{has_bad, lacks};
@@ -20,10 +20,10 @@ pub fn args_read(
     readings: &Readings,
     args: &mut Slots,
 ) -> Result<(), ArgFault>
-    ensures ok { OnOk result (args_read options.now line.now (Ok readings.now) ≡ Ok args.new) }
+    ensures ok { OnOk result (args_of_readings options.now line.now (Ok readings.now) ≡ Ok args.new) }
     ensures numbers { OnOk result (has_bad options.now args.new ≡ false) }
     ensures taken { OnOk result (TakesAll options.now readings.now) }
-    ensures fault { IfErr result (λ e. IsFaultOf (args_read options.now line.now (Ok readings.now)) e) }
+    ensures fault { IfErr result (λ e. IsFaultOf (args_of_readings options.now line.now (Ok readings.now)) e) }
 {
     lay(options, line, readings, args)?;
     if is_left(options, readings) {

@@ -1,6 +1,6 @@
 // Keywords: which option a word names.
 ghost use Rattle.std.specs.Prelude.{◌≡◌, None, position};
-ghost use Rattle.ados_readargs.specs.Meanings.{is_keyword, keyword_of, trimmed_from};
+ghost use Rattle.ados_readargs.specs.Meanings.{is_keyword, keyword_of, trimmed_end};
 
 use crate::options::TemplateOption;
 use crate::words::LineWord;
@@ -40,7 +40,7 @@ pub fn keyword_of(options: &[TemplateOption], line: &[u8], word: LineWord) -> Op
 
 // The place after the last byte that is not a blank.
 pub fn trimmed_len(line: &[u8]) -> usize
-    ensures { result ≡ trimmed_from 0 0 line.now }
+    ensures { result ≡ trimmed_end 0 0 line.now }
 {
     let mut end = 0;
     for place in 0..line.len() {

@@ -1,5 +1,5 @@
 ghost use Rattle.std.specs.Prelude.{◌≡◌, None};
-ghost use Rattle.ados_readargs.specs.Meanings.{keyword_of, is_full, given_meaning, value_behind, switch_meaning, keyword_meaning, plain_meaning, word_meaning, value_meaning, next_meaning, rest_of, free_meaning, meaning_of};
+ghost use Rattle.ados_readargs.specs.Meanings.{keyword_of, is_full, given_meaning, keyword_value_meaning, switch_meaning, keyword_meaning, plain_meaning, word_meaning, value_meaning, next_meaning, rest_of, free_meaning, meaning_of};
 ghost use Rattle.ados_readargs.specs.declared.meanings.Pending.TheVariants.{Free};
 
 use crate::errors::ArgFault;
@@ -52,7 +52,7 @@ fn given_meaning(full: bool, place: usize, item: Item) -> Meaning
 }
 
 fn value_behind(full: bool, place: usize, word: LineWord) -> Meaning
-    ensures { result ≡ value_behind full place word }
+    ensures { result ≡ keyword_value_meaning full place word }
 {
     match word {
         LineWord::Run { key, to, .. } => {

@@ -1,6 +1,6 @@
 ghost use Rattle.std.specs.Prelude.{◌≡◌};
 ghost use Rattle.ados_text.specs.Text.{is_same};
-ghost use Rattle.ados_readargs.specs.Options.{has_name, is_plain, takes_value, unqualified, qualifiers_at, is_rest};
+ghost use Rattle.ados_readargs.specs.Options.{has_name, is_plain, takes_value, no_qualifiers, qualifiers_at, is_rest};
 ghost use Rattle.std.specs.List.{list_any};
 
 use ados_text::Texts;
@@ -27,7 +27,7 @@ pub struct Qualifiers {
 impl Qualifiers {
     /// No qualifier.
     pub fn none() -> Qualifiers
-        ensures { result ≡ unqualified }
+        ensures { result ≡ no_qualifiers }
     {
         Qualifiers {
             required: false,

@@ -4,7 +4,7 @@ ghost use Rattle.ados_readargs.specs.Faults.{IsFaultOf};
 ghost use Rattle.ados_readargs.specs.Words.{line_words_of};
 ghost use Rattle.ados_readargs.specs.Steps.{IsPlainAt, ReadsOn, StopsReading};
 ghost use Rattle.ados_readargs.specs.Meanings.{is_keyword, meaning_of, read_end, read_from, read_of, quotes_first};
-ghost use Rattle.ados_readargs.specs.Readings.{Readings, nothing_read};
+ghost use Rattle.ados_readargs.specs.Readings.{Readings, no_readings};
 ghost use Rattle.ados_readargs.specs.declared.meanings.Pending.TheVariants.{Free};
 
 use crate::errors::ArgFault;
@@ -154,8 +154,8 @@ fn read_words(
     given: &mut Vec<Reading>,
     plain: &mut Vec<Item>,
 ) -> Result<(), ArgFault>
-    ensures ok { OnOk result (read_from options.now line.now nothing_read Free (line_words_of line.now) ≡ Ok (record { given = given.new.items; plain = plain.new.items })) }
-    ensures fault { IfErr result (λ e. IsFaultOf (read_from options.now line.now nothing_read Free (line_words_of line.now)) e) }
+    ensures ok { OnOk result (read_from options.now line.now no_readings Free (line_words_of line.now) ≡ Ok (record { given = given.new.items; plain = plain.new.items })) }
+    ensures fault { IfErr result (λ e. IsFaultOf (read_from options.now line.now no_readings Free (line_words_of line.now)) e) }
 {
     given.clear();
     plain.clear();

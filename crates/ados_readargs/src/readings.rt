@@ -1,5 +1,5 @@
 ghost use Rattle.std.specs.Prelude.{◌≡◌};
-ghost use Rattle.ados_readargs.specs.Readings.{fills, is_filled, is_vacant, first_vacant, given_to, names, named_count, nothing_read};
+ghost use Rattle.ados_readargs.specs.Readings.{fills_option, is_filled, is_vacant, first_vacant, given_item, names_option, named_count, no_readings};
 
 use crate::options::{Qualifiers, TemplateOption};
 use ados_items::Item;
@@ -18,7 +18,7 @@ pub enum Reading {
 impl Reading {
     // Whether it fills the option at a place.
     fn fills(self, place: usize) -> bool
-        ensures { result ≡ fills place self }
+        ensures { result ≡ fills_option place self }
     {
         match self {
             Reading::Named(option) => option == place,
@@ -28,7 +28,7 @@ impl Reading {
 
     // Whether it names the option at a place.
     fn names(self, place: usize) -> bool
-        ensures { result ≡ names place self }
+        ensures { result ≡ names_option place self }
     {
         match self {
             Reading::Named(option) => option == place,
@@ -38,7 +38,7 @@ impl Reading {
 
     /// What it gives to the option at a place.
     pub fn given_to(self, place: usize) -> Option<Item>
-        ensures { result ≡ given_to place self }
+        ensures { result ≡ given_item place self }
     {
         match self {
             Reading::Named(_) => None,
@@ -67,7 +67,7 @@ impl Model for Readings {
 impl Readings {
     /// Nothing is read yet.
     pub fn new(alloc: Global) -> Readings
-        ensures { result ≡ nothing_read }
+        ensures { result ≡ no_readings }
     {
         Readings {
             given: Vec::new(alloc),

@@ -1,5 +1,5 @@
 ghost use Rattle.std.specs.Prelude.{◌≡◌, ◌≤◌, ◌<◌, true, false, take, drop, length};
-ghost use Rattle.ados_readargs.specs.Shares.{vacant_count, middle_of, front_share, middle_share, back_share, share_by, is_left, TakesAll};
+ghost use Rattle.ados_readargs.specs.Shares.{vacant_count, middle_of, front_share, middle_share, back_share, option_share, is_left, TakesAll};
 
 use crate::option_list::OptionList;
 use crate::options::{TemplateOption, qualifiers_at};
@@ -109,7 +109,7 @@ fn back_share<'a>(
 /// The plain words that the option at a place takes.
 pub fn share<'a>(options: &OptionList, readings: &'a Readings, place: usize) -> &'a [Item]
     requires { place < length options.now }
-    ensures { result.now ≡ share_by (middle_of options.now) options.now readings.now place }
+    ensures { result.now ≡ option_share (middle_of options.now) options.now readings.now place }
 {
     let items = options.as_slice();
     match options.middle() {

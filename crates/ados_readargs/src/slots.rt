@@ -2,7 +2,7 @@ ghost use Rattle.std.specs.Prelude.{◌≡◌, ◌++◌, ◌≤◌, [], ◌∷�
 ghost use Rattle.std.specs.Option.{option_map};
 ghost use Rattle.ados_text.specs.Text.{IsText};
 ghost use Rattle.ados_items.specs.Items.{value_of};
-ghost use Rattle.ados_readargs.specs.Args.{is_on, on_where, or_absent, text_at, texts_at, value_arg};
+ghost use Rattle.ados_readargs.specs.Args.{is_on, switch_arg, or_absent, text_at, texts_at, value_arg};
 ghost use Rattle.ados_readargs.specs.Checks.{is_absent};
 ghost use Rattle.ados_readargs.specs.Readings.{given_items};
 ghost use Rattle.ados_readargs.specs.Slots.{slot_of, switch_slot};
@@ -180,7 +180,7 @@ impl Slots {
 
     /// Adds a switch or toggle, on or not; at `NoMemory` the contents are unspecified.
     pub fn push_switch(&mut self, on: bool) -> Result<(), NoMemory>
-        ensures { OnOk result (self.new ≡ self.old ++ on_where on ∷ []) }
+        ensures { OnOk result (self.new ≡ self.old ++ switch_arg on ∷ []) }
     {
         self.slots.push(switch_slot(on))?;
         Ok(())

@@ -1,12 +1,12 @@
 ghost use Rattle.std.specs.Prelude.{◌≡◌, [], Ok, Some, None, false, map, IfOk, IfErr, OnOk};
 ghost use Rattle.std.specs.List.{slice_split, list_any, count_by};
 ghost use Rattle.ados_text.specs.Text.{to_ascii, is_same};
-ghost use Rattle.ados_readargs.specs.Options.{has_name, unqualified};
+ghost use Rattle.ados_readargs.specs.Options.{has_name, no_qualifiers};
 ghost use Rattle.ados_readargs.specs.Checks.{has_bad};
 ghost use Rattle.ados_readargs.specs.Fill.{fill_of, LosesNoWord};
 ghost use Rattle.ados_readargs.specs.Faults.{IsFaultOf, IsBadTemplate};
 ghost use Rattle.ados_readargs.specs.Phrases.{IsFilled};
-ghost use Rattle.ados_readargs.specs.Template.{IsTemplate, with_letter, with_piece, qualifiers_from, qualifiers_of_pieces, is_byte, names_of, option_of, options_from, is_many, stands_again, is_twice, has_twice, is_template, template_of, options_of};
+ghost use Rattle.ados_readargs.specs.Template.{IsTemplate, with_letter, with_piece, qualifiers_from, qualifiers_of_pieces, is_byte, names_of, option_of, options_from, is_many, occurs_again, is_twice, has_twice, is_template, template_of, options_of};
 
 use crate::args::Args;
 use crate::errors::ArgFault;
@@ -149,7 +149,7 @@ fn qualifiers_from(pieces: &[&[u8]]) -> Option<Qualifiers>
 }
 
 fn letters_of(pieces: &[&[u8]]) -> Option<Qualifiers>
-    ensures { result ≡ qualifiers_from unqualified (map (λ p. p.now) pieces.now) }
+    ensures { result ≡ qualifiers_from no_qualifiers (map (λ p. p.now) pieces.now) }
 {
     let mut q = Qualifiers::none();
     for piece in pieces {
@@ -239,7 +239,7 @@ fn is_named_in(name: &[u8], later: &[TemplateOption]) -> bool
 }
 
 fn stands_again(name: &[u8], names: &[Text], later: &[TemplateOption]) -> bool
-    ensures { result ≡ stands_again name.now names.now later.now }
+    ensures { result ≡ occurs_again name.now names.now later.now }
 {
     !name.is_empty() && (is_among(name, names) || is_named_in(name, later))
 }

@@ -4,7 +4,7 @@ ghost use Rattle.std.specs.Option.{option_copied};
 ghost use Rattle.ados_text.specs.Text.{is_same};
 ghost use Rattle.ados_resident.specs.Commands.{first_with_name};
 ghost use Rattle.ados_resident.specs.InternalCommands.{name_of};
-ghost use Rattle.ados_resident.specs.Residents.{count_of, enabled, switched, put_entry};
+ghost use Rattle.ados_resident.specs.Residents.{count_of, enabled_internal, switched_internal, put_entry};
 
 use crate::internal_commands::InternalCommand;
 use crate::residents::{Internal, Resident};
@@ -27,7 +27,7 @@ pub fn is_same(a: &Text, b: &Text) -> bool
 
 // The commands, each enabled.
 pub fn enabled(alloc: Global, commands: &[InternalCommand]) -> Result<Vec<Internal>, NoMemory>
-    ensures { IfOk result (λ internals. internals.items ≡ map enabled commands.now) }
+    ensures { IfOk result (λ internals. internals.items ≡ map enabled_internal commands.now) }
 {
     let mut internals = Vec::with_capacity(alloc, commands.len())?;
     for command in commands {
@@ -46,7 +46,7 @@ pub fn switched(
     is_disabled: bool,
     name: &Text,
 ) -> Result<Vec<Internal>, NoMemory>
-    ensures { IfOk result (λ new. new.items ≡ map (switched is_disabled name.now) internals.now) }
+    ensures { IfOk result (λ new. new.items ≡ map (switched_internal is_disabled name.now) internals.now) }
 {
     let mut new = Vec::with_capacity(alloc, internals.len())?;
     for internal in internals {
@@ -58,7 +58,7 @@ pub fn switched(
 impl Internal {
     // The same, disabled or enabled again if this is its name.
     fn switched(self, is_disabled: bool, name: &Text) -> Internal
-        ensures { result ≡ switched is_disabled name.now self }
+        ensures { result ≡ switched_internal is_disabled name.now self }
     {
         if name.is(self.command.name()) {
             Internal {

@@ -7,20 +7,20 @@ use Rattle.std.proofs.lemmas.List.Sums.{sum_by_more}
 use Rattle.ados_script.specs.declared.heads.Head.{Head}
 use Rattle.ados_script.specs.declared.heads.Head.TheVariants.{If, Else, EndIf, EndSkip, Lab, Other}
 use Rattle.ados_script.specs.Blocks.{is_if, is_end_if, ends, ends_block, is_level}
-use Rattle.ados_script.specs.Lines.{below, between}
+use Rattle.ados_script.specs.Lines.{numbers_below, lines_between}
 use Rattle.ados_script.proofs.LineLemmas.{find-here, find-further, find-past, line_of-place}
 
 -- the next line ends the block if it is such a line and no inner block is open
 ends_block-place : (at_else : Bool) (lines : List Head) (from i depth : ℕ) (d : Head) → i < length lines
-    → count_by is_if (between lines from (i + 1)) ≡ depth + count_by is_end_if (between lines from (i + 1))
+    → count_by is_if (lines_between lines from (i + 1)) ≡ depth + count_by is_end_if (lines_between lines from (i + 1))
     → ends_block at_else lines from (i + 1) ≡ (ends at_else (get_or lines i d) && (depth == 0))
 ends_block-place at_else lines from i depth d h counted =
-    let level : is_level (between lines from (i + 1)) ≡ (depth == 0) = grind (arith, nat_tests) in
+    let level : is_level (lines_between lines from (i + 1)) ≡ (depth == 0) = grind (arith, nat_tests) in
     rw (line_of-place lines i d h, level) refl
 
 -- one more line between
 count_by-between : (test : Head → Bool) (lines : List Head) (from i : ℕ) (d : Head) → from ≤ i → i < length lines
-    → count_by test (between lines from (i + 1 + 1)) ≡ count_by test (between lines from (i + 1)) + cond (test (get_or lines i d)) 1 0
+    → count_by test (lines_between lines from (i + 1 + 1)) ≡ count_by test (lines_between lines from (i + 1)) + cond (test (get_or lines i d)) 1 0
 count_by-between test lines from i d h within =
     let rest = drop from lines in
     let n = i - from in
@@ -32,8 +32,8 @@ count_by-between test lines from i d h within =
 
 -- the search is at a place: no line before it ends the block, and `depth` inner blocks are open
 record IsSought (at_else : Bool) (lines : List Head) (from i depth : ℕ) : Type 0 where
-  pub left : find (ends_block at_else lines from) (below lines from) ≡ find (ends_block at_else lines from) (below lines i)
-  pub counted : count_by is_if (between lines from (i + 1)) ≡ depth + count_by is_end_if (between lines from (i + 1))
+  pub left : find (ends_block at_else lines from) (numbers_below lines from) ≡ find (ends_block at_else lines from) (numbers_below lines i)
+  pub counted : count_by is_if (lines_between lines from (i + 1)) ≡ depth + count_by is_end_if (lines_between lines from (i + 1))
 
 -- the next line, and those after it
 pub record IsNext (lines : List Head) (i : ℕ) (head : Head) (rest : List Head) : Type 0 where
@@ -48,7 +48,7 @@ next lines i head rest e =
     record { within = long; here = ap (λ (l : List Head). get_or l 0 head) parts; behind = ap (λ (l : List Head). drop 1 l) parts }
 
 sought-here : {at_else : Bool} {lines : List Head} {from i depth : ℕ} {head : Head} {rest : List Head} → IsSought at_else lines from i depth
-    → IsNext lines i head rest → (ends at_else head && (depth == 0)) ≡ true → Some (i + 1) ≡ find (ends_block at_else lines from) (below lines from)
+    → IsNext lines i head rest → (ends at_else head && (depth == 0)) ≡ true → Some (i + 1) ≡ find (ends_block at_else lines from) (numbers_below lines from)
 sought-here {at_else} {lines} {from} {i} {depth} {head} s n t =
     find-here _ lines i n.within (ends_block-place at_else lines from i depth head n.within s.counted ∙ rw n.here t) ∙ sym s.left
 
@@ -77,7 +77,7 @@ ended at_else depth i (Lab ∷ rest) = ended at_else depth (i + 1) rest
 ended at_else depth i (Other ∷ rest) = ended at_else depth (i + 1) rest
 
 ended-sought : (at_else : Bool) (lines : List Head) (from i depth : ℕ) (rest : List Head) → from ≤ i → drop i lines ≡ rest
-    → IsSought at_else lines from i depth → ended at_else depth i rest ≡ find (ends_block at_else lines from) (below lines from)
+    → IsSought at_else lines from i depth → ended at_else depth i rest ≡ find (ends_block at_else lines from) (numbers_below lines from)
 ended-sought a lines from i depth [] order e s =
     let short : length lines ≤ i = omega (arith, length-drop i lines, ap length e) in
     sym (s.left ∙ find-past _ lines i short)
@@ -111,7 +111,7 @@ ended-sought a lines from i depth (Other ∷ rest) order e s =
     ended-sought a lines from (i + 1) depth rest (omega arith) n.behind (sought-further depth s order n refl refl)
 
 -- the line that ends a block, by depth
-pub ended-is : (at_else : Bool) (lines : List Head) (i : ℕ) → ended at_else 0 i (drop i lines) ≡ find (ends_block at_else lines i) (below lines i)
+pub ended-is : (at_else : Bool) (lines : List Head) (i : ℕ) → ended at_else 0 i (drop i lines) ≡ find (ends_block at_else lines i) (numbers_below lines i)
 ended-is at_else lines i =
     let none : i + 1 - (i + 1) ≡ 0 = omega arith in
     ended-sought at_else lines i i 0 (drop i lines) (omega arith) refl (record { left = refl; counted = rw none refl })

@@ -9,7 +9,7 @@ use Rattle.std.proofs.lemmas.Bool.{both_ways}
 use Rattle.std.proofs.lemmas.List.{get_or-drop, length-drop}
 use Rattle.std.proofs.lemmas.List.Sorted.{searchable_from_sorted, IsNonDecreasingBy-drop}
 use Rattle.std.proofs.lemmas.Map.Text.{is_eq-slice_cmp}
-use Rattle.ados_text.specs.Text.{Text, folded}
+use Rattle.ados_text.specs.Text.{Text, folded_text}
 use Rattle.ados_text.specs.Name.{name_cmp, name_cmp_total}
 use Rattle.ados_script.specs.declared.labels.Label.{Label}
 use Rattle.ados_script.specs.Tables.{has_text}
@@ -17,13 +17,13 @@ use Rattle.ados_script.proofs.ListLemmas.{filter-alike, filter-behind, filter-fr
 
 -- how the text of a label compares to another
 abbrev pub against : Text → Label → Ordering
-against text label = name_cmp (folded label.text) (folded text)
+against text label = name_cmp (folded_text label.text) (folded_text text)
 
 abbrev pub AreSorted : List Label → Type 0
-AreSorted labels = IsSortedByKey (λ (label : Label). folded label.text) name_cmp labels
+AreSorted labels = IsSortedByKey (λ (label : Label). folded_text label.text) name_cmp labels
 
 rises : (text : Text) (labels : List Label) → AreSorted labels → IsNonDecreasingBy (λ label. ordering_index (against text label)) labels
-rises text labels sorted = searchable_from_sorted name_cmp_total (λ (label : Label). folded label.text) labels (folded text) sorted
+rises text labels sorted = searchable_from_sorted name_cmp_total (λ (label : Label). folded_text label.text) labels (folded_text text) sorted
 
 index-less : (o : Ordering) → is_lt o ≡ true → ordering_index o ≡ 0
 index-less Less h = refl
@@ -74,7 +74,7 @@ pub found_all : (text : Text) (labels : List Label) (k n : ℕ)
 found_all text labels k n less equal =
     filter-front (λ label. is_eq (against text label)) (drop k labels) n equal.0 equal.1
     ∙ filter-behind (λ label. is_eq (against text label)) labels k (λ i d a b. not-equal _ (less.0 i d a b))
-    ∙ filter-alike _ (has_text text) (λ label. is_eq-slice_cmp (folded label.text) (folded text)) labels
+    ∙ filter-alike _ (has_text text) (λ label. is_eq-slice_cmp (folded_text label.text) (folded_text text)) labels
 
 -- a label whose text compares as equal to a text has it
 tie-equal : (o : Ordering) → (not (is_lt (ordering_reverse o)) && not (is_lt o)) ≡ is_eq o
@@ -82,11 +82,11 @@ tie-equal Less = refl
 tie-equal Equal = refl
 tie-equal Greater = refl
 
-tied : (text : Text) (label : Label) → ties (λ (x y : Label). is_lt (name_cmp (folded x.text) (folded y.text))) (record { text = text; line = 0 }) label ≡ has_text text label
+tied : (text : Text) (label : Label) → ties (λ (x y : Label). is_lt (name_cmp (folded_text x.text) (folded_text y.text))) (record { text = text; line = 0 }) label ≡ has_text text label
 tied text label =
-    rw (name_cmp_total.antisymm (folded text) (folded label.text)) (tie-equal (against text label)) ∙ is_eq-slice_cmp (folded label.text) (folded text)
+    rw (name_cmp_total.antisymm (folded_text text) (folded_text label.text)) (tie-equal (against text label)) ∙ is_eq-slice_cmp (folded_text label.text) (folded_text text)
 
-pub stays : (text : Text) (old new : List Label) → IsStableBy (λ (x y : Label). is_lt (name_cmp (folded x.text) (folded y.text))) old new
+pub stays : (text : Text) (old new : List Label) → IsStableBy (λ (x y : Label). is_lt (name_cmp (folded_text x.text) (folded_text y.text))) old new
     → filter (has_text text) new ≡ filter (has_text text) old
 stays text old new stable =
     filter-alike (has_text text) _ (λ label. sym (tied text label)) new ∙ stable (record { text = text; line = 0 }) ∙ filter-alike _ (has_text text) (tied text) old

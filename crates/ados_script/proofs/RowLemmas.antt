@@ -9,7 +9,7 @@ use Rattle.ados_script.specs.declared.blocks.Ends.{Ends}
 use Rattle.ados_script.specs.declared.heads.Head.{Head}
 use Rattle.ados_script.specs.declared.heads.Head.TheVariants.{If, Else, EndIf, EndSkip, Lab, Other}
 use Rattle.ados_script.specs.Blocks.{ends_block}
-use Rattle.ados_script.specs.Tables.{behind_end, ends_above, ends_of, is_nowhere, nowhere, row_at, row_or, with_row}
+use Rattle.ados_script.specs.Tables.{row_at_end, ends_above, ends_of, is_nowhere, no_ends, row_at, row_or, with_row}
 use Rattle.ados_script.proofs.BlockLemmas.{below_if, ended, ended-is, next, past}
 use Rattle.ados_script.proofs.LineLemmas.{find-past, found_within}
 
@@ -17,7 +17,7 @@ use Rattle.ados_script.proofs.LineLemmas.{find-past, found_within}
 abbrev pub AreRows : List Head → ℕ → List Ends → Type 0
 AreRows heads i rows = (down : ℕ) → row_at rows down ≡ ends_of heads (i + down)
 
-nowhere-is : (end branch : Option ℕ) → (is_none end && is_none branch) ≡ true → record { end_if = end; branch = branch } ≡ nowhere
+nowhere-is : (end branch : Option ℕ) → (is_none end && is_none branch) ≡ true → record { end_if = end; branch = branch } ≡ no_ends
 nowhere-is None None h = refl
 nowhere-is None (Some b) h = absurd (both_ways false refl h)
 nowhere-is (Some a) b h = absurd (both_ways false refl h)
@@ -47,7 +47,7 @@ end_below heads i rows are =
     rw e (IfSome_then (ends_of heads i).end_if (found_within (ends_block false heads i) heads i) (λ m h. omega arith))
 
 behind_if : (heads : List Head) (i : ℕ) (rows : List Ends) → AreRows heads (i + 1) rows → (end : Option ℕ) → IfSome end (λ m. i + 1 ≤ m)
-    → behind_end rows (i + 1) end ≡ record { end_if = past false 0 heads end; branch = past true 0 heads end }
+    → row_at_end rows (i + 1) end ≡ record { end_if = past false 0 heads end; branch = past true 0 heads end }
 behind_if heads i rows are None h = refl
 behind_if heads i rows are (Some m) h = row-is heads (i + 1) (m - (i + 1)) m rows are (omega arith)
 

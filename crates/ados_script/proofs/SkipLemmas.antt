@@ -15,10 +15,10 @@ use Rattle.ados_script.specs.declared.heads.Head.TheVariants.{If, Else, EndIf, E
 use Rattle.ados_script.specs.declared.labels.Label.{Label}
 use Rattle.ados_script.specs.Blocks.{ends_block}
 use Rattle.ados_script.specs.Heads.{head_of, label_of}
-use Rattle.ados_script.specs.Jumps.{behind, LeadsWithin}
-use Rattle.ados_script.specs.Lines.{below, is_some_and, line_of}
-use Rattle.ados_script.specs.Skips.{behind_stop, is_end_skip, is_end_skip_at, is_sought, skip_below, stops, stops_at}
-use Rattle.ados_script.specs.Tables.{behind_first, first_below, has_text, is_lab, is_lab_at, label_at, labels_below, text_or, AreByText}
+use Rattle.ados_script.specs.Jumps.{jump_to_next, LeadsWithin}
+use Rattle.ados_script.specs.Lines.{numbers_below, is_some_and, line_of}
+use Rattle.ados_script.specs.Skips.{jump_past_stop, is_end_skip, is_end_skip_at, is_sought, skip_below, stops, stops_at}
+use Rattle.ados_script.specs.Tables.{jump_past_first, first_below, has_text, is_lab, is_lab_at, label_at, labels_below, text_or, AreByText}
 use Rattle.ados_script.proofs.LineLemmas.{find-within, found_within}
 use Rattle.ados_script.proofs.ListLemmas.{find-alike, find-filter, find-map}
 
@@ -59,15 +59,15 @@ low-passed test i (suc k) a (suc n) h =
     let left : suc n - suc k ≡ n - k = omega arith in
     rw (low, and-false (test a), from, left) (low-passed test i k (a + 1) n (omega arith))
 
-above-is : (test : ℕ → Bool) (lines : List Text) (i : ℕ) → find (λ j. test j && nat_lt i j) (below lines 0) ≡ find test (below lines i)
+above-is : (test : ℕ → Bool) (lines : List Text) (i : ℕ) → find (λ j. test j && nat_lt i j) (numbers_below lines 0) ≡ find test (numbers_below lines i)
 above-is test lines i =
     let from : 1 + i ≡ i + 1 = omega arith in
     let left : length lines - 0 - i ≡ length lines - i = omega arith in
     low-passed test i i 1 (length lines - 0) (omega arith) ∙ rw (from, left) (above-all test i (i + 1) (length lines - i) (omega arith))
 
 -- the first of a list's numbers below a line is the first line there that passes the list's test
-pub first-is : (test : ℕ → Bool) (lines : List Text) (i : ℕ) → first_below (filter test (below lines 0)) i ≡ find test (below lines i)
-first-is test lines i = find-filter (λ j. nat_lt i j) test (below lines 0) ∙ above-is test lines i
+pub first-is : (test : ℕ → Bool) (lines : List Text) (i : ℕ) → first_below (filter test (numbers_below lines 0)) i ≡ find test (numbers_below lines i)
+first-is test lines i = find-filter (λ j. nat_lt i j) test (numbers_below lines 0) ∙ above-is test lines i
 
 -- line j is a Lab with the label
 abbrev pub sought_at : Option Text → List Text → ℕ → Bool
@@ -78,30 +78,30 @@ numbered lines None = refl
 numbered lines (Some j) = refl
 
 pub label-is : (text : Text) (lines : List Text) (labels : List Label) (i : ℕ) → AreByText lines labels
-    → option_map (λ (label : Label). label.line) (find (λ (label : Label). nat_lt i label.line) (filter (has_text text) labels)) ≡ find (sought_at (Some text) lines) (below lines i)
+    → option_map (λ (label : Label). label.line) (find (λ (label : Label). nat_lt i label.line) (filter (has_text text) labels)) ≡ find (sought_at (Some text) lines) (numbers_below lines i)
 label-is text lines labels i are =
     ap (λ (ls : List Label). option_map (λ (label : Label). label.line) (find (λ (label : Label). nat_lt i label.line) ls)) (are.all text)
     ∙ ap (option_map (λ (label : Label). label.line))
     (find-filter (λ (label : Label). nat_lt i label.line) (has_text text) (labels_below lines 0)
-    ∙ find-map (λ (label : Label). has_text text label && nat_lt i label.line) (label_at lines) (filter (is_lab_at lines) (below lines 0))
-    ∙ ap (option_map (label_at lines)) (find-filter (λ j. has_text text (label_at lines j) && nat_lt i j) (is_lab_at lines) (below lines 0)))
-    ∙ numbered lines (find (λ j. is_lab_at lines j && (has_text text (label_at lines j) && nat_lt i j)) (below lines 0))
-    ∙ find-alike _ (λ j. sought_at (Some text) lines j && nat_lt i j) (λ j. and-both (is_lab_at lines j) (has_text text (label_at lines j)) (nat_lt i j)) (below lines 0)
+    ∙ find-map (λ (label : Label). has_text text label && nat_lt i label.line) (label_at lines) (filter (is_lab_at lines) (numbers_below lines 0))
+    ∙ ap (option_map (label_at lines)) (find-filter (λ j. has_text text (label_at lines j) && nat_lt i j) (is_lab_at lines) (numbers_below lines 0)))
+    ∙ numbered lines (find (λ j. is_lab_at lines j && (has_text text (label_at lines j) && nat_lt i j)) (numbers_below lines 0))
+    ∙ find-alike _ (λ j. sought_at (Some text) lines j && nat_lt i j) (λ j. and-both (is_lab_at lines j) (has_text text (label_at lines j)) (nat_lt i j)) (numbers_below lines 0)
     ∙ above-is (sought_at (Some text) lines) lines i
 
-pub any-is : (lines : List Text) (i : ℕ) → find (is_lab_at lines) (below lines i) ≡ find (sought_at None lines) (below lines i)
-any-is lines i = find-alike (is_lab_at lines) (sought_at None lines) (λ j. sym (and-true (is_lab_at lines j))) (below lines i)
+pub any-is : (lines : List Text) (i : ℕ) → find (is_lab_at lines) (numbers_below lines i) ≡ find (sought_at None lines) (numbers_below lines i)
+any-is lines i = find-alike (is_lab_at lines) (sought_at None lines) (λ j. sym (and-true (is_lab_at lines j))) (numbers_below lines i)
 
 -- lists of numbers that passed a test are ascending
-below-rises : (lines : List Text) → IsNonDecreasing (below lines 0)
+below-rises : (lines : List Text) → IsNonDecreasing (numbers_below lines 0)
 below-rises lines i j d a b =
     let long = length-range_with_len 1 (length lines - 0) in
     let first = get_or-range_with_len 1 (length lines - 0) i d (omega arith) in
     let second = get_or-range_with_len 1 (length lines - 0) j d (omega arith) in
     omega arith
 
-pub numbers_rise : (test : ℕ → Bool) (lines : List Text) → IsNonDecreasing (filter test (below lines 0))
-numbers_rise test lines = IsNonDecreasingBy-filter (λ j. j) test (below lines 0) (below-rises lines)
+pub numbers_rise : (test : ℕ → Bool) (lines : List Text) → IsNonDecreasing (filter test (numbers_below lines 0))
+numbers_rise test lines = IsNonDecreasingBy-filter (λ j. j) test (numbers_below lines 0) (below-rises lines)
 
 labels-rise : (lines : List Text) (js : List ℕ) → IsNonDecreasing js → IsNonDecreasingBy (λ (label : Label). label.line) (map (label_at lines) js)
 labels-rise lines js up i j d a b =
@@ -112,7 +112,7 @@ labels-rise lines js up i j d a b =
 
 pub text_rises : (text : Text) (lines : List Text) (labels : List Label) → AreByText lines labels → IsNonDecreasingBy (λ (label : Label). label.line) (filter (has_text text) labels)
 text_rises text lines labels are =
-    rw (are.all text) (IsNonDecreasingBy-filter (λ (label : Label). label.line) (has_text text) (labels_below lines 0) (labels-rise lines (filter (is_lab_at lines) (below lines 0)) (numbers_rise (is_lab_at lines) lines)))
+    rw (are.all text) (IsNonDecreasingBy-filter (λ (label : Label). label.line) (has_text text) (labels_below lines 0) (labels-rise lines (filter (is_lab_at lines) (numbers_below lines 0)) (numbers_rise (is_lab_at lines) lines)))
 
 -- a line stops a Skip if it is a Lab that is sought, or an EndSkip; no line is both
 record Stops (stops lab end : Bool) : Type 0 where
@@ -134,8 +134,8 @@ line_stops label (Some line) = head_stops label line (head_of line)
 
 -- the first of the lines that stop it, by what is found after them
 nearer : (lines : List Text) (a : ℕ) (stop lab end : Bool) (stops labs ends : Option ℕ) → is_end_skip_at lines a ≡ end → stop ≡ (lab || end) → (lab && end) ≡ false
-    → IfSome labs (λ j. a < j) → IfSome ends (λ j. a < j) → behind_stop lines stops ≡ behind_first labs ends
-    → behind_stop lines (cond stop (Some a) stops) ≡ behind_first (cond lab (Some a) labs) (cond end (Some a) ends)
+    → IfSome labs (λ j. a < j) → IfSome ends (λ j. a < j) → jump_past_stop lines stops ≡ jump_past_first labs ends
+    → jump_past_stop lines (cond stop (Some a) stops) ≡ jump_past_first (cond lab (Some a) labs) (cond end (Some a) ends)
 nearer lines a stop false false stops labs ends at either apart lab_far end_far more = rw either more
 nearer lines a stop true false stops labs None at either apart lab_far end_far more = rw (either, at) refl
 nearer lines a stop true false stops labs (Some j) at either apart lab_far end_far more =
@@ -148,7 +148,7 @@ nearer lines a stop false true stops (Some j) ends at either apart lab_far end_f
 nearer lines a stop true true stops labs ends at either apart lab_far end_far more = absurd (both_ways true apart refl)
 
 first_stop : (label : Option Text) (lines : List Text) (a n : ℕ)
-    → behind_stop lines (find (stops_at label lines) (range_with_len a n)) ≡ behind_first (find (sought_at label lines) (range_with_len a n)) (find (is_end_skip_at lines) (range_with_len a n))
+    → jump_past_stop lines (find (stops_at label lines) (range_with_len a n)) ≡ jump_past_first (find (sought_at label lines) (range_with_len a n)) (find (is_end_skip_at lines) (range_with_len a n))
 first_stop label lines a zero = refl
 first_stop label lines a (suc n) =
     let kind = line_stops label (line_of lines a) in
@@ -159,24 +159,24 @@ first_stop label lines a (suc n) =
 
 -- what the tables find for a Skip
 pub record AreFound (label : Option Text) (lines : List Text) (i : ℕ) (lab end : Option ℕ) : Type 0 where
-  pub lab_is : lab ≡ find (sought_at label lines) (below lines i)
-  pub end_is : end ≡ find (is_end_skip_at lines) (below lines i)
+  pub lab_is : lab ≡ find (sought_at label lines) (numbers_below lines i)
+  pub end_is : end ≡ find (is_end_skip_at lines) (numbers_below lines i)
 
-pub skip-is : {label : Option Text} {lines : List Text} {i : ℕ} {lab end : Option ℕ} → AreFound label lines i lab end → behind_first lab end ≡ skip_below label lines i
+pub skip-is : {label : Option Text} {lines : List Text} {i : ℕ} {lab end : Option ℕ} → AreFound label lines i lab end → jump_past_first lab end ≡ skip_below label lines i
 skip-is {label} {lines} {i} are = rw (are.lab_is, are.end_is) (sym (first_stop label lines (i + 1) (length lines - i)))
 
 -- a line that was found is one of the lines
 abbrev pub IsWithin : List Text → Option ℕ → Type 0
 IsWithin lines o = IfSome o (λ j. (0 < j) × (j ≤ length lines))
 
-pub found-within : (test : ℕ → Bool) (lines : List Text) (i : ℕ) (o : Option ℕ) → o ≡ find test (below lines i) → IsWithin lines o
-found-within test lines i o e = rw e (IfSome_then (find test (below lines i)) (found_within test lines i) (λ j h. (omega arith, h.1)))
+pub found-within : (test : ℕ → Bool) (lines : List Text) (i : ℕ) (o : Option ℕ) → o ≡ find test (numbers_below lines i) → IsWithin lines o
+found-within test lines i o e = rw e (IfSome_then (find test (numbers_below lines i)) (found_within test lines i) (λ j h. (omega arith, h.1)))
 
-pub leads : (lines : List Text) (o : Option ℕ) → IsWithin lines o → LeadsWithin lines (behind o)
+pub leads : (lines : List Text) (o : Option ℕ) → IsWithin lines o → LeadsWithin lines (jump_to_next o)
 leads lines None h = tt
 leads lines (Some j) h = (omega arith, omega arith)
 
-pub leads_first : (lines : List Text) (lab end : Option ℕ) → IsWithin lines lab → IsWithin lines end → LeadsWithin lines (behind_first lab end)
+pub leads_first : (lines : List Text) (lab end : Option ℕ) → IsWithin lines lab → IsWithin lines end → LeadsWithin lines (jump_past_first lab end)
 leads_first lines None None h k = tt
 leads_first lines (Some lab) None h k = (omega arith, omega arith)
 leads_first lines None (Some end) h k = (omega arith, omega arith)
@@ -187,8 +187,8 @@ small lines o few h = IfSome_then o h (λ j k. omega (arith, few))
 
 -- so is one at which a block ends
 pub block-within : (at_else : Bool) (lines : List Text) (i : ℕ) (o : Option ℕ) →
-    o ≡ find (ends_block at_else (map head_of lines) i) (below (map head_of lines) i) → IsWithin lines o
+    o ≡ find (ends_block at_else (map head_of lines) i) (numbers_below (map head_of lines) i) → IsWithin lines o
 block-within at_else lines i o e =
     let long : length (map head_of lines) ≡ length lines = length-map lines head_of in
     let test : ℕ → Bool = ends_block at_else (map head_of lines) i in
-    rw e (IfSome_then (find test (below (map head_of lines) i)) (found_within test (map head_of lines) i) (λ j h. (omega arith, omega (arith, h.1, long))))
+    rw e (IfSome_then (find test (numbers_below (map head_of lines) i)) (found_within test (map head_of lines) i) (λ j h. (omega arith, omega (arith, h.1, long))))

@@ -9,7 +9,7 @@ use Rattle.ados_script.specs.declared.heads.Head.{Head}
 use Rattle.ados_script.specs.declared.heads.Head.TheVariants.{If, Else, EndIf, EndSkip, Lab, Other}
 use Rattle.ados_script.specs.declared.labels.Label.{Label}
 use Rattle.ados_script.specs.Heads.{head_of, label_of}
-use Rattle.ados_script.specs.Lines.{below, is_some_and, line_of}
+use Rattle.ados_script.specs.Lines.{numbers_below, is_some_and, line_of}
 use Rattle.ados_script.specs.Skips.{is_end_skip, is_end_skip_at}
 use Rattle.ados_script.specs.Tables.{ends_above, is_lab, is_lab_at, label_at, labels_below, row_at, with_row}
 use Rattle.ados_script.proofs.LineLemmas.{below-more, below-past, line_of-place}
@@ -18,8 +18,8 @@ use Rattle.ados_script.proofs.RowLemmas.{AreRows, end_below, no_rows, with_more}
 -- the lines from a place on are read
 pub record AreRead (lines : List Text) (i : ℕ) (table : List Ends) (skips numbers : List ℕ) (found : List Label) : Type 0 where
   pub rows : AreRows (map head_of lines) i table
-  pub end_skips : reverse skips ≡ filter (is_end_skip_at lines) (below lines i)
-  pub labs : reverse numbers ≡ filter (is_lab_at lines) (below lines i)
+  pub end_skips : reverse skips ≡ filter (is_end_skip_at lines) (numbers_below lines i)
+  pub labs : reverse numbers ≡ filter (is_lab_at lines) (numbers_below lines i)
   pub labels : reverse found ≡ labels_below lines i
 
 pub none_read : (lines : List Text) (i : ℕ) → length lines ≤ i → AreRead lines i [] [] [] []
@@ -43,12 +43,12 @@ tested : (lines : List Text) (i : ℕ) (text : Text) (head : Head) (test : Head 
 tested lines i text head test is = rw (line_of-place lines i text is.within, ← is.line, ← is.head) refl
 
 -- a number is added to a list, or not
-joined : (test : ℕ → Bool) (lines : List Text) (i : ℕ) (old : List ℕ) → i < length lines → reverse old ≡ filter test (below lines (i + 1)) → test (i + 1) ≡ true
-    → reverse (old ++ (i + 1) ∷ []) ≡ filter test (below lines i)
+joined : (test : ℕ → Bool) (lines : List Text) (i : ℕ) (old : List ℕ) → i < length lines → reverse old ≡ filter test (numbers_below lines (i + 1)) → test (i + 1) ≡ true
+    → reverse (old ++ (i + 1) ∷ []) ≡ filter test (numbers_below lines i)
 joined test lines i old h e t = reverse-append old ((i + 1) ∷ []) ∙ rw (below-more lines i h, t, e) refl
 
-passed : (test : ℕ → Bool) (lines : List Text) (i : ℕ) (old : List ℕ) → i < length lines → reverse old ≡ filter test (below lines (i + 1)) → test (i + 1) ≡ false
-    → reverse old ≡ filter test (below lines i)
+passed : (test : ℕ → Bool) (lines : List Text) (i : ℕ) (old : List ℕ) → i < length lines → reverse old ≡ filter test (numbers_below lines (i + 1)) → test (i + 1) ≡ false
+    → reverse old ≡ filter test (numbers_below lines i)
 passed test lines i old h e t = rw (below-more lines i h, t) e
 
 label_joined : (lines : List Text) (i : ℕ) (old : List Label) (label : Label) → i < length lines → reverse old ≡ labels_below lines (i + 1) → is_lab_at lines (i + 1) ≡ true → label ≡ label_at lines (i + 1)

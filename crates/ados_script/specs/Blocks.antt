@@ -7,8 +7,8 @@ use Rattle.ados_script.specs.declared.heads.Head.{Head}
 use Rattle.ados_script.specs.declared.heads.Head.TheVariants.{If, Else, EndIf}
 use Rattle.ados_script.specs.declared.jumps.Jump.{Jump}
 use Rattle.ados_script.specs.Heads.{head_of}
-use Rattle.ados_script.specs.Lines.{line_of, is_some_and, below, between}
-use Rattle.ados_script.specs.Jumps.{behind}
+use Rattle.ados_script.specs.Lines.{line_of, is_some_and, numbers_below, lines_between}
+use Rattle.ados_script.specs.Jumps.{jump_to_next}
 
 abbrev pub is_if : Head → Bool
 is_if If = true
@@ -30,17 +30,17 @@ is_level lines = count_by is_if lines == count_by is_end_if lines
 
 -- line j ends the block of line i: it is such a line, at depth 0
 abbrev pub ends_block : Bool → List Head → ℕ → ℕ → Bool
-ends_block at_else lines i j = is_some_and (ends at_else) (line_of lines j) && is_level (between lines i j)
+ends_block at_else lines i j = is_some_and (ends at_else) (line_of lines j) && is_level (lines_between lines i j)
 
 -- after the first line below line i that ends its block
-abbrev pub after : Bool → List Text → ℕ → Jump
-after at_else lines i =
+abbrev pub block_jump : Bool → List Text → ℕ → Jump
+block_jump at_else lines i =
     let heads = map head_of lines in
-    behind (find (ends_block at_else heads i) (below heads i))
+    jump_to_next (find (ends_block at_else heads i) (numbers_below heads i))
 
 -- an If that fails leads to after its Else or EndIf, and an Else to after its EndIf
 abbrev pub after_if : List Text → ℕ → Jump
-after_if = after true
+after_if = block_jump true
 
 abbrev pub after_else : List Text → ℕ → Jump
-after_else = after false
+after_else = block_jump false

@@ -17,19 +17,19 @@ head_of_word word =
     (if is_same word (codes "Lab") then Lab else Other))))
 
 -- the kind of a line by its first item: only an unquoted word counts
-abbrev pub head_by : Text → Item → Head
-head_by line (Word from to) = head_of_word (bytes_between line from to)
-head_by line _ = Other
+abbrev pub head_of_item : Text → Item → Head
+head_of_item line (Word from to) = head_of_word (bytes_between line from to)
+head_of_item line _ = Other
 
 -- the kind of a line
 abbrev pub head_of : Text → Head
-head_of line = head_by line (item_at true line 0)
+head_of line = head_of_item line (item_at true line 0)
 
 -- the text of the item after a line's first word
-abbrev pub text_behind : Text → Item → Text
-text_behind line (Word from to) = value_of line (item_at true line to)
-text_behind line _ = []
+abbrev pub second_item_text : Text → Item → Text
+second_item_text line (Word from to) = value_of line (item_at true line to)
+second_item_text line _ = []
 
 -- The label of a Lab line: the text of its second item. It is empty if there is none, and for an open quote.
 abbrev pub label_of : Text → Text
-label_of line = text_behind line (item_at true line 0)
+label_of line = second_item_text line (item_at true line 0)

@@ -5,9 +5,9 @@ use Rattle.ados_script.specs.declared.jumps.Jump.{Jump}
 use Rattle.ados_script.specs.declared.jumps.Jump.TheVariants.{To, EndSkip, None as Nowhere}
 
 -- to the line after a line that was found
-abbrev pub behind : Option ℕ → Jump
-behind None = Nowhere
-behind (Some j) = To (j + 1)
+abbrev pub jump_to_next : Option ℕ → Jump
+jump_to_next None = Nowhere
+jump_to_next (Some j) = To (j + 1)
 
 -- it leads to a line below the first, at most to the one after the last
 abbrev pub LeadsWithin : List Text → Jump → Type 0

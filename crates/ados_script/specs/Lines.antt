@@ -14,9 +14,9 @@ is_some_and test None = false
 is_some_and test (Some line) = test line
 
 -- the numbers of the lines below a line, down to the last; below 0 they are all
-abbrev pub below : {Line : Type 0} → List Line → ℕ → List ℕ
-below lines i = range_with_len (i + 1) (length lines - i)
+abbrev pub numbers_below : {Line : Type 0} → List Line → ℕ → List ℕ
+numbers_below lines i = range_with_len (i + 1) (length lines - i)
 
 -- the lines strictly between two
-abbrev pub between : {Line : Type 0} → List Line → ℕ → ℕ → List Line
-between lines i j = take (j - (i + 1)) (drop i lines)
+abbrev pub lines_between : {Line : Type 0} → List Line → ℕ → ℕ → List Line
+lines_between lines i j = take (j - (i + 1)) (drop i lines)

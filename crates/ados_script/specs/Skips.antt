@@ -7,7 +7,7 @@ use Rattle.ados_script.specs.declared.heads.Head.TheVariants.{Lab, EndSkip}
 use Rattle.ados_script.specs.declared.jumps.Jump.{Jump}
 use Rattle.ados_script.specs.declared.jumps.Jump.TheVariants.{To, EndSkip as BehindEndSkip, None as Nowhere}
 use Rattle.ados_script.specs.Heads.{head_of, label_of}
-use Rattle.ados_script.specs.Lines.{line_of, is_some_and, below}
+use Rattle.ados_script.specs.Lines.{line_of, is_some_and, numbers_below}
 
 -- the label that is sought, or any one if none is named
 abbrev pub is_sought : Option Text → Text → Bool
@@ -33,13 +33,13 @@ abbrev pub is_end_skip_at : List Text → ℕ → Bool
 is_end_skip_at lines j = is_some_and (λ line. is_end_skip (head_of line)) (line_of lines j)
 
 -- to the line after the one at which it stops
-abbrev pub behind_stop : List Text → Option ℕ → Jump
-behind_stop lines None = Nowhere
-behind_stop lines (Some j) = if is_end_skip_at lines j then BehindEndSkip (j + 1) else To (j + 1)
+abbrev pub jump_past_stop : List Text → Option ℕ → Jump
+jump_past_stop lines None = Nowhere
+jump_past_stop lines (Some j) = if is_end_skip_at lines j then BehindEndSkip (j + 1) else To (j + 1)
 
 -- after the first line below a line at which it stops
 abbrev pub skip_below : Option Text → List Text → ℕ → Jump
-skip_below label lines i = behind_stop lines (find (stops_at label lines) (below lines i))
+skip_below label lines i = jump_past_stop lines (find (stops_at label lines) (numbers_below lines i))
 
 -- a Skip at line i searches below it, and with BACK from the first line on
 abbrev pub skip : List Text → ℕ → Option Text → Bool → Jump

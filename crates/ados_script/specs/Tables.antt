@@ -2,7 +2,7 @@
 use Rattle.std.specs.Prelude.{◌≡◌, ℕ, ◌+◌, ◌-◌, ◌<◌, ◌^◌, length, List, [], ◌∷◌, ◌++◌, map, reverse, slice_get, Bool, true, false, ◌&&◌, nat_lt, Option, Some, None, is_none, if◌then◌else◌}
 use Rattle.std.specs.List.{filter, find}
 use Rattle.std.specs.List.Sorted.{IsSortedByKey}
-use Rattle.ados_text.specs.Text.{Text, folded, is_same}
+use Rattle.ados_text.specs.Text.{Text, folded_text, is_same}
 use Rattle.ados_text.specs.Name.{name_cmp}
 use Rattle.ados_script.specs.declared.heads.Head.{Head}
 use Rattle.ados_script.specs.declared.heads.Head.TheVariants.{If, Else, EndIf, Lab}
@@ -12,23 +12,23 @@ use Rattle.ados_script.specs.declared.tables.Tables.{Tables}
 use Rattle.ados_script.specs.declared.jumps.Jump.{Jump}
 use Rattle.ados_script.specs.declared.jumps.Jump.TheVariants.{To, EndSkip as BehindEndSkip, None as Nowhere}
 use Rattle.ados_script.specs.Heads.{head_of, label_of}
-use Rattle.ados_script.specs.Lines.{line_of, is_some_and, below}
+use Rattle.ados_script.specs.Lines.{line_of, is_some_and, numbers_below}
 use Rattle.ados_script.specs.Blocks.{ends_block}
 use Rattle.ados_script.specs.Skips.{is_end_skip_at}
 
 -- where the block of a line ends: at its EndIf, and at its Else or EndIf
 abbrev pub ends_of : List Head → ℕ → Ends
-ends_of heads i = record { end_if = find (ends_block false heads i) (below heads i); branch = find (ends_block true heads i) (below heads i) }
+ends_of heads i = record { end_if = find (ends_block false heads i) (numbers_below heads i); branch = find (ends_block true heads i) (numbers_below heads i) }
 
 -- no block ends
-abbrev pub nowhere : Ends
-nowhere = record { end_if = None; branch = None }
+abbrev pub no_ends : Ends
+no_ends = record { end_if = None; branch = None }
 
 abbrev pub is_nowhere : Ends → Bool
 is_nowhere row = is_none row.end_if && is_none row.branch
 
 abbrev pub row_or : Option Ends → Ends
-row_or None = nowhere
+row_or None = no_ends
 row_or (Some row) = row
 
 -- the row of the line `down` lines below the topmost, whose row comes last; if no row is kept, no block ends
@@ -36,15 +36,15 @@ abbrev pub row_at : List Ends → ℕ → Ends
 row_at rows down = row_or (slice_get (reverse rows) down)
 
 -- the row of the line where a block ends, by the rows from a line on
-abbrev pub behind_end : List Ends → ℕ → Option ℕ → Ends
-behind_end rows line None = nowhere
-behind_end rows line (Some end) = row_at rows (end - line)
+abbrev pub row_at_end : List Ends → ℕ → Option ℕ → Ends
+row_at_end rows line None = no_ends
+row_at_end rows line (Some end) = row_at rows (end - line)
 
 -- the row of the line above one, by the rows from that one on: below an If a block ends where it does below the If's own EndIf
 abbrev pub ends_above : List Ends → ℕ → Head → Ends
 ends_above rows line EndIf = record { end_if = Some line; branch = Some line }
 ends_above rows line Else = record { end_if = (row_at rows 0).end_if; branch = Some line }
-ends_above rows line If = behind_end rows line (row_at rows 0).end_if
+ends_above rows line If = row_at_end rows line (row_at rows 0).end_if
 ends_above rows line _ = row_at rows 0
 
 -- rows with one more on top; the first that is kept says that a block ends
@@ -74,27 +74,27 @@ label_at lines j = record { text = label_of (text_or (line_of lines j)); line = 
 
 -- the labels of the Lab lines below line i, in the order of the lines
 abbrev pub labels_below : List Text → ℕ → List Label
-labels_below lines i = map (label_at lines) (filter (is_lab_at lines) (below lines i))
+labels_below lines i = map (label_at lines) (filter (is_lab_at lines) (numbers_below lines i))
 
 abbrev pub has_text : Text → Label → Bool
 has_text text label = is_same label.text text
 
 -- the labels are in the order of their texts, ignoring case, and those with the same text in the order of their lines
 pub record AreByText (lines : List Text) (labels : List Label) : Type 0 where
-  pub sorted : IsSortedByKey (λ (label : Label). folded label.text) name_cmp labels
+  pub sorted : IsSortedByKey (λ (label : Label). folded_text label.text) name_cmp labels
   pub all : (text : Text) → filter (has_text text) labels ≡ filter (has_text text) (labels_below lines 0)
 
 -- the tables are those of these lines, which are few enough that the one after the last has a number too
 pub record AreTables (lines : List Text) (tables : Tables) : Type 0 where
   pub few : length lines < 2 ^ 63
   pub ends : (i : ℕ) → row_at tables.ends.items i ≡ ends_of (map head_of lines) i
-  pub end_skips : tables.end_skips.items ≡ filter (is_end_skip_at lines) (below lines 0)
-  pub labs : tables.labs.items ≡ filter (is_lab_at lines) (below lines 0)
+  pub end_skips : tables.end_skips.items ≡ filter (is_end_skip_at lines) (numbers_below lines 0)
+  pub labs : tables.labs.items ≡ filter (is_lab_at lines) (numbers_below lines 0)
   pub labels : AreByText lines tables.labels.items
 
 -- the jump to after the Lab or the EndSkip that was found, whichever comes first
-abbrev pub behind_first : Option ℕ → Option ℕ → Jump
-behind_first None None = Nowhere
-behind_first (Some lab) None = To (lab + 1)
-behind_first None (Some end) = BehindEndSkip (end + 1)
-behind_first (Some lab) (Some end) = if nat_lt end lab then BehindEndSkip (end + 1) else To (lab + 1)
+abbrev pub jump_past_first : Option ℕ → Option ℕ → Jump
+jump_past_first None None = Nowhere
+jump_past_first (Some lab) None = To (lab + 1)
+jump_past_first None (Some end) = BehindEndSkip (end + 1)
+jump_past_first (Some lab) (Some end) = if nat_lt end lab then BehindEndSkip (end + 1) else To (lab + 1)

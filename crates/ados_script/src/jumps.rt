@@ -1,5 +1,5 @@
 ghost use Rattle.std.specs.Prelude.{◌≡◌, ◌+◌, ◌<◌, ◌^◌, IfSome};
-ghost use Rattle.ados_script.specs.Jumps.{behind};
+ghost use Rattle.ados_script.specs.Jumps.{jump_to_next};
 
 /// Where a jump leads. Lines are numbered from 1.
 #[derive(Clone, Copy, Debug, PartialEq, Eq)]
@@ -15,7 +15,7 @@ pub enum Jump {
 /// To the line after a line that was found.
 pub fn behind(line: Option<usize>) -> Jump
     requires { IfSome line (λ line. line + 1 < 2 ^ 64) }
-    ensures { result ≡ behind line }
+    ensures { result ≡ jump_to_next line }
 {
     match line {
         None => Jump::None,

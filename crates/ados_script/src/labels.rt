@@ -3,7 +3,7 @@ ghost use Rattle.std.specs.Prelude.{◌≡◌, ℕ, List, nat_lt, IfOk, OnOk};
 ghost use Rattle.std.specs.List.{filter, find};
 ghost use Rattle.std.specs.List.Sorted.{IsNonDecreasingBy, IsSortedByKey};
 ghost use Rattle.std.specs.Option.{option_copied, option_map};
-ghost use Rattle.ados_text.specs.Text.{folded};
+ghost use Rattle.ados_text.specs.Text.{folded_text};
 ghost use Rattle.ados_text.specs.Name.{name_cmp};
 ghost use Rattle.ados_script.specs.Heads.{label_of};
 ghost use Rattle.ados_script.specs.Tables.{has_text};
@@ -37,7 +37,7 @@ pub fn read_label(alloc: Global, line: &Text) -> Result<Name, NoMemory>
 
 /// Sorts labels by their texts; those with the same text keep their order.
 pub fn sort(labels: &mut Vec<Label>) -> Result<(), NoMemory>
-    ensures sorted { OnOk result (IsSortedByKey (λ (label : Label). folded label.text) name_cmp labels.new.items) }
+    ensures sorted { OnOk result (IsSortedByKey (λ (label : Label). folded_text label.text) name_cmp labels.new.items) }
     ensures stable { OnOk result ((text : List ℕ) → filter (has_text text) labels.new.items ≡ filter (has_text text) labels.old.items) }
 {
     labels.sort_by(|a, b| a.text.cmp(&b.text))?;
@@ -46,7 +46,7 @@ pub fn sort(labels: &mut Vec<Label>) -> Result<(), NoMemory>
 
 /// The first line below line `i` that has this label.
 pub fn first_of(labels: &[Label], text: &[u8], i: usize) -> Option<usize>
-    requires sorted { IsSortedByKey (λ (label : Label). folded label.text) name_cmp labels.now }
+    requires sorted { IsSortedByKey (λ (label : Label). folded_text label.text) name_cmp labels.now }
     requires rising { IsNonDecreasingBy (λ (label : Label). label.line) (filter (has_text text.now) labels.now) }
     ensures { result ≡ option_map (λ (label : Label). label.line) (find (λ (label : Label). nat_lt i label.line) (filter (has_text text.now) labels.now)) }
 {
@@ -63,7 +63,7 @@ fn first_behind(labels: &[Label], i: usize) -> Option<&Label>
 
 // The labels with this text.
 fn all_of<'a>(labels: &'a [Label], text: &[u8]) -> &'a [Label]
-    requires { IsSortedByKey (λ (label : Label). folded label.text) name_cmp labels.now }
+    requires { IsSortedByKey (λ (label : Label). folded_text label.text) name_cmp labels.now }
     ensures { result.now ≡ filter (has_text text.now) labels.now }
 {
     let from = labels.partition_point(|label| order(label, text).is_lt());
@@ -73,7 +73,7 @@ fn all_of<'a>(labels: &'a [Label], text: &[u8]) -> &'a [Label]
 
 // How the text of a label compares to another.
 fn order(label: &Label, text: &[u8]) -> Ordering
-    ensures { result ≡ name_cmp (folded label.now.text) (folded text.now) }
+    ensures { result ≡ name_cmp (folded_text label.now.text) (folded_text text.now) }
 {
     let theirs = text.iter().map(|byte| fold(*byte));
     label

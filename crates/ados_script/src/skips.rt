@@ -1,7 +1,7 @@
 // Where a Skip leads: to the nearer of two lines, each the first one below the Skip in an ascending list.
 ghost use Rattle.std.specs.Prelude.{◌≡◌, ◌+◌, ◌<◌, ◌^◌, IfSome};
 ghost use Rattle.std.specs.List.Sorted.{IsNonDecreasing};
-ghost use Rattle.ados_script.specs.Tables.{behind_first, first_below};
+ghost use Rattle.ados_script.specs.Tables.{jump_past_first, first_below};
 
 use crate::jumps::Jump;
 
@@ -17,7 +17,7 @@ pub fn first_below(lines: &[usize], i: usize) -> Option<usize>
 pub fn behind_first(lab: Option<usize>, end_skip: Option<usize>) -> Jump
     requires lab { IfSome lab (λ line. line + 1 < 2 ^ 64) }
     requires end_skip { IfSome end_skip (λ line. line + 1 < 2 ^ 64) }
-    ensures { result ≡ behind_first lab end_skip }
+    ensures { result ≡ jump_past_first lab end_skip }
 {
     match (lab, end_skip) {
         (None, None) => Jump::None,

@@ -11,7 +11,7 @@ use Rattle.ados_session.specs.Hosts.{are_free, are_hosts, host_in, host_line, ho
 use Rattle.ados_session.specs.declared.recordings.Form.{Form}
 use Rattle.ados_machine.specs.declared.events.BreakAt.{BreakAt}
 use Rattle.ados_session.specs.Breaks.{are_rising, last_event, rise_from}
-use Rattle.ados_session.specs.Recordings.{Recorded, are_records, answer_in, break_in, is_record, is_session, joined, record_line, recorded, typed_in}
+use Rattle.ados_session.specs.Recordings.{RecordedSession, are_records, answer_in, break_in, is_record, is_session, joined_sessions, record_line, session_of_lines, typed_in}
 use Rattle.ados_session.specs.Recordings.{host_in as recorded_host}
 
 and_left : (a b : Bool) → (a && b) ≡ true → a ≡ true
@@ -33,7 +33,7 @@ all_more p done line free h = rw (list_all-append p done (line ∷ []), h) (and_
 hosts_more : (done : List Text) (line : Text) → hosts_in (done ++ line ∷ []) ≡ hosts_in done ++ hosts_in (line ∷ [])
 hosts_more done line = filter_map-append (λ line. host_in (host_line line)) done (line ∷ [])
 
-records_more : (form : Form) (done : List Text) (line : Text) → recorded form (done ++ line ∷ []) ≡ joined (recorded form done) (recorded form (line ∷ []))
+records_more : (form : Form) (done : List Text) (line : Text) → session_of_lines form (done ++ line ∷ []) ≡ joined_sessions (session_of_lines form done) (session_of_lines form (line ∷ []))
 records_more form done line = rw (
   filter_map-append (λ line. recorded_host (record_line form line)) done (line ∷ []),
   flat_map-append (λ line. typed_in (record_line form line)) done (line ∷ []),
@@ -56,29 +56,29 @@ host_taken lines place line old new good within is_line before is_old is_new is_
     rw (take_more lines place line within, ← is_line) (checked, all)
 
 -- a line of a recording is taken
-pub record_taken : (form : Form) (lines : List Text) (place : ℕ) (line : Text) (old new : Recorded) (good : Bool) → place < length lines → line ≡ get_or lines place line
-    → are_records form (take place lines) ≡ true → old ≡ recorded form (take place lines)
-    → new ≡ joined old (recorded form (line ∷ []))
+pub record_taken : (form : Form) (lines : List Text) (place : ℕ) (line : Text) (old new : RecordedSession) (good : Bool) → place < length lines → line ≡ get_or lines place line
+    → are_records form (take place lines) ≡ true → old ≡ session_of_lines form (take place lines)
+    → new ≡ joined_sessions old (session_of_lines form (line ∷ []))
     → good ≡ (is_record (record_line form line) && is_session new)
-    → (are_records form (take (place + 1) lines) ≡ good) × (new ≡ recorded form (take (place + 1) lines))
+    → (are_records form (take (place + 1) lines) ≡ good) × (new ≡ session_of_lines form (take (place + 1) lines))
 record_taken form lines place line old new good within is_line before is_old is_new is_good =
     let done = take place lines in
-    let all : new ≡ recorded form (done ++ line ∷ []) = is_new ∙ ap (λ session. joined session (recorded form (line ∷ []))) is_old ∙ sym (records_more form done line) in
+    let all : new ≡ session_of_lines form (done ++ line ∷ []) = is_new ∙ ap (λ session. joined_sessions session (session_of_lines form (line ∷ []))) is_old ∙ sym (records_more form done line) in
     let checked : are_records form (done ++ line ∷ []) ≡ good =
-    all_more (λ line. is_record (record_line form line)) done line (is_session (recorded form (done ++ line ∷ []))) (and_left _ _ before)
-    ∙ ap (λ (session : Recorded). is_record (record_line form line) && is_session session) (sym all) ∙ sym is_good in
+    all_more (λ line. is_record (record_line form line)) done line (is_session (session_of_lines form (done ++ line ∷ []))) (and_left _ _ before)
+    ∙ ap (λ (session : RecordedSession). is_record (record_line form line) && is_session session) (sym all) ∙ sym is_good in
     rw (take_more lines place line within, ← is_line) (checked, all)
 
 -- with the commands of lines that are good a world can be made
 pub hosts_free : (lines : List Text) (hosts : List HostEntry) → are_hosts lines ≡ true → hosts ≡ hosts_in lines → are_free hosts ≡ true
 hosts_free lines hosts good is = rw is (and_right _ _ good)
 
-pub records_free : (form : Form) (lines : List Text) (session : Recorded) → are_records form lines ≡ true → session ≡ recorded form lines → are_free session.hosts ≡ true
+pub records_free : (form : Form) (lines : List Text) (session : RecordedSession) → are_records form lines ≡ true → session ≡ session_of_lines form lines → are_free session.hosts ≡ true
 records_free form lines session good is = rw is (and_left _ _ (and_right _ _ good))
 
 -- and the event numbers of their breaks do not decrease
-pub records_rise : (form : Form) (lines : List Text) (session : Recorded) → are_records form lines ≡ true → session ≡ recorded form lines → are_rising session.breaks ≡ true
-records_rise form lines session good is = rw is (and_right (are_free (recorded form lines).hosts) _ (and_right _ _ good))
+pub records_rise : (form : Form) (lines : List Text) (session : RecordedSession) → are_records form lines ≡ true → session ≡ session_of_lines form lines → are_rising session.breaks ≡ true
+records_rise form lines session good is = rw is (and_right (are_free (session_of_lines form lines).hosts) _ (and_right _ _ good))
 
 and_assoc : (a b c : Bool) → (a && (b && c)) ≡ ((a && b) && c)
 and_assoc true b c = refl

@@ -9,7 +9,7 @@ use Rattle.ados_text.specs.Number.{is_negative, number_of}
 use Rattle.ados_machine.specs.Answers.{is_piece}
 use Rattle.ados_machine.specs.declared.answers.Answer.{Answer}
 use Rattle.ados_machine.specs.declared.answers.Answer.TheVariants.{Started, NotFound, Denied, Memory, Other, «Bytes» as Piece, End, PipeFault, Exit, Signal, WaitFault}
-use Rattle.ados_session.specs.Parts.{parted}
+use Rattle.ados_session.specs.Parts.{split_at_space}
 
 -- the answer of a word alone
 abbrev pub plain_answer : Text → Option Answer
@@ -50,4 +50,4 @@ valued_answer word value =
 
 -- the answer that a text writes
 abbrev pub answer_of : Text → Option Answer
-answer_of text = option_map_or (λ p. valued_answer p.0 p.1) (parted text) (plain_answer text)
+answer_of text = option_map_or (λ p. valued_answer p.0 p.1) (split_at_space text) (plain_answer text)

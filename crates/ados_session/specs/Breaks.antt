@@ -7,7 +7,7 @@ use Rattle.ados_text.specs.Text.{Text}
 use Rattle.ados_machine.specs.declared.events.BreakAt.{BreakAt}
 use Rattle.ados_machine.specs.declared.events.Kind.{Kind}
 use Rattle.ados_machine.specs.declared.events.Kind.TheVariants.{C, D}
-use Rattle.ados_session.specs.Parts.{parted}
+use Rattle.ados_session.specs.Parts.{split_at_space}
 
 -- the number that digits write, from 1 to a highest one
 abbrev pub number_up_to : ℕ → Option ℤ → Option ℕ
@@ -21,16 +21,16 @@ number_in most digits = if is_negative digits then None else number_up_to most (
 abbrev pub kind_of : Text → Option Kind
 kind_of word = if bytes_eq word (codes "C") then Some C else (if bytes_eq word (codes "D") then Some D else None)
 
-abbrev pub break_by : Option ℕ → Option ℕ → Option Kind → Option BreakAt
-break_by (Some event) (Some shell) (Some kind) = Some (record { event = event; shell = shell; kind = kind })
-break_by event shell kind = None
+abbrev pub break_of_parts : Option ℕ → Option ℕ → Option Kind → Option BreakAt
+break_of_parts (Some event) (Some shell) (Some kind) = Some (record { event = event; shell = shell; kind = kind })
+break_of_parts event shell kind = None
 
 -- the break of a text, by its three words: the number of an event, that of a shell, and the kind
-abbrev pub break_behind : Text → Text → Option BreakAt
-break_behind event rest = option_map_or (λ p. break_by (number_in 1_000_000_000 event) (number_in 20 p.0) (kind_of p.1)) (parted rest) None
+abbrev pub break_after_number : Text → Text → Option BreakAt
+break_after_number event rest = option_map_or (λ p. break_of_parts (number_in 1_000_000_000 event) (number_in 20 p.0) (kind_of p.1)) (split_at_space rest) None
 
 abbrev pub break_of : Text → Option BreakAt
-break_of text = option_map_or (λ p. break_behind p.0 p.1) (parted text) None
+break_of text = option_map_or (λ p. break_after_number p.0 p.1) (split_at_space text) None
 
 -- from this number on the numbers of events do not decrease
 abbrev pub rise_from : ℕ → List BreakAt → Bool

@@ -2,7 +2,7 @@
 use Rattle.std.specs.Prelude.{Bool, true, false, ◌&&◌, ◌||◌, ◌==◌, List, length, slice_index, Option, Some, None, is_none, if◌then◌else◌}
 use Rattle.std.specs.List.{filter_map, list_all}
 use Rattle.ados_text.specs.Text.{Text}
-use Rattle.ados_items.specs.Parts.{first_word, rest_of, trimmed}
+use Rattle.ados_items.specs.Parts.{first_word, rest_of, trimmed_text}
 use Rattle.ados_resident.specs.declared.hosts.HostEntry.{HostEntry}
 use Rattle.ados_world.specs.Hosts.{hosts_fault}
 use Rattle.ados_session.specs.declared.hosts.HostLine.{HostLine}
@@ -18,7 +18,7 @@ words_say words = if length (rest_of words) == 0 then Bad else Host (record { na
 
 -- what a line says; blanks around it are dropped
 abbrev pub host_line : Text → HostLine
-host_line line = if length (trimmed line) == 0 || is_comment line then Nothing else words_say (trimmed line)
+host_line line = if length (trimmed_text line) == 0 || is_comment line then Nothing else words_say (trimmed_text line)
 
 -- the line says nothing, or a command
 abbrev pub is_host_line : HostLine → Bool

@@ -6,5 +6,5 @@ abbrev pub is_space : ℕ → Bool
 is_space c = c == 32
 
 -- the bytes before the first space and those after it
-abbrev pub parted : Text → Option (Text × Text)
-parted line = option_map (λ end. (take end line, drop (suc end) line)) (position is_space line)
+abbrev pub split_at_space : Text → Option (Text × Text)
+split_at_space line = option_map (λ end. (take end line, drop (suc end) line)) (position is_space line)

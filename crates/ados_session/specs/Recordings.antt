@@ -7,7 +7,7 @@ use Rattle.ados_text.specs.Text.{Bytes, Text}
 use Rattle.ados_resident.specs.declared.hosts.HostEntry.{HostEntry}
 use Rattle.ados_machine.specs.declared.answers.Answer.{Answer}
 use Rattle.ados_machine.specs.declared.events.BreakAt.{BreakAt}
-use Rattle.ados_session.specs.Parts.{parted}
+use Rattle.ados_session.specs.Parts.{split_at_space}
 use Rattle.ados_session.specs.Faults.{IsFault}
 use Rattle.ados_session.specs.Hosts.{are_free}
 use Rattle.ados_session.specs.Answers.{answer_of}
@@ -20,31 +20,31 @@ use Rattle.ados_session.specs.declared.recordings.Form.{Form}
 use Rattle.ados_session.specs.declared.recordings.Form.TheVariants.{First, Second}
 
 -- what a line that gives this answer says
-abbrev pub answered : Option Answer → RecordLine
-answered (Some answer) = Answered answer
-answered None = Bad
+abbrev pub answer_line : Option Answer → RecordLine
+answer_line (Some answer) = Answered answer
+answer_line None = Bad
 
 -- what a line that writes this break says
-abbrev pub broken : Option BreakAt → RecordLine
-broken (Some at) = Broken at
-broken None = Bad
+abbrev pub break_line : Option BreakAt → RecordLine
+break_line (Some at) = Broken at
+break_line None = Bad
 
 -- in a recording of the first form there are no breaks
-abbrev pub broken_in : Form → Text → RecordLine
-broken_in First text = Bad
-broken_in Second text = broken (break_of text)
+abbrev pub break_line_in_form : Form → Text → RecordLine
+break_line_in_form First text = Bad
+break_line_in_form Second text = break_line (break_of text)
 
 -- what the text after a word says: a command whose program has its name, a typed line, an answer, or a break
 abbrev pub record_of : Form → Text → Text → RecordLine
 record_of form word text =
     if bytes_eq word (codes "host") then Host (record { name = text; program = text }) else
     (if bytes_eq word (codes "line") then Typed text else
-    (if bytes_eq word (codes "answer") then answered (answer_of text) else
-    (if bytes_eq word (codes "break") then broken_in form text else Bad)))
+    (if bytes_eq word (codes "answer") then answer_line (answer_of text) else
+    (if bytes_eq word (codes "break") then break_line_in_form form text else Bad)))
 
 -- what a line after the first says
 abbrev pub record_line : Form → Text → RecordLine
-record_line form line = option_map_or (λ p. record_of form p.0 p.1) (parted line) Bad
+record_line form line = option_map_or (λ p. record_of form p.0 p.1) (split_at_space line) Bad
 
 abbrev pub is_record : RecordLine → Bool
 is_record Bad = false
@@ -68,15 +68,15 @@ break_in (Broken at) = Some at
 break_in _ = None
 
 -- a recorded session: its commands, its typed lines, a launcher's answers, and the breaks
-pub record Recorded : Type 0 where
+pub record RecordedSession : Type 0 where
   pub hosts : List HostEntry
   pub typed : Bytes
   pub answers : List Answer
   pub breaks : List BreakAt
 
 -- the one session followed by the other
-abbrev pub joined : Recorded → Recorded → Recorded
-joined one other = record {
+abbrev pub joined_sessions : RecordedSession → RecordedSession → RecordedSession
+joined_sessions one other = record {
   hosts = one.hosts ++ other.hosts;
   typed = one.typed ++ other.typed;
   answers = one.answers ++ other.answers;
@@ -84,8 +84,8 @@ joined one other = record {
 }
 
 -- the session of the lines after the first
-abbrev pub recorded : Form → List Text → Recorded
-recorded form lines = record {
+abbrev pub session_of_lines : Form → List Text → RecordedSession
+session_of_lines form lines = record {
   hosts = filter_map (λ line. host_in (record_line form line)) lines;
   typed = flat_map (λ line. typed_in (record_line form line)) lines;
   answers = filter_map (λ line. answer_in (record_line form line)) lines;
@@ -93,12 +93,12 @@ recorded form lines = record {
 }
 
 -- a world can be made with its commands, and its breaks name no earlier event than those before them
-abbrev pub is_session : Recorded → Bool
+abbrev pub is_session : RecordedSession → Bool
 is_session session = are_free session.hosts && are_rising session.breaks
 
 -- each line says one of these, and together they are a session
 abbrev pub are_records : Form → List Text → Bool
-are_records form lines = list_all (λ line. is_record (record_line form line)) lines && is_session (recorded form lines)
+are_records form lines = list_all (λ line. is_record (record_line form line)) lines && is_session (session_of_lines form lines)
 
 -- the form that the first line of a recording names
 abbrev pub form_of : Text → Option Form
@@ -110,20 +110,20 @@ is_recording [] = false
 is_recording (first ∷ lines) = option_map_or (λ form. are_records form lines) (form_of first) false
 
 -- the session that its lines record
-abbrev pub session_of : Option Form → List Text → Option Recorded
-session_of form lines = option_map (λ found. recorded found lines) form
+abbrev pub session_of : Option Form → List Text → Option RecordedSession
+session_of form lines = option_map (λ found. session_of_lines found lines) form
 
-abbrev pub session_in : List Text → Option Recorded
+abbrev pub session_in : List Text → Option RecordedSession
 session_in [] = None
 session_in (first ∷ lines) = session_of (form_of first) lines
 
 -- a fault names the first invalid line: the first, which names no form or is missing, or one after it
-abbrev pub IsFaultBehind : Option Form → List Text → FileFault → Type 0
-IsFaultBehind (Some form) lines fault = IsFault (are_records form) 1 lines fault
-IsFaultBehind None lines (BadLine number) = number ≡ 1
-IsFaultBehind None lines NoMemory = Unit {0}
+abbrev pub IsFaultAfterFirst : Option Form → List Text → FileFault → Type 0
+IsFaultAfterFirst (Some form) lines fault = IsFault (are_records form) 1 lines fault
+IsFaultAfterFirst None lines (BadLine number) = number ≡ 1
+IsFaultAfterFirst None lines NoMemory = Unit {0}
 
 abbrev pub IsRecordingFault : List Text → FileFault → Type 0
 IsRecordingFault [] (BadLine number) = number ≡ 1
 IsRecordingFault [] NoMemory = Unit {0}
-IsRecordingFault (first ∷ lines) fault = IsFaultBehind (form_of first) lines fault
+IsRecordingFault (first ∷ lines) fault = IsFaultAfterFirst (form_of first) lines fault

@@ -1,7 +1,7 @@
 // The parts of a line of a file.
 ghost use Rattle.std.specs.Prelude.{◌≡◌, ◌<◌, length, position, IfOk, IfSome, option_map};
 ghost use Rattle.ados_text.specs.Text.{IsText};
-ghost use Rattle.ados_session.specs.Parts.{is_space, parted};
+ghost use Rattle.ados_session.specs.Parts.{is_space, split_at_space};
 
 use ados_text::{NoMemory, Text};
 use std::alloc::Global;
@@ -10,7 +10,7 @@ use std::alloc::Global;
 #[tactic(auto, using(ados_text::proofs::TextLemmas::parts))]
 pub fn parted(line: &[u8]) -> Option<(&[u8], &[u8])>
     requires { IsText line.now }
-    ensures value { option_map (λ p. (p.0.now, p.1.now)) result ≡ parted line.now }
+    ensures value { option_map (λ p. (p.0.now, p.1.now)) result ≡ split_at_space line.now }
     ensures ascii { IfSome result (λ p. IsText p.1.now) }
 {
     let end = space(line)?;

@@ -5,7 +5,7 @@ ghost use Rattle.ados_text.specs.Text.{IsText};
 ghost use Rattle.ados_session.specs.Breaks.{are_rising};
 ghost use Rattle.ados_session.specs.Faults.{IsFault};
 ghost use Rattle.ados_session.specs.Hosts.{are_free};
-ghost use Rattle.ados_session.specs.Recordings.{IsRecordingFault, answered, are_records, broken, broken_in, form_of, is_record, is_recording, is_session, joined, record_line, record_of, recorded, session_in};
+ghost use Rattle.ados_session.specs.Recordings.{IsRecordingFault, answer_line, are_records, break_line, break_line_in_form, form_of, is_record, is_recording, is_session, joined_sessions, record_line, record_of, session_of_lines, session_in};
 
 use crate::answers::answer_of;
 use crate::breaks::{add_break, break_of};
@@ -56,9 +56,9 @@ pub struct Recording {
 }
 
 impl Model for Recording {
-    ghost use Rattle.ados_session.specs.Recordings.{Recorded};
+    ghost use Rattle.ados_session.specs.Recordings.{RecordedSession};
 
-    ghost Value = { Recorded };
+    ghost Value = { RecordedSession };
 
     ghost view = { λ r. record { hosts = r.hosts.items; typed = r.typed.items; answers = r.answers.items; breaks = r.breaks.items } };
 }
@@ -106,7 +106,7 @@ fn form_of(line: &Text) -> Option<Form>
 // The session of the lines after the first.
 fn read_records(alloc: Global, form: Form, lines: &[Text]) -> Result<Recording, FileFault>
     ensures good { IfOk result (λ recording. are_records form lines.now ≡ true) }
-    ensures recording { IfOk result (λ recording. recording ≡ recorded form lines.now) }
+    ensures recording { IfOk result (λ recording. recording ≡ session_of_lines form lines.now) }
     ensures free { IfOk result (λ recording. are_free recording.hosts ≡ true) }
     ensures rising { IfOk result (λ recording. are_rising recording.breaks ≡ true) }
     ensures fault { IfErr result (IsFault (are_records form) 1 lines.now) }
@@ -138,7 +138,7 @@ impl Recording {
         requires free { are_free self.old.hosts ≡ true }
         requires rising { are_rising self.old.breaks ≡ true }
         ensures good { IfOk result (λ is_good. is_good ≡ (is_record (record_line form line.now) && is_session self.new)) }
-        ensures recording { IfOk result (λ _. self.new ≡ joined self.old (recorded form (line.now ∷ []))) }
+        ensures recording { IfOk result (λ _. self.new ≡ joined_sessions self.old (session_of_lines form (line.now ∷ []))) }
     {
         match record_line(alloc, form, line)? {
             RecordLine::Host(host) => add_host(&mut self.hosts, host),
@@ -190,7 +190,7 @@ fn record_of(alloc: Global, form: Form, word: &[u8], text: &[u8]) -> Result<Reco
 
 // What a line that gives this answer says.
 fn answered(answer: Option<Answer>) -> RecordLine
-    ensures { result ≡ answered answer }
+    ensures { result ≡ answer_line answer }
 {
     match answer {
         Some(answer) => RecordLine::Answered(answer),
@@ -201,7 +201,7 @@ fn answered(answer: Option<Answer>) -> RecordLine
 // What a line says that writes a break in a recording of this form.
 fn broken_in(form: Form, text: &[u8]) -> RecordLine
     requires { IsText text.now }
-    ensures { result ≡ broken_in form text.now }
+    ensures { result ≡ break_line_in_form form text.now }
 {
     match form {
         Form::First => RecordLine::Bad,
@@ -211,7 +211,7 @@ fn broken_in(form: Form, text: &[u8]) -> RecordLine
 
 // What a line that writes this break says.
 fn broken(at: Option<BreakAt>) -> RecordLine
-    ensures { result ≡ broken at }
+    ensures { result ≡ break_line at }
 {
     match at {
         Some(at) => RecordLine::Broken(at),

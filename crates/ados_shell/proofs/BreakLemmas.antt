@@ -7,25 +7,25 @@ use Rattle.ados_text.specs.Text.{Text}
 use Rattle.ados_text.specs.declared.codes.Code.{Code}
 use Rattle.ados_flow.specs.declared.kinds.Kind.{Kind}
 use Rattle.ados_flow.specs.declared.kinds.Kind.TheVariants.{Script, Lines, Tick}
-use Rattle.ados_flow.specs.Frames.{FrameState, last_line, limit_behind, maker, scripts_in}
+use Rattle.ados_flow.specs.Frames.{FrameState, last_line, limit_above_frames, maker, scripts_in}
 use Rattle.ados_machine.specs.declared.phases.Phase.{Phase}
 use Rattle.ados_machine.specs.declared.phases.Phase.TheVariants.{Ready, GoingOn, Waiting}
 use Rattle.ados_machine.specs.declared.phases.Wait.TheVariants.{ForAnswer, ForLines, ForStart, ForPiece, ForEnd}
 use Rattle.ados_machine.specs.declared.refusals.Refusal.TheVariants.{NotReady}
-use Rattle.ados_machine.specs.Breaks.{has_script, kept_without, marked_in}
+use Rattle.ados_machine.specs.Breaks.{has_script, kept_after_break, marked_in}
 use Rattle.ados_machine.specs.Course.{Course}
 use Rattle.ados_machine.specs.Deeds.{Deed}
 use Rattle.ados_machine.specs.Items.{Item, Broke, break_of, broken_codes, reports_of}
 use Rattle.ados_machine.specs.Requests.{request_of}
-use Rattle.ados_machine.specs.Settle.{Turned, by_rule, said_of}
-use Rattle.ados_machine.specs.Settled.{Said, Settled, after_break, behind, broken_off, finish, with_limit}
-use Rattle.ados_machine.specs.Turning.{Input, Refuses, Takes, broken_turned, in_place_of, input_turning, turning}
+use Rattle.ados_machine.specs.Settle.{TurnResult, turn_by_rule, said_of}
+use Rattle.ados_machine.specs.Settled.{RuleState, RuleResult, after_break, with_items_first, end_at_break, finish, with_limit}
+use Rattle.ados_machine.specs.Turning.{Input, Refuses, Takes, turn_at_break, turning_at_break, input_turning, turning_in_phase}
 use Rattle.ados_machine.specs.World.{can_take}
 use Rattle.ados_shell.specs.declared.scenes.Scene.{Scene}
 use Rattle.ados_shell.specs.declared.drafts.Draft.{Draft}
 use Rattle.ados_shell.specs.Breaks.{GivesUp, ReportsBreak}
-use Rattle.ados_shell.specs.Drafts.{IsRuled, course_by, course_of, frames_of, held_of}
-use Rattle.ados_shell.specs.Stacks.{frames_in}
+use Rattle.ados_shell.specs.Drafts.{IsRuled, held_course, course_of, frames_of, held_state}
+use Rattle.ados_shell.specs.Stacks.{drafted_frames}
 use Rattle.ados_shell.proofs.StackLemmas.{some-run}
 use Rattle.ados_shell.proofs.TurnLemmas.{IsStill, goes-on, said_in, step-ruled, still-course}
 
@@ -50,7 +50,7 @@ never e = cc
 -- a turn that takes a line of its input, or the end of that, if one is there
 input-taken : (queue : List (List ℕ)) (is_ended : Bool) (input : Input) (frames : List FrameState) (course : Course) (by_line : List ℕ → Deed) (by_end : Deed)
     → (nat_lt 0 (length queue) || is_ended) ≡ true
-    → in_place_of (input_turning queue is_ended frames by_line by_end) input frames course ≡ Takes input.queue (broken_turned frames course)
+    → turning_at_break (input_turning queue is_ended frames by_line by_end) input frames course ≡ Takes input.queue (turn_at_break frames course)
 input-taken [] true input frames course by_line by_end e = refl
 input-taken [] false input frames course by_line by_end e = absurd cc
 input-taken (line ∷ rest) is_ended input frames course by_line by_end e = refl
@@ -58,14 +58,14 @@ input-taken (line ∷ rest) is_ended input frames course by_line by_end e = refl
 -- and if none is
 input-refused : (queue : List (List ℕ)) (is_ended : Bool) (input : Input) (frames : List FrameState) (course : Course) (by_line : List ℕ → Deed) (by_end : Deed)
     → (nat_lt 0 (length queue) || is_ended) ≡ false
-    → in_place_of (input_turning queue is_ended frames by_line by_end) input frames course ≡ Refuses NotReady
+    → turning_at_break (input_turning queue is_ended frames by_line by_end) input frames course ≡ Refuses NotReady
 input-refused [] true input frames course by_line by_end e = absurd cc
 input-refused [] false input frames course by_line by_end e = refl
 input-refused (line ∷ rest) is_ended input frames course by_line by_end e = absurd (never (ap (λ b. b || is_ended) (sym (some-run (length rest))) ∙ e))
 
 -- the turn of a shell in which a script runs, if it can take one
 pub script-taken : (input : Input) (frames : List FrameState) (course : Course) (phase : Phase) → has_script frames ≡ true → can_take input frames phase ≡ true
-    → in_place_of (turning input frames course phase) input frames course ≡ Takes input.queue (broken_turned frames course)
+    → turning_at_break (turning_in_phase input frames course phase) input frames course ≡ Takes input.queue (turn_at_break frames course)
 script-taken input [] course phase there e = absurd cc
 script-taken input (frame ∷ frames) course Ready there e = refl
 script-taken input (frame ∷ frames) course (GoingOn parted) there e = refl
@@ -77,7 +77,7 @@ script-taken input (frame ∷ frames) course (Waiting (ForEnd child)) there e = 
 
 -- and if it can't
 pub script-refused : (input : Input) (frames : List FrameState) (course : Course) (phase : Phase) → has_script frames ≡ true → can_take input frames phase ≡ false
-    → in_place_of (turning input frames course phase) input frames course ≡ Refuses NotReady
+    → turning_at_break (turning_in_phase input frames course phase) input frames course ≡ Refuses NotReady
 script-refused input [] course phase there e = absurd cc
 script-refused input (frame ∷ frames) course Ready there e = absurd cc
 script-refused input (frame ∷ frames) course (GoingOn parted) there e = absurd cc
@@ -94,13 +94,13 @@ first-report shell depth line (Script name command) log = refl
 first-report shell depth line Lines log = refl
 first-report shell depth line (Tick before after) log = refl
 
-deeper-is : (scripts : ℕ) (kind : Kind) (limit : Code) (further : Settled) (frames : List FrameState) (said : Said) → nat_lt 0 scripts ≡ true
+deeper-is : (scripts : ℕ) (kind : Kind) (limit : Code) (further : RuleResult) (frames : List FrameState) (said : RuleState) → nat_lt 0 scripts ≡ true
     → after_break scripts kind limit further frames said ≡ further
 deeper-is zero kind limit further frames said e = absurd cc
 deeper-is (suc scripts) kind limit further frames said e = refl
 
-ends-is : (scripts : ℕ) (kind : Kind) (limit : Code) (further : Settled) (frames : List FrameState) (said : Said) → nat_lt 0 scripts ≡ false
-    → after_break scripts kind limit further frames said ≡ finish (maker kind) broken_codes false frames (with_limit (limit_behind frames limit) said)
+ends-is : (scripts : ℕ) (kind : Kind) (limit : Code) (further : RuleResult) (frames : List FrameState) (said : RuleState) → nat_lt 0 scripts ≡ false
+    → after_break scripts kind limit further frames said ≡ finish (maker kind) broken_codes false frames (with_limit (limit_above_frames frames limit) said)
 ends-is zero kind limit further frames said e = refl
 ends-is (suc scripts) kind limit further frames said e = absurd (never (sym (some-run scripts) ∙ e))
 
@@ -110,7 +110,7 @@ pub frames-fewer : (scene : Scene) (before popped reported mid : Draft) (frame :
     → ReportsBreak scene popped reported frame → GivesUp scene reported mid frame
     → length (frames_of scene mid) < length (frames_of scene before)
 frames-fewer scene before popped reported mid frame frames there f r u =
-    let below : frames_of scene mid ≡ frames = ap (frames_in scene.shell.now) u.frames ∙ ap (frames_of scene) r.same ∙ f in
+    let below : frames_of scene mid ≡ frames = ap (drafted_frames scene.shell.now) u.frames ∙ ap (frames_of scene) r.same ∙ f in
     rw there (rw below (lt-suc_self (length frames)))
 
 -- a frame ended at a break, above others of which one is a script: these end in turn
@@ -118,30 +118,30 @@ pub break-deeper : (scene : Scene) (before popped reported mid after : Draft) (f
     → frames_of scene before ≡ frame ∷ frames → IsStill before popped → frames_of scene popped ≡ frames
     → ReportsBreak scene popped reported frame → has_script (frames_of scene reported) ≡ true
     → GivesUp scene reported mid frame
-    → IsRuled scene mid after (broken_off (frames_of scene mid) (said_in scene mid))
-    → IsRuled scene before after (broken_off (frames_of scene before) (said_in scene before))
+    → IsRuled scene mid after (end_at_break (frames_of scene mid) (said_in scene mid))
+    → IsRuled scene before after (end_at_break (frames_of scene before) (said_in scene before))
 break-deeper scene before popped reported mid after frame frames there s f r scripts u g =
     let course = course_of scene before in
-    let giving : Course → Course = λ c. record c { kept = kept_without frame.kind c.kept } in
+    let giving : Course → Course = λ c. record c { kept = kept_after_break frame.kind c.kept } in
     let given : Course = giving course in
-    let further : Settled = broken_off frames (said_of given) in
+    let further : RuleResult = end_at_break frames (said_of given) in
     let item = break_of (suc (length frames)) frame in
     let left : frames_of scene reported ≡ frames = ap (frames_of scene) r.same ∙ f in
-    let below : frames_of scene mid ≡ frames = ap (frames_in scene.shell.now) u.frames ∙ left in
+    let below : frames_of scene mid ≡ frames = ap (drafted_frames scene.shell.now) u.frames ∙ left in
     let same : course_of scene reported ≡ course = ap (course_of scene) r.same ∙ still-course scene before popped s in
     let handed : course_of scene mid ≡ given = u.course ∙ ap giving same in
-    let now : by_rule (course_of scene mid) (broken_off (frames_of scene mid) (said_in scene mid)) ≡ by_rule given further =
-    ap (λ fs. by_rule (course_of scene mid) (broken_off fs (said_in scene mid))) below
-    ∙ ap (λ c. by_rule c (broken_off frames (said_of c))) handed in
-    let whole : broken_off (frames_of scene before) (said_of course) ≡ behind (item ∷ []) further =
-    ap (λ fs. broken_off fs (said_of course)) there
-    ∙ ap (behind (item ∷ [])) (deeper-is (scripts_in frames) frame.kind frame.limit further frames (said_of course) (ap has_script (sym left) ∙ scripts)) in
-    goes-on scene before mid after (by_rule (course_of scene mid) (broken_off (frames_of scene mid) (said_in scene mid)))
-    (by_rule course (broken_off (frames_of scene before) (said_of course))) (reports_of scene.number (item ∷ []))
+    let now : turn_by_rule (course_of scene mid) (end_at_break (frames_of scene mid) (said_in scene mid)) ≡ turn_by_rule given further =
+    ap (λ fs. turn_by_rule (course_of scene mid) (end_at_break fs (said_in scene mid))) below
+    ∙ ap (λ c. turn_by_rule c (end_at_break frames (said_of c))) handed in
+    let whole : end_at_break (frames_of scene before) (said_of course) ≡ with_items_first (item ∷ []) further =
+    ap (λ fs. end_at_break fs (said_of course)) there
+    ∙ ap (with_items_first (item ∷ [])) (deeper-is (scripts_in frames) frame.kind frame.limit further frames (said_of course) (ap has_script (sym left) ∙ scripts)) in
+    goes-on scene before mid after (turn_by_rule (course_of scene mid) (end_at_break (frames_of scene mid) (said_in scene mid)))
+    (turn_by_rule course (end_at_break (frames_of scene before) (said_of course))) (reports_of scene.number (item ∷ []))
     (u.reports ∙ r.reports (suc (length frames)) ∙ ap (λ x. x ++ reports_of scene.number (item ∷ [])) s.reports)
     (ap (λ x. x.frames) whole ∙ sym (ap (λ x. x.frames) now))
     (ap (λ x. x.phase) whole ∙ sym (ap (λ x. x.phase) now))
-    (ap (λ x. (by_rule course x).course) whole ∙ sym (ap (λ x. x.course) now))
+    (ap (λ x. (turn_by_rule course x).course) whole ∙ sym (ap (λ x. x.course) now))
     (ap (λ x. reports_of scene.number x.log) whole ∙ first-report scene.number (suc (length frames)) (last_line frame.last) frame.kind further.log
     ∙ ap (λ x. reports_of scene.number (item ∷ []) ++ reports_of scene.number x.log) (sym now))
     g
@@ -150,25 +150,25 @@ break-deeper scene before popped reported mid after frame frames there s f r scr
 pub break-ends : (scene : Scene) (before popped reported after : Draft) (limit : Code) (frame : FrameState) (frames : List FrameState)
     → frames_of scene before ≡ frame ∷ frames → IsStill before popped → frames_of scene popped ≡ frames
     → ReportsBreak scene popped reported frame → has_script (frames_of scene reported) ≡ false
-    → limit ≡ limit_behind (frames_of scene reported) frame.limit
+    → limit ≡ limit_above_frames (frames_of scene reported) frame.limit
     → (let mid : Draft = record reported { shell = record reported.shell { limit = limit } } in
     IsRuled scene mid after (finish (maker frame.kind) broken_codes false (frames_of scene mid) (said_in scene mid)))
-    → IsRuled scene before after (broken_off (frames_of scene before) (said_in scene before))
+    → IsRuled scene before after (end_at_break (frames_of scene before) (said_in scene before))
 break-ends scene before popped reported after limit frame frames there s f r scripts l g =
     let course = course_of scene before in
     let said = said_of course in
     let mid : Draft = record reported { shell = record reported.shell { limit = limit } } in
     let items = break_of (suc (length frames)) frame ∷ [] in
     let left : frames_of scene reported ≡ frames = ap (frames_of scene) r.same ∙ f in
-    let held : held_of reported ≡ held_of before = ap held_of r.same ∙ s.held in
+    let held : held_state reported ≡ held_state before = ap held_state r.same ∙ s.held in
     let same : course_of scene reported ≡ course = ap (course_of scene) r.same ∙ still-course scene before popped s in
-    let back : said_in scene mid ≡ with_limit (limit_behind (frames_of scene reported) frame.limit) said =
+    let back : said_in scene mid ≡ with_limit (limit_above_frames (frames_of scene reported) frame.limit) said =
     ap (λ x. with_limit x (said_in scene reported)) l
-    ∙ ap (λ c. with_limit (limit_behind (frames_of scene reported) frame.limit) (said_of c)) same in
+    ∙ ap (λ c. with_limit (limit_above_frames (frames_of scene reported) frame.limit) (said_of c)) same in
     step-ruled scene before mid after (reports_of scene.number items) items _ _
-    (ap (λ fs. broken_off fs said) there
-    ∙ ap (behind items) (ends-is (scripts_in frames) frame.kind frame.limit _ frames said (ap has_script (sym left) ∙ scripts)
-    ∙ ap (λ fs. finish (maker frame.kind) broken_codes false fs (with_limit (limit_behind fs frame.limit) said)) (sym left)
+    (ap (λ fs. end_at_break fs said) there
+    ∙ ap (with_items_first items) (ends-is (scripts_in frames) frame.kind frame.limit _ frames said (ap has_script (sym left) ∙ scripts)
+    ∙ ap (λ fs. finish (maker frame.kind) broken_codes false fs (with_limit (limit_above_frames fs frame.limit) said)) (sym left)
     ∙ ap (λ x. finish (maker frame.kind) broken_codes false (frames_of scene reported) x) (sym back)))
     (λ log. first-report scene.number (suc (length frames)) (last_line frame.last) frame.kind log)
     held

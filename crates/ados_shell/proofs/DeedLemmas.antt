@@ -8,104 +8,104 @@ use Rattle.ados_find.specs.declared.codes.Codes.{Codes}
 use Rattle.ados_find.specs.declared.targets.Target.{Target}
 use Rattle.ados_flow.specs.declared.called.Called.{Called}
 use Rattle.ados_flow.specs.declared.kinds.Kind.TheVariants.{Script, Tick}
-use Rattle.ados_flow.specs.Frames.{began, frame_limit}
+use Rattle.ados_flow.specs.Frames.{new_frame, frame_limit}
 use Rattle.ados_machine.specs.declared.phases.Phase.TheVariants.{Ready}
 use Rattle.ados_machine.specs.CodeRule.{fault_line}
 use Rattle.ados_machine.specs.Course.{Course}
-use Rattle.ados_machine.specs.Deeds.{Answers, Calls, Jumps, Passes, Ticks, line_fault, refused}
-use Rattle.ados_machine.specs.Settled.{finish, finished, passed}
-use Rattle.ados_machine.specs.Settle.{begun, by_rule, jumped_in, said_of, settle, tick_begun}
+use Rattle.ados_machine.specs.Deeds.{Answers, Calls, Jumps, Passes, Ticks, line_fault, refusal_deed}
+use Rattle.ados_machine.specs.Settled.{finish, finish_with_fault, pass_line}
+use Rattle.ados_machine.specs.Settle.{enter_script, turn_by_rule, frames_at_line, said_of, turn_of_deed, enter_tick}
 use Rattle.ados_shell.specs.declared.scenes.Scene.{Scene}
 use Rattle.ados_shell.specs.declared.drafts.Draft.{Draft}
-use Rattle.ados_shell.specs.Drafts.{GoesOn, IsRuled, Settles, course_by, course_of, frames_of, held_of, here, phase_in}
-use Rattle.ados_shell.specs.Stacks.{frames_in}
+use Rattle.ados_shell.specs.Drafts.{GoesOn, IsRuled, Settles, held_course, course_of, frames_of, held_state, next_line_place, drafted_phase}
+use Rattle.ados_shell.specs.Stacks.{drafted_frames}
 use Rattle.ados_shell.proofs.TurnLemmas.{IsStill, else-is, goes-same, said_in, still-course, then-is}
 
 -- a fault's text was printed, and the code rule follows
 pub answer-goes : (scene : Scene) (before mid after : Draft) (word : List ℕ) (codes : Codes) (quits : Bool)
-    → mid.shell.frames ≡ before.shell.frames → held_of mid ≡ held_of before → mid.shell.limit ≡ before.shell.limit → mid.shell.codes ≡ before.shell.codes
+    → mid.shell.frames ≡ before.shell.frames → held_state mid ≡ held_state before → mid.shell.limit ≡ before.shell.limit → mid.shell.codes ≡ before.shell.codes
     → mid.reports.items ≡ before.reports.items
     → mid.printed.items ≡ before.printed.items ++ fault_line word codes.result2
     → IsRuled scene mid after (finish word codes quits (frames_of scene mid) (said_in scene mid))
     → Settles scene before after (Answers word codes quits (course_of scene before))
 answer-goes scene before mid after word codes quits f h l c r p g =
     let printed = before.printed.items ++ fault_line word codes.result2 in
-    let told : Course = course_by scene (held_of before) before.shell.limit before.shell.codes printed in
+    let told : Course = held_course scene (held_state before) before.shell.limit before.shell.codes printed in
     let course : course_of scene mid ≡ told =
-    ap (λ x. course_by scene x mid.shell.limit mid.shell.codes mid.printed.items) h
-    ∙ ap (λ x. course_by scene (held_of before) x mid.shell.codes mid.printed.items) l
-    ∙ ap (λ x. course_by scene (held_of before) before.shell.limit x mid.printed.items) c
-    ∙ ap (λ x. course_by scene (held_of before) before.shell.limit before.shell.codes x) p in
+    ap (λ x. held_course scene x mid.shell.limit mid.shell.codes mid.printed.items) h
+    ∙ ap (λ x. held_course scene (held_state before) x mid.shell.codes mid.printed.items) l
+    ∙ ap (λ x. held_course scene (held_state before) before.shell.limit x mid.printed.items) c
+    ∙ ap (λ x. held_course scene (held_state before) before.shell.limit before.shell.codes x) p in
     goes-same scene before mid after _ _ r
-    (ap (λ x. by_rule x (finish word codes quits (frames_of scene mid) (said_of x))) course
-    ∙ ap (λ x. by_rule told (finish word codes quits (frames_in scene.shell.now x) (said_of told))) f)
+    (ap (λ x. turn_by_rule x (finish word codes quits (frames_of scene mid) (said_of x))) course
+    ∙ ap (λ x. turn_by_rule told (finish word codes quits (drafted_frames scene.shell.now x) (said_of told))) f)
     g
 
 -- a script begins
 pub begin-goes : (scene : Scene) (before mid after : Draft) (word : List ℕ) (output : Option Target) (script : Called)
-    → frames_of scene mid ≡ began (Script script.name word) script.script before.shell.limit output ∷ frames_of scene before
+    → frames_of scene mid ≡ new_frame (Script script.name word) script.script before.shell.limit output ∷ frames_of scene before
     → IsStill before mid
     → Settles scene mid after (Passes (course_of scene mid))
-    → IsRuled scene before after (begun word output script (frames_of scene before) (said_in scene before))
+    → IsRuled scene before after (enter_script word output script (frames_of scene before) (said_in scene before))
 begin-goes scene before mid after word output script f s g =
-    let frames = began (Script script.name word) script.script before.shell.limit output ∷ frames_of scene before in
-    let e : by_rule (course_of scene mid) (passed (frames_of scene mid) (said_in scene mid)) ≡ by_rule (course_of scene before) (passed frames (said_in scene before)) =
-    ap (λ x. by_rule x (passed (frames_of scene mid) (said_of x))) (still-course scene before mid s)
-    ∙ ap (λ x. by_rule (course_of scene before) (passed x (said_in scene before))) f in
-    let t = by_rule (course_of scene before) (passed frames (said_in scene before)) in
+    let frames = new_frame (Script script.name word) script.script before.shell.limit output ∷ frames_of scene before in
+    let e : turn_by_rule (course_of scene mid) (pass_line (frames_of scene mid) (said_in scene mid)) ≡ turn_by_rule (course_of scene before) (pass_line frames (said_in scene before)) =
+    ap (λ x. turn_by_rule x (pass_line (frames_of scene mid) (said_of x))) (still-course scene before mid s)
+    ∙ ap (λ x. turn_by_rule (course_of scene before) (pass_line x (said_in scene before))) f in
+    let t = turn_by_rule (course_of scene before) (pass_line frames (said_in scene before)) in
     let on : GoesOn scene before after t = goes-same scene before mid after _ t s.reports e g in
     record { frames = on.frames; phase = on.phase; course = on.course; reports = on.reports }
 
 -- a script is called if there is room for another frame
 pub call-begins : (scene : Scene) (before after : Draft) (word : List ℕ) (output : Option Target) (script : Called)
     → nat_le frame_limit (length (frames_of scene before)) ≡ false
-    → IsRuled scene before after (begun word output script (frames_of scene before) (said_in scene before))
+    → IsRuled scene before after (enter_script word output script (frames_of scene before) (said_in scene before))
     → Settles scene before after (Calls word output script (course_of scene before))
 call-begins scene before after word output script e g =
-    goes-same scene before before after _ _ refl (ap (by_rule (course_of scene before)) (sym (else-is _ _ _ e))) g
+    goes-same scene before before after _ _ refl (ap (turn_by_rule (course_of scene before)) (sym (else-is _ _ _ e))) g
 
 -- and if there is none
 pub call-refused : (scene : Scene) (before after : Draft) (word : List ℕ) (output : Option Target) (script : Called)
     → nat_le frame_limit (length (frames_of scene before)) ≡ true
-    → Settles scene before after (refused word TOO_MANY_LEVELS (course_of scene before))
+    → Settles scene before after (refusal_deed word TOO_MANY_LEVELS (course_of scene before))
     → Settles scene before after (Calls word output script (course_of scene before))
 call-refused scene before after word output script e g =
-    goes-same scene before before after _ _ refl (ap (by_rule (course_of scene before)) (sym (then-is _ _ _ e))) g
+    goes-same scene before before after _ _ refl (ap (turn_by_rule (course_of scene before)) (sym (then-is _ _ _ e))) g
 
 -- the newest frame goes on at a line, and a command answers
 pub jump-goes : (scene : Scene) (before mid after : Draft) (word : List ℕ) (codes : Codes) (line : ℕ)
-    → frames_of scene mid ≡ jumped_in line (frames_of scene before)
+    → frames_of scene mid ≡ frames_at_line line (frames_of scene before)
     → IsStill before mid
     → Settles scene mid after (Answers word codes false (course_of scene mid))
     → Settles scene before after (Jumps word codes line (course_of scene before))
 jump-goes scene before mid after word codes line f s g =
     goes-same scene before mid after _ _ s.reports
-    (ap (λ x. by_rule x (finished word codes false (frames_of scene mid) (said_of x))) (still-course scene before mid s)
-    ∙ ap (λ x. by_rule (course_of scene before) (finished word codes false x (said_in scene before))) f)
+    (ap (λ x. turn_by_rule x (finish_with_fault word codes false (frames_of scene mid) (said_of x))) (still-course scene before mid s)
+    ∙ ap (λ x. turn_by_rule (course_of scene before) (finish_with_fault word codes false x (said_in scene before))) f)
     g
 
 -- a tick begins if there is room for another frame
 pub tick-begins : (scene : Scene) (before after : Draft) (front command rear : Text)
     → nat_le frame_limit (length (frames_of scene before)) ≡ false
-    → IsRuled scene before after (tick_begun front command rear (frames_of scene before) (said_in scene before))
-    → Settles scene before after (if (here scene before).is_full then line_fault TOO_MANY_LEVELS (course_of scene before) else Ticks front command rear (course_of scene before))
+    → IsRuled scene before after (enter_tick front command rear (frames_of scene before) (said_in scene before))
+    → Settles scene before after (if (next_line_place scene before).is_full then line_fault TOO_MANY_LEVELS (course_of scene before) else Ticks front command rear (course_of scene before))
 tick-begins scene before after front command rear e g =
-    goes-same scene before before after _ _ refl (ap (λ deed. settle deed (frames_of scene before)) (sym (else-is _ _ _ e))) g
+    goes-same scene before before after _ _ refl (ap (λ deed. turn_of_deed deed (frames_of scene before)) (sym (else-is _ _ _ e))) g
 
 -- and if there is none
 pub tick-refused : (scene : Scene) (before after : Draft) (front command rear : Text)
     → nat_le frame_limit (length (frames_of scene before)) ≡ true
     → Settles scene before after (line_fault TOO_MANY_LEVELS (course_of scene before))
-    → Settles scene before after (if (here scene before).is_full then line_fault TOO_MANY_LEVELS (course_of scene before) else Ticks front command rear (course_of scene before))
+    → Settles scene before after (if (next_line_place scene before).is_full then line_fault TOO_MANY_LEVELS (course_of scene before) else Ticks front command rear (course_of scene before))
 tick-refused scene before after front command rear e g =
-    goes-same scene before before after _ _ refl (ap (λ deed. settle deed (frames_of scene before)) (sym (then-is _ _ _ e))) g
+    goes-same scene before before after _ _ refl (ap (λ deed. turn_of_deed deed (frames_of scene before)) (sym (then-is _ _ _ e))) g
 
 -- a tick was pushed
 pub tick-goes : (scene : Scene) (before after : Draft) (front command rear : Text)
-    → frames_of scene after ≡ began (Tick front rear) (command ∷ []) before.shell.limit None ∷ frames_of scene before
-    → phase_in after.shell ≡ Ready
+    → frames_of scene after ≡ new_frame (Tick front rear) (command ∷ []) before.shell.limit None ∷ frames_of scene before
+    → drafted_phase after.shell ≡ Ready
     → course_of scene after ≡ record (course_of scene before) { kept = [] ∷ (course_of scene before).kept }
     → after.reports.items ≡ before.reports.items
-    → IsRuled scene before after (tick_begun front command rear (frames_of scene before) (said_in scene before))
+    → IsRuled scene before after (enter_tick front command rear (frames_of scene before) (said_in scene before))
 tick-goes scene before after front command rear f p c r =
     record { frames = f; phase = p; course = c; reports = r ∙ sym (append-nil before.reports.items) }

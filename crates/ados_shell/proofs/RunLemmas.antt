@@ -7,7 +7,7 @@ use Rattle.ados_find.specs.Codes.{went_well}
 use Rattle.ados_find.specs.declared.codes.Codes.{Codes}
 use Rattle.ados_find.specs.declared.targets.Target.{Target}
 use Rattle.ados_flow.specs.Frames.{FrameState}
-use Rattle.ados_flow.specs.Gathering.{before_plus, gathered, number_line, run_limit}
+use Rattle.ados_flow.specs.Gathering.{before_plus, run_gathering, number_line, run_limit}
 use Rattle.ados_flow.specs.declared.gathering.Gathered.{Gathered}
 use Rattle.ados_flow.proofs.GatheringLemmas.{front_stays}
 use Rattle.ados_text.specs.Text.{IsText, to_ascii}
@@ -15,28 +15,28 @@ use Rattle.ados_machine.specs.declared.phases.Gathering.{Gathering}
 use Rattle.ados_machine.specs.declared.phases.Wait.TheVariants.{ForLines}
 use Rattle.ados_machine.specs.Course.{put}
 use Rattle.ados_machine.specs.Deeds.{Deed, FrameLines, Jumps, Waits}
-use Rattle.ados_machine.specs.NewShells.{begun_put, console_run, frame_run, gathered_deed, joined_by, joined_deed, new_shell, run_at, with_command}
+use Rattle.ados_machine.specs.NewShells.{begun_put, console_run, frame_run, gathered_deed, joined_or_waiting, joined_deed, new_shell, run_at, with_command}
 use Rattle.ados_machine.specs.Numbers.{free_number}
-use Rattle.ados_machine.specs.Settle.{lines_of_frame, newest, settle}
+use Rattle.ados_machine.specs.Settle.{lines_of_frame, newest, turn_of_deed}
 use Rattle.ados_machine.specs.Sinks.{Sink, sink_in, sink_or}
 use Rattle.ados_machine.specs.World.{seen_in}
 use Rattle.ados_shell.specs.declared.scenes.Scene.{Scene}
 use Rattle.ados_shell.specs.declared.drafts.Draft.{Draft}
-use Rattle.ados_shell.specs.Drafts.{HasBegun, Settles, course_of, frames_of, here}
+use Rattle.ados_shell.specs.Drafts.{HasBegun, Settles, course_of, frames_of, next_line_place}
 use Rattle.ados_shell.specs.Outputs.{IsPut}
-use Rattle.ados_shell.specs.Stacks.{frames_in}
+use Rattle.ados_shell.specs.Stacks.{drafted_frames}
 use Rattle.ados_shell.proofs.TurnLemmas.{goes-same}
 
 -- a shell was drafted that is to begin, and its number was put out
 pub begun-put : (scene : Scene) (before mid after : Draft) (codes : Codes) (number : ℕ) (commands : List Text) (output : Option Target)
     → free_number (seen_in scene.shells.now) ≡ Some number
     → HasBegun scene before mid number commands output
-    → IsPut scene mid after codes (put (sink_or output (here scene mid).sink) (number_line number) went_well (course_of scene mid))
-    → IsPut scene before after codes (new_shell commands output (here scene before).sink (course_of scene before))
+    → IsPut scene mid after codes (put (sink_or output (next_line_place scene mid).sink) (number_line number) went_well (course_of scene mid))
+    → IsPut scene before after codes (new_shell commands output (next_line_place scene before).sink (course_of scene before))
 begun-put scene before mid after codes number commands output n b g =
-    let sink = (here scene before).sink in
-    let done : put (sink_or output (here scene mid).sink) (number_line number) went_well (course_of scene mid) ≡ new_shell commands output sink (course_of scene before) =
-    ap (λ x. put (sink_or output (sink_in (frames_in scene.shell.now x))) (number_line number) went_well (course_of scene mid)) b.frames
+    let sink = (next_line_place scene before).sink in
+    let done : put (sink_or output (next_line_place scene mid).sink) (number_line number) went_well (course_of scene mid) ≡ new_shell commands output sink (course_of scene before) =
+    ap (λ x. put (sink_or output (sink_in (drafted_frames scene.shell.now x))) (number_line number) went_well (course_of scene mid)) b.frames
     ∙ ap (λ x. put (sink_or output sink) (number_line number) went_well x) b.course
     ∙ ap (λ x. begun_put x commands output sink (course_of scene before)) (sym n) in
     record {
@@ -66,7 +66,7 @@ pub joins-waits : (scene : Scene) (before after : Draft) (gathering : Gathering)
     → Settles scene before after (joined_deed gathering line sink (course_of scene before))
 joins-waits scene before after gathering line command sink e b g =
     let course = course_of scene before in
-    let P : Option Text → Type 0 = λ o. Settles scene before after (joined_by gathering line sink course o) in
+    let P : Option Text → Type 0 = λ o. Settles scene before after (joined_or_waiting gathering line sink course o) in
     let Q : Bool → Type 0 = λ x. Settles scene before after
     (if x then gathered_deed (with_command command gathering) sink course else Waits (ForLines (with_command command gathering)) course) in
     subst P (sym e) (subst Q (sym b) g)
@@ -78,28 +78,28 @@ pub joins-last : (scene : Scene) (before after : Draft) (gathering : Gathering) 
     → Settles scene before after (joined_deed gathering line sink (course_of scene before))
 joins-last scene before after gathering line command sink e b g =
     let course = course_of scene before in
-    let P : Option Text → Type 0 = λ o. Settles scene before after (joined_by gathering line sink course o) in
+    let P : Option Text → Type 0 = λ o. Settles scene before after (joined_or_waiting gathering line sink course o) in
     let Q : Bool → Type 0 = λ x. Settles scene before after
     (if x then gathered_deed (with_command command gathering) sink course else Waits (ForLines (with_command command gathering)) course) in
     subst P (sym e) (subst Q (sym b) g)
 
 abbrev all_of : Text → FrameLines → Gathered
-all_of text frame = gathered (run_limit - 1) text (drop frame.position frame.lines)
+all_of text frame = run_gathering (run_limit - 1) text (drop frame.position frame.lines)
 
 -- in a frame a Run takes more lines, makes its shell, and the frame goes on after them
 pub run-goes : (scene : Scene) (before mid after : Draft) (word text : Text) (codes : Codes) (all : Gathered) (output : Option Target)
-    → option_map (all_of text) (here scene before).frame_lines ≡ Some all
-    → IsPut scene before mid codes (new_shell all.commands output (here scene before).sink (course_of scene before))
+    → option_map (all_of text) (next_line_place scene before).frame_lines ≡ Some all
+    → IsPut scene before mid codes (new_shell all.commands output (next_line_place scene before).sink (course_of scene before))
     → ((frame : FrameState) (frames : List FrameState) → frames_of scene mid ≡ frame ∷ frames →
     Settles scene mid after (Jumps word codes (suc (frame.position + all.taken)) (course_of scene mid)))
-    → Settles scene before after (run_at word output text (here scene before).sink (course_of scene before) (here scene before).frame_lines)
+    → Settles scene before after (run_at word output text (next_line_place scene before).sink (course_of scene before) (next_line_place scene before).frame_lines)
 run-goes scene before mid after word text codes all output h p g = in_frame (frames_of scene before) refl h
   where
     still : frames_of scene mid ≡ frames_of scene before
-    still = ap (frames_in scene.shell.now) p.frames
+    still = ap (drafted_frames scene.shell.now) p.frames
 
     run-of : List FrameState → Deed
-    run-of frames = run_at word output text (here scene before).sink (course_of scene before) (option_map lines_of_frame (newest frames))
+    run-of frames = run_at word output text (next_line_place scene before).sink (course_of scene before) (option_map lines_of_frame (newest frames))
 
     in_frame : (frames : List FrameState) → frames_of scene before ≡ frames
         → option_map (all_of text) (option_map lines_of_frame (newest frames)) ≡ Some all
@@ -107,13 +107,13 @@ run-goes scene before mid after word text codes all output h p g = in_frame (fra
     in_frame [] e none = absurd cc
     in_frame (frame ∷ frames) e some =
         let same : all_of text (lines_of_frame frame) ≡ all = cc in
-        let sink = (here scene before).sink in
+        let sink = (next_line_place scene before).sink in
         let course = course_of scene before in
         let line = suc (frame.position + all.taken) in
         goes-same scene before mid after _ _ p.reports
-        (ap (λ x. settle (Jumps word codes line (course_of scene mid)) x) still
-        ∙ ap (λ x. settle (Jumps word x line (course_of scene mid)) (frames_of scene before)) p.codes_are
-        ∙ ap (λ x. settle (Jumps word (new_shell all.commands output sink course).codes line x) (frames_of scene before)) p.course
-        ∙ ap (λ x. settle (frame_run word output frame.position sink course x) (frames_of scene before)) (sym same)
-        ∙ ap (λ x. settle (run-of x) (frames_of scene before)) (sym e))
+        (ap (λ x. turn_of_deed (Jumps word codes line (course_of scene mid)) x) still
+        ∙ ap (λ x. turn_of_deed (Jumps word x line (course_of scene mid)) (frames_of scene before)) p.codes_are
+        ∙ ap (λ x. turn_of_deed (Jumps word (new_shell all.commands output sink course).codes line x) (frames_of scene before)) p.course
+        ∙ ap (λ x. turn_of_deed (frame_run word output frame.position sink course x) (frames_of scene before)) (sym same)
+        ∙ ap (λ x. turn_of_deed (run-of x) (frames_of scene before)) (sym e))
         (g frame frames (still ∙ e))

@@ -6,7 +6,7 @@ use Rattle.std.specs.Prelude.{if◌then◌else◌}
 use Rattle.ados_text.specs.declared.codes.Code.{Code}
 use Rattle.ados_flow.specs.declared.kinds.Kind.{Kind}
 use Rattle.ados_flow.specs.declared.kinds.Kind.TheVariants.{Script, Lines, Tick}
-use Rattle.ados_flow.specs.Frames.{FrameState, first_limit, is_script, limit_behind, limit_for, scripts_in}
+use Rattle.ados_flow.specs.Frames.{FrameState, first_limit, is_script, limit_above_frames, limit_above_scripts, scripts_in}
 use Rattle.ados_machine.specs.Breaks.{has_script}
 use Rattle.ados_machine.specs.Sinks.{Console, sink_by, sink_in}
 use Rattle.ados_shell.specs.Stacks.{HasTaken, sink_above}
@@ -17,10 +17,10 @@ pub some-run : (scripts : ℕ) → nat_lt 0 (suc scripts) ≡ true
 some-run scripts = lt-ltb 0 (suc scripts) (omega arith)
 
 -- at a script's end the limit of its beginning is restored if a script is left
-pub limit_is : (frames : List FrameState) (limit : Code) → limit_behind frames limit ≡ (if has_script frames then limit else first_limit)
+pub limit_is : (frames : List FrameState) (limit : Code) → limit_above_frames frames limit ≡ (if has_script frames then limit else first_limit)
 limit_is frames limit = limit-of (scripts_in frames)
   where
-    limit-of : (scripts : ℕ) → limit_for scripts limit ≡ (if nat_lt 0 scripts then limit else first_limit)
+    limit-of : (scripts : ℕ) → limit_above_scripts scripts limit ≡ (if nat_lt 0 scripts then limit else first_limit)
     limit-of zero = refl
     limit-of (suc scripts) = sym (ap (λ b. if b then limit else first_limit) (some-run scripts))
 

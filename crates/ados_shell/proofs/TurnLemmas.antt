@@ -7,22 +7,22 @@ use Rattle.ados_text.specs.declared.codes.Code.{Code}
 use Rattle.ados_find.specs.declared.codes.Codes.{Codes}
 use Rattle.ados_flow.specs.declared.kinds.Kind.{Kind}
 use Rattle.ados_flow.specs.declared.kinds.Kind.TheVariants.{Script, Lines, Tick}
-use Rattle.ados_flow.specs.Frames.{FrameState, is_over, is_ended, limit_behind, last_codes, last_line, is_early, maker, answered_frame}
+use Rattle.ados_flow.specs.Frames.{FrameState, is_over, is_ended, limit_above_frames, last_codes, last_line, is_early, maker, answered_frame}
 use Rattle.ados_machine.specs.declared.outs.EndReport.{EndReport}
 use Rattle.ados_machine.specs.declared.phases.Phase.TheVariants.{Ready, GoingOn}
 use Rattle.ados_machine.specs.CodeRule.{failed_line}
-use Rattle.ados_machine.specs.Items.{Item, Ended, noted, end_of, reports_of}
+use Rattle.ados_machine.specs.Items.{Item, Ended, answered_item, end_of, reports_of}
 use Rattle.ados_machine.specs.Course.{Course}
 use Rattle.ados_machine.specs.Deeds.{Passes}
-use Rattle.ados_machine.specs.Settled.{Said, Settled, behind, rests, told, with_limit, newest_kept, without_tick, after_end, finish, passed}
-use Rattle.ados_machine.specs.Settle.{Turned, by_rule, said_of}
+use Rattle.ados_machine.specs.Settled.{RuleState, RuleResult, with_items_first, rule_at_rest, with_answer, with_limit, newest_kept, without_tick, after_end, finish, pass_line}
+use Rattle.ados_machine.specs.Settle.{TurnResult, turn_by_rule, said_of}
 use Rattle.ados_shell.specs.declared.scenes.Scene.{Scene}
 use Rattle.ados_shell.specs.declared.drafts.Draft.{Draft}
 use Rattle.ados_shell.specs.Reports.{report_of}
-use Rattle.ados_shell.specs.Stacks.{frames_in}
-use Rattle.ados_shell.specs.Drafts.{GoesOn, IsReported, IsTicked, IsRuled, Settles, course_by, course_of, frames_of, held_of, phase_in}
+use Rattle.ados_shell.specs.Stacks.{drafted_frames}
+use Rattle.ados_shell.specs.Drafts.{GoesOn, IsReported, IsTicked, IsRuled, Settles, held_course, course_of, frames_of, held_state, drafted_phase}
 
-pub goes-on : (scene : Scene) (before mid after : Draft) (t t' : Turned) (rs : List EndReport)
+pub goes-on : (scene : Scene) (before mid after : Draft) (t t' : TurnResult) (rs : List EndReport)
     → mid.reports.items ≡ before.reports.items ++ rs
     → t'.frames ≡ t.frames → t'.phase ≡ t.phase → t'.course ≡ t.course
     → reports_of scene.number t'.log ≡ rs ++ reports_of scene.number t.log
@@ -38,7 +38,7 @@ goes-on scene before mid after t t' rs r tf tp tc l g = record {
 }
 
 -- the same if nothing was reported on the way
-pub goes-same : (scene : Scene) (before mid after : Draft) (t t' : Turned)
+pub goes-same : (scene : Scene) (before mid after : Draft) (t t' : TurnResult)
     → mid.reports.items ≡ before.reports.items → t ≡ t'
     → GoesOn scene mid after t → GoesOn scene before after t'
 goes-same scene before mid after t t' r e g = record {
@@ -57,7 +57,7 @@ else-is b x y e = ap (λ t. if t then x else y) e
 
 -- a command answered: the shell has its codes, and its failure was printed if its code reaches the limit
 pub record IsTold (before mid : Draft) (word : List ℕ) (codes : Codes) : Type 0 where
-  pub held : held_of mid ≡ held_of before
+  pub held : held_state mid ≡ held_state before
   pub limit : mid.shell.limit ≡ before.shell.limit
   pub codes_are : mid.shell.codes ≡ codes
   pub printed : mid.printed.items ≡ before.printed.items ++ failed_line word codes.code before.shell.limit
@@ -66,30 +66,30 @@ pub record IsTold (before mid : Draft) (word : List ℕ) (codes : Codes) : Type 
 -- what a turn hands on then, with a limit
 abbrev told_course : Scene → Draft → List ℕ → Codes → Code → Course
 told_course scene before word codes limit =
-    course_by scene (held_of before) limit codes (before.printed.items ++ failed_line word codes.code before.shell.limit)
+    held_course scene (held_state before) limit codes (before.printed.items ++ failed_line word codes.code before.shell.limit)
 
 told-course : (scene : Scene) (before mid : Draft) (word : List ℕ) (codes : Codes) → IsTold before mid word codes
     → course_of scene mid ≡ told_course scene before word codes before.shell.limit
 told-course scene before mid word codes t =
-    ap (λ h. course_by scene h mid.shell.limit mid.shell.codes mid.printed.items) t.held
-    ∙ ap (λ l. course_by scene (held_of before) l mid.shell.codes mid.printed.items) t.limit
-    ∙ ap (λ c. course_by scene (held_of before) before.shell.limit c mid.printed.items) t.codes_are
-    ∙ ap (λ p. course_by scene (held_of before) before.shell.limit codes p) t.printed
+    ap (λ h. held_course scene h mid.shell.limit mid.shell.codes mid.printed.items) t.held
+    ∙ ap (λ l. held_course scene (held_state before) l mid.shell.codes mid.printed.items) t.limit
+    ∙ ap (λ c. held_course scene (held_state before) before.shell.limit c mid.printed.items) t.codes_are
+    ∙ ap (λ p. held_course scene (held_state before) before.shell.limit codes p) t.printed
 
 -- the input of the code rule
-abbrev pub said_in : Scene → Draft → Said
+abbrev pub said_in : Scene → Draft → RuleState
 said_in scene draft = said_of (course_of scene draft)
 
 -- the code rule ends here
-rests-ruled : (scene : Scene) (before after : Draft) (word : List ℕ) (codes : Codes) (frames : List FrameState) (log : List Item) (settled : Settled)
-    → settled ≡ behind log (rests frames Ready (told word codes (said_in scene before)))
+rests-ruled : (scene : Scene) (before after : Draft) (word : List ℕ) (codes : Codes) (frames : List FrameState) (log : List Item) (settled : RuleResult)
+    → settled ≡ with_items_first log (rule_at_rest frames Ready (with_answer word codes (said_in scene before)))
     → reports_of scene.number log ≡ []
-    → IsTold before after word codes → frames_of scene after ≡ frames → phase_in after.shell ≡ Ready
+    → IsTold before after word codes → frames_of scene after ≡ frames → drafted_phase after.shell ≡ Ready
     → IsRuled scene before after settled
 rests-ruled scene before after word codes frames log settled e silent t f p = record {
   frames = f ∙ ap (λ s. s.frames) (sym e);
   phase = p ∙ ap (λ s. s.phase) (sym e);
-  course = told-course scene before after word codes t ∙ ap (λ s. (by_rule (course_of scene before) s).course) (sym e);
+  course = told-course scene before after word codes t ∙ ap (λ s. (turn_by_rule (course_of scene before) s).course) (sym e);
   reports = t.reports ∙ sym (append-nil before.reports.items)
       ∙ ap (λ r. before.reports.items ++ r) (sym silent ∙ ap (λ l. reports_of scene.number l) (sym (append-nil log)) ∙ ap (λ s. reports_of scene.number s.log) (sym e));
 }
@@ -98,15 +98,15 @@ rests-ruled scene before after word codes frames log settled e silent t f p = re
 pub finish-stays : (scene : Scene) (before after : Draft) (word : List ℕ) (codes : Codes) (quits : Bool) (frame : FrameState) (frames : List FrameState)
     → frames_of scene before ≡ frame ∷ frames → is_ended quits codes before.shell.limit frame ≡ false
     → frames_of scene after ≡ answered_frame frame frames codes before.shell.limit ∷ frames
-    → IsTold before after word codes → phase_in after.shell ≡ Ready
+    → IsTold before after word codes → drafted_phase after.shell ≡ Ready
     → IsRuled scene before after (finish word codes quits (frames_of scene before) (said_in scene before))
 finish-stays scene before after word codes quits frame frames there test f t p =
-    rests-ruled scene before after word codes (answered_frame frame frames codes before.shell.limit ∷ frames) (noted (frame ∷ frames) codes before.shell.limit ∷ []) _
+    rests-ruled scene before after word codes (answered_frame frame frames codes before.shell.limit ∷ frames) (answered_item (frame ∷ frames) codes before.shell.limit ∷ []) _
     (ap (λ fs. finish word codes quits fs (said_in scene before)) there ∙ else-is (is_ended quits codes before.shell.limit frame) _ _ test) refl t f p
 
 -- a turn in which no frame was changed, and nothing else
 pub record IsStill (before after : Draft) : Type 0 where
-  pub held : held_of after ≡ held_of before
+  pub held : held_state after ≡ held_state before
   pub limit : after.shell.limit ≡ before.shell.limit
   pub codes : after.shell.codes ≡ before.shell.codes
   pub printed : after.printed.items ≡ before.printed.items
@@ -114,31 +114,31 @@ pub record IsStill (before after : Draft) : Type 0 where
 
 pub still-course : (scene : Scene) (before after : Draft) → IsStill before after → course_of scene after ≡ course_of scene before
 still-course scene before after s =
-    ap (λ h. course_by scene h after.shell.limit after.shell.codes after.printed.items) s.held
-    ∙ ap (λ l. course_by scene (held_of before) l after.shell.codes after.printed.items) s.limit
-    ∙ ap (λ c. course_by scene (held_of before) before.shell.limit c after.printed.items) s.codes
-    ∙ ap (λ p. course_by scene (held_of before) before.shell.limit before.shell.codes p) s.printed
+    ap (λ h. held_course scene h after.shell.limit after.shell.codes after.printed.items) s.held
+    ∙ ap (λ l. held_course scene (held_state before) l after.shell.codes after.printed.items) s.limit
+    ∙ ap (λ c. held_course scene (held_state before) before.shell.limit c after.printed.items) s.codes
+    ∙ ap (λ p. held_course scene (held_state before) before.shell.limit before.shell.codes p) s.printed
 
 -- what the end of a frame leads to, above these frames
-abbrev pub leads : FrameState → List FrameState → Codes → Said → Settled
+abbrev pub leads : FrameState → List FrameState → Codes → RuleState → RuleResult
 leads last frames codes said =
-    after_end last.kind (finish (maker last.kind) codes false frames (with_limit (limit_behind frames last.limit) said)) frames said
+    after_end last.kind (finish (maker last.kind) codes false frames (with_limit (limit_above_frames frames last.limit) said)) frames said
 
 -- the same with the frame's end in the trace
-abbrev pub led : FrameState → List FrameState → Codes → Said → Settled
-led last frames codes said = behind (end_of (suc (length frames)) last ∷ []) (leads last frames codes said)
+abbrev pub led : FrameState → List FrameState → Codes → RuleState → RuleResult
+led last frames codes said = with_items_first (end_of (suc (length frames)) last ∷ []) (leads last frames codes said)
 
 -- the code rule goes on from the middle, before which it gave these items
-pub step-ruled : (scene : Scene) (before mid after : Draft) (rs : List EndReport) (items : List Item) (settled settled' : Settled)
-    → settled' ≡ behind items settled
+pub step-ruled : (scene : Scene) (before mid after : Draft) (rs : List EndReport) (items : List Item) (settled settled' : RuleResult)
+    → settled' ≡ with_items_first items settled
     → ((log : List Item) → reports_of scene.number (items ++ log) ≡ rs ++ reports_of scene.number log)
-    → held_of mid ≡ held_of before → mid.reports.items ≡ before.reports.items ++ rs
+    → held_state mid ≡ held_state before → mid.reports.items ≡ before.reports.items ++ rs
     → IsRuled scene mid after settled → IsRuled scene before after settled'
 step-ruled scene before mid after rs items settled settled' e reported held r g =
-    let course : (by_rule (course_of scene before) settled').course ≡ (by_rule (course_of scene mid) settled).course =
-    ap (λ s. (by_rule (course_of scene before) s).course) e
-    ∙ ap (λ x. (by_rule (course_by scene x before.shell.limit before.shell.codes before.printed.items) settled).course) (sym held) in
-    goes-on scene before mid after (by_rule (course_of scene mid) settled) (by_rule (course_of scene before) settled') rs r
+    let course : (turn_by_rule (course_of scene before) settled').course ≡ (turn_by_rule (course_of scene mid) settled).course =
+    ap (λ s. (turn_by_rule (course_of scene before) s).course) e
+    ∙ ap (λ x. (turn_by_rule (held_course scene x before.shell.limit before.shell.codes before.printed.items) settled).course) (sym held) in
+    goes-on scene before mid after (turn_by_rule (course_of scene mid) settled) (turn_by_rule (course_of scene before) settled') rs r
     (ap (λ s. s.frames) e) (ap (λ s. s.phase) e) course (ap (λ s. reports_of scene.number s.log) e ∙ reported settled.log) g
 
 -- the report of a script's end
@@ -149,12 +149,12 @@ end-script shell depth line kind codes early name command log e = ap (λ k. repo
 
 -- what is said after the end of a script
 reported-said : (scene : Scene) (mid ended : Draft) (name : Text) (last : FrameState) → IsReported scene mid ended name last
-    → said_in scene ended ≡ with_limit (limit_behind (frames_of scene mid) last.limit) (said_in scene mid)
+    → said_in scene ended ≡ with_limit (limit_above_frames (frames_of scene mid) last.limit) (said_in scene mid)
 reported-said scene mid ended name last e =
-    ap (λ x. said_of (course_by scene x ended.shell.limit ended.shell.codes ended.printed.items)) e.held
-    ∙ ap (λ x. said_of (course_by scene (held_of mid) x ended.shell.codes ended.printed.items)) e.limit
-    ∙ ap (λ x. said_of (course_by scene (held_of mid) (limit_behind (frames_of scene mid) last.limit) x ended.printed.items)) e.codes
-    ∙ ap (λ x. said_of (course_by scene (held_of mid) (limit_behind (frames_of scene mid) last.limit) mid.shell.codes x)) e.printed
+    ap (λ x. said_of (held_course scene x ended.shell.limit ended.shell.codes ended.printed.items)) e.held
+    ∙ ap (λ x. said_of (held_course scene (held_state mid) x ended.shell.codes ended.printed.items)) e.limit
+    ∙ ap (λ x. said_of (held_course scene (held_state mid) (limit_above_frames (frames_of scene mid) last.limit) x ended.printed.items)) e.codes
+    ∙ ap (λ x. said_of (held_course scene (held_state mid) (limit_above_frames (frames_of scene mid) last.limit) mid.shell.codes x)) e.printed
 
 -- the end of a script was reported, and is the answer of the command that made it
 pub script-leads : (scene : Scene) (mid ended after : Draft) (name command : Text) (codes : Codes) (last : FrameState)
@@ -164,30 +164,30 @@ pub script-leads : (scene : Scene) (mid ended after : Draft) (name command : Tex
     → IsRuled scene mid after (led last (frames_of scene mid) codes (said_in scene mid))
 script-leads scene mid ended after name command codes last k e g =
     let frames = frames_of scene mid in
-    let said = with_limit (limit_behind frames last.limit) (said_in scene mid) in
+    let said = with_limit (limit_above_frames frames last.limit) (said_in scene mid) in
     let answer = finish (maker last.kind) codes false frames said in
     let depth = suc (length frames) in
     step-ruled scene mid ended after (report_of scene.number name last ∷ []) (end_of depth last ∷ []) _ _
-    (ap (behind (end_of depth last ∷ []))
+    (ap (with_items_first (end_of depth last ∷ []))
     (ap (λ x. after_end x answer frames (said_in scene mid)) k
     ∙ ap (λ x. finish (maker x) codes false frames said) k
-    ∙ ap (λ x. finish command codes false (frames_in scene.shell.now x) said) (sym e.frames)
+    ∙ ap (λ x. finish command codes false (drafted_frames scene.shell.now x) said) (sym e.frames)
     ∙ ap (λ x. finish command codes false (frames_of scene ended) x) (sym (reported-said scene mid ended name last e))))
     (λ log. end-script scene.number depth _ last.kind (last_codes last.last) _ name command log k)
     e.held e.reports g
 
 -- a shell that ran the commands of a Run rests
 pub lines-lead : (scene : Scene) (mid : Draft) (codes : Codes) (last : FrameState)
-    → last.kind ≡ Lines → phase_in mid.shell ≡ Ready
+    → last.kind ≡ Lines → drafted_phase mid.shell ≡ Ready
     → IsRuled scene mid mid (led last (frames_of scene mid) codes (said_in scene mid))
 lines-lead scene mid codes last k p =
     let frames = frames_of scene mid in
     let said = said_in scene mid in
-    let rested = behind (Ended (suc (length frames)) Lines (last_line last.last) (last_codes last.last) (is_early last.kind last.last) ∷ []) (rests frames Ready said) in
+    let rested = with_items_first (Ended (suc (length frames)) Lines (last_line last.last) (last_codes last.last) (is_early last.kind last.last) ∷ []) (rule_at_rest frames Ready said) in
     let e : led last frames codes said ≡ rested =
-    ap (λ x. behind (Ended (suc (length frames)) x (last_line last.last) (last_codes last.last) (is_early last.kind last.last) ∷ [])
-    (after_end x (finish (maker last.kind) codes false frames (with_limit (limit_behind frames last.limit) said)) frames said)) k in
-    goes-same scene mid mid mid (by_rule (course_of scene mid) rested) _ refl (ap (by_rule (course_of scene mid)) (sym e))
+    ap (λ x. with_items_first (Ended (suc (length frames)) x (last_line last.last) (last_codes last.last) (is_early last.kind last.last) ∷ [])
+    (after_end x (finish (maker last.kind) codes false frames (with_limit (limit_above_frames frames last.limit) said)) frames said)) k in
+    goes-same scene mid mid mid (turn_by_rule (course_of scene mid) rested) _ refl (ap (turn_by_rule (course_of scene mid)) (sym e))
     (record { frames = refl; phase = p; course = refl; reports = sym (append-nil mid.reports.items) })
 
 -- after a tick its line goes on
@@ -198,13 +198,13 @@ tick-leads scene mid after codes last front rear k t =
     let frames = frames_of scene mid in
     let said = said_in scene mid in
     let phase = GoingOn (record { before = front; output = newest_kept said.kept; after = rear }) in
-    let rested = behind (Ended (suc (length frames)) (Tick front rear) (last_line last.last) (last_codes last.last) (is_early last.kind last.last) ∷ [])
-    (rests frames phase (without_tick said)) in
+    let rested = with_items_first (Ended (suc (length frames)) (Tick front rear) (last_line last.last) (last_codes last.last) (is_early last.kind last.last) ∷ [])
+    (rule_at_rest frames phase (without_tick said)) in
     let e : led last frames codes said ≡ rested =
-    ap (λ x. behind (Ended (suc (length frames)) x (last_line last.last) (last_codes last.last) (is_early last.kind last.last) ∷ [])
-    (after_end x (finish (maker last.kind) codes false frames (with_limit (limit_behind frames last.limit) said)) frames said)) k in
-    goes-same scene mid mid after (by_rule (course_of scene mid) rested) _ refl (ap (by_rule (course_of scene mid)) (sym e))
-    (record { frames = ap (frames_in scene.shell.now) t.frames; phase = t.phase; course = t.course; reports = t.reports ∙ sym (append-nil mid.reports.items) })
+    ap (λ x. with_items_first (Ended (suc (length frames)) x (last_line last.last) (last_codes last.last) (is_early last.kind last.last) ∷ [])
+    (after_end x (finish (maker last.kind) codes false frames (with_limit (limit_above_frames frames last.limit) said)) frames said)) k in
+    goes-same scene mid mid after (turn_by_rule (course_of scene mid) rested) _ refl (ap (turn_by_rule (course_of scene mid)) (sym e))
+    (record { frames = ap (drafted_frames scene.shell.now) t.frames; phase = t.phase; course = t.course; reports = t.reports ∙ sym (append-nil mid.reports.items) })
 
 -- the code rule at a frame that ends
 pub finish-ends : (scene : Scene) (before popped after : Draft) (word : List ℕ) (codes : Codes) (quits : Bool) (frame : FrameState) (frames : List FrameState)
@@ -214,11 +214,11 @@ pub finish-ends : (scene : Scene) (before popped after : Draft) (word : List ℕ
     → IsRuled scene before after (finish word codes quits (frames_of scene before) (said_in scene before))
 finish-ends scene before popped after word codes quits frame frames there test t f g =
     let last = answered_frame frame frames codes before.shell.limit in
-    let said : said_in scene popped ≡ told word codes (said_in scene before) = ap said_of (told-course scene before popped word codes t) in
-    step-ruled scene before popped after [] (noted (frame ∷ frames) codes before.shell.limit ∷ []) _ _
+    let said : said_in scene popped ≡ with_answer word codes (said_in scene before) = ap said_of (told-course scene before popped word codes t) in
+    step-ruled scene before popped after [] (answered_item (frame ∷ frames) codes before.shell.limit ∷ []) _ _
     (ap (λ fs. finish word codes quits fs (said_in scene before)) there ∙ then-is (is_ended quits codes before.shell.limit frame) _ _ test
-    ∙ ap (λ x. behind (noted (frame ∷ frames) codes before.shell.limit ∷ []) (led last frames codes x)) (sym said)
-    ∙ ap (λ x. behind (noted (frame ∷ frames) codes before.shell.limit ∷ []) (led last x codes (said_in scene popped))) (sym f))
+    ∙ ap (λ x. with_items_first (answered_item (frame ∷ frames) codes before.shell.limit ∷ []) (led last frames codes x)) (sym said)
+    ∙ ap (λ x. with_items_first (answered_item (frame ∷ frames) codes before.shell.limit ∷ []) (led last x codes (said_in scene popped))) (sym f))
     (λ log. refl)
     t.held (t.reports ∙ sym (append-nil before.reports.items)) g
 
@@ -231,7 +231,7 @@ pub pass-ends : (scene : Scene) (before popped after : Draft) (frame : FrameStat
 pass-ends scene before popped after frame frames there over s f g =
     let said : said_in scene popped ≡ said_in scene before = ap said_of (still-course scene before popped s) in
     step-ruled scene before popped after [] [] _ _
-    (ap (λ fs. passed fs (said_in scene before)) there ∙ then-is (is_over frame) _ _ over
+    (ap (λ fs. pass_line fs (said_in scene before)) there ∙ then-is (is_over frame) _ _ over
     ∙ ap (λ x. led frame frames (last_codes frame.last) x) (sym said)
     ∙ ap (λ x. led frame x (last_codes frame.last) (said_in scene popped)) (sym f))
     (λ log. refl)

@@ -12,8 +12,8 @@ use Rattle.ados_shell.specs.Drafts.{IsDrafted, Settles, start_of}
 use Rattle.ados_shell.specs.Turnings.{MayWantMemory}
 
 -- the machine's answering of the scene's shell, with this input
-abbrev pub answering_in : Scene → machine.Input → Answer → machine.Turning
-answering_in scene input answer = machine.answering input scene.shell.now.frames (start_of scene) scene.shell.now.phase answer
+abbrev pub scene_answering : Scene → machine.Input → Answer → machine.Turning
+scene_answering scene input answer = machine.turning_of_answer input scene.shell.now.frames (start_of scene) scene.shell.now.phase answer
 
 -- an answering is that of the machine: the shell does not wait for the answer, or goes on by it; its lines wait on
 abbrev pub IsAnswering : Scene → List (List ℕ) → Answering → Draft → machine.Turning → Type 0
@@ -23,11 +23,11 @@ IsAnswering scene queue _ draft _ = ⊥
 
 -- the answering of the scene's shell, whatever its input
 abbrev pub GivesReply : Scene → Answer → Answering → Draft → Type 0
-GivesReply scene answer answering draft = (input : machine.Input) → IsAnswering scene input.queue answering draft (answering_in scene input answer)
+GivesReply scene answer answering draft = (input : machine.Input) → IsAnswering scene input.queue answering draft (scene_answering scene input answer)
 
 -- the machine goes on by the answer, but an allocation may fail
 abbrev pub TakesReply : Scene → Answer → Type 0
-TakesReply scene answer = (input : machine.Input) → MayWantMemory (answering_in scene input answer)
+TakesReply scene answer = (input : machine.Input) → MayWantMemory (scene_answering scene input answer)
 
 -- a turn went on by the deed that an answer gives, if it gives one
 abbrev pub IsReplied : Scene → Draft → Draft → Answering → Option Deed → Type 0

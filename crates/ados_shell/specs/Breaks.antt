@@ -2,7 +2,7 @@
 use Rattle.std.specs.Prelude.{◌≡◌, ℕ, [], ◌∷◌, ◌++◌, List}
 use Rattle.std.specs.Option.{option_copied}
 use Rattle.ados_flow.specs.Frames.{FrameState}
-use Rattle.ados_machine.specs.Breaks.{kept_without}
+use Rattle.ados_machine.specs.Breaks.{kept_after_break}
 use Rattle.ados_machine.specs.Items.{break_of, reports_of}
 use Rattle.ados_machine.specs.Turning as machine
 use Rattle.ados_shell.specs.declared.scenes.Input.{Input}
@@ -10,12 +10,12 @@ use Rattle.ados_shell.specs.declared.scenes.Scene.{Scene}
 use Rattle.ados_shell.specs.declared.drafts.Draft.{Draft}
 use Rattle.ados_shell.specs.declared.turnings.Turning.{Turning}
 use Rattle.ados_shell.specs.Drafts.{course_of, turn_start}
-use Rattle.ados_shell.specs.Turnings.{IsFirst, IsTurning, MayWantMemory, input_with, plain_turning}
+use Rattle.ados_shell.specs.Turnings.{IsFirst, IsTurning, MayWantMemory, waiting_input, plain_turning}
 
 -- the machine's turn of the scene's shell that ends its scripts instead of doing what it would have done
 abbrev pub broken_turning : Scene → Input → List (List ℕ) → machine.Turning
 broken_turning scene input queue =
-    machine.in_place_of (plain_turning scene input scene.shell.now.phase queue) (input_with input queue) scene.shell.now.frames (turn_start scene)
+    machine.turning_at_break (plain_turning scene input scene.shell.now.phase queue) (waiting_input input queue) scene.shell.now.frames (turn_start scene)
 
 -- a turn is that one, whatever lines wait after the first
 abbrev pub GivesBroken : Scene → Input → Turning → Draft → Type 0
@@ -35,5 +35,5 @@ pub record ReportsBreak (scene : Scene) (before after : Draft) (frame : FrameSta
 -- the output of a frame that ended at a break was dropped, if the frame is a tick's, and nothing else was done
 pub record GivesUp (scene : Scene) (before after : Draft) (frame : FrameState) : Type 0 where
   pub frames : after.shell.frames ≡ before.shell.frames
-  pub course : course_of scene after ≡ record (course_of scene before) { kept = kept_without frame.kind (course_of scene before).kept }
+  pub course : course_of scene after ≡ record (course_of scene before) { kept = kept_after_break frame.kind (course_of scene before).kept }
   pub reports : after.reports.items ≡ before.reports.items

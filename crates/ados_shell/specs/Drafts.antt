@@ -6,7 +6,7 @@ use Rattle.ados_find.specs.declared.changes.Change.{Change}
 use Rattle.ados_find.specs.declared.codes.Codes.{Codes}
 use Rattle.ados_find.specs.declared.settings.Setting.{Setting}
 use Rattle.ados_find.specs.declared.settings.Settings.{Settings}
-use Rattle.ados_find.specs.Changes.{changed}
+use Rattle.ados_find.specs.Changes.{parts_after_command}
 use Rattle.ados_find.specs.Settings.{with_setting}
 use Rattle.ados_find.specs.declared.outcomes.Breaking.{Breaking}
 use Rattle.ados_find.specs.declared.outcomes.Renamed.{Renamed}
@@ -14,68 +14,68 @@ use Rattle.ados_find.specs.Shared.{SharedState, version}
 use Rattle.ados_machine.specs.declared.outs.Out.{Out}
 use Rattle.ados_machine.specs.declared.phases.Phase.{Phase}
 use Rattle.ados_machine.specs.declared.phases.Phase.TheVariants.{GoingOn}
-use Rattle.ados_flow.specs.Frames.{FrameState, limit_behind}
-use Rattle.ados_machine.specs.Breaks.{flags_own, kept_without}
+use Rattle.ados_flow.specs.Frames.{FrameState, limit_above_frames}
+use Rattle.ados_machine.specs.Breaks.{flags_own, kept_after_break}
 use Rattle.ados_machine.specs.Items.{break_of, reports_of}
 use Rattle.ados_find.specs.Parts.{Parts}
-use Rattle.ados_machine.specs.Shells.{Begun, ShellState}
+use Rattle.ados_machine.specs.Shells.{ShellStart, ShellState}
 use Rattle.ados_find.specs.declared.targets.Target.{Target}
-use Rattle.ados_machine.specs.Course.{Course, shared_behind}
-use Rattle.ados_machine.specs.NewShells.{beginning}
+use Rattle.ados_machine.specs.Course.{Course, shared_after_event}
+use Rattle.ados_machine.specs.NewShells.{with_shell_begun}
 use Rattle.ados_machine.specs.Deeds.{Here, Deed}
-use Rattle.ados_machine.specs.Settled.{Settled, newest_kept}
-use Rattle.ados_machine.specs.Settle.{Turned, by_rule, here_of, settle}
-use Rattle.ados_machine.specs.Step.{giving, shell_of_turn, unflagged}
+use Rattle.ados_machine.specs.Settled.{RuleResult, newest_kept}
+use Rattle.ados_machine.specs.Settle.{TurnResult, turn_by_rule, here_of, turn_of_deed}
+use Rattle.ados_machine.specs.Step.{out_with, shell_of_turn, course_without_flag}
 use Rattle.ados_machine.specs.World.{seen_in}
 use Rattle.ados_shell.specs.declared.scenes.Scene.{Scene}
 use Rattle.ados_shell.specs.declared.drafts.Draft.{Draft}
 use Rattle.ados_shell.specs.declared.drafts.ShellDraft.{ShellDraft}
 use Rattle.ados_shell.specs.Reports.{report_of}
 use Rattle.ados_shell.specs.Shells.{phase_of}
-use Rattle.ados_shell.specs.Stacks.{frames_in}
+use Rattle.ados_shell.specs.Stacks.{drafted_frames}
 
-abbrev pub phase_in : ShellDraft → Phase
-phase_in draft = phase_of (option_map (λ p. p.value) draft.phase)
+abbrev pub drafted_phase : ShellDraft → Phase
+drafted_phase draft = phase_of (option_map (λ p. p.value) draft.phase)
 
 -- what the ticks put out, if that changed
-abbrev pub kept_in : ShellDraft → Option (List Bytes)
-kept_in draft = option_map (λ k. reverse k.items) draft.kept
+abbrev pub drafted_outputs : ShellDraft → Option (List Bytes)
+drafted_outputs draft = option_map (λ k. reverse k.items) draft.kept
 
 -- the settings after a change, if there was one
-abbrev pub set_by : Option Setting → Settings → Settings
-set_by None settings = settings
-set_by (Some setting) settings = with_setting setting settings
+abbrev pub changed_settings : Option Setting → Settings → Settings
+changed_settings None settings = settings
+changed_settings (Some setting) settings = with_setting setting settings
 
 -- the shell after what a turn makes of it
-abbrev pub behind : ShellDraft → ShellState → ShellState
-behind draft shell = record {
-  frames = frames_in shell draft.frames;
-  phase = phase_in draft;
+abbrev pub drafted_shell : ShellDraft → ShellState → ShellState
+drafted_shell draft shell = record {
+  frames = drafted_frames shell draft.frames;
+  phase = drafted_phase draft;
   parts = record {
     number = shell.parts.number;
     directory = unwrap_or draft.directory shell.parts.directory;
     limit = draft.limit;
     codes = draft.codes;
-    settings = set_by draft.setting shell.parts.settings;
+    settings = changed_settings draft.setting shell.parts.settings;
   };
-  kept = unwrap_or (kept_in draft) shell.kept;
+  kept = unwrap_or (drafted_outputs draft) shell.kept;
   flagged = draft.flagged;
 }
 
 -- what is given by an event that a draft holds
 abbrev pub out_of : Draft → Out
-out_of draft = giving draft.printed.items draft.request draft.reports.items
+out_of draft = out_with draft.printed.items draft.request draft.reports.items
 
 abbrev pub frames_of : Scene → Draft → List FrameState
-frames_of scene draft = frames_in scene.shell.now draft.shell.frames
+frames_of scene draft = drafted_frames scene.shell.now draft.shell.frames
 
 -- the place of the next line of the newest frame
-abbrev pub here : Scene → Draft → Here
-here scene draft = here_of (frames_of scene draft)
+abbrev pub next_line_place : Scene → Draft → Here
+next_line_place scene draft = here_of (frames_of scene draft)
 
 -- the shell's parts as they are now
 abbrev pub parts_of : Scene → Draft → Parts
-parts_of scene draft = (behind draft.shell scene.shell.now).parts
+parts_of scene draft = (drafted_shell draft.shell scene.shell.now).parts
 
 -- an event of the scene's shell begins: nothing is done yet
 abbrev pub start_of : Scene → Course
@@ -94,25 +94,25 @@ start_of scene = record {
 
 -- a turn begins: it clears the flag
 abbrev pub turn_start : Scene → Course
-turn_start scene = unflagged (start_of scene)
+turn_start scene = course_without_flag (start_of scene)
 
 -- what a turn holds that no answer changes
-pub record Held : Type 0 where
+pub record HeldState : Type 0 where
   pub directory : Option (List (List ℕ))
   pub setting : Option Setting
   pub kept : Option (List Bytes)
   pub shared : Option SharedState
   pub renamed : Option Renamed
-  pub begun : Option Begun
+  pub begun : Option ShellStart
   pub used : List Text
   pub breaking : Option Breaking
   pub flagged : Bool
 
-abbrev pub held_of : Draft → Held
-held_of draft = record {
+abbrev pub held_state : Draft → HeldState
+held_state draft = record {
   directory = draft.shell.directory;
   setting = draft.shell.setting;
-  kept = kept_in draft.shell;
+  kept = drafted_outputs draft.shell;
   shared = draft.shared;
   renamed = option_map (λ r. r.value) draft.renamed;
   begun = option_map (λ b. b.value) draft.begun;
@@ -121,14 +121,14 @@ held_of draft = record {
   flagged = draft.shell.flagged;
 }
 
-abbrev pub course_by : Scene → Held → Code → Codes → List ℕ → Course
-course_by scene held limit codes printed = record {
+abbrev pub held_course : Scene → HeldState → Code → Codes → List ℕ → Course
+held_course scene held limit codes printed = record {
   parts = record {
     number = scene.shell.now.parts.number;
     directory = unwrap_or held.directory scene.shell.now.parts.directory;
     limit = limit;
     codes = codes;
-    settings = set_by held.setting scene.shell.now.parts.settings;
+    settings = changed_settings held.setting scene.shell.now.parts.settings;
   };
   kept = unwrap_or held.kept scene.shell.now.kept;
   shared = version scene.shared.now held.shared;
@@ -143,7 +143,7 @@ course_by scene held limit codes printed = record {
 
 -- what a turn that sees this hands on
 abbrev pub course_of : Scene → Draft → Course
-course_of scene draft = course_by scene (held_of draft) draft.shell.limit draft.shell.codes draft.printed.items
+course_of scene draft = held_course scene (held_state draft) draft.shell.limit draft.shell.codes draft.printed.items
 
 -- nothing is set yet: a command changes a setting at most once
 abbrev pub IsUnset : Draft → Type 0
@@ -151,10 +151,10 @@ IsUnset draft = draft.shell.setting ≡ None
 
 -- nothing is changed yet of a shell
 pub record IsUnchanged (shell : ShellState) (draft : ShellDraft) : Type 0 where
-  pub frames_are : frames_in shell draft.frames ≡ shell.frames
-  pub parts_are : (behind draft shell).parts ≡ shell.parts
+  pub frames_are : drafted_frames shell draft.frames ≡ shell.frames
+  pub parts_are : (drafted_shell draft shell).parts ≡ shell.parts
   pub setting_is : draft.setting ≡ None
-  pub kept_is : (behind draft shell).kept ≡ shell.kept
+  pub kept_is : (drafted_shell draft shell).kept ≡ shell.kept
 
 -- nothing is changed yet, and the shell is flagged, or is not
 pub record IsFresh (shell : ShellState) (flagged : Bool) (draft : Draft) : Type 0 where
@@ -169,24 +169,24 @@ pub record IsFresh (shell : ShellState) (flagged : Bool) (draft : Draft) : Type 
   pub breaking_is : draft.breaking ≡ None
 
 -- a turn went on by what a definition leaves
-pub record GoesOn (scene : Scene) (before after : Draft) (turned : Turned) : Type 0 where
+pub record GoesOn (scene : Scene) (before after : Draft) (turned : TurnResult) : Type 0 where
   pub frames : frames_of scene after ≡ turned.frames
-  pub phase : phase_in after.shell ≡ turned.phase
+  pub phase : drafted_phase after.shell ≡ turned.phase
   pub course : course_of scene after ≡ turned.course
   pub reports : after.reports.items ≡ before.reports.items ++ reports_of scene.number turned.log
 
 -- a turn went on by a deed
 abbrev pub Settles : Scene → Draft → Draft → Deed → Type 0
-Settles scene before after deed = GoesOn scene before after (settle deed (frames_of scene before))
+Settles scene before after deed = GoesOn scene before after (turn_of_deed deed (frames_of scene before))
 
 -- a turn went on by what the code rule leaves
-abbrev pub IsRuled : Scene → Draft → Draft → Settled → Type 0
-IsRuled scene before after settled = GoesOn scene before after (by_rule (course_of scene before) settled)
+abbrev pub IsRuled : Scene → Draft → Draft → RuleResult → Type 0
+IsRuled scene before after settled = GoesOn scene before after (turn_by_rule (course_of scene before) settled)
 
 -- the draft holds what a turn of the scene's shell leaves, and the assigns that it used are bound
-pub record IsDrafted (scene : Scene) (draft : Draft) (turned : Turned) : Type 0 where
-  pub shell_is : behind draft.shell scene.shell.now ≡ shell_of_turn turned
-  pub shared_is : version scene.shared.now draft.shared ≡ shared_behind turned.course
+pub record IsDrafted (scene : Scene) (draft : Draft) (turned : TurnResult) : Type 0 where
+  pub shell_is : drafted_shell draft.shell scene.shell.now ≡ shell_of_turn turned
+  pub shared_is : version scene.shared.now draft.shared ≡ shared_after_event turned.course
   pub renamed_is : option_map (λ r. r.value) draft.renamed ≡ turned.course.renamed
   pub begun_is : option_map (λ b. b.value) draft.begun ≡ turned.course.begun
   pub breaking_is : draft.breaking ≡ turned.course.breaking
@@ -196,8 +196,8 @@ pub record IsDrafted (scene : Scene) (draft : Draft) (turned : Turned) : Type 0 
 -- the end of a script was reported, and the limit of its beginning restored
 pub record IsReported (scene : Scene) (before after : Draft) (name : Text) (frame : FrameState) : Type 0 where
   pub frames : after.shell.frames ≡ before.shell.frames
-  pub held : held_of after ≡ held_of before
-  pub limit : after.shell.limit ≡ limit_behind (frames_of scene before) frame.limit
+  pub held : held_state after ≡ held_state before
+  pub limit : after.shell.limit ≡ limit_above_frames (frames_of scene before) frame.limit
   pub codes : after.shell.codes ≡ before.shell.codes
   pub printed : after.printed.items ≡ before.printed.items
   pub reports : after.reports.items ≡ before.reports.items ++ report_of scene.number name frame ∷ []
@@ -205,15 +205,15 @@ pub record IsReported (scene : Scene) (before after : Draft) (name : Text) (fram
 -- the end of a tick left its line to go on, with what it put out
 pub record IsTicked (scene : Scene) (mid after : Draft) (front behind_it : Text) : Type 0 where
   pub frames : after.shell.frames ≡ mid.shell.frames
-  pub phase : phase_in after.shell ≡ GoingOn (record { before = front; output = newest_kept (course_of scene mid).kept; after = behind_it })
+  pub phase : drafted_phase after.shell ≡ GoingOn (record { before = front; output = newest_kept (course_of scene mid).kept; after = behind_it })
   pub course : course_of scene after ≡ record (course_of scene mid) { kept = drop 1 (course_of scene mid).kept }
   pub reports : after.reports.items ≡ mid.reports.items
 
 -- what a command made was moved in
 pub record HoldsEffect (number : ℕ) (before after : Draft) (change : Option Change) (shared : Option SharedState) (renamed : Option Renamed) (breaking : Option Breaking) : Type 0 where
   pub frames : after.shell.frames ≡ before.shell.frames
-  pub parts_are : (shell : ShellState) → (behind after.shell shell).parts ≡ changed change (behind before.shell shell).parts
-  pub kept : kept_in after.shell ≡ kept_in before.shell
+  pub parts_are : (shell : ShellState) → (drafted_shell after.shell shell).parts ≡ parts_after_command change (drafted_shell before.shell shell).parts
+  pub kept : drafted_outputs after.shell ≡ drafted_outputs before.shell
   pub shared_is : (old : SharedState) → version old after.shared ≡ version (version old before.shared) shared
   pub renamed_is : option_map (λ r. r.value) after.renamed ≡ renamed
   pub breaking_is : after.breaking ≡ breaking
@@ -226,5 +226,5 @@ pub record HoldsEffect (number : ℕ) (before after : Draft) (change : Option Ch
 -- a shell of this number was drafted, which is to begin with these commands and this output
 pub record HasBegun (scene : Scene) (before after : Draft) (number : ℕ) (commands : List Text) (output : Option Target) : Type 0 where
   pub frames : after.shell.frames ≡ before.shell.frames
-  pub course : course_of scene after ≡ beginning number commands output (course_of scene before)
+  pub course : course_of scene after ≡ with_shell_begun number commands output (course_of scene before)
   pub reports : after.reports.items ≡ before.reports.items

@@ -4,7 +4,7 @@ use Rattle.ados_text.specs.Text.{Text}
 use Rattle.ados_text.specs.declared.codes.Result2.{Result2}
 use Rattle.ados_ram.specs.declared.faults.FsFault.{FsFault}
 use Rattle.ados_ram.specs.declared.faults.FsFault.TheVariants.{Refused, NoMemory}
-use Rattle.ados_machine.specs.Course.{using}
+use Rattle.ados_machine.specs.Course.{with_devices_used}
 use Rattle.ados_machine.specs.Uses.{devices_named}
 use Rattle.ados_shell.specs.declared.scenes.Scene.{Scene}
 use Rattle.ados_shell.specs.declared.drafts.Draft.{Draft}
@@ -15,7 +15,7 @@ use Rattle.ados_shell.specs.Uses.{HasUsed}
 -- refused, nothing changed
 pub record Reads (scene : Scene) (before after : Draft) (name : Option Text) (lines given : Option (List Text)) : Type 0 where
   pub lines_are : lines ≡ given
-  pub used : HasUsed scene before after (using (devices_named name) (course_of scene before))
+  pub used : HasUsed scene before after (with_devices_used (devices_named name) (course_of scene before))
 
 abbrev pub HasRead : Scene → Draft → Draft → Option Text → Result (Option (List Text)) FsFault → Result (Option (List Text)) Result2 → Type 0
 HasRead scene before after name (Ok lines) (Ok given) = Reads scene before after name lines given

@@ -10,7 +10,7 @@ use Rattle.ados_ram.specs.Files.{Files}
 use Rattle.ados_find.specs.declared.targets.Target.{Target}
 use Rattle.ados_find.specs.declared.targets.Target.TheVariants.{Nil as Null, At}
 use Rattle.ados_machine.specs.Course as course
-use Rattle.ados_machine.specs.Course.{Course, using}
+use Rattle.ados_machine.specs.Course.{Course, with_devices_used}
 use Rattle.ados_machine.specs.Opening as line
 use Rattle.ados_shell.specs.declared.outputs.Opened.{Opened}
 use Rattle.ados_shell.specs.declared.outputs.Opened.TheVariants.{Nothing, Nil, File}
@@ -19,7 +19,7 @@ use Rattle.ados_shell.specs.declared.drafts.Draft.{Draft}
 use Rattle.ados_shell.specs.Drafts.{course_of}
 
 -- an output was opened: a file, with the shared parts after its opening, or another output, for which nothing changes
-abbrev pub IsOpened : SharedState → Result Opened FsFault → Result line.Opened Result2 → Type 0
+abbrev pub IsOpened : SharedState → Result Opened FsFault → Result line.OpenedOutput Result2 → Type 0
 IsOpened shared (Ok Nothing) (Ok opened) = opened ≡ record { shared = shared; target = None }
 IsOpened shared (Ok Nil) (Ok opened) = opened ≡ record { shared = shared; target = Some Null }
 IsOpened shared (Ok (File new place)) (Ok opened) = opened ≡ record { shared = new; target = Some (At place) }
@@ -29,7 +29,7 @@ IsOpened shared _ _ = ⊥
 
 -- a turn after what a line's redirection opens was opened: it leads there, and the shared parts are new ones; if it
 -- was refused, nothing changed
-pub record LeadsTo (scene : Scene) (before after : Draft) (target : Option Target) (opened : line.Opened) (course : Course) : Type 0 where
+pub record LeadsTo (scene : Scene) (before after : Draft) (target : Option Target) (opened : line.OpenedOutput) (course : Course) : Type 0 where
   pub frames : after.shell.frames ≡ before.shell.frames
   pub target_is : target ≡ opened.target
   pub course_is : course_of scene after ≡ course
@@ -37,19 +37,19 @@ pub record LeadsTo (scene : Scene) (before after : Draft) (target : Option Targe
   pub reports : after.reports.items ≡ before.reports.items
 
 -- the course of an event after an output was opened
-abbrev pub opened_in : Course → line.Opened → Course
-opened_in course opened = record course { shared = opened.shared }
+abbrev pub opened_course : Course → line.OpenedOutput → Course
+opened_course course opened = record course { shared = opened.shared }
 
-abbrev pub HasHeld : Scene → Draft → Draft → Result (Option Target) FsFault → Result line.Opened Result2 → Type 0
-HasHeld scene before after (Ok target) (Ok opened) = LeadsTo scene before after target opened (opened_in (course_of scene before) opened)
+abbrev pub HasHeld : Scene → Draft → Draft → Result (Option Target) FsFault → Result line.OpenedOutput Result2 → Type 0
+HasHeld scene before after (Ok target) (Ok opened) = LeadsTo scene before after target opened (opened_course (course_of scene before) opened)
 HasHeld scene before after (Err (Refused fault)) (Err other) = (fault ≡ other) × (after ≡ before)
 HasHeld scene before after (Err NoMemory) opened = Unit {0}
 HasHeld scene before after _ _ = ⊥
 
 -- and its device is used
-abbrev pub HasOpened : Scene → Draft → Draft → Option Redirection → Result (Option Target) FsFault → Result line.Opened Result2 → Type 0
+abbrev pub HasOpened : Scene → Draft → Draft → Option Redirection → Result (Option Target) FsFault → Result line.OpenedOutput Result2 → Type 0
 HasOpened scene before after output (Ok target) (Ok opened) =
-    LeadsTo scene before after target opened (using (line.output_devices output) (opened_in (course_of scene before) opened))
+    LeadsTo scene before after target opened (with_devices_used (line.output_devices output) (opened_course (course_of scene before) opened))
 HasOpened scene before after output (Err (Refused fault)) (Err other) = (fault ≡ other) × (after ≡ before)
 HasOpened scene before after output (Err NoMemory) opened = Unit {0}
 HasOpened scene before after output _ _ = ⊥

@@ -1,6 +1,6 @@
 -- The frames of a shell, as a turn changes them.
 use Rattle.std.specs.Prelude.{◌≡◌, ℕ, suc, ◌+◌, ◌<◌, ◌^◌, [], ◌∷◌, ◌++◌, List, Option, Some, None, reverse, take}
-use Rattle.ados_flow.specs.Frames.{FrameState, jumped, moved}
+use Rattle.ados_flow.specs.Frames.{FrameState, frame_at_line, advanced_frame}
 use Rattle.ados_machine.specs.Shells.{ShellState}
 use Rattle.ados_machine.specs.Sinks.{Sink, Console, Kept, To, sink_by}
 use Rattle.ados_shell.specs.declared.stacks.Sink as code
@@ -10,17 +10,17 @@ use Rattle.ados_shell.specs.declared.stacks.Way.TheVariants as ways
 use Rattle.ados_shell.specs.declared.stacks.Stack.{Stack}
 
 -- this many of the oldest frames, the newest first
-abbrev pub oldest : ℕ → List FrameState → List FrameState
-oldest n frames = reverse (take n (reverse frames))
+abbrev pub oldest_frames : ℕ → List FrameState → List FrameState
+oldest_frames n frames = reverse (take n (reverse frames))
 
 -- the frames of the shell as a turn has changed them, the newest first
-abbrev pub frames_in : ShellState → Stack → List FrameState
-frames_in shell stack = reverse stack.own.items ++ oldest stack.kept shell.frames
+abbrev pub drafted_frames : ShellState → Stack → List FrameState
+drafted_frames shell stack = reverse stack.own.items ++ oldest_frames stack.kept shell.frames
 
 -- the newest frame, if there is one, was popped
 abbrev pub IsPopped : ShellState → Stack → Stack → Option FrameState → Type 0
-IsPopped shell before after None = (frames_in shell before ≡ []) × (frames_in shell after ≡ [])
-IsPopped shell before after (Some frame) = frames_in shell before ≡ frame ∷ frames_in shell after
+IsPopped shell before after None = (drafted_frames shell before ≡ []) × (drafted_frames shell after ≡ [])
+IsPopped shell before after (Some frame) = drafted_frames shell before ≡ frame ∷ drafted_frames shell after
 
 -- where the output of these frames' commands goes, above frames whose output goes there
 abbrev pub sink_above : List FrameState → Sink → Sink
@@ -50,10 +50,10 @@ HasTaken taken [] = Unit {0}
 HasTaken taken (frame ∷ frames) = frame.position + taken < 2 ^ 64
 
 abbrev pub IsSkipped : ShellState → Stack → ℕ → List FrameState → Type 0
-IsSkipped shell after taken [] = frames_in shell after ≡ []
-IsSkipped shell after taken (frame ∷ frames) = frames_in shell after ≡ jumped (suc (frame.position + taken)) frame ∷ frames
+IsSkipped shell after taken [] = drafted_frames shell after ≡ []
+IsSkipped shell after taken (frame ∷ frames) = drafted_frames shell after ≡ frame_at_line (suc (frame.position + taken)) frame ∷ frames
 
 -- the line of the newest of these frames was taken
 abbrev pub IsMovedOn : ShellState → Stack → List FrameState → Type 0
-IsMovedOn shell after [] = frames_in shell after ≡ []
-IsMovedOn shell after (frame ∷ frames) = frames_in shell after ≡ moved frame ∷ frames
+IsMovedOn shell after [] = drafted_frames shell after ≡ []
+IsMovedOn shell after (frame ∷ frames) = drafted_frames shell after ≡ advanced_frame frame ∷ frames

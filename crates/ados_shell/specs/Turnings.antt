@@ -22,17 +22,17 @@ IsFirst None queue = queue ≡ []
 IsFirst (Some line) queue = queue ≡ line ∷ drop 1 queue
 
 -- the input, when these lines wait
-abbrev pub input_with : Input → List (List ℕ) → machine.Input
-input_with input queue = record { queue = queue; is_ended = input.is_ended }
+abbrev pub waiting_input : Input → List (List ℕ) → machine.Input
+waiting_input input queue = record { queue = queue; is_ended = input.is_ended }
 
 -- the machine's turn of the scene's shell, when these lines wait: a flag that it finds ends its scripts
-abbrev pub turning_in : Scene → Input → List (List ℕ) → machine.Turning
-turning_in scene input queue =
-    machine.flagged_turning scene.shell.now.flagged (input_with input queue) scene.shell.now.frames (turn_start scene) scene.shell.now.phase
+abbrev pub scene_turning : Scene → Input → List (List ℕ) → machine.Turning
+scene_turning scene input queue =
+    machine.flagged_turning scene.shell.now.flagged (waiting_input input queue) scene.shell.now.frames (turn_start scene) scene.shell.now.phase
 
 -- the same in a phase, if it finds no flag
 abbrev pub plain_turning : Scene → Input → Phase → List (List ℕ) → machine.Turning
-plain_turning scene input phase queue = machine.turning (input_with input queue) scene.shell.now.frames (turn_start scene) phase
+plain_turning scene input phase queue = machine.turning_in_phase (waiting_input input queue) scene.shell.now.frames (turn_start scene) phase
 
 -- a turn is that of the machine: it leaves these lines waiting, or takes the first of them
 abbrev pub IsTurning : Scene → List (List ℕ) → Turning → Draft → machine.Turning → Type 0
@@ -46,7 +46,7 @@ IsTurning scene queue _ draft _ = ⊥
 abbrev pub GivesTurning : Scene → Input → Turning → Draft → Type 0
 GivesTurning scene input turn draft =
     (queue : List (List ℕ)) → IsFirst (option_copied input.line) queue →
-    IsTurning scene queue turn draft (turning_in scene input queue)
+    IsTurning scene queue turn draft (scene_turning scene input queue)
 
 -- the same if it finds no flag
 abbrev pub GivesPlain : Scene → Input → Turning → Draft → Type 0
@@ -86,7 +86,7 @@ next_of (frame ∷ frames) = slice_get frame.lines frame.position
 abbrev pub IsScriptDrafted : Scene → Draft → List FrameState → Type 0
 IsScriptDrafted scene draft [] = Unit {0}
 IsScriptDrafted scene draft (frame ∷ frames) =
-    IsDrafted scene draft (machine.frame_turned frame frames (turn_start scene) (slice_get frame.lines frame.position))
+    IsDrafted scene draft (machine.turn_of_frame frame frames (turn_start scene) (slice_get frame.lines frame.position))
 
 -- the machine goes on, but an allocation may fail: a refusal and a shell's end allocate nothing
 abbrev pub MayWantMemory : machine.Turning → Type 0
@@ -97,7 +97,7 @@ MayWantMemory (machine.Takes rest turned) = Unit {0}
 -- the machine goes on at a turn of the scene's shell with this input, whatever lines wait after the first
 abbrev pub TakesTurn : Scene → Input → Type 0
 TakesTurn scene input =
-    (queue : List (List ℕ)) → IsFirst (option_copied input.line) queue → MayWantMemory (turning_in scene input queue)
+    (queue : List (List ℕ)) → IsFirst (option_copied input.line) queue → MayWantMemory (scene_turning scene input queue)
 
 -- the same if it finds no flag
 abbrev pub TakesPlain : Scene → Input → Type 0

@@ -1,8 +1,8 @@
 -- Devices that a turn uses, and the end of the event, when their assigns are bound.
 use Rattle.std.specs.Prelude.{◌≡◌, Option}
-use Rattle.ados_assign.specs.Uses.{bound_of}
+use Rattle.ados_assign.specs.Uses.{with_used_bound}
 use Rattle.ados_find.specs.Shared.{SharedState, version, with_assigns}
-use Rattle.ados_machine.specs.Course.{Course, shared_behind}
+use Rattle.ados_machine.specs.Course.{Course, shared_after_event}
 use Rattle.ados_shell.specs.declared.scenes.Scene.{Scene}
 use Rattle.ados_shell.specs.declared.drafts.Draft.{Draft}
 use Rattle.ados_shell.specs.Drafts.{course_of}
@@ -18,9 +18,9 @@ pub record HasUsed (scene : Scene) (before after : Draft) (course : Course) : Ty
 abbrev pub IsBound : Scene → Draft → Option SharedState → Type 0
 IsBound scene draft new =
     version (course_of scene draft).shared new ≡ with_assigns (course_of scene draft).shared
-    (bound_of (course_of scene draft).used (course_of scene draft).shared.files (course_of scene draft).shared.assigns)
+    (with_used_bound (course_of scene draft).used (course_of scene draft).shared.files (course_of scene draft).shared.assigns)
 
 -- the assigns that it used were bound, and nothing else was done
 pub record HasBound (scene : Scene) (before after : Draft) : Type 0 where
   pub same : after ≡ record before { shared = after.shared }
-  pub shared_is : version scene.shared.now after.shared ≡ shared_behind (course_of scene before)
+  pub shared_is : version scene.shared.now after.shared ≡ shared_after_event (course_of scene before)

@@ -29,8 +29,8 @@ ServesUses builtin uses other =
 
 -- what commands read of a shell with these parts, when this is in use, and the shells that run have these names and run
 -- from these entries
-abbrev pub seen : Parts → InUse → List (Option Text) → List Text → View
-seen parts busy names uses = record { parts = parts; busy = busy; names = names; uses = uses }
+abbrev pub shell_view : Parts → InUse → List (Option Text) → List Text → View
+shell_view parts busy names uses = record { parts = parts; busy = busy; names = names; uses = uses }
 
 -- to a command one view is as good as the other
 abbrev pub Serves : Builtin → View → View → Type 0

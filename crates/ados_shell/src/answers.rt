@@ -3,7 +3,7 @@ ghost use Rattle.std.specs.Prelude.{◌≡◌, IfOk, OnErr, OnOk, is_some, true}
 ghost use Rattle.std.specs.Option.{option_copied};
 ghost use Rattle.ados_machine.specs.Answers.{answered_deed, answered_in, code_of, ended_deed, fault_in, is_piece, piece_deed, started_deed};
 ghost use Rattle.std.specs.Prelude.{None};
-ghost use Rattle.ados_machine.specs.Opening.{opening};
+ghost use Rattle.ados_machine.specs.Opening.{line_output};
 ghost use Rattle.ados_text.specs.declared.codes.TheConstants.Result2.{NONE};
 ghost use Rattle.ados_machine.specs.declared.phases.Wait.TheVariants.{ForEnd as EndOf, ForPiece as PieceOf, ForStart as StartOf};
 
@@ -28,7 +28,7 @@ const PIECE_LIMIT: usize = 4096;
 
 impl Draft {
     ghost use Rattle.ados_shell.specs.Answerings.{GivesReply, IsReplied, TakesReply};
-    ghost use Rattle.ados_shell.specs.Drafts.{Settles, course_of, here};
+    ghost use Rattle.ados_shell.specs.Drafts.{Settles, course_of, next_line_place};
 
     /// A launcher's answer for the scene's shell: if it waits for one of this kind, the draft is filled with what is
     /// to be changed. Nothing else is changed, and what the draft held before is forgotten.
@@ -54,8 +54,8 @@ impl Draft {
     /// An answer for the scene's shell, of which nothing is changed yet.
     fn reply_by(&mut self, scene: &Scene, answer: &Answer) -> Result<Answering, NoMemory>
         ensures deed { IfOk result (λ answering. IsReplied scene.now self.old self.new answering
-            (answered_in (here scene.now self.old).sink (course_of scene.now self.old) scene.now.shell.now.phase answer.now)) }
-        ensures memory { OnErr result (is_some (answered_in (here scene.now self.old).sink (course_of scene.now self.old) scene.now.shell.now.phase answer.now) ≡ true) }
+            (answered_in (next_line_place scene.now self.old).sink (course_of scene.now self.old) scene.now.shell.now.phase answer.now)) }
+        ensures memory { OnErr result (is_some (answered_in (next_line_place scene.now self.old).sink (course_of scene.now self.old) scene.now.shell.now.phase answer.now) ≡ true) }
     {
         let shell = scene.shell;
         match &shell.phase {
@@ -75,8 +75,8 @@ impl Draft {
         answer: &Answer,
     ) -> Result<Answering, NoMemory>
         ensures deed { IfOk result (λ answering. IsReplied scene.now self.old self.new answering
-            (answered_deed (here scene.now self.old).sink (course_of scene.now self.old) wait.now answer.now)) }
-        ensures memory { OnErr result (is_some (answered_deed (here scene.now self.old).sink (course_of scene.now self.old) wait.now answer.now) ≡ true) }
+            (answered_deed (next_line_place scene.now self.old).sink (course_of scene.now self.old) wait.now answer.now)) }
+        ensures memory { OnErr result (is_some (answered_deed (next_line_place scene.now self.old).sink (course_of scene.now self.old) wait.now answer.now) ≡ true) }
     {
         match wait {
             Wait::ForAnswer(_) | Wait::ForLines(_) => Ok(Answering::WrongAnswer),
@@ -94,8 +94,8 @@ impl Draft {
         answer: &Answer,
     ) -> Result<Answering, NoMemory>
         ensures deed { IfOk result (λ answering. IsReplied scene.now self.old self.new answering
-            (answered_deed (here scene.now self.old).sink (course_of scene.now self.old) (StartOf starting.now) answer.now)) }
-        ensures memory { OnErr result (is_some (answered_deed (here scene.now self.old).sink (course_of scene.now self.old) (StartOf starting.now) answer.now) ≡ true) }
+            (answered_deed (next_line_place scene.now self.old).sink (course_of scene.now self.old) (StartOf starting.now) answer.now)) }
+        ensures memory { OnErr result (is_some (answered_deed (next_line_place scene.now self.old).sink (course_of scene.now self.old) (StartOf starting.now) answer.now) ≡ true) }
     {
         let word = &starting.word;
         match answer {
@@ -118,7 +118,7 @@ impl Draft {
     /// if that was broken. That the output is refused is the program's first fault.
     fn begin_to_read(&mut self, scene: &Scene, starting: &Starting) -> Result<(), NoMemory>
         ensures { OnOk result (Settles scene.now self.old self.new
-            (started_deed starting.now (course_of scene.now self.old) (opening (course_of scene.now self.old) starting.now.output))) }
+            (started_deed starting.now (course_of scene.now self.old) (line_output (course_of scene.now self.old) starting.now.output))) }
     {
         match self.open_own(scene, starting.output.as_ref()) {
             Err(FsFault::NoMemory) => Err(NoMemory),
@@ -141,8 +141,8 @@ impl Draft {
         answer: &Answer,
     ) -> Result<Answering, NoMemory>
         ensures deed { IfOk result (λ answering. IsReplied scene.now self.old self.new answering
-            (answered_deed (here scene.now self.old).sink (course_of scene.now self.old) (PieceOf child.now) answer.now)) }
-        ensures memory { OnErr result (is_some (answered_deed (here scene.now self.old).sink (course_of scene.now self.old) (PieceOf child.now) answer.now) ≡ true) }
+            (answered_deed (next_line_place scene.now self.old).sink (course_of scene.now self.old) (PieceOf child.now) answer.now)) }
+        ensures memory { OnErr result (is_some (answered_deed (next_line_place scene.now self.old).sink (course_of scene.now self.old) (PieceOf child.now) answer.now) ≡ true) }
     {
         match answer {
             Answer::Bytes(bytes) if is_piece(bytes) => self.take_piece(scene, child, bytes)?,
@@ -169,7 +169,7 @@ impl Draft {
     /// that was broken; after a fault the piece is dropped.
     fn take_piece(&mut self, scene: &Scene, child: &Child, bytes: &Octets) -> Result<(), NoMemory>
         ensures { OnOk result (Settles scene.now self.old self.new
-            (piece_deed child.now bytes.now (here scene.now self.old).sink (course_of scene.now self.old) child.now.fault)) }
+            (piece_deed child.now bytes.now (next_line_place scene.now self.old).sink (course_of scene.now self.old) child.now.fault)) }
     {
         match child.fault {
             Some(_) => self.wait(scene, child.copy()?.with_break().next()),
@@ -181,7 +181,7 @@ impl Draft {
     /// program's first fault, unless it was broken before; its output stays open.
     fn put_piece(&mut self, scene: &Scene, child: &Child, bytes: &Octets) -> Result<(), NoMemory>
         ensures { OnOk result (Settles scene.now self.old self.new
-            (piece_deed child.now bytes.now (here scene.now self.old).sink (course_of scene.now self.old) None)) }
+            (piece_deed child.now bytes.now (next_line_place scene.now self.old).sink (course_of scene.now self.old) None)) }
     {
         let output = child.output.as_ref();
         let codes = self.put(scene, output, bytes.copy()?, Codes::NONE)?;
@@ -198,8 +198,8 @@ impl Draft {
         answer: &Answer,
     ) -> Result<Answering, NoMemory>
         ensures deed { IfOk result (λ answering. IsReplied scene.now self.old self.new answering
-            (answered_deed (here scene.now self.old).sink (course_of scene.now self.old) (EndOf child.now) answer.now)) }
-        ensures memory { OnErr result (is_some (answered_deed (here scene.now self.old).sink (course_of scene.now self.old) (EndOf child.now) answer.now) ≡ true) }
+            (answered_deed (next_line_place scene.now self.old).sink (course_of scene.now self.old) (EndOf child.now) answer.now)) }
+        ensures memory { OnErr result (is_some (answered_deed (next_line_place scene.now self.old).sink (course_of scene.now self.old) (EndOf child.now) answer.now) ≡ true) }
     {
         match answer {
             Answer::Exit(status) => self.end_program(scene, child, codes_of(*status))?,

@@ -14,13 +14,13 @@ use ados_text::{NoMemory, Result2, Text};
 use std::alloc::Global;
 
 impl Draft {
-    ghost use Rattle.ados_shell.specs.Drafts.{IsUnset, Settles, course_of, here};
+    ghost use Rattle.ados_shell.specs.Drafts.{IsUnset, Settles, course_of, next_line_place};
 
     /// Reads the input of a line whose word leads to a directory, if it has one, and changes to the directory.
     pub fn arrive(&mut self, scene: &Scene, place: Place, line: &Line) -> Result<(), NoMemory>
         requires { IsUnset self.old }
         ensures { OnOk result (Settles scene.now self.old self.new
-            (directory_deed place line.now (here scene.now self.old) (course_of scene.now self.old))) }
+            (directory_deed place line.now (next_line_place scene.now self.old) (course_of scene.now self.old))) }
     {
         match self.read_own(scene, line.input.as_ref()) {
             Err(FsFault::NoMemory) => Err(NoMemory),
@@ -33,7 +33,7 @@ impl Draft {
     fn change_to(&mut self, scene: &Scene, place: Place, line: &Line) -> Result<(), NoMemory>
         requires { IsUnset self.old }
         ensures { OnOk result (Settles scene.now self.old self.new
-            (arriving_deed place line.now (here scene.now self.old) (course_of scene.now self.old))) }
+            (arriving_deed place line.now (next_line_place scene.now self.old) (course_of scene.now self.old))) }
     {
         match self.open_own(scene, line.output.as_ref()) {
             Err(FsFault::NoMemory) => Err(NoMemory),
@@ -52,7 +52,7 @@ impl Draft {
     ) -> Result<(), NoMemory>
         requires { IsUnset self.old }
         ensures { OnOk result (Settles scene.now self.old self.new
-            (arrived_deed place line.now target (here scene.now self.old) (course_of scene.now self.old))) }
+            (arrived_deed place line.now target (next_line_place scene.now self.old) (course_of scene.now self.old))) }
     {
         let outcome = arrival(scene.alloc, place, &line.args)?;
         self.apply(scene, &line.command, target.as_ref(), outcome)

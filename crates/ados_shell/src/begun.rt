@@ -19,7 +19,7 @@ pub struct Begun {
 }
 
 impl Model for Begun {
-    ghost use Rattle.ados_machine.specs.Shells.{Begun as NewShell};
+    ghost use Rattle.ados_machine.specs.Shells.{ShellStart as NewShell};
 
     ghost Value = { NewShell };
 

@@ -3,8 +3,8 @@ ghost use Rattle.std.specs.Prelude.{◌≡◌, true, IfOk, OnErr, OnOk};
 ghost use Rattle.ados_flow.specs.Frames.{maker};
 ghost use Rattle.ados_machine.specs.Breaks.{broken_shell, flags_own, has_script};
 ghost use Rattle.ados_machine.specs.Settle.{said_of};
-ghost use Rattle.ados_machine.specs.Settled.{broken_off};
-ghost use Rattle.ados_machine.specs.Turning.{broken_turned};
+ghost use Rattle.ados_machine.specs.Settled.{end_at_break};
+ghost use Rattle.ados_machine.specs.Turning.{turn_at_break};
 ghost use Rattle.ados_shell.specs.Reports.{broken_report};
 
 use crate::drafts::Draft;
@@ -59,7 +59,7 @@ impl Draft {
 
     /// The scripts of the shell end at a break.
     fn break_off(&mut self, scene: &Scene) -> Result<(), NoMemory>
-        ensures { OnOk result (IsDrafted scene.now self.new (broken_turned scene.now.shell.now.frames (turn_start scene.now))) }
+        ensures { OnOk result (IsDrafted scene.now self.new (turn_at_break scene.now.shell.now.frames (turn_start scene.now))) }
     {
         self.begin_turn(scene.shell);
         self.printed.extend_from_slice(b"***Break\n")?;
@@ -71,7 +71,7 @@ impl Draft {
     /// that script is finished, with 10 and 304, and the code rule follows.
     fn break_frames(&mut self, scene: &Scene) -> Result<(), NoMemory>
         ensures { OnOk result (IsRuled scene.now self.old self.new
-            (broken_off (frames_of scene.now self.old) (said_of (course_of scene.now self.old)))) }
+            (end_at_break (frames_of scene.now self.old) (said_of (course_of scene.now self.old)))) }
     {
         self.shell.phase = None;
         let Some(frame) = self.shell.frames.pop(scene.shell)? else {

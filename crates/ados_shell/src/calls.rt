@@ -14,16 +14,16 @@ use ados_text::{NoMemory, Texts};
 impl Draft {
     ghost use Rattle.std.specs.Prelude.{IfOk};
     ghost use Rattle.std.specs.Option.{option_copied};
-    ghost use Rattle.ados_flow.specs.Actions.{acting};
+    ghost use Rattle.ados_flow.specs.Actions.{action_effect};
     ghost use Rattle.ados_flow.specs.Execute.{script_row};
-    ghost use Rattle.ados_machine.specs.Lines.{nameless};
-    ghost use Rattle.ados_shell.specs.Drafts.{IsUnset, Settles, course_of, here};
+    ghost use Rattle.ados_machine.specs.Lines.{nameless_view};
+    ghost use Rattle.ados_shell.specs.Drafts.{IsUnset, Settles, course_of, next_line_place};
 
     /// Reads the input of a line whose word is a script, if it has one, and calls the script.
     pub fn run_script(&mut self, scene: &Scene, place: Place, line: &Line) -> Result<(), NoMemory>
         requires { IsUnset self.old }
         ensures { OnOk result (Settles scene.now self.old self.new
-            (script_deed place line.now (here scene.now self.old) (course_of scene.now self.old))) }
+            (script_deed place line.now (next_line_place scene.now self.old) (course_of scene.now self.old))) }
     {
         match self.read_own(scene, line.input.as_ref()) {
             Err(FsFault::NoMemory) => Err(NoMemory),
@@ -36,7 +36,7 @@ impl Draft {
     fn call_into(&mut self, scene: &Scene, place: &Place, line: &Line) -> Result<(), NoMemory>
         requires { IsUnset self.old }
         ensures { OnOk result (Settles scene.now self.old self.new
-            (calling_deed place.now line.now (here scene.now self.old) (course_of scene.now self.old))) }
+            (calling_deed place.now line.now (next_line_place scene.now self.old) (course_of scene.now self.old))) }
     {
         match self.open_own(scene, line.output.as_ref()) {
             Err(FsFault::NoMemory) => Err(NoMemory),
@@ -55,7 +55,7 @@ impl Draft {
     ) -> Result<(), NoMemory>
         requires { IsUnset self.old }
         ensures { OnOk result (Settles scene.now self.old self.new
-            (called_deed place.now line.now target (here scene.now self.old) (course_of scene.now self.old))) }
+            (called_deed place.now line.now target (next_line_place scene.now self.old) (course_of scene.now self.old))) }
     {
         let action = self.script(scene, place, line, target.as_ref())?;
         self.act(scene, &line.command, target, None, action)
@@ -70,8 +70,8 @@ impl Draft {
         target: Option<&Target>,
     ) -> Result<Action, NoMemory>
         requires { IsUnset self.now }
-        ensures { IfOk result (λ action. acting (course_of scene.now self.now).shared action
-            ≡ script_row (course_of scene.now self.now).shared (nameless (option_copied target.entry) (course_of scene.now self.now)) place.now line.now.args) }
+        ensures { IfOk result (λ action. action_effect (course_of scene.now self.now).shared action
+            ≡ script_row (course_of scene.now self.now).shared (nameless_view (option_copied target.entry) (course_of scene.now self.now)) place.now line.now.args) }
     {
         let others = Others {
             busy: self.in_use(scene, target)?,

@@ -25,11 +25,11 @@ impl Shell {
 }
 
 impl ShellDraft {
-    ghost use Rattle.ados_shell.specs.Drafts.{behind};
+    ghost use Rattle.ados_shell.specs.Drafts.{drafted_shell};
 
     /// The current directory of the shell after its turn, moved along with what was moved.
     pub fn carried_directory(&self, shell: &Shell, moved: &Renamed) -> Result<Place, NoMemory>
-        ensures { IfOk result (λ place. place ≡ carried_directory moved.now (behind self.now shell.now)) }
+        ensures { IfOk result (λ place. place ≡ carried_directory moved.now (drafted_shell self.now shell.now)) }
     {
         self.directory(shell).carried(&moved.from, &moved.to)
     }

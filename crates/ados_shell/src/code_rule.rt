@@ -2,9 +2,9 @@
 ghost use Rattle.std.specs.Prelude.{◌≡◌, ◌+◌, ◌∷◌, List, suc, IfOk, OnOk};
 ghost use Rattle.ados_flow.specs.Frames.{FrameState};
 ghost use Rattle.ados_shell.specs.Stacks.{HasTaken};
-ghost use Rattle.ados_machine.specs.Settled.{finish, passed};
-ghost use Rattle.ados_machine.specs.Deeds.{Answers, Calls, Jumps, Passes, refused};
-ghost use Rattle.ados_machine.specs.Settle.{begun, said_of};
+ghost use Rattle.ados_machine.specs.Settled.{finish, pass_line};
+ghost use Rattle.ados_machine.specs.Deeds.{Answers, Calls, Jumps, Passes, refusal_deed};
+ghost use Rattle.ados_machine.specs.Settle.{enter_script, said_of};
 ghost use Rattle.ados_shell.specs.Reports.{report_of};
 
 use crate::console::{push_failed, push_fault};
@@ -55,7 +55,7 @@ impl Draft {
 
     /// A command is refused with 20.
     pub fn refuse(&mut self, scene: &Scene, word: &Text, fault: Result2) -> Result<(), NoMemory>
-        ensures { OnOk result (Settles scene.now self.old self.new (refused word.now fault (course_of scene.now self.old))) }
+        ensures { OnOk result (Settles scene.now self.old self.new (refusal_deed word.now fault (course_of scene.now self.old))) }
     {
         self.answer(scene, word.as_bytes(), Codes::failed(fault), false)
     }
@@ -116,7 +116,7 @@ impl Draft {
         called: Called,
     ) -> Result<(), NoMemory>
         ensures { OnOk result (IsRuled scene.now self.old self.new
-            (begun word.now output called (frames_of scene.now self.old) (said_of (course_of scene.now self.old)))) }
+            (enter_script word.now output called (frames_of scene.now self.old) (said_of (course_of scene.now self.old)))) }
     {
         let kind = Kind::Script {
             name: called.name,

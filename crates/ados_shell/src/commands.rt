@@ -1,12 +1,12 @@
 // The commands and their templates.
 ghost use Rattle.std.specs.Prelude.{◌≡◌, ◌++◌, map, IfOk, OnOk};
 ghost use Rattle.std.specs.List.{flat_map};
-ghost use Rattle.ados_assign.specs.Uses.{reached};
+ghost use Rattle.ados_assign.specs.Uses.{reached_devices};
 ghost use Rattle.ados_machine.specs.Uses.{argument_devices, devices_of};
 ghost use Rattle.ados_find.specs.Shared.{SharedState};
 ghost use Rattle.ados_machine.specs.Commands.{action_of, row_of, template_of};
 ghost use Rattle.std.specs.Option.{option_copied};
-ghost use Rattle.ados_flow.specs.Actions.{acting};
+ghost use Rattle.ados_flow.specs.Actions.{action_effect};
 ghost use Rattle.ados_flow.specs.Frames.{script_line_of};
 
 use ados_find::{Codes, Shared, ShellView};
@@ -65,8 +65,8 @@ impl Commands {
         args: &mut Args,
         used: &mut Vec<Name>,
     ) -> Result<Action, NoMemory>
-        ensures action { IfOk result (λ action. acting shared.now action ≡ action_of builtin shared.now (script_line_of (option_copied frame.entry)) view.now text.now) }
-        ensures used { OnOk result (used.new.items ≡ used.old.items ++ flat_map (reached shared.now.assigns) (devices_of builtin shared.now view.now.parts text.now)) }
+        ensures action { IfOk result (λ action. action_effect shared.now action ≡ action_of builtin shared.now (script_line_of (option_copied frame.entry)) view.now text.now) }
+        ensures used { OnOk result (used.new.items ≡ used.old.items ++ flat_map (reached_devices shared.now.assigns) (devices_of builtin shared.now view.now.parts text.now)) }
     {
         match self.template(builtin).fill_into(text.as_bytes(), args) {
             Ok(()) => {
@@ -102,7 +102,7 @@ fn row(
     view: &ShellView,
     args: &Args,
 ) -> Result<Action, NoMemory>
-    ensures { IfOk result (λ action. acting shared.now action ≡ row_of builtin shared.now (script_line_of (option_copied frame.entry)) view.now args.now) }
+    ensures { IfOk result (λ action. action_effect shared.now action ≡ row_of builtin shared.now (script_line_of (option_copied frame.entry)) view.now args.now) }
 {
     match builtin {
         Builtin::Env(command) => Ok(Action::Does(ados_env::run(
@@ -124,7 +124,7 @@ fn push_devices(
     args: &Args,
     used: &mut Vec<Name>,
 ) -> Result<(), NoMemory>
-    ensures { OnOk result (used.new.items ≡ used.old.items ++ flat_map (reached shared.now.assigns) (argument_devices builtin shared.now view.now.parts args.now)) }
+    ensures { OnOk result (used.new.items ≡ used.old.items ++ flat_map (reached_devices shared.now.assigns) (argument_devices builtin shared.now view.now.parts args.now)) }
 {
     match builtin {
         Builtin::Env(command) => ados_env::push_devices(alloc, command, shared, view, args, used),

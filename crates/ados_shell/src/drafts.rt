@@ -1,7 +1,7 @@
 // What a turn has changed so far, ready to be moved in.
 ghost use Rattle.std.specs.Prelude.{◌≡◌, [], None, false, OnOk, option_map};
 ghost use Rattle.ados_find.specs.Shared.{version};
-ghost use Rattle.ados_machine.specs.Step.{giving};
+ghost use Rattle.ados_machine.specs.Step.{out_with};
 
 use crate::begun::Begun;
 use crate::breaks::flags_own;
@@ -99,12 +99,12 @@ impl Drop for ShellDraft {
 }
 
 impl Draft {
-    ghost use Rattle.ados_shell.specs.Drafts.{HoldsEffect, IsFresh, IsUnset, out_of, parts_of, phase_in};
+    ghost use Rattle.ados_shell.specs.Drafts.{HoldsEffect, IsFresh, IsUnset, out_of, parts_of, drafted_phase};
     ghost use Rattle.ados_machine.specs.Requests.{request_of};
 
     /// A draft in which nothing is changed yet.
     pub fn new(alloc: Global) -> Draft
-        ensures { out_of result ≡ giving [] None [] }
+        ensures { out_of result ≡ out_with [] None [] }
     {
         Draft {
             shell: ShellDraft {
@@ -154,7 +154,7 @@ impl Draft {
 
     /// Nothing is printed, nothing is asked for, and no script ended.
     pub fn give_nothing(&mut self)
-        ensures { out_of self.new ≡ giving [] None [] }
+        ensures { out_of self.new ≡ out_with [] None [] }
     {
         self.printed.clear();
         self.request = None;
@@ -163,7 +163,7 @@ impl Draft {
 
     /// The launcher is asked for what the shell waits for after its event.
     pub fn ask_for(&mut self, shell: &Shell) -> Result<(), NoMemory>
-        ensures { OnOk result (self.new ≡ record self.old { request = request_of shell.now.parts.number (phase_in self.old.shell) }) }
+        ensures { OnOk result (self.new ≡ record self.old { request = request_of shell.now.parts.number (drafted_phase self.old.shell) }) }
     {
         self.request = self.shell.request(shell.number())?;
         Ok(())

@@ -4,7 +4,7 @@ ghost use Rattle.ados_items.specs.Items.{words_of};
 ghost use Rattle.std.specs.Option.{option_copied};
 ghost use Rattle.ados_machine.specs.Hosted.{host_deed, start_deed, tested_deed};
 ghost use Rattle.ados_machine.specs.Lines.{program_deed};
-ghost use Rattle.ados_machine.specs.Opening.{opening};
+ghost use Rattle.ados_machine.specs.Opening.{line_output};
 
 use crate::drafts::Draft;
 use crate::scenes::Scene;
@@ -16,7 +16,7 @@ use ados_resident::Program;
 use ados_text::{NoMemory, Result2, Text, Texts};
 
 impl Draft {
-    ghost use Rattle.ados_shell.specs.Drafts.{IsUnset, Settles, course_of, here};
+    ghost use Rattle.ados_shell.specs.Drafts.{IsUnset, Settles, course_of, next_line_place};
 
     /// Runs a line whose command is a program, which runs from an entry of the resident list, or from a file.
     pub fn run_program(
@@ -28,7 +28,7 @@ impl Draft {
     ) -> Result<(), NoMemory>
         requires { IsUnset self.old }
         ensures { OnOk result (Settles scene.now self.old self.new
-            (program_deed entry program line.now (here scene.now self.old) (course_of scene.now self.old))) }
+            (program_deed entry program line.now (next_line_place scene.now self.old) (course_of scene.now self.old))) }
     {
         match program {
             Program::Disk(command) => self.prepare(scene, Builtin::from(command), line),
@@ -61,7 +61,7 @@ impl Draft {
         line: &Line,
     ) -> Result<(), NoMemory>
         ensures { OnOk result (Settles scene.now self.old self.new
-            (tested_deed entry program line.now (course_of scene.now self.old) (opening (course_of scene.now self.old) line.now.output))) }
+            (tested_deed entry program line.now (course_of scene.now self.old) (line_output (course_of scene.now self.old) line.now.output))) }
     {
         match self.open(scene, line.output.as_ref()) {
             Err(FsFault::NoMemory) => Err(NoMemory),

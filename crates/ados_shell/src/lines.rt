@@ -1,9 +1,9 @@
 // Taking a raw line.
 ghost use Rattle.std.specs.Prelude.{◌≡◌, IfOk, OnOk};
-ghost use Rattle.ados_find.specs.Routes.{devices_by};
-ghost use Rattle.ados_machine.specs.Course.{using};
+ghost use Rattle.ados_find.specs.Routes.{route_devices};
+ghost use Rattle.ados_machine.specs.Course.{with_devices_used};
 ghost use Rattle.ados_machine.specs.Deeds.{line_fault};
-ghost use Rattle.ados_machine.specs.Lines.{expanded_deed, found_deed, found_in, line_deed, searching};
+ghost use Rattle.ados_machine.specs.Lines.{expanded_deed, found_deed, found_in, line_deed, with_search_used};
 
 use crate::drafts::Draft;
 use crate::scenes::Scene;
@@ -13,22 +13,22 @@ use ados_machine::Builtin;
 use ados_text::{NoMemory, Result2, Text};
 
 impl Draft {
-    ghost use Rattle.ados_shell.specs.Drafts.{IsUnset, Settles, course_of, here};
+    ghost use Rattle.ados_shell.specs.Drafts.{IsUnset, Settles, course_of, next_line_place};
     ghost use Rattle.ados_line.specs.Answers.{Gives};
     ghost use Rattle.ados_line.specs.declared.faults.LineFault.{LineFault};
     ghost use Rattle.ados_line.specs.declared.lines.Expanded.{Expanded};
     ghost use Rattle.std.specs.Prelude.{Result};
-    ghost use Rattle.ados_line.specs.Expansion.{expanded_in};
+    ghost use Rattle.ados_line.specs.Expansion.{expand_raw_line};
     ghost use Rattle.ados_line.specs.Values.{variables_in as variables_by};
     ghost use Rattle.ados_machine.specs.Lines.{variables_in};
     ghost use Rattle.ados_find.specs.Parts.{locals_of};
-    ghost use Rattle.ados_vars.specs.Locals.{shown};
+    ghost use Rattle.ados_vars.specs.Locals.{shown_pairs};
 
     /// Takes a raw line.
     pub fn obey(&mut self, scene: &Scene, raw: &Text) -> Result<(), NoMemory>
         requires { IsUnset self.old }
         ensures { OnOk result (Settles scene.now self.old self.new
-            (line_deed raw.now (here scene.now self.old) (course_of scene.now self.old))) }
+            (line_deed raw.now (next_line_place scene.now self.old) (course_of scene.now self.old))) }
     {
         let expanded = self.expanded(scene, raw);
         self.use_variables(scene, raw)?;
@@ -43,7 +43,7 @@ impl Draft {
     ) -> Result<(), NoMemory>
         requires { IsUnset self.old }
         ensures { OnOk result ((found : Result Expanded LineFault) → Gives expanded found →
-            Settles scene.now self.old self.new (expanded_deed found (here scene.now self.old) (course_of scene.now self.old))) }
+            Settles scene.now self.old self.new (expanded_deed found (next_line_place scene.now self.old) (course_of scene.now self.old))) }
     {
         match expanded {
             Err(LineFault::NoMemory) => Err(NoMemory),
@@ -65,7 +65,7 @@ impl Draft {
     /// The expansion of a raw line, with the shell and the shared parts as they are now.
     fn expanded(&self, scene: &Scene, raw: &Text) -> Result<Expanded, LineFault>
         requires { IsUnset self.now }
-        ensures { Gives result (expanded_in (course_of scene.now self.now).parts.settings.aliases (variables_in (course_of scene.now self.now)) raw.now) }
+        ensures { Gives result (expand_raw_line (course_of scene.now self.now).parts.settings.aliases (variables_in (course_of scene.now self.now)) raw.now) }
     {
         let scope = self.scope(scene);
         expand(&scope, raw)
@@ -76,7 +76,7 @@ impl Draft {
         requires { IsUnset self.now }
         ensures aliases { result.aliases.now ≡ (course_of scene.now self.now).parts.settings.aliases }
         ensures variables { variables_by result ≡ variables_in (course_of scene.now self.now) }
-        ensures locals { shown result.locals.now result.code result.result2 ≡ locals_of (course_of scene.now self.now).parts }
+        ensures locals { shown_pairs result.locals.now result.code result.result2 ≡ locals_of (course_of scene.now self.now).parts }
     {
         let shared = self.current(scene);
         let settings = scene.shell.settings();
@@ -96,7 +96,7 @@ impl Draft {
     fn seek(&mut self, scene: &Scene, line: &Line) -> Result<(), NoMemory>
         requires { IsUnset self.old }
         ensures { OnOk result (Settles scene.now self.old self.new
-            (found_deed (found_in (course_of scene.now self.old) line.now.command) line.now (here scene.now self.old) (searching line.now.command (course_of scene.now self.old)))) }
+            (found_deed (found_in (course_of scene.now self.old) line.now.command) line.now (next_line_place scene.now self.old) (with_search_used line.now.command (course_of scene.now self.old)))) }
     {
         let Search { found, route } = self.find(scene, &line.command)?;
         self.use_route(scene, route, &line.command)?;
@@ -107,7 +107,7 @@ impl Draft {
     fn work_found(&mut self, scene: &Scene, found: Found, line: &Line) -> Result<(), NoMemory>
         requires { IsUnset self.old }
         ensures { OnOk result (Settles scene.now self.old self.new
-            (found_deed found line.now (here scene.now self.old) (course_of scene.now self.old))) }
+            (found_deed found line.now (next_line_place scene.now self.old) (course_of scene.now self.old))) }
     {
         let word = line.command.as_bytes();
         match found {
@@ -133,7 +133,7 @@ impl Draft {
     fn find(&self, scene: &Scene, word: &Text) -> Result<Search, NoMemory>
         requires { IsUnset self.now }
         ensures found { IfOk result (λ s. s.found ≡ found_in (course_of scene.now self.now) word.now) }
-        ensures used { IfOk result (λ s. using (devices_by s.route word.now) (course_of scene.now self.now) ≡ searching word.now (course_of scene.now self.now)) }
+        ensures used { IfOk result (λ s. with_devices_used (route_devices s.route word.now) (course_of scene.now self.now) ≡ with_search_used word.now (course_of scene.now self.now)) }
     {
         let path = scene.shell.settings().path.entries();
         find(

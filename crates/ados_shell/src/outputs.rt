@@ -1,7 +1,7 @@
 // The output of a command: its opening, and what is put there.
 ghost use Rattle.std.specs.Prelude.{◌≡◌, Ok, Some, IfOk, OnOk};
 ghost use Rattle.std.specs.Option.{option_copied};
-ghost use Rattle.ados_machine.specs.Opening.{opened_at, opening, opening_by};
+ghost use Rattle.ados_machine.specs.Opening.{output_at_target, line_output, output_of_redirection};
 ghost use Rattle.ados_machine.specs.Course.{put};
 ghost use Rattle.ados_machine.specs.Sinks.{To, sink_or};
 ghost use Rattle.ados_find.specs.declared.targets.Target.TheVariants.{At};
@@ -45,7 +45,7 @@ impl Opened {
         directory: &Place,
         output: &Redirection,
     ) -> Result<Opened, FsFault>
-        ensures { IsOpened shared.now result (opening_by shared.now busy.now.outputs directory.now (Some output.now)) }
+        ensures { IsOpened shared.now result (output_of_redirection shared.now busy.now.outputs directory.now (Some output.now)) }
     {
         match target_of(alloc, shared, directory, &output.name) {
             Err(fault) => Err(fault),
@@ -55,7 +55,7 @@ impl Opened {
     }
 
     fn at(shared: &Shared, busy: &Busy, append: bool, place: Place) -> Result<Opened, FsFault>
-        ensures { IsOpened shared.now result (opened_at shared.now busy.now.outputs append (Ok (At place))) }
+        ensures { IsOpened shared.now result (output_at_target shared.now busy.now.outputs append (Ok (At place))) }
     {
         match shared.open(busy, append, &place) {
             Err(fault) => Err(fault),
@@ -66,11 +66,11 @@ impl Opened {
 
 impl Draft {
     ghost use Rattle.ados_shell.specs.Outputs.{HasHeld, HasOpened, HoldsFiles, IsOpened, IsPut};
-    ghost use Rattle.ados_shell.specs.Drafts.{course_of, here};
+    ghost use Rattle.ados_shell.specs.Drafts.{course_of, next_line_place};
 
     /// Opens what a redirection names, with the shell and the shared parts as they are now.
     pub fn open(&self, scene: &Scene, output: Option<&Redirection>) -> Result<Opened, FsFault>
-        ensures { IsOpened (course_of scene.now self.now).shared result (opening (course_of scene.now self.now) (option_copied output.entry)) }
+        ensures { IsOpened (course_of scene.now self.now).shared result (line_output (course_of scene.now self.now) (option_copied output.entry)) }
     {
         match output {
             None => Ok(Opened::Nothing),
@@ -97,7 +97,7 @@ impl Draft {
         scene: &Scene,
         output: Option<&Redirection>,
     ) -> Result<Option<Target>, FsFault>
-        ensures { HasOpened scene.now self.old self.new (option_copied output.entry) result (opening (course_of scene.now self.old) (option_copied output.entry)) }
+        ensures { HasOpened scene.now self.old self.new (option_copied output.entry) result (line_output (course_of scene.now self.old) (option_copied output.entry)) }
     {
         let target = self.hold_opened(scene, output)?;
         if let Some(output) = output {
@@ -112,7 +112,7 @@ impl Draft {
         scene: &Scene,
         output: Option<&Redirection>,
     ) -> Result<Option<Target>, FsFault>
-        ensures { HasHeld scene.now self.old self.new result (opening (course_of scene.now self.old) (option_copied output.entry)) }
+        ensures { HasHeld scene.now self.old self.new result (line_output (course_of scene.now self.old) (option_copied output.entry)) }
     {
         match self.open(scene, output)? {
             Opened::Nothing => Ok(None),
@@ -134,7 +134,7 @@ impl Draft {
         codes: Codes,
     ) -> Result<Codes, NoMemory>
         ensures { IfOk result (λ answered. IsPut scene.now self.old self.new answered
-            (put (sink_or (option_copied target.entry) (here scene.now self.old).sink) output codes (course_of scene.now self.old))) }
+            (put (sink_or (option_copied target.entry) (next_line_place scene.now self.old).sink) output codes (course_of scene.now self.old))) }
     {
         match target {
             Some(target) => self.put_to(scene, target, output, codes),

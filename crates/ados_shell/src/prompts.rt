@@ -17,14 +17,14 @@ use ados_text::{NoMemory, Text, Texts};
 use std::alloc::Global;
 
 impl Draft {
-    ghost use Rattle.ados_shell.specs.Drafts.{IsUnset, Settles, course_of, here};
+    ghost use Rattle.ados_shell.specs.Drafts.{IsUnset, Settles, course_of, next_line_place};
     ghost use Rattle.ados_shell.specs.Inputs.{HasRead};
 
     /// Reads the input of a command, if it has one, and asks for its arguments if they are `?`.
     pub fn prepare(&mut self, scene: &Scene, builtin: Builtin, line: &Line) -> Result<(), NoMemory>
         requires { IsUnset self.old }
         ensures { OnOk result (Settles scene.now self.old self.new
-            (builtin_deed builtin line.now (here scene.now self.old) (course_of scene.now self.old))) }
+            (builtin_deed builtin line.now (next_line_place scene.now self.old) (course_of scene.now self.old))) }
     {
         match self.read_own(scene, line.input.as_ref()) {
             Err(FsFault::NoMemory) => Err(NoMemory),
@@ -69,7 +69,7 @@ impl Draft {
     ) -> Result<(), NoMemory>
         requires { IsUnset self.old }
         ensures { OnOk result (Settles scene.now self.old self.new
-            (asked_deed builtin line.now (here scene.now self.old) (option_map (λ l. l.now) input.entry) (course_of scene.now self.old))) }
+            (asked_deed builtin line.now (next_line_place scene.now self.old) (option_map (λ l. l.now) input.entry) (course_of scene.now self.old))) }
     {
         if asks(&line.args) {
             self.ask(scene, builtin, line, input)
@@ -88,7 +88,7 @@ impl Draft {
     ) -> Result<(), NoMemory>
         requires { IsUnset self.old }
         ensures { OnOk result (Settles scene.now self.old self.new
-            (prompt_deed builtin line.now (here scene.now self.old) (course_of scene.now self.old) (option_map (λ l. l.now) input.entry))) }
+            (prompt_deed builtin line.now (next_line_place scene.now self.old) (course_of scene.now self.old) (option_map (λ l. l.now) input.entry))) }
     {
         push_prompt(&mut self.printed, builtin)?;
         match input {
@@ -121,7 +121,7 @@ impl Draft {
     ) -> Result<(), NoMemory>
         requires { IsUnset self.old }
         ensures { OnOk result (Settles scene.now self.old self.new
-            (command_deed builtin (with_args line.now (first_of lines.now)) (Some (drop 1 lines.now)) (here scene.now self.old) (course_of scene.now self.old))) }
+            (command_deed builtin (with_args line.now (first_of lines.now)) (Some (drop 1 lines.now)) (next_line_place scene.now self.old) (course_of scene.now self.old))) }
     {
         let line = line.with_args(first_of(scene.alloc, lines)?)?;
         self.begin(scene, builtin, &line, Some(behind_first(lines)))
@@ -131,7 +131,7 @@ impl Draft {
     pub fn resume(&mut self, scene: &Scene, asking: &Asking, answer: &Text) -> Result<(), NoMemory>
         requires { IsUnset self.old }
         ensures { OnOk result (Settles scene.now self.old self.new
-            (answer_deed answer.now asking.now (here scene.now self.old) (course_of scene.now self.old))) }
+            (answer_deed answer.now asking.now (next_line_place scene.now self.old) (course_of scene.now self.old))) }
     {
         match asking {
             Asking::Arguments { builtin, line } => {

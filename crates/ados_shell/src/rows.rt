@@ -2,7 +2,7 @@
 ghost use Rattle.std.specs.Prelude.{◌≡◌, None, IfOk, OnOk};
 ghost use Rattle.std.specs.Option.{option_copied, option_map};
 ghost use Rattle.ados_find.specs.Effects.{effect_of};
-ghost use Rattle.ados_flow.specs.Actions.{Does, acting};
+ghost use Rattle.ados_flow.specs.Actions.{Does, action_effect};
 ghost use Rattle.ados_machine.specs.Lines.{action_deed, action_in, busy_in, command_deed, names_in, view_of, with_arguments, work_deed};
 
 use crate::drafts::{Draft, ShellDraft};
@@ -17,8 +17,8 @@ use ados_readargs::Args;
 use ados_text::{Name, NoMemory, Text, Texts};
 
 impl Draft {
-    ghost use Rattle.ados_shell.specs.Drafts.{IsUnset, Settles, course_of, here, parts_of};
-    ghost use Rattle.ados_shell.specs.Views.{Serves, ServesInUse, ServesNames, ServesUses, seen};
+    ghost use Rattle.ados_shell.specs.Drafts.{IsUnset, Settles, course_of, next_line_place, parts_of};
+    ghost use Rattle.ados_shell.specs.Views.{Serves, ServesInUse, ServesNames, ServesUses, shell_view};
     ghost use Rattle.ados_machine.specs.Course.{uses_of};
     ghost use Rattle.ados_shell.specs.Uses.{HasUsed};
 
@@ -32,7 +32,7 @@ impl Draft {
     ) -> Result<(), NoMemory>
         requires { IsUnset self.old }
         ensures { OnOk result (Settles scene.now self.old self.new
-            (command_deed builtin line.now (option_map (λ l. l.now) input.entry) (here scene.now self.old) (course_of scene.now self.old))) }
+            (command_deed builtin line.now (option_map (λ l. l.now) input.entry) (next_line_place scene.now self.old) (course_of scene.now self.old))) }
     {
         match self.open_own(scene, line.output.as_ref()) {
             Err(FsFault::NoMemory) => Err(NoMemory),
@@ -52,7 +52,7 @@ impl Draft {
     ) -> Result<(), NoMemory>
         requires { IsUnset self.old }
         ensures { OnOk result (Settles scene.now self.old self.new
-            (work_deed builtin line.now target (option_map (λ l. l.now) input.entry) (here scene.now self.old) (course_of scene.now self.old))) }
+            (work_deed builtin line.now target (option_map (λ l. l.now) input.entry) (next_line_place scene.now self.old) (course_of scene.now self.old))) }
     {
         let action = self.action(scene, builtin, line, target.as_ref())?;
         self.act(scene, &line.command, target, input, action)
@@ -69,8 +69,8 @@ impl Draft {
     ) -> Result<(), NoMemory>
         requires { IsUnset self.old }
         ensures { OnOk result (Settles scene.now self.old self.new
-            (action_deed word.now target (option_map (λ l. l.now) input.entry) (acting (course_of scene.now self.old).shared action)
-            (here scene.now self.old) (course_of scene.now self.old))) }
+            (action_deed word.now target (option_map (λ l. l.now) input.entry) (action_effect (course_of scene.now self.old).shared action)
+            (next_line_place scene.now self.old) (course_of scene.now self.old))) }
     {
         match action {
             Action::Does(outcome) => self.apply(scene, word, target.as_ref(), outcome),
@@ -99,8 +99,8 @@ impl Draft {
         target: Option<&Target>,
     ) -> Result<Action, NoMemory>
         requires { IsUnset self.old }
-        ensures action { IfOk result (λ action. acting (course_of scene.now self.old).shared action
-            ≡ action_in builtin line.now (option_copied target.entry) (here scene.now self.old) (course_of scene.now self.old)) }
+        ensures action { IfOk result (λ action. action_effect (course_of scene.now self.old).shared action
+            ≡ action_in builtin line.now (option_copied target.entry) (next_line_place scene.now self.old) (course_of scene.now self.old)) }
         ensures used { OnOk result (HasUsed scene.now self.old self.new (with_arguments builtin line.now (course_of scene.now self.old))) }
     {
         let others = self.others_for(scene, builtin, &line.command, target)?;
@@ -122,7 +122,7 @@ impl Draft {
         word: &Text,
         target: Option<&Target>,
     ) -> Result<Others, NoMemory>
-        ensures { IfOk result (λ others. Serves builtin (seen (parts_of scene.now self.now) others.busy others.names others.uses)
+        ensures { IfOk result (λ others. Serves builtin (shell_view (parts_of scene.now self.now) others.busy others.names others.uses)
             (view_of word.now (option_copied target.entry) (course_of scene.now self.now))) }
     {
         let busy = self.busy_for(scene, builtin, target)?;
@@ -197,7 +197,7 @@ impl Draft {
         requires { IsUnset self.old }
         ensures { OnOk result (Settles scene.now self.old self.new
             (action_deed word.now (option_copied target.entry) None (Does (effect_of (course_of scene.now self.old).shared outcome))
-            (here scene.now self.old) (course_of scene.now self.old))) }
+            (next_line_place scene.now self.old) (course_of scene.now self.old))) }
     {
         let Outcome {
             shared,
@@ -216,14 +216,14 @@ impl Draft {
 impl ShellDraft {
     ghost use Rattle.std.specs.Prelude.{◌++◌};
     ghost use Rattle.std.specs.List.{flat_map};
-    ghost use Rattle.ados_assign.specs.Uses.{reached};
+    ghost use Rattle.ados_assign.specs.Uses.{reached_devices};
     ghost use Rattle.ados_machine.specs.Uses.{devices_of};
     ghost use Rattle.ados_flow.specs.Frames.{script_line_of};
     ghost use Rattle.ados_machine.specs.Commands.{action_of};
     ghost use Rattle.ados_machine.specs.Settle.{newest};
-    ghost use Rattle.ados_shell.specs.Drafts.{behind};
-    ghost use Rattle.ados_shell.specs.Stacks.{frames_in};
-    ghost use Rattle.ados_shell.specs.Views.{seen};
+    ghost use Rattle.ados_shell.specs.Drafts.{drafted_shell};
+    ghost use Rattle.ados_shell.specs.Stacks.{drafted_frames};
+    ghost use Rattle.ados_shell.specs.Views.{shell_view};
 
     /// What is done by a command of the newest frame that sees this of the shells that run; its arguments are filled into those
     /// that are lent, and the devices that they use are pushed.
@@ -238,9 +238,9 @@ impl ShellDraft {
         used: &mut Vec<Name>,
     ) -> Result<Action, NoMemory>
         requires { self.now.setting ≡ None }
-        ensures used { OnOk result (used.new.items ≡ used.old.items ++ flat_map (reached shared.now.assigns) (devices_of builtin shared.now (behind self.now scene.now.shell.now).parts line.now.args)) }
-        ensures action { IfOk result (λ action. acting shared.now action ≡ action_of builtin shared.now
-            (script_line_of (newest (frames_in scene.now.shell.now self.now.frames))) (seen (behind self.now scene.now.shell.now).parts others.busy others.names others.uses) line.now.args) }
+        ensures used { OnOk result (used.new.items ≡ used.old.items ++ flat_map (reached_devices shared.now.assigns) (devices_of builtin shared.now (drafted_shell self.now scene.now.shell.now).parts line.now.args)) }
+        ensures action { IfOk result (λ action. action_effect shared.now action ≡ action_of builtin shared.now
+            (script_line_of (newest (drafted_frames scene.now.shell.now self.now.frames))) (shell_view (drafted_shell self.now scene.now.shell.now).parts others.busy others.names others.uses) line.now.args) }
     {
         let view = self.view(scene.shell, others);
         let frame = self.frames.newest(scene.shell);

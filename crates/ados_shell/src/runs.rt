@@ -1,7 +1,7 @@
 // Run: it makes a shell for the commands of its text.
 ghost use Rattle.std.specs.Prelude.{◌≡◌, ◌-◌, ◌++◌, ◌∷◌, [], drop, IfOk, IfSome, OnOk};
 ghost use Rattle.std.specs.Option.{option_copied, option_map};
-ghost use Rattle.ados_flow.specs.Gathering.{before_plus, gathered, run_limit};
+ghost use Rattle.ados_flow.specs.Gathering.{before_plus, run_gathering, run_limit};
 ghost use Rattle.ados_machine.specs.NewShells.{answered_put, console_run, gathered_deed, joined_deed, new_shell, run_at, run_deed, run_into, running_deed};
 ghost use Rattle.ados_shell.specs.Stacks.{HasTaken};
 
@@ -20,14 +20,14 @@ use ados_text::{NoMemory, Result2, Text, Texts};
 use std::alloc::Global;
 
 impl Draft {
-    ghost use Rattle.ados_shell.specs.Drafts.{HasBegun, IsUnset, Settles, course_of, frames_of, here};
+    ghost use Rattle.ados_shell.specs.Drafts.{HasBegun, IsUnset, Settles, course_of, frames_of, next_line_place};
     ghost use Rattle.ados_shell.specs.Outputs.{IsPut};
 
     /// Reads the input of a Run, if it has one, which is ignored, and runs its text.
     pub fn run(&mut self, scene: &Scene, line: &Line) -> Result<(), NoMemory>
         requires { IsUnset self.old }
         ensures { OnOk result (Settles scene.now self.old self.new
-            (run_deed line.now (here scene.now self.old) (course_of scene.now self.old))) }
+            (run_deed line.now (next_line_place scene.now self.old) (course_of scene.now self.old))) }
     {
         match self.read_own(scene, line.input.as_ref()) {
             Err(FsFault::NoMemory) => Err(NoMemory),
@@ -40,7 +40,7 @@ impl Draft {
     fn run_into(&mut self, scene: &Scene, line: &Line) -> Result<(), NoMemory>
         requires { IsUnset self.old }
         ensures { OnOk result (Settles scene.now self.old self.new
-            (running_deed line.now (here scene.now self.old) (course_of scene.now self.old))) }
+            (running_deed line.now (next_line_place scene.now self.old) (course_of scene.now self.old))) }
     {
         match self.open_own(scene, line.output.as_ref()) {
             Err(FsFault::NoMemory) => Err(NoMemory),
@@ -58,7 +58,7 @@ impl Draft {
     ) -> Result<(), NoMemory>
         requires { IsUnset self.old }
         ensures { OnOk result (Settles scene.now self.old self.new
-            (run_into line.now (here scene.now self.old) output (course_of scene.now self.old))) }
+            (run_into line.now (next_line_place scene.now self.old) output (course_of scene.now self.old))) }
     {
         if asks_nothing(&line.args) {
             self.refuse(scene, &line.command, Result2::ARGUMENT_MISSING)
@@ -77,7 +77,7 @@ impl Draft {
     ) -> Result<(), NoMemory>
         requires { IsUnset self.old }
         ensures { OnOk result (Settles scene.now self.old self.new
-            (run_at line.now.command output line.now.args (here scene.now self.old).sink (course_of scene.now self.old) (here scene.now self.old).frame_lines)) }
+            (run_at line.now.command output line.now.args (next_line_place scene.now self.old).sink (course_of scene.now self.old) (next_line_place scene.now self.old).frame_lines)) }
     {
         match self.gathered(scene, &line.args)? {
             None => self.run_typed(scene, line, output),
@@ -91,7 +91,7 @@ impl Draft {
     /// The commands of a Run with this text, and how many more lines of the newest frame it takes; `None` on the
     /// console.
     fn gathered(&self, scene: &Scene, text: &Text) -> Result<Option<Gathered>, NoMemory>
-        ensures gathered { IfOk result (λ all. all ≡ option_map (λ frame. gathered (run_limit - 1) text.now (drop frame.position frame.lines)) (here scene.now self.now).frame_lines) }
+        ensures gathered { IfOk result (λ all. all ≡ option_map (λ frame. run_gathering (run_limit - 1) text.now (drop frame.position frame.lines)) (next_line_place scene.now self.now).frame_lines) }
         ensures within { IfOk result (λ all. IfSome all (λ a. HasTaken a.taken (frames_of scene.now self.now))) }
     {
         match self.shell.frames.newest(scene.shell) {
@@ -109,7 +109,7 @@ impl Draft {
     ) -> Result<(), NoMemory>
         requires { IsUnset self.old }
         ensures { OnOk result (Settles scene.now self.old self.new
-            (console_run line.now.command output line.now.args (here scene.now self.old).sink (course_of scene.now self.old) (before_plus line.now.args))) }
+            (console_run line.now.command output line.now.args (next_line_place scene.now self.old).sink (course_of scene.now self.old) (before_plus line.now.args))) }
     {
         match before_plus(line.args.as_bytes()) {
             None => {
@@ -138,7 +138,7 @@ impl Draft {
     ) -> Result<(), NoMemory>
         requires { IsUnset self.old }
         ensures { OnOk result (Settles scene.now self.old self.new
-            (joined_deed gathering.now line.now (here scene.now self.old).sink (course_of scene.now self.old))) }
+            (joined_deed gathering.now line.now (next_line_place scene.now self.old).sink (course_of scene.now self.old))) }
     {
         let before = gathering.commands.as_slice();
         let Gathering { word, output, .. } = gathering;
@@ -168,7 +168,7 @@ impl Draft {
     pub fn gather_no_more(&mut self, scene: &Scene, gathering: &Gathering) -> Result<(), NoMemory>
         requires { IsUnset self.old }
         ensures { OnOk result (Settles scene.now self.old self.new
-            (gathered_deed gathering.now (here scene.now self.old).sink (course_of scene.now self.old))) }
+            (gathered_deed gathering.now (next_line_place scene.now self.old).sink (course_of scene.now self.old))) }
     {
         let Gathering {
             word,
@@ -188,7 +188,7 @@ impl Draft {
     ) -> Result<(), NoMemory>
         requires { IsUnset self.old }
         ensures { OnOk result (Settles scene.now self.old self.new
-            (answered_put word.now (new_shell commands (option_copied output.entry) (here scene.now self.old).sink (course_of scene.now self.old)))) }
+            (answered_put word.now (new_shell commands (option_copied output.entry) (next_line_place scene.now self.old).sink (course_of scene.now self.old)))) }
     {
         let codes = self.make_shell(scene, commands, output)?;
         self.answer(scene, word.as_bytes(), codes, false)
@@ -204,7 +204,7 @@ impl Draft {
     ) -> Result<Codes, NoMemory>
         requires { IsUnset self.old }
         ensures { IfOk result (λ codes. IsPut scene.now self.old self.new codes
-            (new_shell commands (option_copied output.entry) (here scene.now self.old).sink (course_of scene.now self.old))) }
+            (new_shell commands (option_copied output.entry) (next_line_place scene.now self.old).sink (course_of scene.now self.old))) }
     {
         let Some(number) = free_number(scene.shells) else {
             return Ok(Codes::failed(Result2::OBJECT_IN_USE));

@@ -3,7 +3,7 @@
 ghost use Rattle.std.specs.Prelude.{◌≡◌, ℕ, List};
 ghost use Rattle.std.specs.Option.{option_copied};
 ghost use Rattle.ados_machine.specs.World.{has_input};
-ghost use Rattle.ados_shell.specs.Turnings.{IsFirst, input_with};
+ghost use Rattle.ados_shell.specs.Turnings.{IsFirst, waiting_input};
 
 use crate::commands::Commands;
 use crate::shells::Shell;
@@ -40,7 +40,7 @@ pub struct Input<'a> {
 impl Input<'_> {
     /// A line waits, or no more will come.
     pub fn has_lines(&self) -> bool
-        ensures { (queue : List (List ℕ)) → IsFirst (option_copied self.now.line) queue → has_input (input_with self.now queue) ≡ result }
+        ensures { (queue : List (List ℕ)) → IsFirst (option_copied self.now.line) queue → has_input (waiting_input self.now queue) ≡ result }
     {
         match self.line {
             Some(_) => true,

@@ -9,7 +9,7 @@ ghost use Rattle.ados_machine.specs.Sinks.{held_while, outputs_in};
 ghost use Rattle.ados_machine.specs.Lines.{name_seen};
 ghost use Rattle.ados_machine.specs.Names.{name_in, waiting_word};
 ghost use Rattle.ados_machine.specs.Numbers.{free_from, free_number};
-ghost use Rattle.ados_find.specs.Targets.{open_at};
+ghost use Rattle.ados_find.specs.Targets.{open_places};
 ghost use Rattle.ados_machine.specs.World.{seen_in};
 
 use crate::shells::Shell;
@@ -50,7 +50,7 @@ pub fn in_use(
     target: Option<&Target>,
     assigns: &Assigns,
 ) -> Result<Busy, NoMemory>
-    ensures { IfOk result (λ busy. busy ≡ busy_of (directories_of (seen_in shells.now)) (open_at (option_copied target.entry) ++ outputs_of (seen_in shells.now)) assigns.now) }
+    ensures { IfOk result (λ busy. busy ≡ busy_of (directories_of (seen_in shells.now)) (open_places (option_copied target.entry) ++ outputs_of (seen_in shells.now)) assigns.now) }
 {
     assigns.busy(directories(alloc, shells)?, outputs(alloc, shells, target)?)
 }
@@ -75,7 +75,7 @@ fn outputs(
     shells: &[Option<Shell>; 20],
     target: Option<&Target>,
 ) -> Result<Vec<Place>, NoMemory>
-    ensures { IfOk result (λ places. places.items ≡ open_at (option_copied target.entry) ++ outputs_of (seen_in shells.now)) }
+    ensures { IfOk result (λ places. places.items ≡ open_places (option_copied target.entry) ++ outputs_of (seen_in shells.now)) }
 {
     let mut places = Vec::new(alloc);
     push_output(&mut places, target)?;
@@ -125,7 +125,7 @@ fn push_outputs(places: &mut Vec<Place>, frames: &[Frame]) -> Result<(), NoMemor
 
 /// The file that a target keeps open, after other places.
 fn push_output(places: &mut Vec<Place>, target: Option<&Target>) -> Result<(), NoMemory>
-    ensures { OnOk result (places.new.items ≡ places.old.items ++ open_at (option_copied target.entry)) }
+    ensures { OnOk result (places.new.items ≡ places.old.items ++ open_places (option_copied target.entry)) }
 {
     match target {
         None | Some(Target::Nil) => Ok(()),

@@ -11,11 +11,11 @@ use ados_ram::Place;
 use ados_text::NoMemory;
 
 impl ShellDraft {
-    ghost use Rattle.ados_find.specs.Changes.{changed, changed_by};
+    ghost use Rattle.ados_find.specs.Changes.{parts_after_command, parts_by_change};
     ghost use Rattle.ados_machine.specs.Shells.{ShellState};
-    ghost use Rattle.ados_shell.specs.Drafts.{IsUnchanged, behind, phase_in};
+    ghost use Rattle.ados_shell.specs.Drafts.{IsUnchanged, drafted_shell, drafted_phase};
     ghost use Rattle.ados_machine.specs.Requests.{request_of};
-    ghost use Rattle.ados_shell.specs.Views.{seen};
+    ghost use Rattle.ados_shell.specs.Views.{shell_view};
 
     /// A turn of a shell begins: nothing is changed yet, except that its flag is cleared.
     pub(crate) fn begin_turn(&mut self, shell: &Shell)
@@ -34,7 +34,7 @@ impl ShellDraft {
 
     /// What the shell with this number asks a launcher for after its turn.
     pub fn request(&self, number: u8) -> Result<Option<Request>, NoMemory>
-        ensures { IfOk result (λ request. request ≡ request_of number (phase_in self.now)) }
+        ensures { IfOk result (λ request. request ≡ request_of number (drafted_phase self.now)) }
     {
         match self.phase.as_deref() {
             None => Ok(None),
@@ -45,7 +45,7 @@ impl ShellDraft {
     /// What commands read of the shell as it is now, and of the shells that run.
     pub fn view<'b>(&'b self, shell: &'b Shell, others: Others) -> ShellView<'b>
         requires { self.now.setting ≡ None }
-        ensures { result ≡ seen (behind self.now shell.now).parts others.busy others.names others.uses }
+        ensures { result ≡ shell_view (drafted_shell self.now shell.now).parts others.busy others.names others.uses }
     {
         let Others { busy, names, uses } = others;
         ShellView {
@@ -62,7 +62,7 @@ impl ShellDraft {
 
     /// The current directory as it is now.
     pub fn directory<'b>(&'b self, shell: &'b Shell) -> &'b Place
-        ensures { result.now ≡ (behind self.now shell.now).parts.directory }
+        ensures { result.now ≡ (drafted_shell self.now shell.now).parts.directory }
     {
         match &self.directory {
             None => shell.directory(),
@@ -73,7 +73,7 @@ impl ShellDraft {
     /// A command changed one of the shell's parts, or none, and may have flagged the shell.
     pub(crate) fn affect(&mut self, change: Option<Box<Change>>, flags: bool)
         requires { self.old.setting ≡ None }
-        ensures parts { (shell : ShellState) → (behind self.new shell).parts ≡ changed (option_map (λ c. c.value) change) (behind self.old shell).parts }
+        ensures parts { (shell : ShellState) → (drafted_shell self.new shell).parts ≡ parts_after_command (option_map (λ c. c.value) change) (drafted_shell self.old shell).parts }
         ensures frames { self.new.frames ≡ self.old.frames }
         ensures kept { self.new.kept ≡ self.old.kept }
         ensures flag { self.new.flagged ≡ (self.old.flagged || flags) }
@@ -87,7 +87,7 @@ impl ShellDraft {
     /// A command changed one of the shell's parts.
     pub(crate) fn change(&mut self, change: Change)
         requires { self.old.setting ≡ None }
-        ensures parts { (shell : ShellState) → (behind self.new shell).parts ≡ changed_by change (behind self.old shell).parts }
+        ensures parts { (shell : ShellState) → (drafted_shell self.new shell).parts ≡ parts_by_change change (drafted_shell self.old shell).parts }
         ensures frames { self.new.frames ≡ self.old.frames }
         ensures phase { self.new.phase ≡ self.old.phase }
         ensures kept { self.new.kept ≡ self.old.kept }
@@ -105,7 +105,7 @@ impl ShellDraft {
     /// `NoMemory` if there is no room for the frames, for a new name or for what is asked for; the shell is then as it
     /// was.
     pub fn move_in(&mut self, shell: &mut Shell) -> Result<(), NoMemory>
-        ensures ok { OnOk result (shell.new ≡ behind self.old shell.old) }
+        ensures ok { OnOk result (shell.new ≡ drafted_shell self.old shell.old) }
         ensures err { OnErr result (shell.new ≡ shell.old) }
     {
         let request = self.request(shell.number)?;

@@ -2,7 +2,7 @@
 ghost use Rattle.std.specs.Prelude.{◌≡◌, ◌∷◌, [], reverse, IfOk};
 ghost use Rattle.std.specs.Option.{option_copied};
 ghost use Rattle.ados_machine.specs.Shells.{begun_shell, entry_in, fresh_shell};
-ghost use Rattle.ados_flow.specs.Frames.{began, first_limit};
+ghost use Rattle.ados_flow.specs.Frames.{new_frame, first_limit};
 ghost use Rattle.ados_flow.specs.declared.kinds.Kind.TheVariants.{Lines};
 
 use crate::begun::Begun;
@@ -228,7 +228,7 @@ fn single_frame(
     commands: Script,
     output: Option<Target>,
 ) -> Result<Vec<Frame>, NoMemory>
-    ensures { IfOk result (λ frames. frames.items ≡ began Lines commands first_limit output ∷ []) }
+    ensures { IfOk result (λ frames. frames.items ≡ new_frame Lines commands first_limit output ∷ []) }
 {
     let frame = Frame::new(alloc, Kind::Lines, commands, FIRST_LIMIT, output)?;
     let mut frames = Vec::new(alloc);

@@ -1,7 +1,7 @@
 // The frames of a shell, as a turn changes them.
 ghost use Rattle.std.specs.Prelude.{◌≡◌, ◌∷◌, ◌++◌, [], List, length, nat_le, reverse, IfOk, OnOk};
 ghost use Rattle.std.specs.Option.{option_copied};
-ghost use Rattle.ados_flow.specs.Frames.{FrameState, frame_limit, limit_behind};
+ghost use Rattle.ados_flow.specs.Frames.{FrameState, frame_limit, limit_above_frames};
 ghost use Rattle.ados_machine.specs.Shells.{ShellState};
 ghost use Rattle.ados_machine.specs.Sinks.{Console, sink_in};
 ghost use Rattle.ados_machine.specs.Sinks as machine;
@@ -25,8 +25,8 @@ pub struct Stack {
 }
 
 impl Stack {
-    ghost use Rattle.ados_machine.specs.Settle.{jumped_in, newest};
-    ghost use Rattle.ados_shell.specs.Stacks.{frames_in, oldest, HasRoom, HasTaken, IsMovedOn, IsPopped, IsSkipped};
+    ghost use Rattle.ados_machine.specs.Settle.{frames_at_line, newest};
+    ghost use Rattle.ados_shell.specs.Stacks.{drafted_frames, oldest_frames, HasRoom, HasTaken, IsMovedOn, IsPopped, IsSkipped};
 
     /// No frame.
     pub fn new(alloc: Global) -> Stack {
@@ -38,7 +38,7 @@ impl Stack {
 
     /// The frames of the shell stay as they are.
     pub fn keep_all(&mut self, shell: &Shell)
-        ensures { frames_in shell.now self.new ≡ shell.now.frames }
+        ensures { drafted_frames shell.now self.new ≡ shell.now.frames }
     {
         self.kept = shell.frames.len();
         self.own.clear();
@@ -46,7 +46,7 @@ impl Stack {
 
     /// The frames of the shell that stay as they are, the oldest first.
     fn lent<'a>(&self, shell: &'a Shell) -> &'a [Frame]
-        ensures lent { reverse result.now ≡ oldest self.now.kept shell.now.frames }
+        ensures lent { reverse result.now ≡ oldest_frames self.now.kept shell.now.frames }
         ensures front { (above : List FrameState) × reverse shell.now.frames ≡ result.now ++ above }
     {
         let frames = shell.frames.as_slice();
@@ -55,7 +55,7 @@ impl Stack {
 
     /// The newest frame; `None` if none runs.
     pub fn newest<'b>(&'b self, shell: &'b Shell) -> Option<&'b Frame>
-        ensures { option_copied result ≡ newest (frames_in shell.now self.now) }
+        ensures { option_copied result ≡ newest (drafted_frames shell.now self.now) }
     {
         match self.own.last() {
             Some(frame) => Some(frame),
@@ -65,7 +65,7 @@ impl Stack {
 
     /// There are as many frames as a shell may have.
     pub fn is_full(&self, shell: &Shell) -> bool
-        ensures { result ≡ nat_le frame_limit (length (frames_in shell.now self.now)) }
+        ensures { result ≡ nat_le frame_limit (length (drafted_frames shell.now self.now)) }
     {
         FRAME_LIMIT <= self.own.len().saturating_add(self.lent(shell).len())
     }
@@ -89,7 +89,7 @@ impl Stack {
 
     /// Pushes a frame.
     pub fn push(&mut self, frame: Frame) -> Result<(), NoMemory>
-        ensures { OnOk result ((shell : ShellState) → frames_in shell self.new ≡ frame ∷ frames_in shell self.old) }
+        ensures { OnOk result ((shell : ShellState) → drafted_frames shell self.new ≡ frame ∷ drafted_frames shell self.old) }
     {
         self.own.push(frame)?;
         Ok(())
@@ -97,8 +97,8 @@ impl Stack {
 
     /// The line of the newest frame is taken.
     pub fn move_on(&mut self, shell: &Shell) -> Result<(), NoMemory>
-        requires { HasRoom (frames_in shell.now self.old) }
-        ensures { OnOk result (IsMovedOn shell.now self.new (frames_in shell.now self.old)) }
+        requires { HasRoom (drafted_frames shell.now self.old) }
+        ensures { OnOk result (IsMovedOn shell.now self.new (drafted_frames shell.now self.old)) }
     {
         match self.pop(shell)? {
             None => Ok(()),
@@ -111,7 +111,7 @@ impl Stack {
 
     /// The newest frame goes on at a line, counted from 1.
     pub fn jump_to(&mut self, shell: &Shell, line: usize) -> Result<(), NoMemory>
-        ensures { OnOk result (frames_in shell.now self.new ≡ jumped_in line (frames_in shell.now self.old)) }
+        ensures { OnOk result (drafted_frames shell.now self.new ≡ frames_at_line line (drafted_frames shell.now self.old)) }
     {
         match self.pop(shell)? {
             None => Ok(()),
@@ -124,8 +124,8 @@ impl Stack {
 
     /// More lines of the newest frame are taken, this many.
     pub fn skip(&mut self, shell: &Shell, taken: usize) -> Result<(), NoMemory>
-        requires { HasTaken taken (frames_in shell.now self.old) }
-        ensures { OnOk result (IsSkipped shell.now self.new taken (frames_in shell.now self.old)) }
+        requires { HasTaken taken (drafted_frames shell.now self.old) }
+        ensures { OnOk result (IsSkipped shell.now self.new taken (drafted_frames shell.now self.old)) }
     {
         match self.pop(shell)? {
             None => Ok(()),
@@ -139,7 +139,7 @@ impl Stack {
     /// The limit after a script above these frames that began at a limit ends: that limit is restored, or it is the
     /// first one if no script is left.
     pub fn limit_behind(&self, shell: &Shell, limit: Code) -> Code
-        ensures { result ≡ limit_behind (frames_in shell.now self.now) limit }
+        ensures { result ≡ limit_above_frames (drafted_frames shell.now self.now) limit }
     {
         if self.has_script(shell) {
             limit
@@ -150,14 +150,14 @@ impl Stack {
 
     /// A script runs in these frames.
     pub fn has_script(&self, shell: &Shell) -> bool
-        ensures { result ≡ has_script (frames_in shell.now self.now) }
+        ensures { result ≡ has_script (drafted_frames shell.now self.now) }
     {
         any_script(self.own.as_slice(), self.lent(shell))
     }
 
     /// Where the output of the newest frame's commands goes.
     pub fn sink(&self, shell: &Shell) -> Result<Sink, NoMemory>
-        ensures { IfOk result (λ sink. sink_of sink ≡ sink_in (frames_in shell.now self.now)) }
+        ensures { IfOk result (λ sink. sink_of sink ≡ sink_in (drafted_frames shell.now self.now)) }
     {
         match way_of(self.own.as_slice()) {
             Way::Below => sink_of(way_of(self.lent(shell))),

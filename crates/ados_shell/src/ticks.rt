@@ -5,7 +5,7 @@ ghost use Rattle.std.specs.Prelude.{if◌then◌else◌};
 ghost use Rattle.ados_text.specs.declared.codes.TheConstants.Result2.{TOO_MANY_LEVELS};
 ghost use Rattle.ados_machine.specs.Deeds.{Ticks, line_fault};
 ghost use Rattle.ados_machine.specs.Lines.{parted_deed};
-ghost use Rattle.ados_machine.specs.Settle.{said_of, tick_begun};
+ghost use Rattle.ados_machine.specs.Settle.{said_of, enter_tick};
 ghost use Rattle.ados_machine.specs.Sinks.{Kept};
 
 use crate::drafts::{Draft, ShellDraft};
@@ -22,13 +22,13 @@ use std::alloc::Global;
 const TICK_LIMIT: usize = 1024;
 
 impl Draft {
-    ghost use Rattle.ados_shell.specs.Drafts.{IsRuled, IsTicked, IsUnset, Settles, course_of, frames_of, here};
+    ghost use Rattle.ados_shell.specs.Drafts.{IsRuled, IsTicked, IsUnset, Settles, course_of, frames_of, next_line_place};
     ghost use Rattle.ados_shell.specs.Outputs.{IsPut};
 
     /// A tick of a line begins: if there are as many frames as a shell may have, that is the line's fault.
     pub fn tick(&mut self, scene: &Scene, tick: Tick) -> Result<(), NoMemory>
         ensures { OnOk result (Settles scene.now self.old self.new
-            (if (here scene.now self.old).is_full then line_fault TOO_MANY_LEVELS (course_of scene.now self.old)
+            (if (next_line_place scene.now self.old).is_full then line_fault TOO_MANY_LEVELS (course_of scene.now self.old)
             else Ticks tick.before tick.command tick.after (course_of scene.now self.old))) }
     {
         if self.shell.frames.is_full(scene.shell) {
@@ -41,7 +41,7 @@ impl Draft {
     /// A tick begins, and takes its line at the next turn.
     fn begin_tick(&mut self, scene: &Scene, tick: Tick) -> Result<(), NoMemory>
         ensures { OnOk result (IsRuled scene.now self.old self.new
-            (tick_begun tick.before tick.command tick.after (frames_of scene.now self.old) (said_of (course_of scene.now self.old)))) }
+            (enter_tick tick.before tick.command tick.after (frames_of scene.now self.old) (said_of (course_of scene.now self.old)))) }
     {
         let Tick {
             before,
@@ -93,7 +93,7 @@ impl Draft {
     pub fn go_on(&mut self, scene: &Scene, parted: &Parted) -> Result<(), NoMemory>
         requires { IsUnset self.old }
         ensures { OnOk result (Settles scene.now self.old self.new
-            (parted_deed parted.now (here scene.now self.old) (course_of scene.now self.old))) }
+            (parted_deed parted.now (next_line_place scene.now self.old) (course_of scene.now self.old))) }
     {
         let output = parted.output.as_bytes();
         let expanded = resume(scene.alloc, &parted.before, output, &parted.after);
@@ -102,11 +102,11 @@ impl Draft {
 }
 
 impl ShellDraft {
-    ghost use Rattle.ados_shell.specs.Drafts.{behind};
+    ghost use Rattle.ados_shell.specs.Drafts.{drafted_shell};
 
     /// A copy of what the ticks put out so far; that of the newest is the last.
     pub fn kept_copy(&self, scene: &Scene) -> Result<Vec<Octets>, NoMemory>
-        ensures { IfOk result (λ kept. reverse kept.items ≡ (behind self.now scene.now.shell.now).kept) }
+        ensures { IfOk result (λ kept. reverse kept.items ≡ (drafted_shell self.now scene.now.shell.now).kept) }
     {
         match &self.kept {
             None => copied(scene.alloc, scene.shell.kept()),

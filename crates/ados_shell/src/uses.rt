@@ -1,8 +1,8 @@
 // The devices that an event uses; at its end the assigns of Defer among them are bound.
 ghost use Rattle.std.specs.Prelude.{◌≡◌, ◌∷◌, [], OnOk, codes};
-ghost use Rattle.ados_find.specs.Routes.{devices_by};
+ghost use Rattle.ados_find.specs.Routes.{route_devices};
 ghost use Rattle.ados_find.specs.Search.{device_named};
-ghost use Rattle.ados_machine.specs.Course.{using, using_nothing};
+ghost use Rattle.ados_machine.specs.Course.{with_devices_used, with_no_device_used};
 ghost use Rattle.ados_machine.specs.Lines.{with_variables};
 
 use crate::drafts::Draft;
@@ -21,7 +21,7 @@ impl Draft {
     /// The device of a path's text is used.
     #[tactic(auto, unfolding(ados_machine::specs::Uses::reached))]
     pub fn use_path(&mut self, scene: &Scene, text: &Text) -> Result<(), NoMemory>
-        ensures { OnOk result (HasUsed scene.now self.old self.new (using (device_named text.now) (course_of scene.now self.old))) }
+        ensures { OnOk result (HasUsed scene.now self.old self.new (with_devices_used (device_named text.now) (course_of scene.now self.old))) }
     {
         let shared = match &self.shared {
             None => scene.shared,
@@ -33,7 +33,7 @@ impl Draft {
     /// A device is used.
     #[tactic(auto, unfolding(ados_machine::specs::Uses::reached))]
     fn use_device(&mut self, scene: &Scene, device: Name) -> Result<(), NoMemory>
-        ensures { OnOk result (HasUsed scene.now self.old self.new (using (device ∷ []) (course_of scene.now self.old))) }
+        ensures { OnOk result (HasUsed scene.now self.old self.new (with_devices_used (device ∷ []) (course_of scene.now self.old))) }
     {
         let shared = match &self.shared {
             None => scene.shared,
@@ -44,7 +44,7 @@ impl Draft {
 
     /// C: is used.
     fn use_c(&mut self, scene: &Scene) -> Result<(), NoMemory>
-        ensures { OnOk result (HasUsed scene.now self.old self.new (using (codes "C" ∷ []) (course_of scene.now self.old))) }
+        ensures { OnOk result (HasUsed scene.now self.old self.new (with_devices_used (codes "C" ∷ []) (course_of scene.now self.old))) }
     {
         let device = Name::new(Text::from_bytes(scene.alloc, b"C")?);
         self.use_device(scene, device)
@@ -52,7 +52,7 @@ impl Draft {
 
     /// ENV: is used.
     fn use_env(&mut self, scene: &Scene) -> Result<(), NoMemory>
-        ensures { OnOk result (HasUsed scene.now self.old self.new (using (codes "ENV" ∷ []) (course_of scene.now self.old))) }
+        ensures { OnOk result (HasUsed scene.now self.old self.new (with_devices_used (codes "ENV" ∷ []) (course_of scene.now self.old))) }
     {
         let device = Name::new(Text::from_bytes(scene.alloc, b"ENV")?);
         self.use_device(scene, device)
@@ -60,7 +60,7 @@ impl Draft {
 
     /// The device to which the search of a word led is used.
     pub fn use_route(&mut self, scene: &Scene, route: Route, word: &Text) -> Result<(), NoMemory>
-        ensures { OnOk result (HasUsed scene.now self.old self.new (using (devices_by route word.now) (course_of scene.now self.old))) }
+        ensures { OnOk result (HasUsed scene.now self.old self.new (with_devices_used (route_devices route word.now) (course_of scene.now self.old))) }
     {
         match route {
             Route::Listed => Ok(()),
@@ -107,7 +107,7 @@ impl Draft {
 
     /// No device counts as used any longer.
     pub fn use_nothing(&mut self, scene: &Scene)
-        ensures { HasUsed scene.now self.old self.new (using_nothing (course_of scene.now self.old)) }
+        ensures { HasUsed scene.now self.old self.new (with_no_device_used (course_of scene.now self.old)) }
     {
         let _ = scene;
         self.used.clear();

@@ -15,13 +15,13 @@ use Rattle.ados_subst.specs.declared.faults.SubstFault.{SubstFault}
 use Rattle.ados_subst.specs.declared.faults.SubstFault.TheVariants.{BadDirective}
 use Rattle.ados_subst.specs.declared.marks.Mark.{Mark}
 use Rattle.ados_subst.specs.declared.slots.Slot.{Slot}
-use Rattle.ados_subst.specs.Above.{at_first}
-use Rattle.ados_subst.specs.Directives.{slots_by, slots_for, keyed_with, keyed, default_of, defaulted_with, defaulted, marked, directive_named, directed_by, is_remark, directed}
-use Rattle.ados_subst.specs.Faults.{unfilled}
+use Rattle.ados_subst.specs.Above.{initial_above}
+use Rattle.ados_subst.specs.Directives.{slots_of_args, slots_of_template, above_of_slots, key_result, default_of, above_of_default, default_result, mark_result, directive_named, named_directive_result, is_remark, directive_result}
+use Rattle.ados_subst.specs.Faults.{args_fault}
 use Rattle.ados_subst.specs.FirstFault.{NamesNone, IsDirectiveFault, unknown, second_template, not_filled, no_option, no_character, Leads, here, directive, other, FaultBelow, IsFirstFault}
-use Rattle.ados_subst.specs.Lines.{substituted}
-use Rattle.ados_subst.specs.References.{referred}
-use Rattle.ados_subst.specs.Scripts.{directive_in, with_line, behind, line_before, lines_below, is_dotted, script_of}
+use Rattle.ados_subst.specs.Lines.{substituted_line}
+use Rattle.ados_subst.specs.References.{reference_value}
+use Rattle.ados_subst.specs.Scripts.{directive_in, with_line, lines_after_directive, lines_from_line, lines_below, is_dotted, script_of}
 use Rattle.ados_subst.specs.Slots.{is_named, with_default_in, with_default}
 use Rattle.ados_items.specs.Parts.{first_word, rest_of}
 
@@ -57,24 +57,24 @@ none-named (Some slots) [] text none = refl
 none-named (Some slots) (c ∷ cs) text (inl e) = cc
 none-named (Some slots) (c ∷ cs) text (inr e) = default-none (c ∷ cs) text slots e
 
-defaulted-fault : (above : Above) (number : ℕ) (text : Text) (fault : SubstFault) → defaulted above number text ≡ Err fault →
+defaulted-fault : (above : Above) (number : ℕ) (text : Text) (fault : SubstFault) → default_result above number text ≡ Err fault →
     NamesNone above.slots (first_word text) × (BadDirective number ≡ fault)
 defaulted-fault above number text fault e =
     by (option_and_then (λ s. with_default s (first_word text) (default_of (rest_of text))) above.slots) refl e
   where
     by : (o : Option (List Slot)) → option_and_then (λ s. with_default s (first_word text) (default_of (rest_of text))) above.slots ≡ o →
-        defaulted_with above number o ≡ Err fault → NamesNone above.slots (first_word text) × (BadDirective number ≡ fault)
+        above_of_default above number o ≡ Err fault → NamesNone above.slots (first_word text) × (BadDirective number ≡ fault)
     by None none h = (names-none above.slots (first_word text) (default_of (rest_of text)) none, cc)
     by (Some slots) some h = cc
 
 -- another character that is not just one
-marked-fault : (above : Above) (number : ℕ) (mark : Mark) (text : Text) (fault : SubstFault) → marked above number mark text ≡ Err fault →
+marked-fault : (above : Above) (number : ℕ) (mark : Mark) (text : Text) (fault : SubstFault) → mark_result above number mark text ≡ Err fault →
     (length text ≢ 1) × (BadDirective number ≡ fault)
 marked-fault above number mark [] fault e = (λ one. omega (arith, one), cc)
 marked-fault above number mark (c ∷ []) fault e = cc
 marked-fault above number mark (c ∷ d ∷ cs) fault e = (λ one. omega (arith, one), cc)
 
-fault-marked : (above : Above) (number : ℕ) (mark : Mark) (text : Text) → length text ≢ 1 → marked above number mark text ≡ Err (BadDirective number)
+fault-marked : (above : Above) (number : ℕ) (mark : Mark) (text : Text) → length text ≢ 1 → mark_result above number mark text ≡ Err (BadDirective number)
 fault-marked above number mark [] none = refl
 fault-marked above number mark (c ∷ []) none = absurd (none refl)
 fault-marked above number mark (c ∷ d ∷ cs) none = refl
@@ -83,38 +83,38 @@ fault-marked above number mark (c ∷ d ∷ cs) none = refl
 abbrev KeyFault : Above → Bytes → ℕ → Text → SubstFault → Type 0
 KeyFault above args number text fault =
     ((is_some above.slots ≡ true) × (BadDirective number ≡ fault))
-    ⊎ ((is_some above.slots ≡ false) × (of_args : ArgFault) × (fill_of text args ≡ Err of_args) × (unfilled of_args ≡ fault))
+    ⊎ ((is_some above.slots ≡ false) × (of_args : ArgFault) × (fill_of text args ≡ Err of_args) × (args_fault of_args ≡ fault))
 
-keyed-fault : (above : Above) (args : Bytes) (number : ℕ) (text : Text) (fault : SubstFault) → keyed above args number text ≡ Err fault → KeyFault above args number text fault
+keyed-fault : (above : Above) (args : Bytes) (number : ℕ) (text : Text) (fault : SubstFault) → key_result above args number text ≡ Err fault → KeyFault above args number text fault
 keyed-fault above args number text fault =
     let P : Result Above SubstFault → Type 0 = λ r. r ≡ Err fault → KeyFault above args number text fault in
-    cond_both (is_some above.slots) (Err (BadDirective number)) (keyed_with above (slots_for text args)) P
+    cond_both (is_some above.slots) (Err (BadDirective number)) (above_of_slots above (slots_of_template text args)) P
     (λ second e. inl (second, cc))
     (λ first e. let it = filled (fill_of text args) refl e in inr (first, it.0, it.1, it.2))
   where
-    filled : (r : Result (List Arg) ArgFault) → fill_of text args ≡ r → keyed_with above (slots_by (options_of text) r) ≡ Err fault →
-        (of_args : ArgFault) × (fill_of text args ≡ Err of_args) × (unfilled of_args ≡ fault)
+    filled : (r : Result (List Arg) ArgFault) → fill_of text args ≡ r → above_of_slots above (slots_of_args (options_of text) r) ≡ Err fault →
+        (of_args : ArgFault) × (fill_of text args ≡ Err of_args) × (args_fault of_args ≡ fault)
     filled (Ok found) h e = cc
     filled (Err of_args) h e = (of_args, h, cc)
 
 -- what a directive's fault is
-directed-fault : (above : Above) (args : Bytes) (number : ℕ) (body : Text) (fault : SubstFault) → directed above args number body ≡ Err fault →
+directed-fault : (above : Above) (args : Bytes) (number : ℕ) (body : Text) (fault : SubstFault) → directive_result above args number body ≡ Err fault →
     (is_remark body ≡ false) × IsDirectiveFault above args number body fault
 directed-fault above args number body fault =
     let P : Result Above SubstFault → Type 0 = λ r. r ≡ Err fault → (is_remark body ≡ false) × IsDirectiveFault above args number body fault in
-    cond_both (is_remark body) (Ok above) (directed_by above args number (rest_of body) (directive_named (first_word body))) P
+    cond_both (is_remark body) (Ok above) (named_directive_result above args number (rest_of body) (directive_named (first_word body))) P
     (λ remark e. cc)
     (λ none e. (none, named (directive_named (first_word body)) refl e))
   where
     is : (found : SubstFault) → IsDirectiveFault above args number body found → found ≡ fault → IsDirectiveFault above args number body fault
     is found it same = subst (λ f. IsDirectiveFault above args number body f) same it
 
-    named : (o : Option Directive) → directive_named (first_word body) ≡ o → directed_by above args number (rest_of body) o ≡ Err fault →
+    named : (o : Option Directive) → directive_named (first_word body) ≡ o → named_directive_result above args number (rest_of body) o ≡ Err fault →
         IsDirectiveFault above args number body fault
     named None h e = let same : BadDirective number ≡ fault = cc in is (BadDirective number) (unknown h) same
     named (Some Key) h e = elim (keyed-fault above args number (rest_of body) fault e) [
       | inl second ↦ is (BadDirective number) (second_template h second.0) second.1
-      | inr first ↦ is (unfilled first.1) (not_filled first.1 h first.0 first.2) first.3
+      | inr first ↦ is (args_fault first.1) (not_filled first.1 h first.0 first.2) first.3
     ]
     named (Some Default) h e =
         let it = defaulted-fault above number (rest_of body) fault e in
@@ -124,25 +124,25 @@ directed-fault above args number body fault =
         is (BadDirective number) (no_character mark h it.0) it.1
 
 fault-named : {above : Above} {args : Bytes} {number : ℕ} {body : Text} {fault : SubstFault} → IsDirectiveFault above args number body fault →
-    directed_by above args number (rest_of body) (directive_named (first_word body)) ≡ Err fault
-fault-named {above} {args} {number} {body} (unknown h) = ap (directed_by above args number (rest_of body)) h
+    named_directive_result above args number (rest_of body) (directive_named (first_word body)) ≡ Err fault
+fault-named {above} {args} {number} {body} (unknown h) = ap (named_directive_result above args number (rest_of body)) h
 fault-named {above} {args} {number} {body} (second_template h second) =
-    ap (directed_by above args number (rest_of body)) h
-    ∙ ap (λ b. if b then Err (BadDirective number) else keyed_with above (slots_for (rest_of body) args)) second
+    ap (named_directive_result above args number (rest_of body)) h
+    ∙ ap (λ b. if b then Err (BadDirective number) else above_of_slots above (slots_of_template (rest_of body) args)) second
 fault-named {above} {args} {number} {body} (not_filled of_args h first bad) =
-    ap (directed_by above args number (rest_of body)) h
-    ∙ ap (λ b. if b then Err (BadDirective number) else keyed_with above (slots_for (rest_of body) args)) first
-    ∙ ap (λ r. keyed_with above (slots_by (options_of (rest_of body)) r)) bad
+    ap (named_directive_result above args number (rest_of body)) h
+    ∙ ap (λ b. if b then Err (BadDirective number) else above_of_slots above (slots_of_template (rest_of body) args)) first
+    ∙ ap (λ r. above_of_slots above (slots_of_args (options_of (rest_of body)) r)) bad
 fault-named {above} {args} {number} {body} (no_option h none) =
-    ap (directed_by above args number (rest_of body)) h
-    ∙ ap (defaulted_with above number) (none-named above.slots (first_word (rest_of body)) (default_of (rest_of (rest_of body))) none)
+    ap (named_directive_result above args number (rest_of body)) h
+    ∙ ap (above_of_default above number) (none-named above.slots (first_word (rest_of body)) (default_of (rest_of (rest_of body))) none)
 fault-named {above} {args} {number} {body} (no_character mark h none) =
-    ap (directed_by above args number (rest_of body)) h ∙ fault-marked above number mark (rest_of body) none
+    ap (named_directive_result above args number (rest_of body)) h ∙ fault-marked above number mark (rest_of body) none
 
 fault-directed : (above : Above) (args : Bytes) (number : ℕ) (body : Text) (fault : SubstFault) → is_remark body ≡ false →
-    IsDirectiveFault above args number body fault → directed above args number body ≡ Err fault
+    IsDirectiveFault above args number body fault → directive_result above args number body ≡ Err fault
 fault-directed above args number body fault none it =
-    ap (λ b. if b then Ok above else directed_by above args number (rest_of body) (directive_named (first_word body))) none ∙ fault-named it
+    ap (λ b. if b then Ok above else named_directive_result above args number (rest_of body) (directive_named (first_word body))) none ∙ fault-named it
 
 -- one more line before others, which has no fault
 extend : (args : Bytes) (above next : Above) (number : ℕ) (line : Text) (lines : List Text) (fault : SubstFault) →
@@ -172,14 +172,14 @@ abbrev Goes : Bytes → Text → ℕ → List Text → Type 0
 Goes args process number lines = (above : Above) (fault : SubstFault) → lines_below args process above number lines ≡ Err fault → FaultBelow args above number lines fault
 
 directive-fault : (args : Bytes) (process : Text) (above : Above) (number : ℕ) (line body : Text) (lines : List Text) (made : Result Above SubstFault) (fault : SubstFault) →
-    Goes args process (number + 1) lines → directive_in above.marks.dot line ≡ Some body → directed above args number body ≡ made →
-    behind (λ next. lines_below args process next (number + 1) lines) made ≡ Err fault → FaultBelow args above number (line ∷ lines) fault
+    Goes args process (number + 1) lines → directive_in above.marks.dot line ≡ Some body → directive_result above args number body ≡ made →
+    lines_after_directive (λ next. lines_below args process next (number + 1) lines) made ≡ Err fault → FaultBelow args above number (line ∷ lines) fault
 directive-fault args process above number line body lines (Ok next) fault goes some made e =
     extend args above next number line lines fault (λ front end led. directive above next end number line body front some made led)
     (goes next fault (with-line-fault [] (lines_below args process next (number + 1) lines) fault e))
 directive-fault args process above number line body lines (Err found) fault goes some made e =
     let same : found ≡ fault = cc in
-    let bad : directed above args number body ≡ Err fault = made ∙ ap Err same in
+    let bad : directive_result above args number body ≡ Err fault = made ∙ ap Err same in
     let it = directed-fault above args number body fault bad in
     let place : number ≡ number + 0 = omega arith in
     record {
@@ -197,13 +197,13 @@ directive-fault args process above number line body lines (Err found) fault goes
 
 line-fault : (args : Bytes) (process : Text) (above : Above) (number : ℕ) (line : Text) (lines : List Text) (body : Option Text) (fault : SubstFault) →
     Goes args process (number + 1) lines → directive_in above.marks.dot line ≡ body →
-    line_before (λ next. lines_below args process next (number + 1) lines) args process above number line body ≡ Err fault →
+    lines_from_line (λ next. lines_below args process next (number + 1) lines) args process above number line body ≡ Err fault →
     FaultBelow args above number (line ∷ lines) fault
 line-fault args process above number line lines None fault goes none e =
     extend args above above number line lines fault (λ front end led. other above end number line front none led)
-    (goes above fault (with-line-fault (substituted above.marks (referred above process) line) (lines_below args process above (number + 1) lines) fault e))
+    (goes above fault (with-line-fault (substituted_line above.marks (reference_value above process) line) (lines_below args process above (number + 1) lines) fault e))
 line-fault args process above number line lines (Some body) fault goes some e =
-    directive-fault args process above number line body lines (directed above args number body) fault goes some refl e
+    directive-fault args process above number line body lines (directive_result above args number body) fault goes some refl e
 
 lines-fault : (args : Bytes) (process : Text) (number : ℕ) (lines : List Text) → Goes args process number lines
 lines-fault args process number [] above fault e = cc
@@ -213,20 +213,20 @@ lines-fault args process number (line ∷ lines) above fault e =
 -- and a fault below it is the fault of the lines
 led-fault : (args : Bytes) (process : Text) {above there : Above} {number : ℕ} {front : List Text} → Leads args above number front there →
     (line : Text) (rest : List Text) (body : Text) (fault : SubstFault) → directive_in there.marks.dot line ≡ Some body →
-    directed there args (number + length front) body ≡ Err fault → lines_below args process above number (front ++ line ∷ rest) ≡ Err fault
+    directive_result there args (number + length front) body ≡ Err fault → lines_below args process above number (front ++ line ∷ rest) ≡ Err fault
 led-fault args process (here above number) line rest body fault some bad =
     let place : number ≡ number + 0 = omega arith in
-    ap (line_before (λ next. lines_below args process next (number + 1) rest) args process above number line) some
-    ∙ ap (behind (λ next. lines_below args process next (number + 1) rest)) (ap (λ n. directed above args n body) place ∙ bad)
+    ap (lines_from_line (λ next. lines_below args process next (number + 1) rest) args process above number line) some
+    ∙ ap (lines_after_directive (λ next. lines_below args process next (number + 1) rest)) (ap (λ n. directive_result above args n body) place ∙ bad)
 led-fault args process (directive above next end number first its lines has made led) line rest body fault some bad =
     let place : number + 1 + length lines ≡ number + length (first ∷ lines) = omega arith in
-    ap (line_before (λ other. lines_below args process other (number + 1) (lines ++ line ∷ rest)) args process above number first) has
-    ∙ (ap (behind (λ other. lines_below args process other (number + 1) (lines ++ line ∷ rest))) made
-    ∙ ap (with_line []) (led-fault args process led line rest body fault some (ap (λ n. directed end args n body) place ∙ bad)))
+    ap (lines_from_line (λ other. lines_below args process other (number + 1) (lines ++ line ∷ rest)) args process above number first) has
+    ∙ (ap (lines_after_directive (λ other. lines_below args process other (number + 1) (lines ++ line ∷ rest))) made
+    ∙ ap (with_line []) (led-fault args process led line rest body fault some (ap (λ n. directive_result end args n body) place ∙ bad)))
 led-fault args process (other above end number first lines none led) line rest body fault some bad =
     let place : number + 1 + length lines ≡ number + length (first ∷ lines) = omega arith in
-    ap (line_before (λ next. lines_below args process next (number + 1) (lines ++ line ∷ rest)) args process above number first) none
-    ∙ ap (with_line (substituted above.marks (referred above process) first)) (led-fault args process led line rest body fault some (ap (λ n. directed end args n body) place ∙ bad))
+    ap (lines_from_line (λ next. lines_below args process next (number + 1) (lines ++ line ∷ rest)) args process above number first) none
+    ∙ ap (with_line (substituted_line above.marks (reference_value above process) first)) (led-fault args process led line rest body fault some (ap (λ n. directive_result end args n body) place ∙ bad))
 
 pub first-directive : (lines : List Text) (args : Bytes) (process : Text) (fault : SubstFault) →
     (script_of lines args process ≡ Err fault) ↔ (is_dotted lines ≡ true) × IsFirstFault args lines fault
@@ -235,12 +235,12 @@ first-directive lines args process fault = (stands, λ it. is it.0 it.1)
     stands : script_of lines args process ≡ Err fault → (is_dotted lines ≡ true) × IsFirstFault args lines fault
     stands =
         let P : Result (List Text) SubstFault → Type 0 = λ r. r ≡ Err fault → (is_dotted lines ≡ true) × IsFirstFault args lines fault in
-        cond_both (is_dotted lines) (lines_below args process at_first 1 lines) (Ok lines) P
-        (λ dotted e. (dotted, lines-fault args process 1 lines at_first fault e)) (λ plain e. cc)
+        cond_both (is_dotted lines) (lines_below args process initial_above 1 lines) (Ok lines) P
+        (λ dotted e. (dotted, lines-fault args process 1 lines initial_above fault e)) (λ plain e. cc)
 
     is : is_dotted lines ≡ true → IsFirstFault args lines fault → script_of lines args process ≡ Err fault
     is dotted it =
-        ap (λ b. if b then lines_below args process at_first 1 lines else Ok lines) dotted
-        ∙ (ap (lines_below args process at_first 1) it.joined
+        ap (λ b. if b then lines_below args process initial_above 1 lines else Ok lines) dotted
+        ∙ (ap (lines_below args process initial_above 1) it.joined
         ∙ led-fault args process it.led it.line it.rest it.body fault it.directive
         (fault-directed it.there args (1 + length it.front) it.body fault it.no_remark it.bad))

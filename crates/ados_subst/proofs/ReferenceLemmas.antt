@@ -9,7 +9,7 @@ use Rattle.std.proofs.lemmas.List.Sums.{position_or_len_is}
 use Rattle.ados_text.specs.Text.{Text}
 use Rattle.ados_subst.specs.declared.marks.Marks.{Marks}
 use Rattle.ados_subst.specs.References.{References, is_byte}
-use Rattle.ados_subst.specs.Lines.{Lacks, LineBecomes, byte, ended, reference, Segment, Literal, by_ket, by_value, first_segment, further, meant, substituted, values}
+use Rattle.ados_subst.specs.Lines.{Lacks, LineBecomes, byte, ended, reference, Segment, Literal, segment_by_ket, segment_by_value, first_segment, segment_tail_len, segment_text, substituted_line, segments_text}
 
 -- the next ket follows a text that lacks it
 ket-place : (ket : ℕ) (name rest : Text) → Lacks ket name
@@ -48,17 +48,17 @@ ket-parts ket line place e =
 
 -- a line that begins with a segment becomes its text, and that of the rest
 abbrev Begins : Marks → References → ℕ → Text → Segment → Type 0
-Begins m r c cs segment = LineBecomes m r (c ∷ cs) (meant segment ++ values m r (further segment) cs)
+Begins m r c cs segment = LineBecomes m r (c ∷ cs) (segment_text segment ++ segments_text m r (segment_tail_len segment) cs)
 
 -- what follows a segment, by how many bytes of it are left
 abbrev Behind : Marks → References → Text → Type 0
-Behind m r cs = (taken : ℕ) → LineBecomes m r (drop taken cs) (values m r taken cs)
+Behind m r cs = (taken : ℕ) → LineBecomes m r (drop taken cs) (segments_text m r taken cs)
 
 value-begins : (m : Marks) (r : References) (c : ℕ) (cs : Text) (place : ℕ) (value : Option Text)
     → Behind m r cs → c ≡ m.bra → position (is_byte m.ket) cs ≡ Some place → r (take place cs) ≡ value
-    → Begins m r c cs (by_value c (take place cs) value)
+    → Begins m r c cs (segment_by_value c (take place cs) value)
 value-begins m r c cs place None behind bra found known =
-    byte c cs (values m r 0 cs)
+    byte c cs (segments_text m r 0 cs)
     (λ name rest lacks same.
     let line : cs ≡ name ++ m.ket ∷ rest = cc in
     let size : place ≡ length name = cc (ket-place m.ket name rest lacks) in
@@ -69,15 +69,15 @@ value-begins m r c cs place None behind bra found known =
 value-begins m r c cs place (Some value) behind bra found known =
     let name = take place cs in
     let parts = ket-parts m.ket cs place found in
-    let P : Text → Type 0 = λ line. LineBecomes m r line (value ++ values m r (length name + 1) cs) in
+    let P : Text → Type 0 = λ line. LineBecomes m r line (value ++ segments_text m r (length name + 1) cs) in
     subst P (ap (λ b. b ∷ (name ++ m.ket ∷ drop (length name + 1) cs)) (sym bra) ∙ ap (λ l. c ∷ l) (sym parts.1))
-    (reference name value (drop (length name + 1) cs) (values m r (length name + 1) cs) parts.0 known
+    (reference name value (drop (length name + 1) cs) (segments_text m r (length name + 1) cs) parts.0 known
     (behind (length name + 1)))
 
 ket-begins : (m : Marks) (r : References) (c : ℕ) (cs : Text) (place : Option ℕ) → Behind m r cs → c ≡ m.bra
-    → position (is_byte m.ket) cs ≡ place → Begins m r c cs (by_ket r c cs place)
+    → position (is_byte m.ket) cs ≡ place → Begins m r c cs (segment_by_ket r c cs place)
 ket-begins m r c cs None behind bra none =
-    byte c cs (values m r 0 cs)
+    byte c cs (segments_text m r 0 cs)
     (λ name rest lacks same.
     let line : cs ≡ name ++ m.ket ∷ rest = cc in
     let some : position (is_byte m.ket) cs ≡ Some (length name) =
@@ -89,18 +89,18 @@ ket-begins m r c cs (Some place) behind bra found =
 segment-begins : (m : Marks) (r : References) (c : ℕ) (cs : Text) → Behind m r cs
     → Begins m r c cs (first_segment m r c cs)
 segment-begins m r c cs behind =
-    cond_both (c == m.bra) (by_ket r c cs (position (is_byte m.ket) cs)) (Literal c) (Begins m r c cs)
+    cond_both (c == m.bra) (segment_by_ket r c cs (position (is_byte m.ket) cs)) (Literal c) (Begins m r c cs)
     (λ e. ket-begins m r c cs (position (is_byte m.ket) cs) behind (eqb-true c m.bra e) refl)
-    (λ e. byte c cs (values m r 0 cs)
+    (λ e. byte c cs (segments_text m r 0 cs)
     (λ name rest lacks same. let bra : c ≡ m.bra = cc in absurd (eqb-false c m.bra e bra)) (behind 0))
 
 behind : (m : Marks) (r : References) (taken : ℕ) (line : Text)
-    → LineBecomes m r (drop taken line) (values m r taken line)
+    → LineBecomes m r (drop taken line) (segments_text m r taken line)
 behind m r zero [] = ended
 behind m r (suc taken) [] = ended
 behind m r (suc taken) (c ∷ cs) = behind m r taken cs
 behind m r zero (c ∷ cs) = segment-begins m r c cs (λ taken. behind m r taken cs)
 
--- a line becomes what `substituted` gives
-pub line-becomes : (m : Marks) (r : References) (line : Text) → LineBecomes m r line (substituted m r line)
+-- a line becomes what `substituted_line` gives
+pub line-becomes : (m : Marks) (r : References) (line : Text) → LineBecomes m r line (substituted_line m r line)
 line-becomes m r line = behind m r 0 line

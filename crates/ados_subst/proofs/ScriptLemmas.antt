@@ -3,12 +3,12 @@ use Rattle.std.proofs.Common.{◌≡◌, ℕ, ◌+◌, List, [], ◌∷◌, ◌+
 use Rattle.ados_text.specs.Text.{Bytes, Text}
 use Rattle.ados_subst.specs.declared.above.Above.{Above}
 use Rattle.ados_subst.specs.declared.faults.SubstFault.{SubstFault}
-use Rattle.ados_subst.specs.Above.{at_first}
-use Rattle.ados_subst.specs.Directives.{directed}
+use Rattle.ados_subst.specs.Above.{initial_above}
+use Rattle.ados_subst.specs.Directives.{directive_result}
 use Rattle.ados_subst.specs.Faults.{Gives}
-use Rattle.ados_subst.specs.Lines.{substituted}
-use Rattle.ados_subst.specs.References.{referred}
-use Rattle.ados_subst.specs.Scripts.{LinesBecome, directive, ended, other, ScriptBecomes, behind, directive_in, is_dotted, line_before, lines_below, script_of, with_line}
+use Rattle.ados_subst.specs.Lines.{substituted_line}
+use Rattle.ados_subst.specs.References.{reference_value}
+use Rattle.ados_subst.specs.Scripts.{LinesBecome, directive, ended, other, ScriptBecomes, lines_after_directive, directive_in, is_dotted, lines_from_line, lines_below, script_of, with_line}
 use Rattle.ados_subst.proofs.ReferenceLemmas.{line-becomes}
 
 -- these lines before others, if there are others
@@ -30,8 +30,8 @@ Goes args process number lines = (above : Above) (texts : List Text)
 -- a directive, and the lines after it
 below-becomes : (args : Bytes) (process : Text) (above : Above) (number : ℕ) (line body : Text)
     (lines texts : List Text) (made : Result Above SubstFault) → Goes args process (number + 1) lines
-    → directive_in above.marks.dot line ≡ Some body → directed above args number body ≡ made
-    → behind (λ next. lines_below args process next (number + 1) lines) made ≡ Ok texts
+    → directive_in above.marks.dot line ≡ Some body → directive_result above args number body ≡ made
+    → lines_after_directive (λ next. lines_below args process next (number + 1) lines) made ≡ Ok texts
     → LinesBecome args process above number (line ∷ lines) texts
 below-becomes args process above number line body lines texts (Err fault) goes some made e = cc
 below-becomes args process above number line body lines texts (Ok next) goes some made e =
@@ -42,18 +42,18 @@ below-becomes args process above number line body lines texts (Ok next) goes som
 -- any line, and those after it
 from-becomes : (args : Bytes) (process : Text) (above : Above) (number : ℕ) (line : Text) (lines texts : List Text)
     (body : Option Text) → Goes args process (number + 1) lines → directive_in above.marks.dot line ≡ body
-    → line_before (λ next. lines_below args process next (number + 1) lines) args process above number line body
+    → lines_from_line (λ next. lines_below args process next (number + 1) lines) args process above number line body
     ≡ Ok texts
     → LinesBecome args process above number (line ∷ lines) texts
 from-becomes args process above number line lines texts None goes none e =
     let m = above.marks in
-    let r = referred above process in
-    let it = parted (substituted m r line) (lines_below args process above (number + 1) lines) texts e in
+    let r = reference_value above process in
+    let it = parted (substituted_line m r line) (lines_below args process above (number + 1) lines) texts e in
     let P : List Text → Type 0 = λ all. LinesBecome args process above number (line ∷ lines) all in
     subst P it.2
-    (other above number line (substituted m r line) lines it.0 none (line-becomes m r line) (goes above it.0 it.1))
+    (other above number line (substituted_line m r line) lines it.0 none (line-becomes m r line) (goes above it.0 it.1))
 from-becomes args process above number line lines texts (Some body) goes some e =
-    below-becomes args process above number line body lines texts (directed above args number body) goes some refl e
+    below-becomes args process above number line body lines texts (directive_result above args number body) goes some refl e
 
 lines-become : (args : Bytes) (process : Text) (number : ℕ) (lines : List Text) → Goes args process number lines
 lines-become args process number [] above texts e =
@@ -70,7 +70,7 @@ script-becomes lines texts args process = by (is_dotted lines) refl
   where
     by : (b : Bool) → is_dotted lines ≡ b → script_of lines args process ≡ Ok texts
         → ScriptBecomes lines args process texts
-    by true dotted = simp dotted (λ e. lines-become args process 1 lines at_first texts e)
+    by true dotted = simp dotted (λ e. lines-become args process 1 lines initial_above texts e)
     by false plain = simp plain (λ e. cc)
 
 pub said : (result : Result (List Text) SubstFault) (lines : List Text) (args : Bytes) (process : Text)

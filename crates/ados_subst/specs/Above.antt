@@ -7,8 +7,8 @@ use Rattle.ados_subst.specs.Marks.{first_marks}
 use Rattle.ados_subst.specs.Slots.{slot_of}
 
 -- what holds above the first line
-abbrev pub at_first : Above
-at_first = record { marks = first_marks; slots = None }
+abbrev pub initial_above : Above
+initial_above = record { marks = first_marks; slots = None }
 
 -- the option with a name; above the template there is none
 abbrev pub slot_in : Above → Text → Option Slot

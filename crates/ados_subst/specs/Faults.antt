@@ -9,14 +9,14 @@ use Rattle.ados_subst.specs.declared.faults.SubstFault.{SubstFault}
 use Rattle.ados_subst.specs.declared.faults.SubstFault.TheVariants as fault
 
 -- the fault of a script whose template is bad, or is not filled
-abbrev pub unfilled : ArgFault → SubstFault
-unfilled arg.BadTemplate = fault.Args arg.BadTemplate
-unfilled arg.BadNumber = fault.Args arg.BadNumber
-unfilled arg.ArgumentMissing = fault.Args arg.ArgumentMissing
-unfilled arg.ValueMissing = fault.Args arg.ValueMissing
-unfilled arg.TooMany = fault.Args arg.TooMany
-unfilled arg.Unmatched = fault.Args arg.Unmatched
-unfilled arg.NoMemory = fault.NoMemory
+abbrev pub args_fault : ArgFault → SubstFault
+args_fault arg.BadTemplate = fault.Args arg.BadTemplate
+args_fault arg.BadNumber = fault.Args arg.BadNumber
+args_fault arg.ArgumentMissing = fault.Args arg.ArgumentMissing
+args_fault arg.ValueMissing = fault.Args arg.ValueMissing
+args_fault arg.TooMany = fault.Args arg.TooMany
+args_fault arg.Unmatched = fault.Args arg.Unmatched
+args_fault arg.NoMemory = fault.NoMemory
 
 -- the number by which a command answers the fault; running out of memory has none
 abbrev pub result2_of : SubstFault → Result Result2 NoMemory

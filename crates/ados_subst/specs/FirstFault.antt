@@ -9,9 +9,9 @@ use Rattle.ados_subst.specs.declared.faults.SubstFault.{SubstFault}
 use Rattle.ados_subst.specs.declared.faults.SubstFault.TheVariants.{BadDirective}
 use Rattle.ados_subst.specs.declared.marks.Mark.{Mark}
 use Rattle.ados_subst.specs.declared.slots.Slot.{Slot}
-use Rattle.ados_subst.specs.Above.{at_first}
-use Rattle.ados_subst.specs.Directives.{directed, directive_named, is_remark}
-use Rattle.ados_subst.specs.Faults.{unfilled}
+use Rattle.ados_subst.specs.Above.{initial_above}
+use Rattle.ados_subst.specs.Directives.{directive_result, directive_named, is_remark}
+use Rattle.ados_subst.specs.Faults.{args_fault}
 use Rattle.ados_subst.specs.Scripts.{directive_in}
 use Rattle.ados_subst.specs.Slots.{slot_of}
 use Rattle.ados_items.specs.Parts.{first_word, rest_of}
@@ -27,7 +27,7 @@ pub data IsDirectiveFault (above : Above) (args : Bytes) (number : ℕ) (body : 
   second_template : directive_named (first_word body) ≡ Some Key → is_some above.slots ≡ true
       → IsDirectiveFault above args number body (BadDirective number)
   not_filled : (fault : ArgFault) → directive_named (first_word body) ≡ Some Key → is_some above.slots ≡ false
-      → fill_of (rest_of body) args ≡ Err fault → IsDirectiveFault above args number body (unfilled fault)
+      → fill_of (rest_of body) args ≡ Err fault → IsDirectiveFault above args number body (args_fault fault)
   no_option : directive_named (first_word body) ≡ Some Default → NamesNone above.slots (first_word (rest_of body))
       → IsDirectiveFault above args number body (BadDirective number)
   no_character : (mark : Mark) → directive_named (first_word body) ≡ Some (Sets mark) → length (rest_of body) ≢ 1
@@ -37,7 +37,7 @@ pub data IsDirectiveFault (above : Above) (args : Bytes) (number : ℕ) (body : 
 pub data Leads (args : Bytes) : Above → ℕ → List Text → Above → Type 0 where
   here : (above : Above) (number : ℕ) → Leads args above number [] above
   directive : (above next end : Above) (number : ℕ) (line body : Text) (lines : List Text)
-      → directive_in above.marks.dot line ≡ Some body → directed above args number body ≡ Ok next
+      → directive_in above.marks.dot line ≡ Some body → directive_result above args number body ≡ Ok next
       → Leads args next (number + 1) lines end → Leads args above number (line ∷ lines) end
   other : (above end : Above) (number : ℕ) (line : Text) (lines : List Text) → directive_in above.marks.dot line ≡ None
       → Leads args above (number + 1) lines end → Leads args above number (line ∷ lines) end
@@ -57,4 +57,4 @@ pub record FaultBelow (args : Bytes) (above : Above) (number : ℕ) (lines : Lis
 
 -- the first fault of a script's lines, which are counted from 1
 abbrev pub IsFirstFault : Bytes → List Text → SubstFault → Type 0
-IsFirstFault args lines fault = FaultBelow args at_first 1 lines fault
+IsFirstFault args lines fault = FaultBelow args initial_above 1 lines fault

@@ -12,44 +12,44 @@ pub data Segment : Type 0 where
   Value : Text → Text → Segment
 
 -- how many bytes it has after its first
-abbrev pub further : Segment → ℕ
-further (Literal c) = 0
-further (Value name value) = length name + 1
+abbrev pub segment_tail_len : Segment → ℕ
+segment_tail_len (Literal c) = 0
+segment_tail_len (Value name value) = length name + 1
 
 -- the text that it stands for
-abbrev pub meant : Segment → Text
-meant (Literal c) = c ∷ []
-meant (Value name value) = value
+abbrev pub segment_text : Segment → Text
+segment_text (Literal c) = c ∷ []
+segment_text (Value name value) = value
 
 -- a bra stays if the text up to its ket refers to nothing
-abbrev pub by_value : ℕ → Text → Option Text → Segment
-by_value c name None = Literal c
-by_value c name (Some value) = Value name value
+abbrev pub segment_by_value : ℕ → Text → Option Text → Segment
+segment_by_value c name None = Literal c
+segment_by_value c name (Some value) = Value name value
 
 -- a bra that no ket follows stays
-abbrev pub by_ket : References → ℕ → Text → Option ℕ → Segment
-by_ket references c rest None = Literal c
-by_ket references c rest (Some place) = by_value c (take place rest) (references (take place rest))
+abbrev pub segment_by_ket : References → ℕ → Text → Option ℕ → Segment
+segment_by_ket references c rest None = Literal c
+segment_by_ket references c rest (Some place) = segment_by_value c (take place rest) (references (take place rest))
 
 -- the segment that begins with a byte
 abbrev pub first_segment : Marks → References → ℕ → Text → Segment
 first_segment marks references c rest =
-    if c == marks.bra then by_ket references c rest (position (is_byte marks.ket) rest) else Literal c
+    if c == marks.bra then segment_by_ket references c rest (position (is_byte marks.ket) rest) else Literal c
 
 -- the segments of a line, after the bytes that belong to the segment before, of which `taken` are left
 abbrev pub segments : Marks → References → ℕ → Text → List Segment
 segments marks references taken [] = []
 segments marks references (suc taken) (c ∷ cs) = segments marks references taken cs
 segments marks references zero (c ∷ cs) =
-    (let segment = first_segment marks references c cs in segment ∷ segments marks references (further segment) cs)
+    (let segment = first_segment marks references c cs in segment ∷ segments marks references (segment_tail_len segment) cs)
 
 -- a line with its references replaced, after the bytes left of the segment before
-abbrev pub values : Marks → References → ℕ → Text → Text
-values marks references taken line = flat_map meant (segments marks references taken line)
+abbrev pub segments_text : Marks → References → ℕ → Text → Text
+segments_text marks references taken line = flat_map segment_text (segments marks references taken line)
 
 -- A line with its references replaced by what they stand for.
-abbrev pub substituted : Marks → References → Text → Text
-substituted marks references line = values marks references 0 line
+abbrev pub substituted_line : Marks → References → Text → Text
+substituted_line marks references line = segments_text marks references 0 line
 
 -- no byte of the text is this one
 abbrev pub Lacks : ℕ → Text → Type 0

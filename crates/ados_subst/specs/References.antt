@@ -16,16 +16,16 @@ abbrev pub is_byte : ℕ → ℕ → Bool
 is_byte c b = b == c
 
 -- the name of an option stands for its value
-abbrev pub by_name : Above → Text → Option Text
-by_name above name = option_map value_of (slot_in above name)
+abbrev pub value_by_name : Above → Text → Option Text
+value_by_name above name = option_map value_of (slot_in above name)
 
 -- the name of an option, the dollar at a place and a text stand for what the option was given, otherwise for that text
-abbrev pub by_dollar : Above → Text → ℕ → Option Text
-by_dollar above text place = option_map (value_or (drop (place + 1) text)) (slot_in above (take place text))
+abbrev pub value_by_dollar : Above → Text → ℕ → Option Text
+value_by_dollar above text place = option_map (value_or (drop (place + 1) text)) (slot_in above (take place text))
 
 -- what a text stands for, if it refers to something: two dollars to the shell's number
-abbrev pub referred : Above → Text → References
-referred above process text =
+abbrev pub reference_value : Above → Text → References
+reference_value above process text =
     let dollar = above.marks.dollar in
     if bytes_eq text (dollar ∷ dollar ∷ []) then Some process
-    else option_or (by_name above text) (option_and_then (by_dollar above text) (position (is_byte dollar) text))
+    else option_or (value_by_name above text) (option_and_then (value_by_dollar above text) (position (is_byte dollar) text))

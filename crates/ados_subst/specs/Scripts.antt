@@ -3,10 +3,10 @@ use Rattle.std.specs.Prelude.{◌≡◌, ℕ, ◌+◌, List, [], ◌∷◌, Bool
 use Rattle.ados_text.specs.Text.{Bytes, Text}
 use Rattle.ados_subst.specs.declared.above.Above.{Above}
 use Rattle.ados_subst.specs.declared.faults.SubstFault.{SubstFault}
-use Rattle.ados_subst.specs.Above.{at_first}
-use Rattle.ados_subst.specs.Directives.{directed}
-use Rattle.ados_subst.specs.Lines.{LineBecomes, substituted}
-use Rattle.ados_subst.specs.References.{referred}
+use Rattle.ados_subst.specs.Above.{initial_above}
+use Rattle.ados_subst.specs.Directives.{directive_result}
+use Rattle.ados_subst.specs.Lines.{LineBecomes, substituted_line}
+use Rattle.ados_subst.specs.References.{reference_value}
 
 -- what follows the dot, if the line is a directive
 abbrev pub directive_in : ℕ → Text → Option Text
@@ -19,26 +19,26 @@ with_line line (Ok lines) = Ok (line ∷ lines)
 with_line line (Err fault) = Err fault
 
 -- what gives the lines below, by what holds above them
-abbrev pub Below : Type 0
-Below = Above → Result (List Text) SubstFault
+abbrev pub LinesBelow : Type 0
+LinesBelow = Above → Result (List Text) SubstFault
 
 -- a directive leaves an empty line before those below it
-abbrev pub behind : Below → Result Above SubstFault → Result (List Text) SubstFault
-behind below (Ok above) = with_line [] (below above)
-behind below (Err fault) = Err fault
+abbrev pub lines_after_directive : LinesBelow → Result Above SubstFault → Result (List Text) SubstFault
+lines_after_directive below (Ok above) = with_line [] (below above)
+lines_after_directive below (Err fault) = Err fault
 
 -- a line before those below it, by what follows its dot if it is a directive
-abbrev pub line_before : Below → Bytes → Text → Above → ℕ → Text → Option Text → Result (List Text) SubstFault
-line_before below args process above number line None =
-    with_line (substituted above.marks (referred above process) line) (below above)
-line_before below args process above number line (Some body) = behind below (directed above args number body)
+abbrev pub lines_from_line : LinesBelow → Bytes → Text → Above → ℕ → Text → Option Text → Result (List Text) SubstFault
+lines_from_line below args process above number line None =
+    with_line (substituted_line above.marks (reference_value above process) line) (below above)
+lines_from_line below args process above number line (Some body) = lines_after_directive below (directive_result above args number body)
 
 -- the lines by what holds above them, the first with this number
 abbrev pub lines_below : Bytes → Text → Above → ℕ → List Text → Result (List Text) SubstFault
 lines_below args process above number [] = Ok []
 lines_below args process above number (line ∷ lines) =
     (let below = λ (next : Above). lines_below args process next (number + 1) lines in
-    line_before below args process above number line (directive_in above.marks.dot line))
+    lines_from_line below args process above number line (directive_in above.marks.dot line))
 
 -- the first line begins with a `.`
 abbrev pub is_dotted : List Text → Bool
@@ -48,22 +48,22 @@ is_dotted (line ∷ lines) = is_some (directive_in 46 line)
 -- The lines of a script, or the fault of its first directive that has one; those of a script whose first line does
 -- not begin with `.` stay.
 abbrev pub script_of : List Text → Bytes → Text → Result (List Text) SubstFault
-script_of lines args process = if is_dotted lines then lines_below args process at_first 1 lines else Ok lines
+script_of lines args process = if is_dotted lines then lines_below args process initial_above 1 lines else Ok lines
 
 -- Lines become texts, below what holds above them: a directive becomes an empty line, and changes what holds above
 -- the next one; another line becomes a text by what holds above it.
 pub data LinesBecome (args : Bytes) (process : Text) : Above → ℕ → List Text → List Text → Type 0 where
   ended : (above : Above) (number : ℕ) → LinesBecome args process above number [] []
   directive : (above next : Above) (number : ℕ) (line body : Text) (lines texts : List Text)
-      → directive_in above.marks.dot line ≡ Some body → directed above args number body ≡ Ok next
+      → directive_in above.marks.dot line ≡ Some body → directive_result above args number body ≡ Ok next
       → LinesBecome args process next (number + 1) lines texts
       → LinesBecome args process above number (line ∷ lines) ([] ∷ texts)
   other : (above : Above) (number : ℕ) (line text : Text) (lines texts : List Text)
-      → directive_in above.marks.dot line ≡ None → LineBecomes above.marks (referred above process) line text
+      → directive_in above.marks.dot line ≡ None → LineBecomes above.marks (reference_value above process) line text
       → LinesBecome args process above (number + 1) lines texts
       → LinesBecome args process above number (line ∷ lines) (text ∷ texts)
 
 -- The lines of a script become texts if the first begins with a `.`, and otherwise they stay.
 abbrev pub ScriptBecomes : List Text → Bytes → Text → List Text → Type 0
 ScriptBecomes lines args process texts =
-    MatchBool (is_dotted lines) (LinesBecome args process at_first 1 lines texts) (texts ≡ lines)
+    MatchBool (is_dotted lines) (LinesBecome args process initial_above 1 lines texts) (texts ≡ lines)

@@ -14,11 +14,11 @@ pub struct Above {
 }
 
 impl Above {
-    ghost use Rattle.ados_subst.specs.Above.{at_first, slot_in};
+    ghost use Rattle.ados_subst.specs.Above.{initial_above, slot_in};
 
     /// What holds above the first line, before any directive.
     pub fn first() -> Above
-        ensures { result ≡ at_first }
+        ensures { result ≡ initial_above }
     {
         Above {
             marks: Marks::first(),

@@ -1,7 +1,7 @@
 ghost use Rattle.std.specs.Prelude.{◌≡◌, Ok, IfOk};
 ghost use Rattle.ados_text.specs.Text.{IsText, is_same};
 ghost use Rattle.ados_subst.specs.Faults.{Gives};
-ghost use Rattle.ados_subst.specs.Directives.{default_of, defaulted, directed, directive_named, is_remark, keyed, mark_named, marked, slots_for};
+ghost use Rattle.ados_subst.specs.Directives.{default_of, default_result, directive_result, directive_named, is_remark, key_result, mark_named, mark_result, slots_of_template};
 
 use crate::above::Above;
 use crate::faults::SubstFault;
@@ -36,7 +36,7 @@ pub fn directed(
     body: &[u8],
 ) -> Result<Above, SubstFault>
     requires { IsText body.now }
-    ensures { Gives result (directed above args.now number body.now) }
+    ensures { Gives result (directive_result above args.now number body.now) }
 {
     if is_remark(body) {
         return Ok(above);
@@ -104,7 +104,7 @@ fn keyed(
     text: &[u8],
 ) -> Result<Above, SubstFault>
     requires { IsText text.now }
-    ensures { Gives result (keyed above args.now number text.now) }
+    ensures { Gives result (key_result above args.now number text.now) }
 {
     if above.slots.is_some() {
         return Err(SubstFault::BadDirective(number));
@@ -117,7 +117,7 @@ fn keyed(
 
 // The options of a template's text, filled with the arguments.
 fn slots_for(alloc: Global, text: &Text, args: &[u8]) -> Result<Slots, SubstFault>
-    ensures { Gives result (slots_for text.now args.now) }
+    ensures { Gives result (slots_of_template text.now args.now) }
 {
     let template = Template::parse(alloc, text)?;
     let args = template.fill(alloc, args)?;
@@ -127,7 +127,7 @@ fn slots_for(alloc: Global, text: &Text, args: &[u8]) -> Result<Slots, SubstFaul
 // `.DEF`: the default of an option.
 fn defaulted(alloc: Global, above: Above, number: usize, text: &[u8]) -> Result<Above, SubstFault>
     requires { IsText text.now }
-    ensures { Gives result (defaulted above number text.now) }
+    ensures { Gives result (default_result above number text.now) }
 {
     let default = default_of(alloc, rest_of(text))?;
     match above
@@ -156,7 +156,7 @@ fn default_of(alloc: Global, text: &[u8]) -> Result<Text, NoMemory>
 
 // `.BRA` and those like it: one other character.
 fn marked(above: Above, number: usize, mark: Mark, text: &[u8]) -> Result<Above, SubstFault>
-    ensures { result ≡ marked above number mark text.now }
+    ensures { result ≡ mark_result above number mark text.now }
 {
     match text {
         [byte] => Ok(Above {

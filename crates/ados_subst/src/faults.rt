@@ -1,5 +1,5 @@
 ghost use Rattle.std.specs.Prelude.{◌≡◌};
-ghost use Rattle.ados_subst.specs.Faults.{result2_of, unfilled};
+ghost use Rattle.ados_subst.specs.Faults.{result2_of, args_fault};
 ghost use Rattle.ados_subst.specs.declared.faults.SubstFault.TheVariants.{NoMemory as OutOfMemory};
 
 use ados_readargs::ArgFault;
@@ -36,7 +36,7 @@ impl SubstFault {
 }
 
 impl From<ArgFault> for SubstFault {
-    ghost from_gives = { λ fault e. e ≡ unfilled fault };
+    ghost from_gives = { λ fault e. e ≡ args_fault fault };
 
     fn from(fault: ArgFault) -> SubstFault {
         match fault {

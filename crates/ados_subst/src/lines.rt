@@ -1,8 +1,8 @@
 ghost use Rattle.std.specs.Prelude.{◌≡◌, ◌<◌, ◌++◌, IfOk};
 ghost use Rattle.std.specs.List.{position_or_len};
 ghost use Rattle.ados_text.specs.Text.{IsText};
-ghost use Rattle.ados_subst.specs.References.{is_byte, referred};
-ghost use Rattle.ados_subst.specs.Lines.{first_segment, further, meant, substituted};
+ghost use Rattle.ados_subst.specs.References.{is_byte, reference_value};
+ghost use Rattle.ados_subst.specs.Lines.{first_segment, segment_tail_len, segment_text, substituted_line};
 
 use crate::above::Above;
 use crate::next::{next_place, place_or_len};
@@ -18,7 +18,7 @@ pub fn substituted(
     line: &[u8],
 ) -> Result<Text, NoMemory>
     requires { IsText line.now }
-    ensures { IfOk result (λ text. text ≡ substituted above.now.marks (referred above.now process.now) line.now) }
+    ensures { IfOk result (λ text. text ≡ substituted_line above.now.marks (reference_value above.now process.now) line.now) }
 {
     let mut text = Text::new(alloc);
     let mut taken = 0;
@@ -65,8 +65,8 @@ fn push_segment(
     requires rest { IsText rest.bytes.now }
     requires ket { rest.ket ≡ position_or_len (is_byte above.now.marks.ket) rest.bytes.now }
     requires dollar { rest.dollar ≡ position_or_len (is_byte above.now.marks.dollar) rest.bytes.now }
-    ensures { let segment = first_segment above.now.marks (referred above.now process.now) byte rest.entry.bytes.now in
-        IfOk result (λ count. (count ≡ further segment) × (text.new ≡ text.old ++ meant segment)) }
+    ensures { let segment = first_segment above.now.marks (reference_value above.now process.now) byte rest.entry.bytes.now in
+        IfOk result (λ count. (count ≡ segment_tail_len segment) × (text.new ≡ text.old ++ segment_text segment)) }
 {
     if byte == above.marks.bra && rest.ket < rest.bytes.len() {
         let name = &rest.bytes[..rest.ket];

@@ -2,7 +2,7 @@ ghost use Rattle.std.specs.Prelude.{◌≡◌, IfSome};
 ghost use Rattle.std.specs.List.{position_or_len};
 ghost use Rattle.std.specs.Option.{option_copied};
 ghost use Rattle.ados_text.specs.Text.{IsText};
-ghost use Rattle.ados_subst.specs.References.{is_byte, referred};
+ghost use Rattle.ados_subst.specs.References.{is_byte, reference_value};
 
 use crate::above::Above;
 use ados_text::Text;
@@ -18,7 +18,7 @@ pub fn referred<'a>(
 ) -> Option<&'a [u8]>
     requires text { IsText text.now }
     requires place { place ≡ position_or_len (is_byte above.now.marks.dollar) text.now }
-    ensures value { option_copied result ≡ referred above.now process.now text.now }
+    ensures value { option_copied result ≡ reference_value above.now process.now text.now }
     ensures ascii { IfSome result (λ value. IsText value.now) }
 {
     let dollar = above.marks.dollar;

@@ -3,7 +3,7 @@ ghost use Rattle.std.specs.Fmt.{decimal};
 ghost use Rattle.std.specs.Option.{option_copied};
 ghost use Rattle.ados_text.specs.Lines.{lines_of};
 ghost use Rattle.ados_text.specs.Text.{IsText};
-ghost use Rattle.ados_subst.specs.Above.{at_first};
+ghost use Rattle.ados_subst.specs.Above.{initial_above};
 ghost use Rattle.ados_subst.specs.Faults.{Gives};
 ghost use Rattle.ados_subst.specs.Scripts.{ScriptBecomes, directive_in, is_dotted, lines_below, script_of};
 
@@ -64,7 +64,7 @@ fn lines_below(
     process: &Text,
     lines: &[Text],
 ) -> Result<Texts, SubstFault>
-    ensures { Gives result (lines_below args.now process.now at_first 1 lines.now) }
+    ensures { Gives result (lines_below args.now process.now initial_above 1 lines.now) }
 {
     let mut above = Above::first();
     let mut texts = Texts::new(alloc);

@@ -3,7 +3,7 @@ use Rattle.std.proofs.Common.{ℕ, ◌+◌, ◌<◌, ◌≤◌, ◌≡◌, ◌�
 use Rattle.std.specs.Prelude.{slice_index}
 use Rattle.std.proofs.lemmas.List.{drop_more, drop_all}
 use Rattle.ados_text.specs.Text.{to_ascii}
-use Rattle.ados_text.specs.Lines.{is_newline, before_lines, lines_of}
+use Rattle.ados_text.specs.Lines.{is_newline, lines_with_byte, lines_of}
 
 -- the first of these lines continues what was begun; at the end of the bytes that is a line itself, unless it is empty
 abbrev pub begun_by : List ℕ → List (List ℕ) → List (List ℕ)
@@ -15,7 +15,7 @@ line-ends : (line : List ℕ) (lines : List (List ℕ)) → begun_by line ([] �
 line-ends [] lines = refl
 line-ends (byte ∷ bytes) lines = ap (λ l. l ∷ lines) (append-nil (byte ∷ bytes))
 
-line-goes-on : (line : List ℕ) (next : ℕ) (lines : List (List ℕ)) → begun_by line (before_lines next lines) ≡ begun_by (line ++ next ∷ []) lines
+line-goes-on : (line : List ℕ) (next : ℕ) (lines : List (List ℕ)) → begun_by line (lines_with_byte next lines) ≡ begun_by (line ++ next ∷ []) lines
 line-goes-on [] next [] = refl
 line-goes-on [] next (first ∷ lines) = refl
 line-goes-on (byte ∷ bytes) next [] = refl
@@ -24,7 +24,7 @@ line-goes-on (byte ∷ bytes) next (first ∷ lines) = ap (λ l. l ∷ lines) (s
 newline-step : (byte : ℕ) (bytes : List ℕ) → is_newline byte ≡ true → lines_of (byte ∷ bytes) ≡ [] ∷ lines_of bytes
 newline-step byte bytes b = rw b refl
 
-byte-step : (byte : ℕ) (bytes : List ℕ) → is_newline byte ≡ false → lines_of (byte ∷ bytes) ≡ before_lines (to_ascii byte) (lines_of bytes)
+byte-step : (byte : ℕ) (bytes : List ℕ) → is_newline byte ≡ false → lines_of (byte ∷ bytes) ≡ lines_with_byte (to_ascii byte) (lines_of bytes)
 byte-step byte bytes b = rw b refl
 
 -- a byte 10 ends the line

@@ -4,8 +4,8 @@ use Rattle.std.proofs.Math.ListN.{replicate}
 use Rattle.ados_text.specs.Text.{Bytes}
 
 -- a text at the left of `width` columns, and at the right
-abbrev pub left_in : ℕ → Bytes → Bytes
-left_in width text = text ++ replicate (width - length text) 32
+abbrev pub left_aligned_text : ℕ → Bytes → Bytes
+left_aligned_text width text = text ++ replicate (width - length text) 32
 
-abbrev pub right_in : ℕ → Bytes → Bytes
-right_in width text = replicate (width - length text) 32 ++ text
+abbrev pub right_aligned_text : ℕ → Bytes → Bytes
+right_aligned_text width text = replicate (width - length text) 32 ++ text

@@ -7,14 +7,14 @@ use Rattle.std.specs.List.{prefix_len, list_all}
 use Rattle.ados_text.specs.Text.{to_ascii, IsText, Bytes, Text}
 use Rattle.ados_items.specs.declared.items.Item.{Item}
 use Rattle.ados_items.specs.declared.items.Item.TheVariants.{Word, Quoted, Equal, End, Unmatched}
-use Rattle.ados_items.specs.Items.{is_blank, is_word_byte, closing_from, quoted_of, item_by_first, item_at, escape_of, unescaped, bytes_between, value_of}
-use Rattle.ados_transfer.specs.Words.{equal_signs, escaped, has_plain_ends, inside, is_bare, is_plain, is_starred, quoted, word_of, IsApart, ReadsAs, end_of}
+use Rattle.ados_items.specs.Items.{is_blank, is_word_byte, closing_place, quoted_item, item_by_first, item_at, escape_of, unescaped_bytes, bytes_between, value_of}
+use Rattle.ados_transfer.specs.Words.{equal_signs, escaped_byte, has_plain_ends, quoted_body, is_bare, is_plain, is_starred, quoted_word, word_of, IsApart, ReadsAs, end_of}
 
 -- the closing quote is the one after the text
-closing-inside : (t : Bytes) (place : ℕ) (after : Bytes) → closing_from place false (inside t ++ 34 ∷ after) ≡ Some (place + length (inside t))
+closing-inside : (t : Bytes) (place : ℕ) (after : Bytes) → closing_place place false (quoted_body t ++ 34 ∷ after) ≡ Some (place + length (quoted_body t))
 closing-inside [] place after = ap Some (omega arith)
 closing-inside (c ∷ cs) place after =
-    let P : Bytes → Type 0 = λ e. closing_from place false ((e ++ inside cs) ++ 34 ∷ after) ≡ Some (place + length (e ++ inside cs)) in
+    let P : Bytes → Type 0 = λ e. closing_place place false ((e ++ quoted_body cs) ++ 34 ∷ after) ≡ Some (place + length (e ++ quoted_body cs)) in
     let starred : (x : ℕ) → P (42 ∷ x ∷ []) = λ x. closing-inside cs (place + 1 + 1) after ∙ ap Some (omega arith) in
     cond_both (c == 10) _ _ P (λ _. starred 78) (λ _.
     cond_both (c == 27) _ _ P (λ _. starred 69) (λ _.
@@ -24,11 +24,11 @@ closing-inside (c ∷ cs) place after =
     rw (e34, e42) (closing-inside cs (place + 1) after ∙ ap Some (omega arith)))))
 
 -- what is inside the quotes is read as the text
-unescaped-inside : (t : Bytes) → unescaped false (inside t) ≡ t
+unescaped-inside : (t : Bytes) → unescaped_bytes false (quoted_body t) ≡ t
 unescaped-inside [] = refl
 unescaped-inside (c ∷ cs) =
     let rest = unescaped-inside cs in
-    let P : Bytes → Type 0 = λ e. unescaped false (e ++ inside cs) ≡ c ∷ cs in
+    let P : Bytes → Type 0 = λ e. unescaped_bytes false (e ++ quoted_body cs) ≡ c ∷ cs in
     let starred : (x : ℕ) → escape_of x ≡ c → P (42 ∷ x ∷ []) = λ x e. cc in
     cond_both (c == 10) _ _ P (λ e. starred 78 (grind (arith, nat_tests))) (λ _.
     cond_both (c == 27) _ _ P (λ e. starred 69 (grind (arith, nat_tests))) (λ _.
@@ -37,19 +37,19 @@ unescaped-inside (c ∷ cs) =
     rw e42 (ap (λ xs. c ∷ xs) rest))))
 
 -- a blank, then the word in quotes, then what follows it
-quoted_line : (before t after : Bytes) → (before ++ 32 ∷ quoted t) ++ after ≡ before ++ 32 ∷ 34 ∷ (inside t ++ 34 ∷ after)
+quoted_line : (before t after : Bytes) → (before ++ 32 ∷ quoted_word t) ++ after ≡ before ++ 32 ∷ 34 ∷ (quoted_body t ++ 34 ∷ after)
 quoted_line before t after =
-    append_assoc before (32 ∷ quoted t) after ∙ ap (λ rest. before ++ 32 ∷ 34 ∷ rest) (append_assoc (inside t) (34 ∷ []) after)
+    append_assoc before (32 ∷ quoted_word t) after ∙ ap (λ rest. before ++ 32 ∷ 34 ∷ rest) (append_assoc (quoted_body t) (34 ∷ []) after)
 
-quoted-item : (apart : Bool) (before t after : Bytes) (line : Bytes) → line ≡ before ++ 32 ∷ 34 ∷ (inside t ++ 34 ∷ after)
-    → item_at apart line (length before) ≡ Quoted (length before + 1 + 1) (length before + 1 + 1 + length (inside t))
+quoted-item : (apart : Bool) (before t after : Bytes) (line : Bytes) → line ≡ before ++ 32 ∷ 34 ∷ (quoted_body t ++ 34 ∷ after)
+    → item_at apart line (length before) ≡ Quoted (length before + 1 + 1) (length before + 1 + 1 + length (quoted_body t))
 quoted-item apart before t after line e =
-    let rest : Bytes = 32 ∷ 34 ∷ (inside t ++ 34 ∷ after) in
+    let rest : Bytes = 32 ∷ 34 ∷ (quoted_body t ++ 34 ∷ after) in
     let here : drop (length before) line ≡ rest = rw e (drop-append_seam before rest) in
-    let next : drop (length before + 1) line ≡ 34 ∷ (inside t ++ 34 ∷ after) = rw e (drop-append-add before rest 1) in
+    let next : drop (length before + 1) line ≡ 34 ∷ (quoted_body t ++ 34 ∷ after) = rw e (drop-append-add before rest 1) in
     ap (λ d. item_by_first apart (length before + prefix_len is_blank d) (drop (length before + prefix_len is_blank d) line)) here
     ∙ ap (λ d. item_by_first apart (length before + 1) d) next
-    ∙ ap (quoted_of (length before + 1 + 1)) (closing-inside t (length before + 1 + 1) after)
+    ∙ ap (quoted_item (length before + 1 + 1)) (closing-inside t (length before + 1 + 1) after)
 
 ascii : (t : Bytes) → IsText t → map to_ascii t ≡ t
 ascii [] text = refl
@@ -59,28 +59,28 @@ ascii (c ∷ cs) text =
     let rest = ascii cs (λ k d within. text (suc k) d (omega arith)) in cc
 
 -- what is in quotes is read as the text
-quoted-value : (before t after : Bytes) (line : Bytes) → line ≡ before ++ 32 ∷ 34 ∷ (inside t ++ 34 ∷ after) → IsText t
-    → value_of line (Quoted (length before + 1 + 1) (length before + 1 + 1 + length (inside t))) ≡ t
+quoted-value : (before t after : Bytes) (line : Bytes) → line ≡ before ++ 32 ∷ 34 ∷ (quoted_body t ++ 34 ∷ after) → IsText t
+    → value_of line (Quoted (length before + 1 + 1) (length before + 1 + 1 + length (quoted_body t))) ≡ t
 quoted-value before t after line e text =
     let from : ℕ = length before + 1 + 1 in
-    let n : ℕ = length (inside t) in
-    let rest : Bytes = 32 ∷ 34 ∷ (inside t ++ 34 ∷ after) in
+    let n : ℕ = length (quoted_body t) in
+    let rest : Bytes = 32 ∷ 34 ∷ (quoted_body t ++ 34 ∷ after) in
     let two : length before + 1 + 1 ≡ length before + 2 = omega arith in
-    let dropped : drop (length before + 1 + 1) line ≡ inside t ++ 34 ∷ after = ap (λ k. drop k line) two ∙ rw e (drop-append-add before rest 2) in
-    let many : (length before + 1 + 1 + length (inside t)) - (length before + 1 + 1) ≡ length (inside t) = omega arith in
-    let between : bytes_between line (length before + 1 + 1) (length before + 1 + 1 + length (inside t)) ≡ inside t =
-    ap (λ k. take k (drop (length before + 1 + 1) line)) many ∙ ap (take (length (inside t))) dropped ∙ take-append_seam (inside t) (34 ∷ after) in
-    ap (λ b. map to_ascii (unescaped false b)) between ∙ ap (map to_ascii) (unescaped-inside t) ∙ ascii t text
+    let dropped : drop (length before + 1 + 1) line ≡ quoted_body t ++ 34 ∷ after = ap (λ k. drop k line) two ∙ rw e (drop-append-add before rest 2) in
+    let many : (length before + 1 + 1 + length (quoted_body t)) - (length before + 1 + 1) ≡ length (quoted_body t) = omega arith in
+    let between : bytes_between line (length before + 1 + 1) (length before + 1 + 1 + length (quoted_body t)) ≡ quoted_body t =
+    ap (λ k. take k (drop (length before + 1 + 1) line)) many ∙ ap (take (length (quoted_body t))) dropped ∙ take-append_seam (quoted_body t) (34 ∷ after) in
+    ap (λ b. map to_ascii (unescaped_bytes false b)) between ∙ ap (map to_ascii) (unescaped-inside t) ∙ ascii t text
 
 quoted-reads : (apart : Bool) (before t after : Bytes) → IsText t
-    → ReadsAs apart ((before ++ 32 ∷ quoted t) ++ after) (length before) (length (before ++ 32 ∷ quoted t)) t
+    → ReadsAs apart ((before ++ 32 ∷ quoted_word t) ++ after) (length before) (length (before ++ 32 ∷ quoted_word t)) t
 quoted-reads apart before t after text =
-    let line : Bytes = (before ++ 32 ∷ quoted t) ++ after in
+    let line : Bytes = (before ++ 32 ∷ quoted_word t) ++ after in
     let parts = quoted_line before t after in
     let item = quoted-item apart before t after line parts in
     record {
       value = ap (value_of line) item ∙ quoted-value before t after line parts text;
-      end = ap end_of item ∙ omega (arith, length-append before (32 ∷ quoted t), length-append (inside t) (34 ∷ []));
+      end = ap end_of item ∙ omega (arith, length-append before (32 ∷ quoted_word t), length-append (quoted_body t) (34 ∷ []));
     }
 
 both-left : (a b : Bool) → (a && b) ≡ true → a ≡ true
@@ -154,7 +154,7 @@ bare-reads before (c ∷ cs) after text bare apart =
 word-reads : (quotes : Bool) (before t after : Bytes) → IsText t → IsApart after
     → ReadsAs false ((before ++ 32 ∷ word_of quotes t) ++ after) (length before) (length (before ++ 32 ∷ word_of quotes t)) t
 word-reads quotes before t after text apart =
-    cond_both (not quotes && is_bare t) t (quoted t) (λ w. ReadsAs false ((before ++ 32 ∷ w) ++ after) (length before) (length (before ++ 32 ∷ w)) t)
+    cond_both (not quotes && is_bare t) t (quoted_word t) (λ w. ReadsAs false ((before ++ 32 ∷ w) ++ after) (length before) (length (before ++ 32 ∷ w)) t)
     (λ e. bare-reads before t after text (both-right (not quotes) (is_bare t) e) apart) (λ _. quoted-reads false before t after text)
 
 -- a line to which a blank and a word were appended

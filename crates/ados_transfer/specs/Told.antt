@@ -17,11 +17,11 @@ abbrev pub holds_file : Entry → Bytes → Bool → Bool
 holds_file entry bytes script = not (is_directory entry) && (bytes_eq (bytes_of entry) bytes && beq entry.bits.script script)
 
 -- what is at a place is what was planned
-abbrev pub holds : Option Entry → Content → Bool
-holds None content = false
-holds (Some entry) Directory = is_directory entry
-holds (Some entry) (File bytes script) = holds_file entry bytes script
+abbrev pub holds_content : Option Entry → Content → Bool
+holds_content None content = false
+holds_content (Some entry) Directory = is_directory entry
+holds_content (Some entry) (File bytes script) = holds_file entry bytes script
 
 -- it is in the files as planned
 abbrev pub is_as_told : Files → Told → Bool
-is_as_told files told = holds (map.get files (key_of told.place)) told.content
+is_as_told files told = holds_content (map.get files (key_of told.place)) told.content

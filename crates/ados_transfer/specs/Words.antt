@@ -11,20 +11,20 @@ abbrev pub is_starred : ℕ → Bool
 is_starred c = c == 34 || (c == 42 || (c == 36 || c == 96))
 
 -- a byte as it is written inside quotes: a newline and the byte 27 are written as letters
-abbrev pub escaped : ℕ → Bytes
-escaped c =
+abbrev pub escaped_byte : ℕ → Bytes
+escaped_byte c =
     if c == 10 then 42 ∷ 78 ∷ [] else
     (if c == 27 then 42 ∷ 69 ∷ [] else
     (if is_starred c then 42 ∷ c ∷ [] else c ∷ []))
 
 -- a text as it is written inside quotes
-abbrev pub inside : Text → Bytes
-inside [] = []
-inside (c ∷ cs) = escaped c ++ inside cs
+abbrev pub quoted_body : Text → Bytes
+quoted_body [] = []
+quoted_body (c ∷ cs) = escaped_byte c ++ quoted_body cs
 
 -- a text in quotes
-abbrev pub quoted : Text → Bytes
-quoted text = 34 ∷ (inside text ++ 34 ∷ [])
+abbrev pub quoted_word : Text → Bytes
+quoted_word text = 34 ∷ (quoted_body text ++ 34 ∷ [])
 
 -- the byte is a letter or a digit
 abbrev pub is_letter_or_digit : ℕ → Bool
@@ -56,7 +56,7 @@ is_bare text = has_plain_ends text && (list_all is_plain text && nat_lt (equal_s
 
 -- a text as a word of a typed line; `quotes` says that it is quoted in any case
 abbrev pub word_of : Bool → Text → Bytes
-word_of quotes text = if not quotes && is_bare text then text else quoted text
+word_of quotes text = if not quotes && is_bare text then text else quoted_word text
 
 -- nothing, or a blank
 abbrev pub IsApart : Bytes → Type 0

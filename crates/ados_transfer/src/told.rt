@@ -2,7 +2,7 @@
 ghost use Rattle.std.specs.Prelude.{◌≡◌};
 ghost use Rattle.std.specs.List.{list_all};
 ghost use Rattle.std.specs.Option.{option_copied};
-ghost use Rattle.ados_transfer.specs.Told.{is_as_told, holds, holds_file};
+ghost use Rattle.ados_transfer.specs.Told.{is_as_told, holds_content, holds_file};
 
 use ados_ram::{Entry, Place, Ram};
 use ados_text::Octets;
@@ -41,7 +41,7 @@ fn is_as_told(files: &Ram, told: &Told) -> bool
 
 // What is at a place is what was planned.
 fn holds(entry: Option<&Entry>, content: &Content) -> bool
-    ensures { result ≡ holds (option_copied entry.entry) content.now }
+    ensures { result ≡ holds_content (option_copied entry.entry) content.now }
 {
     let Some(entry) = entry else {
         return false;

@@ -2,7 +2,7 @@
 ghost use Rattle.std.specs.Prelude.{◌≡◌, ◌<◌, ◌++◌, ◌∷◌, [], List, ℕ, Bool, length, map, true, false, IfOk, OnOk, if◌then◌else◌};
 ghost use Rattle.std.specs.List.{list_all};
 ghost use Rattle.ados_text.specs.Text.{IsText};
-ghost use Rattle.ados_transfer.specs.Words.{equal_signs, escaped, has_plain_ends, inside, is_bare, is_first_sign, is_plain, is_starred, quoted, word_of, IsApart, ReadsAs};
+ghost use Rattle.ados_transfer.specs.Words.{equal_signs, escaped_byte, has_plain_ends, quoted_body, is_bare, is_first_sign, is_plain, is_starred, quoted_word, word_of, IsApart, ReadsAs};
 
 use ados_text::{NoMemory, Text};
 
@@ -40,7 +40,7 @@ fn push_written(line: &mut Text, text: &Text, quotes: bool) -> Result<(), NoMemo
 // Adds a text in quotes.
 fn push_quoted(line: &mut Text, text: &[u8]) -> Result<(), NoMemory>
     requires { IsText text.now }
-    ensures { OnOk result (line.new ≡ line.old ++ quoted text.now) }
+    ensures { OnOk result (line.new ≡ line.old ++ quoted_word text.now) }
 {
     line.push(b'"')?;
     push_inside(line, text)?;
@@ -50,7 +50,7 @@ fn push_quoted(line: &mut Text, text: &[u8]) -> Result<(), NoMemory>
 // Adds a text as it is written inside quotes.
 fn push_inside(line: &mut Text, text: &[u8]) -> Result<(), NoMemory>
     requires { IsText text.now }
-    ensures { OnOk result (line.new ≡ line.old ++ inside text.now) }
+    ensures { OnOk result (line.new ≡ line.old ++ quoted_body text.now) }
 {
     for byte in text {
         push_escaped(line, *byte)?;
@@ -61,7 +61,7 @@ fn push_inside(line: &mut Text, text: &[u8]) -> Result<(), NoMemory>
 // Adds a byte as it is written inside quotes.
 fn push_escaped(line: &mut Text, byte: u8) -> Result<(), NoMemory>
     requires { byte < 128 }
-    ensures { OnOk result (line.new ≡ line.old ++ escaped byte) }
+    ensures { OnOk result (line.new ≡ line.old ++ escaped_byte byte) }
 {
     match byte {
         b'\n' => line.push_bytes(b"*N"),

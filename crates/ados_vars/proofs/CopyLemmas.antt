@@ -3,7 +3,7 @@ use Rattle.std.proofs.Common.{◌≡◌, ◌∙◌, ℕ, [], ◌∷◌, ◌++◌
 use Rattle.std.proofs.lemmas.Cmp.{on_equiv, nat_list_eq_equiv}
 use Rattle.std.specs.List.{AllByRecursion, IsDistinct, filter}
 use Rattle.std.specs.Map.{keys_of}
-use Rattle.ados_text.specs.Text.{Text, folded, is_same}
+use Rattle.ados_text.specs.Text.{Text, folded_text, is_same}
 use Rattle.ados_vars.specs.Vars.{Pairs, AreDistinct, set_pair, set_all, value_in}
 use Rattle.ados_vars.specs.Locals.{process_name, code_name, fault_name, own_pairs, is_other, copied_pairs}
 use Rattle.ados_vars.proofs.VarsLemmas.{value-set}
@@ -29,7 +29,7 @@ still-new : (pairs : Pairs) (p : Text × Text) (ps : Pairs) → AllByRecursion (
 still-new pairs p [] apart new = tt
 still-new pairs p (q ∷ qs) apart new = (
   (λ other. value-set pairs p.0 p.1 q.0
-      ∙ ap (λ b. cond b (Some p.1) (value_in pairs q.0)) ((on_equiv folded nat_list_eq_equiv).symm q.0 p.0 ∙ apart.0) ∙ new.0 other),
+      ∙ ap (λ b. cond b (Some p.1) (value_in pairs q.0)) ((on_equiv folded_text nat_list_eq_equiv).symm q.0 p.0 ∙ apart.0) ∙ new.0 other),
   still-new pairs p qs apart.1 new.1,
 )
 

@@ -5,8 +5,8 @@ use Rattle.std.proofs.lemmas.Bool.{cases_Bool, or_parts}
 use Rattle.ados_text.specs.Text.{Text, is_same}
 use Rattle.ados_text.specs.declared.codes.Code.{Code}
 use Rattle.ados_text.specs.declared.codes.Result2.{Result2}
-use Rattle.ados_vars.specs.Vars.{Pairs, set_pair, value_in, without}
-use Rattle.ados_vars.specs.Locals.{code_name, fault_name, is_of_codes, with_codes, shown, unset_in, own_pairs, copied_pairs, HasCodes, AnswerIsSeen, SettingIsSeen, UnsettingIsSeen, CodesBegin, CodesStay}
+use Rattle.ados_vars.specs.Vars.{Pairs, set_pair, value_in, remove_pair}
+use Rattle.ados_vars.specs.Locals.{code_name, fault_name, is_of_codes, with_codes, shown_pairs, unset_pair, own_pairs, copied_pairs, HasCodes, AnswerIsSeen, SettingIsSeen, UnsettingIsSeen, CodesBegin, CodesStay}
 use Rattle.ados_vars.proofs.VarsLemmas.{value-set, value-without, set-there, set-keeps, set-again, set-swaps, set-over, without-over, without-set}
 
 apart : is_same code_name fault_name ≡ false
@@ -30,7 +30,7 @@ set-keeps-codes pairs name value h = record {
 }
 
 pub without-keeps-codes : (pairs : Pairs) (name : Text) → is_same name code_name ≡ false → is_same name fault_name ≡ false → HasCodes pairs
-    → HasCodes (without pairs name)
+    → HasCodes (remove_pair pairs name)
 without-keeps-codes pairs name e f h = record {
   code = rw (value-without pairs name code_name e) h.code;
   fault = rw (value-without pairs name fault_name f) h.fault;
@@ -67,58 +67,58 @@ set-below-codes pairs code fault name value next last h =
     (λ ps own old new there. set-over ps own old name value new there)
 
 pub without-below-codes : (pairs : Pairs) (code fault name next last : Text) → is_same name fault_name ≡ false → HasCodes pairs
-    → with_codes (without (with_codes pairs code fault) name) next last ≡ with_codes (without pairs name) next last
+    → with_codes (remove_pair (with_codes pairs code fault) name) next last ≡ with_codes (remove_pair pairs name) next last
 without-below-codes pairs code fault name next last other h =
-    over (λ ps. without ps name) pairs code fault next last h
+    over (λ ps. remove_pair ps name) pairs code fault next last h
     (λ ps there. rw (value-without ps name fault_name other) there)
     (λ ps own old new there. without-over ps own old name new there)
 
-pub shown-again : (pairs : Pairs) (code next : Code) (result2 last : Result2) → shown (shown pairs code result2) next last ≡ shown pairs next last
-unfolding shown
+pub shown-again : (pairs : Pairs) (code next : Code) (result2 last : Result2) → shown_pairs (shown_pairs pairs code result2) next last ≡ shown_pairs pairs next last
+unfolding shown_pairs
 shown-again pairs code next result2 last = codes-again pairs (signed_decimal code.0) (decimal result2.0) (signed_decimal next.0) (decimal last.0)
 
-pub shown-over : (pairs : Pairs) (code : Code) (result2 : Result2) (before fault : Text) → shown (with_codes pairs before fault) code result2 ≡ shown pairs code result2
-unfolding shown
+pub shown-over : (pairs : Pairs) (code : Code) (result2 : Result2) (before fault : Text) → shown_pairs (with_codes pairs before fault) code result2 ≡ shown_pairs pairs code result2
+unfolding shown_pairs
 shown-over pairs code result2 before fault = codes-again pairs before fault (signed_decimal code.0) (decimal result2.0)
 
 pub shown-set : (pairs : Pairs) (code next : Code) (result2 last : Result2) (name value : Text) → HasCodes pairs
-    → shown (set_pair pairs name value) next last ≡ shown (set_pair (shown pairs code result2) name value) next last
-unfolding shown
+    → shown_pairs (set_pair pairs name value) next last ≡ shown_pairs (set_pair (shown_pairs pairs code result2) name value) next last
+unfolding shown_pairs
 shown-set pairs code next result2 last name value h =
     sym (set-below-codes pairs (signed_decimal code.0) (decimal result2.0) name value (signed_decimal next.0) (decimal last.0) h)
 
 -- the values of both, and of others
 value-shown : (pairs : Pairs) (code : Code) (result2 : Result2) (name : Text)
-    → value_in (shown pairs code result2) name
+    → value_in (shown_pairs pairs code result2) name
     ≡ cond (is_same name fault_name) (Some (decimal result2.0)) (cond (is_same name code_name) (Some (signed_decimal code.0)) (value_in pairs name))
-unfolding shown with_codes
+unfolding shown_pairs with_codes
 value-shown pairs code result2 name =
     value-set (set_pair pairs code_name (signed_decimal code.0)) fault_name (decimal result2.0) name
     ∙ ap (λ o. cond (is_same name fault_name) (Some (decimal result2.0)) o) (value-set pairs code_name (signed_decimal code.0) name)
 
 pub fault-value : (pairs : Pairs) (code : Code) (result2 : Result2) (name : Text) → is_same name fault_name ≡ true
-    → value_in (shown pairs code result2) name ≡ Some (decimal result2.0)
+    → value_in (shown_pairs pairs code result2) name ≡ Some (decimal result2.0)
 fault-value pairs code result2 name e = value-shown pairs code result2 name ∙ simp e refl
 
 pub code-value : (pairs : Pairs) (code : Code) (result2 : Result2) (name : Text) → is_same name fault_name ≡ false → is_same name code_name ≡ true
-    → value_in (shown pairs code result2) name ≡ Some (signed_decimal code.0)
+    → value_in (shown_pairs pairs code result2) name ≡ Some (signed_decimal code.0)
 code-value pairs code result2 name e f = value-shown pairs code result2 name ∙ simp (e, f) refl
 
 pub other-value : (pairs : Pairs) (code : Code) (result2 : Result2) (name : Text) → is_same name fault_name ≡ false → is_same name code_name ≡ false
-    → value_in (shown pairs code result2) name ≡ value_in pairs name
+    → value_in (shown_pairs pairs code result2) name ≡ value_in pairs name
 other-value pairs code result2 name e f = value-shown pairs code result2 name ∙ simp (e, f) refl
 
 -- names removed before the end of a command
 without-fault : (pairs : Pairs) (code fault name next last : Text) → is_same name fault_name ≡ true → HasCodes pairs
-    → with_codes (without (with_codes pairs code fault) name) next last ≡ with_codes (without pairs name) next last
+    → with_codes (remove_pair (with_codes pairs code fault) name) next last ≡ with_codes (remove_pair pairs name) next last
 unfolding with_codes
 without-fault pairs code fault name next last same h =
     ap (λ ps. set_pair (set_pair ps code_name next) fault_name last) (without-set (set_pair pairs code_name code) fault_name name fault same)
     ∙ ap (λ ps. set_pair ps fault_name last) (without-over pairs code_name code name next h.code)
 
 without-seen : (pairs : Pairs) (old code : Code) (before result2 : Result2) (name : Text) → HasCodes pairs
-    → shown (without (shown pairs old before) name) code result2 ≡ shown (without pairs name) code result2
-unfolding shown
+    → shown_pairs (remove_pair (shown_pairs pairs old before) name) code result2 ≡ shown_pairs (remove_pair pairs name) code result2
+unfolding shown_pairs
 without-seen pairs old code before result2 name h =
     elim (cases_Bool (is_same name fault_name)) [
       | inl e ↦ without-fault pairs (signed_decimal old.0) (decimal before.0) name (signed_decimal code.0) (decimal result2.0) e h
@@ -133,19 +133,19 @@ pub setting-seen : SettingIsSeen
 setting-seen pairs old code before result2 name value h = sym (shown-set pairs old code before result2 name value h)
 
 pub unsetting-seen : UnsettingIsSeen
-unfolding unset_in
+unfolding unset_pair
 unsetting-seen pairs old code before result2 name h =
     without-seen pairs old code before result2 name h
     ∙ elim (cases_Bool (is_of_codes name)) [
-      | inl e ↦ rw e (sym (shown-over (without pairs name) code result2 [] []))
+      | inl e ↦ rw e (sym (shown-over (remove_pair pairs name) code result2 [] []))
       | inr e ↦ rw e refl
     ]
 
-unset-keeps-codes : (pairs : Pairs) (name : Text) → HasCodes pairs → HasCodes (unset_in pairs name)
-unfolding unset_in
+unset-keeps-codes : (pairs : Pairs) (name : Text) → HasCodes pairs → HasCodes (unset_pair pairs name)
+unfolding unset_pair
 unset-keeps-codes pairs name h =
     elim (cases_Bool (is_of_codes name)) [
-      | inl e ↦ rw e (has-codes (without pairs name) [] [])
+      | inl e ↦ rw e (has-codes (remove_pair pairs name) [] [])
       | inr e ↦ rw e (let other = or_parts _ _ e in without-keeps-codes pairs name other.0 other.1 h)
     ]
 

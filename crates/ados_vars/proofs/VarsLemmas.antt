@@ -3,8 +3,8 @@ use Rattle.std.proofs.Common.{◌≡◌, ◌∙◌, [], ◌∷◌, Bool, true, f
 use Rattle.std.proofs.lemmas.Cmp.{on_equiv, nat_list_eq_equiv}
 use Rattle.std.specs.Map.{lookup, lookup_key, remove_entry}
 use Rattle.indexmap.specs.IndexMap.{insert_entry}
-use Rattle.ados_text.specs.Text.{Text, folded, is_same}
-use Rattle.ados_vars.specs.Vars.{Pairs, set_pair, value_in, name_in, without}
+use Rattle.ados_text.specs.Text.{Text, folded_text, is_same}
+use Rattle.ados_vars.specs.Vars.{Pairs, set_pair, value_in, name_in, remove_pair}
 
 -- the same with the definitions of the map
 pub insert_entry-is : (pairs : Pairs) (name value : Text) → insert_entry is_same pairs name value ≡ set_pair pairs name value
@@ -22,22 +22,22 @@ unfolding name_in
 lookup_key-is [] name = refl
 lookup_key-is (p ∷ ps) name = ap (cond (is_same name p.0) _) (lookup_key-is ps name)
 
-pub remove_entry-is : (pairs : Pairs) (name : Text) → remove_entry (is_same name) pairs ≡ without pairs name
-unfolding without
+pub remove_entry-is : (pairs : Pairs) (name : Text) → remove_entry (is_same name) pairs ≡ remove_pair pairs name
+unfolding remove_pair
 remove_entry-is [] name = refl
 remove_entry-is (p ∷ ps) name = ap (λ rest. cond (is_same name p.0) ps (p ∷ rest)) (remove_entry-is ps name)
 
 -- two texts that are the same name match the same texts
 same-name : (name : Text) → is_same name name ≡ true
-same-name name = (on_equiv folded nat_list_eq_equiv).refl name
+same-name name = (on_equiv folded_text nat_list_eq_equiv).refl name
 
 same-by : (a b c : Text) → is_same a b ≡ true → is_same c b ≡ is_same c a
 same-by a b c e =
-    let laws = on_equiv folded nat_list_eq_equiv in
+    let laws = on_equiv folded_text nat_list_eq_equiv in
     laws.symm c b ∙ sym (laws.congr a b c e) ∙ laws.symm a c
 
 apart-by : (a b c : Text) → is_same a b ≡ true → is_same c b ≡ false → is_same a c ≡ false
-apart-by a b c e f = (on_equiv folded nat_list_eq_equiv).symm a c ∙ sym (same-by a b c e) ∙ f
+apart-by a b c e f = (on_equiv folded_text nat_list_eq_equiv).symm a c ∙ sym (same-by a b c e) ∙ f
 
 true-false : true ≡ false → ⊥
 true-false e = cc
@@ -58,13 +58,13 @@ value-set (p ∷ ps) name value other = by (is_same name p.0) (is_same other p.0
     by false false e f rest = simp (e, f) rest
 
 -- and after another is removed
-pub value-without : (pairs : Pairs) (name other : Text) → is_same name other ≡ false → value_in (without pairs name) other ≡ value_in pairs other
-unfolding value_in without
+pub value-without : (pairs : Pairs) (name other : Text) → is_same name other ≡ false → value_in (remove_pair pairs name) other ≡ value_in pairs other
+unfolding value_in remove_pair
 value-without [] name other apart = refl
 value-without (p ∷ ps) name other apart = by (is_same name p.0) (is_same other p.0) refl refl (value-without ps name other apart)
   where
-    by : (b d : Bool) → is_same name p.0 ≡ b → is_same other p.0 ≡ d → value_in (without ps name) other ≡ value_in ps other
-        → value_in (without (p ∷ ps) name) other ≡ value_in (p ∷ ps) other
+    by : (b d : Bool) → is_same name p.0 ≡ b → is_same other p.0 ≡ d → value_in (remove_pair ps name) other ≡ value_in ps other
+        → value_in (remove_pair (p ∷ ps) name) other ≡ value_in (p ∷ ps) other
     by true true e f rest = let g : is_same name other ≡ true = sym (same-by other p.0 name f) ∙ e in absurd (true-false (sym g ∙ apart))
     by true false e f rest = simp (e, f) refl
     by false true e f rest = simp (e, f) refl
@@ -124,27 +124,27 @@ set-over (p ∷ ps) own old name value new there = by (is_same own p.0) (is_same
 
 -- nor before one is removed
 pub without-over : (pairs : Pairs) (own old name new : Text) → IsSome (value_in pairs own)
-    → set_pair (without (set_pair pairs own old) name) own new ≡ set_pair (without pairs name) own new
-unfolding set_pair value_in without
+    → set_pair (remove_pair (set_pair pairs own old) name) own new ≡ set_pair (remove_pair pairs name) own new
+unfolding set_pair value_in remove_pair
 without-over [] own old name new there = cc
 without-over (p ∷ ps) own old name new there = by (is_same own p.0) (is_same name p.0) refl refl (λ h. without-over ps own old name new h)
   where
     by : (b d : Bool) → is_same own p.0 ≡ b → is_same name p.0 ≡ d
-        → (IsSome (value_in ps own) → set_pair (without (set_pair ps own old) name) own new ≡ set_pair (without ps name) own new)
-        → set_pair (without (set_pair (p ∷ ps) own old) name) own new ≡ set_pair (without (p ∷ ps) name) own new
+        → (IsSome (value_in ps own) → set_pair (remove_pair (set_pair ps own old) name) own new ≡ set_pair (remove_pair ps name) own new)
+        → set_pair (remove_pair (set_pair (p ∷ ps) own old) name) own new ≡ set_pair (remove_pair (p ∷ ps) name) own new
     by true true e f rest = simp (e, f) refl
     by true false e f rest = simp (e, f) refl
     by false true e f rest = simp (e, f) (set-again ps own old new)
     by false false e f rest = simp (e, f) (ap (λ l. p ∷ l) (rest (subst (λ it. IsSome (cond it (Some p.1) (value_in ps own))) e there)))
 
 -- a value that was set is removed with its name
-pub without-set : (pairs : Pairs) (own name value : Text) → is_same name own ≡ true → without (set_pair pairs own value) name ≡ without pairs name
-unfolding set_pair without
+pub without-set : (pairs : Pairs) (own name value : Text) → is_same name own ≡ true → remove_pair (set_pair pairs own value) name ≡ remove_pair pairs name
+unfolding set_pair remove_pair
 without-set [] own name value same = simp same refl
 without-set (p ∷ ps) own name value same =
-    by (is_same own p.0) refl ((on_equiv folded nat_list_eq_equiv).congr name own p.0 same) (without-set ps own name value same)
+    by (is_same own p.0) refl ((on_equiv folded_text nat_list_eq_equiv).congr name own p.0 same) (without-set ps own name value same)
   where
-    by : (b : Bool) → is_same own p.0 ≡ b → is_same name p.0 ≡ is_same own p.0 → without (set_pair ps own value) name ≡ without ps name
-        → without (set_pair (p ∷ ps) own value) name ≡ without (p ∷ ps) name
+    by : (b : Bool) → is_same own p.0 ≡ b → is_same name p.0 ≡ is_same own p.0 → remove_pair (set_pair ps own value) name ≡ remove_pair ps name
+        → remove_pair (set_pair (p ∷ ps) own value) name ≡ remove_pair (p ∷ ps) name
     by true e f rest = let g : is_same name p.0 ≡ true = f ∙ e in simp (e, g) refl
     by false e f rest = let g : is_same name p.0 ≡ false = f ∙ e in simp (e, g) (ap (λ l. p ∷ l) rest)

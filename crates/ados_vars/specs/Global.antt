@@ -10,7 +10,7 @@ use Rattle.ados_ram.specs.Entry.{is_directory, bytes_of}
 use Rattle.ados_ram.specs.Files.{Files}
 use Rattle.ados_ram.specs.declared.entries.Entry.{Entry}
 use Rattle.ados_assign.specs.Assigns.{AssignMap}
-use Rattle.ados_assign.specs.Resolve.{resolved}
+use Rattle.ados_assign.specs.Resolve.{resolve_path}
 
 -- the value in the entry at a place: in a file that may be read
 abbrev pub value_of : Option Entry → Option Text
@@ -22,7 +22,7 @@ value_at files (Ok place) = value_of (map.get files (key_of place))
 value_at files (Err fault) = None
 
 abbrev pub value_by : AssignMap → Files → Result PathParts Result2 → Option Text
-value_by assigns files (Ok path) = value_at files (resolved assigns files [] path)
+value_by assigns files (Ok path) = value_at files (resolve_path assigns files [] path)
 value_by assigns files (Err fault) = None
 
 -- the value of a global variable; its path names a device, so that the current directory does not matter

@@ -6,7 +6,7 @@ use Rattle.std.specs.Fmt.{decimal, signed_decimal}
 use Rattle.ados_text.specs.Text.{Text, is_same}
 use Rattle.ados_text.specs.declared.codes.Code.{Code}
 use Rattle.ados_text.specs.declared.codes.Result2.{Result2}
-use Rattle.ados_vars.specs.Vars.{Pairs, set_pair, value_in, without}
+use Rattle.ados_vars.specs.Vars.{Pairs, set_pair, value_in, remove_pair}
 
 abbrev pub process_name : Text
 process_name = codes "Process"
@@ -22,16 +22,16 @@ unfoldable pub with_codes : Pairs → Text → Text → Pairs
 with_codes pairs code fault = set_pair (set_pair pairs code_name code) fault_name fault
 
 -- RC and Result2 are set to the results of a command, in decimal
-unfoldable pub shown : Pairs → Code → Result2 → Pairs
-shown pairs code result2 = with_codes pairs (signed_decimal code.0) (decimal result2.0)
+unfoldable pub shown_pairs : Pairs → Code → Result2 → Pairs
+shown_pairs pairs code result2 = with_codes pairs (signed_decimal code.0) (decimal result2.0)
 
 -- the name is that of one of the two
 abbrev pub is_of_codes : Text → Bool
 is_of_codes name = is_same name code_name || is_same name fault_name
 
 -- a name is removed; if it is one of the two, it is set again by the end of the command, and so goes last
-unfoldable pub unset_in : Pairs → Text → Pairs
-unset_in pairs name = if is_of_codes name then with_codes (without pairs name) [] [] else without pairs name
+unfoldable pub unset_pair : Pairs → Text → Pairs
+unset_pair pairs name = if is_of_codes name then with_codes (remove_pair pairs name) [] [] else remove_pair pairs name
 
 -- the initial variables of the shell of a number: Process, which is the number, RC and Result2
 abbrev pub own_pairs : ℕ → Pairs
@@ -58,15 +58,15 @@ pub record HasCodes (pairs : Pairs) : Type 0 where
 -- The variables that are shown are the same as if each command set RC and Result2 to its results: after a command that
 -- does nothing else, one that sets a name, and one that removes a name.
 abbrev pub AnswerIsSeen : Type 0
-AnswerIsSeen = (pairs : Pairs) (old code : Code) (before result2 : Result2) → shown (shown pairs old before) code result2 ≡ shown pairs code result2
+AnswerIsSeen = (pairs : Pairs) (old code : Code) (before result2 : Result2) → shown_pairs (shown_pairs pairs old before) code result2 ≡ shown_pairs pairs code result2
 
 abbrev pub SettingIsSeen : Type 0
 SettingIsSeen = (pairs : Pairs) (old code : Code) (before result2 : Result2) (name value : Text) → HasCodes pairs
-    → shown (set_pair (shown pairs old before) name value) code result2 ≡ shown (set_pair pairs name value) code result2
+    → shown_pairs (set_pair (shown_pairs pairs old before) name value) code result2 ≡ shown_pairs (set_pair pairs name value) code result2
 
 abbrev pub UnsettingIsSeen : Type 0
 UnsettingIsSeen = (pairs : Pairs) (old code : Code) (before result2 : Result2) (name : Text) → HasCodes pairs
-    → shown (without (shown pairs old before) name) code result2 ≡ shown (unset_in pairs name) code result2
+    → shown_pairs (remove_pair (shown_pairs pairs old before) name) code result2 ≡ shown_pairs (unset_pair pairs name) code result2
 
 -- they have positions at first, whether another shell created it or none,
 abbrev pub CodesBegin : Type 0
@@ -74,4 +74,4 @@ CodesBegin = (number : ℕ) (pairs : Pairs) → HasCodes (own_pairs number) × H
 
 -- and keep them
 abbrev pub CodesStay : Type 0
-CodesStay = (pairs : Pairs) (name value : Text) → HasCodes pairs → HasCodes (set_pair pairs name value) × HasCodes (unset_in pairs name)
+CodesStay = (pairs : Pairs) (name value : Text) → HasCodes pairs → HasCodes (set_pair pairs name value) × HasCodes (unset_pair pairs name)

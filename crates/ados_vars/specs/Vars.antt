@@ -33,6 +33,6 @@ name_in [] name = None
 name_in (p ∷ ps) name = if is_same name p.0 then Some p.0 else name_in ps name
 
 -- the pairs without that of a name; the others keep their order
-unfoldable pub without : Pairs → Text → Pairs
-without [] name = []
-without (p ∷ ps) name = if is_same name p.0 then ps else p ∷ without ps name
+unfoldable pub remove_pair : Pairs → Text → Pairs
+remove_pair [] name = []
+remove_pair (p ∷ ps) name = if is_same name p.0 then ps else p ∷ remove_pair ps name

@@ -3,7 +3,7 @@ ghost use Rattle.std.specs.List.{filter};
 ghost use Rattle.std.specs.Fmt.{decimal, signed_decimal};
 ghost use Rattle.ados_text.specs.Text.{IsText};
 ghost use Rattle.ados_vars.specs.Vars.{AreDistinct, set_all, set_pair, value_in};
-ghost use Rattle.ados_vars.specs.Locals.{copied_pairs, is_of_codes, is_other, is_own, own_pairs, shown, unset_in, with_codes};
+ghost use Rattle.ados_vars.specs.Locals.{copied_pairs, is_of_codes, is_other, is_own, own_pairs, shown_pairs, unset_pair, with_codes};
 
 use crate::vars::Vars;
 use ados_text::{Code, Name, NoMemory, Result2, Text};
@@ -81,7 +81,7 @@ impl Locals {
     /// On `NoMemory` nothing is changed; only RC and Result2 allocate.
     #[tactic(auto, unfolding(crate::specs::Locals::unset_in))]
     pub fn unset(&mut self, name: &Name) -> Result<(), NoMemory>
-        ensures ok { OnOk result (self.new ≡ unset_in self.old name.now) }
+        ensures ok { OnOk result (self.new ≡ unset_pair self.old name.now) }
         ensures err { OnErr result (self.new ≡ self.old) }
         ensures asks { OnErr result (is_of_codes name.now ≡ true) }
     {
@@ -98,7 +98,7 @@ impl Locals {
 
     /// The value of a name, if it has one, after these results of the last command.
     pub fn get(&self, name: &Name, code: Code, result2: Result2) -> Result<Option<Text>, NoMemory>
-        ensures { IfOk result (λ value. value ≡ value_in (shown self.now code result2) name.now) }
+        ensures { IfOk result (λ value. value ≡ value_in (shown_pairs self.now code result2) name.now) }
     {
         if name.text().is(FAULT) {
             return Ok(Some(digits(self.alloc, result2.0)?));
@@ -115,7 +115,7 @@ impl Locals {
     /// All names with their values, in order, after these results of the last command.
     #[tactic(auto, unfolding(crate::specs::Locals::shown))]
     pub fn list(&self, code: Code, result2: Result2) -> Result<Vars, NoMemory>
-        ensures { IfOk result (λ vars. vars ≡ shown self.now code result2) }
+        ensures { IfOk result (λ vars. vars ≡ shown_pairs self.now code result2) }
     {
         let code = code_text(self.alloc, code)?;
         let fault = digits(self.alloc, result2.0)?;

@@ -1,6 +1,6 @@
 ghost use Rattle.std.specs.Prelude.{◌≡◌, [], None, option_map, IfOk, OnOk, OnErr};
 ghost use Rattle.std.specs.Option.{option_copied};
-ghost use Rattle.ados_vars.specs.Vars.{AreDistinct, name_in, set_pair, value_in, without};
+ghost use Rattle.ados_vars.specs.Vars.{AreDistinct, name_in, set_pair, value_in, remove_pair};
 
 use ados_text::{Name, NoMemory, Text};
 use indexmap::IndexMap;
@@ -71,7 +71,7 @@ impl Vars {
 
     /// Removes a name, if it exists; the others keep their order. Nothing is allocated.
     pub fn unset(&mut self, name: &Name)
-        ensures { self.new ≡ without self.old name.now }
+        ensures { self.new ≡ remove_pair self.old name.now }
     {
         self.map.shift_remove(name);
     }

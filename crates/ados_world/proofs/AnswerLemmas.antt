@@ -16,36 +16,36 @@ use Rattle.ados_machine.specs.Turning as turning
 use Rattle.ados_machine.specs.World.{WorldState, input_of, is_over, shell_at}
 use Rattle.ados_machine.specs.declared.answers.Answer.{Answer as Reply}
 use Rattle.ados_shell.specs.declared.answers.Answering.TheVariants as reply
-use Rattle.ados_shell.specs.Answerings.{IsAnswering, answering_in}
-use Rattle.ados_machine.specs.Step.{Response, Refused, Accepted, applied, giving, start, turned, answered as answered_of, broken}
+use Rattle.ados_shell.specs.Answerings.{IsAnswering, scene_answering}
+use Rattle.ados_machine.specs.Step.{Response, Refused, Accepted, turning_response, out_with, start, turn_response, answer_response as answered_of, break_response}
 use Rattle.ados_machine.proofs.Sane.{sane-after}
 use Rattle.ados_shell.specs.declared.drafts.Draft.{Draft}
 use Rattle.ados_shell.specs.declared.scenes.Scene.{Scene}
 use Rattle.ados_shell.specs.declared.turnings.Turning.TheVariants as turn
 use Rattle.ados_shell.specs.Turnings.{IsTurning, MayWantMemory}
 use Rattle.ados_world.specs.Scenes.{Shows}
-use Rattle.ados_world.specs.Steps.{answering, asked_by, taken}
+use Rattle.ados_world.specs.Steps.{step_answer, drafted_out, world_after_turn}
 use Rattle.ados_world.proofs.StepLemmas.{start_in, Accepts, goes}
 
 -- the machine's answering of a shell, by what the scene shows
 answering-is : (w : WorldState) (k : ℕ) (shell : ShellState) (scene : Scene) (answer : Reply) → Shows w k shell scene
-    → answering_in scene (input_of w k) answer ≡ turning.answering (input_of w k) shell.frames (start w shell) shell.phase answer
+    → scene_answering scene (input_of w k) answer ≡ turning.turning_of_answer (input_of w k) shell.frames (start w shell) shell.phase answer
 answering-is w k shell scene answer s =
-    ap (λ x. turning.answering (input_of w k) x.frames (start_in scene.shared.now scene.shells.now x) x.phase answer) s.shell_is
-    ∙ ap (λ x. turning.answering (input_of w k) shell.frames (start_in x scene.shells.now shell) shell.phase answer) s.shared_is
-    ∙ ap (λ x. turning.answering (input_of w k) shell.frames (start_in w.shared x shell) shell.phase answer) s.shells_are
+    ap (λ x. turning.turning_of_answer (input_of w k) x.frames (start_in scene.shared.now scene.shells.now x) x.phase answer) s.shell_is
+    ∙ ap (λ x. turning.turning_of_answer (input_of w k) shell.frames (start_in x scene.shells.now shell) shell.phase answer) s.shared_is
+    ∙ ap (λ x. turning.turning_of_answer (input_of w k) shell.frames (start_in w.shared x shell) shell.phase answer) s.shells_are
 
 -- an answer by which a shell goes on has the same effect on its world as a turn
 as-turning : (scene : Scene) (queue : List (List ℕ)) (draft : Draft) (turning : turning.Turning)
     → IsAnswering scene queue reply.Goes draft turning → IsTurning scene queue turn.Goes draft turning
 as-turning scene queue draft (turning.Refuses why) t = absurd t
 as-turning scene queue draft turning.Ends t = absurd t
-as-turning scene queue draft (turning.Takes rest turned) t = t
+as-turning scene queue draft (turning.Takes rest turn_response) t = t
 
 -- an answer by which the shell went on
 pub answer-goes : (w : WorldState) (k : ℕ) (shell : ShellState) (scene : Scene) (answer : Reply) (draft : Draft) → Shows w k shell scene
-    → IsAnswering scene (input_of w k).queue reply.Goes draft (answering_in scene (input_of w k) answer)
-    → Accepts (answered_of w k answer (shell_at w k)) (taken k draft w) (asked_by (shell_at w k) draft)
+    → IsAnswering scene (input_of w k).queue reply.Goes draft (scene_answering scene (input_of w k) answer)
+    → Accepts (answered_of w k answer (shell_at w k)) (world_after_turn k draft w) (drafted_out (shell_at w k) draft)
 answer-goes w k shell scene answer draft s t =
     (let P : turning.Turning → Type 0 = λ x. IsAnswering scene (input_of w k).queue reply.Goes draft x in
     let accepts = goes w k shell scene draft _ s (as-turning scene _ draft _ (subst P (answering-is w k shell scene answer s) t)) in
@@ -59,13 +59,13 @@ accepted-wants w world k answer given (Refused why) (items, e) = cc
 
 -- the machine goes on, but an allocation may fail
 took-wants : (k : ℕ) (answer : Reply) (w : WorldState) (codes : Codes) (turning : turning.Turning) → MayWantMemory turning
-    → IsAnswer (event.Answer k answer) (Err NoMemory) (applied w k codes turning)
+    → IsAnswer (event.Answer k answer) (Err NoMemory) (turning_response w k codes turning)
 took-wants k answer w codes (turning.Refuses why) m = absurd m
 took-wants k answer w codes turning.Ends m = absurd m
-took-wants k answer w codes (turning.Takes rest turned) m = tt
+took-wants k answer w codes (turning.Takes rest turn_response) m = tt
 
 pub answer-wants : (w : WorldState) (k : ℕ) (shell : ShellState) (scene : Scene) (answer : Reply) → Shows w k shell scene
-    → MayWantMemory (answering_in scene (input_of w k) answer)
+    → MayWantMemory (scene_answering scene (input_of w k) answer)
     → IsAnswer (event.Answer k answer) (Err NoMemory) (answered_of w k answer (shell_at w k))
 answer-wants w k shell scene answer s m =
     (let P : Response → Type 0 = λ r. IsAnswer (event.Answer k answer) (Err NoMemory) r in
@@ -74,20 +74,20 @@ answer-wants w k shell scene answer s m =
 
 -- an answer of another kind is refused
 refuses-wrong : (scene : Scene) (queue : List (List ℕ)) (draft : Draft) (k : ℕ) (answer : Reply) (w : WorldState) (codes : Codes) (turning : turning.Turning)
-    → IsAnswering scene queue reply.WrongAnswer draft turning → IsAnswer (event.Answer k answer) (Err WrongAnswer) (applied w k codes turning)
+    → IsAnswering scene queue reply.WrongAnswer draft turning → IsAnswer (event.Answer k answer) (Err WrongAnswer) (turning_response w k codes turning)
 refuses-wrong scene queue draft k answer w codes (turning.Refuses why) t = sym t
 refuses-wrong scene queue draft k answer w codes turning.Ends t = absurd t
-refuses-wrong scene queue draft k answer w codes (turning.Takes rest turned) t = absurd t
+refuses-wrong scene queue draft k answer w codes (turning.Takes rest turn_response) t = absurd t
 
 pub answer-wrong : (w : WorldState) (k : ℕ) (shell : ShellState) (scene : Scene) (answer : Reply) (draft : Draft) → Shows w k shell scene
-    → IsAnswering scene (input_of w k).queue reply.WrongAnswer draft (answering_in scene (input_of w k) answer)
+    → IsAnswering scene (input_of w k).queue reply.WrongAnswer draft (scene_answering scene (input_of w k) answer)
     → IsAnswer (event.Answer k answer) (Err WrongAnswer) (answered_of w k answer (shell_at w k))
 answer-wrong w k shell scene answer draft s t =
     (let P : Response → Type 0 = λ r. IsAnswer (event.Answer k answer) (Err WrongAnswer) r in
     let Q : turning.Turning → Type 0 = λ x. IsAnswering scene (input_of w k).queue reply.WrongAnswer draft x in
     subst P (sym (ap (answered_of w k answer) s.here))
     (refuses-wrong scene (input_of w k).queue draft k answer w shell.parts.codes
-    (turning.answering (input_of w k) shell.frames (start w shell) shell.phase answer) (subst Q (answering-is w k shell scene answer s) t)))
+    (turning.turning_of_answer (input_of w k) shell.frames (start w shell) shell.phase answer) (subst Q (answering-is w k shell scene answer s) t)))
 
 -- no script runs on after a failure in the world that an answer leaves
 pub sane-answered : (w world : WorldState) (k : ℕ) (answer : Reply) (given : Out) → IsSane w → is_over w ≡ false
@@ -105,9 +105,9 @@ found-broken : (w : WorldState) (k : ℕ) (kind : Kind) (found : Option ShellSta
     → IsSane (record w { shells = broken_number (breaks_by kind) k w.shells })
 found-broken w k kind None e runs sane over = cc
 found-broken w k kind (Some shell) e runs sane over =
-    (let given : Out = giving [] None [] in
+    (let given : Out = out_with [] None [] in
     let P : Response → Type 0 = λ r. IsSane (world_after w (Ok given) r) in
-    subst P (ap (λ b. if b then Refused Over else broken w k kind (shell_at w k)) over ∙ ap (λ f. broken w k kind f) e) (sane-after w (event.Break k kind) (Ok given) sane))
+    subst P (ap (λ b. if b then Refused Over else break_response w k kind (shell_at w k)) over ∙ ap (λ f. break_response w k kind f) e) (sane-after w (event.Break k kind) (Ok given) sane))
 
 -- no script runs on after a failure in the world that a break leaves
 pub sane-broken : (w : WorldState) (k : ℕ) (kind : Kind) → IsSane w → is_over w ≡ false → is_some (shell_at w k) ≡ true

@@ -4,15 +4,15 @@ use Rattle.std.specs.List.{slice_get, slice_set}
 use Rattle.std.proofs.lemmas.Bool.{cases_eq, eq-eqb, ne_eqb}
 use Rattle.ados_find.specs.declared.outcomes.Breaking.{Breaking}
 use Rattle.ados_find.specs.declared.outcomes.Breaks.{Breaks}
-use Rattle.ados_machine.specs.Breaks.{broken_at, broken_by, broken_number, broken_place}
+use Rattle.ados_machine.specs.Breaks.{broken_at, shells_after_break, broken_number, broken_place}
 use Rattle.ados_machine.specs.Shells.{ShellState}
 use Rattle.ados_machine.specs.World.{flatten}
 use Rattle.ados_machine.proofs.Places.{broken-behind, broken-lost}
 use Rattle.ados_machine.proofs.Shells.{found, place_before}
-use Rattle.ados_world.specs.Breaks.{others_broken}
+use Rattle.ados_world.specs.Breaks.{shells_with_broken}
 
 pub others-broken : (k : ℕ) (breaking : Option Breaking) (shells : List (Option ShellState)) (shell : ShellState) (now : Option ShellState)
-    → found shells k ≡ Some shell → others_broken k breaking (slice_set shells (k - 1) now) ≡ slice_set (broken_by breaking shells) (k - 1) now
+    → found shells k ≡ Some shell → shells_with_broken k breaking (slice_set shells (k - 1) now) ≡ slice_set (shells_after_break breaking shells) (k - 1) now
 others-broken k None shells shell now e = refl
 others-broken zero (Some breaking) shells shell now e = cc
 others-broken (suc i) (Some breaking) shells shell now e =

@@ -11,16 +11,16 @@ use Rattle.ados_machine.specs.declared.events.Event.{Event}
 use Rattle.ados_machine.specs.declared.events.Event.TheVariants.{Typed, EndOfInput, Turn, Answer, Break}
 use Rattle.ados_machine.specs.declared.outs.Out.{Out}
 use Rattle.ados_machine.specs.declared.refusals.Refusal.{Refusal}
-use Rattle.ados_machine.specs.Breaks.{has_script, kept_without}
+use Rattle.ados_machine.specs.Breaks.{has_script, kept_after_break}
 use Rattle.ados_machine.specs.Course.{Course}
 use Rattle.ados_machine.specs.Items.{Item, Began, Answered, Ended, Broke, break_of, reports_of}
 use Rattle.ados_machine.specs.Laws.{finds_flag, has_break, is_breakable}
 use Rattle.ados_machine.specs.Runs.{IsAnswer, Runs, world_after}
-use Rattle.ados_machine.specs.Settled.{Said, Settled, after_break, behind, broken_off}
+use Rattle.ados_machine.specs.Settled.{RuleState, RuleResult, after_break, with_items_first, end_at_break}
 use Rattle.ados_machine.specs.Shells.{ShellState}
-use Rattle.ados_machine.specs.Step.{Response, Refused, Accepted, applied, happened, start, step_of, turned, unflagged}
+use Rattle.ados_machine.specs.Step.{Response, Refused, Accepted, turning_response, event_response, start, step_of, turn_response, course_without_flag}
 use Rattle.ados_machine.specs.Trace.{ends_in, trace}
-use Rattle.ados_machine.specs.Turning.{Input, Turning, Refuses, Ends, Takes, flagged_turning, in_place_of, turning}
+use Rattle.ados_machine.specs.Turning.{Input, Turning, Refuses, Ends, Takes, flagged_turning, turning_at_break, turning_in_phase}
 use Rattle.ados_machine.specs.World.{WorldState, input_of, is_over, shell_at}
 use Rattle.ados_machine.proofs.BreakLemmas.{breaks-end}
 use Rattle.ados_machine.proofs.Ends.{reports-hold}
@@ -50,21 +50,21 @@ told-later k depth Lines line log e = e
 told-later k depth (Tick before after) line log e = e
 
 -- the same if a script runs below a frame
-below-told : (k depth : ℕ) (frame : FrameState) (frames : List FrameState) (said : Said) (n : ℕ) (further : Settled) → nat_lt 0 n ≡ true →
+below-told : (k depth : ℕ) (frame : FrameState) (frames : List FrameState) (said : RuleState) (n : ℕ) (further : RuleResult) → nat_lt 0 n ≡ true →
     tells_break (reports_of k further.log) ≡ true →
-    tells_break (reports_of k (behind (break_of depth frame ∷ []) (after_break n frame.kind frame.limit further frames said)).log) ≡ true
+    tells_break (reports_of k (with_items_first (break_of depth frame ∷ []) (after_break n frame.kind frame.limit further frames said)).log) ≡ true
 below-told k depth frame frames said zero further e told = cc
 below-told k depth frame frames said (suc n) further e told = told-later k depth frame.kind _ further.log told
 
 -- a break of frames of which one is a script is reported
-broken-told : (k : ℕ) (frames : List FrameState) (said : Said) → has_script frames ≡ true → tells_break (reports_of k (broken_off frames said).log) ≡ true
+broken-told : (k : ℕ) (frames : List FrameState) (said : RuleState) → has_script frames ≡ true → tells_break (reports_of k (end_at_break frames said).log) ≡ true
 broken-told k [] said e = cc
 broken-told k (frame ∷ frames) said e =
-    let inner = record said { kept = kept_without frame.kind said.kept } in
+    let inner = record said { kept = kept_after_break frame.kind said.kept } in
     elim (cases_Bool (is_script frame.kind)) [
       | inl script ↦ told-first k (suc (length frames)) frame.kind (last_line frame.last) _ script
       | inr other ↦ (let some : has_script frames ≡ true = rw other at e in
-          below-told k (suc (length frames)) frame frames said (scripts_in frames) (broken_off frames inner) some (broken-told k frames inner some))
+          below-told k (suc (length frames)) frame frames said (scripts_in frames) (end_at_break frames inner) some (broken-told k frames inner some))
     ]
 
 -- so a turn that finds a flag reports it, if frames end
@@ -73,17 +73,17 @@ Tells (Refused why) = Unit {0}
 Tells (Accepted world out items) = has_break items ≡ true → tells_break out.reports ≡ true
 
 place-tells : (w : WorldState) (k : ℕ) (codes : Codes) (event : Turning) (input : Input) (frames : List FrameState) (course : Course) →
-    has_script frames ≡ true → Tells (applied w k codes (in_place_of event input frames course))
+    has_script frames ≡ true → Tells (turning_response w k codes (turning_at_break event input frames course))
 place-tells w k codes (Refuses why) input frames course e = tt
 place-tells w k codes Ends input frames course e = λ none. cc
 place-tells w k codes (Takes queue t) input frames course e = λ some. broken-told k frames _ e
 
-turn-tells : (w : WorldState) (k : ℕ) (o : Option ShellState) → is_breakable o ≡ true → Tells (turned w k o)
+turn-tells : (w : WorldState) (k : ℕ) (o : Option ShellState) → is_breakable o ≡ true → Tells (turn_response w k o)
 turn-tells w k None e = cc
 turn-tells w k (Some shell) e =
-    let course = unflagged (start w shell) in
+    let course = course_without_flag (start w shell) in
     rw e
-    (place-tells w k shell.parts.codes (turning (input_of w k) shell.frames course shell.phase) (input_of w k) shell.frames course
+    (place-tells w k shell.parts.codes (turning_in_phase (input_of w k) shell.frames course shell.phase) (input_of w k) shell.frames course
     (and_parts shell.flagged (has_script shell.frames) e).1)
 
 step-tells : (w : WorldState) (k : ℕ) → is_breakable (shell_at w k) ≡ true → Tells (step_of w (Turn k))

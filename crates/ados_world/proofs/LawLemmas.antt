@@ -6,7 +6,7 @@ use Rattle.ados_machine.specs.declared.events.Event.{Event}
 use Rattle.ados_machine.specs.declared.events.Event.TheVariants.{Typed, EndOfInput, Turn, Answer, Break}
 use Rattle.ados_machine.specs.declared.outs.Out.{Out}
 use Rattle.ados_machine.specs.declared.refusals.Refusal.{Refusal}
-use Rattle.ados_machine.specs.Given.{asked_in}
+use Rattle.ados_machine.specs.Given.{request_after_event}
 use Rattle.ados_machine.specs.InUse.{asks, entry_of}
 use Rattle.ados_machine.specs.Limits.{IsSane}
 use Rattle.ados_machine.specs.Shells.{ShellState}
@@ -19,7 +19,7 @@ use Rattle.ados_machine.proofs.RunLemmas.{Runs-more}
 use Rattle.ados_machine.proofs.Starts.{Fails, step-fails}
 use Rattle.ados_machine.proofs.InVain.{leaves-nothing}
 use Rattle.ados_machine.proofs.UseLemmas.{entries-stay}
-use Rattle.ados_world.specs.Laws.{FailedStart, LeavesNothing, NextLeavesNothing, BehindTurn, FailedStartsLeaveNothingIn}
+use Rattle.ados_world.specs.Laws.{FailedStart, LeavesNothing, NextLeavesNothing, AfterTurn, FailedStartsLeaveNothingIn}
 
 -- an answer that was accepted
 accepted-fails : (k : ℕ) (shell : ShellState) (w : WorldState) (event : Event) (out : Out) (r : Response) → IsAnswer event (Ok out) r → Fails k shell w r →
@@ -89,7 +89,7 @@ next-leaves w now k first between middle (event ∷ events) (Err why ∷ outs) l
 
 behind-turn : (w : WorldState) (event : Event) (out : Result Out Refusal) (events : List Event) (outs : List (Result Out Refusal)) (last : WorldState) →
     IsAnswer event out (step_of w event) → Runs (world_after w out (step_of w event)) events outs last →
-    BehindTurn w event out (world_after w out (step_of w event)) events outs
+    AfterTurn w event out (world_after w out (step_of w event)) events outs
 behind-turn w (Typed line) out events outs last answer run = tt
 behind-turn w EndOfInput out events outs last answer run = tt
 behind-turn w (Answer k reply) out events outs last answer run = tt
@@ -107,12 +107,12 @@ starts-leave-nothing w (event ∷ events) (out ∷ outs) last run =
 
 -- what is given as request is what is pending after the event
 request-given : (w : WorldState) (event : Event) (out : Out) (r : Response) → step_of w event ≡ r → IsSane w → IsAnswer event (Ok out) r →
-    out.request ≡ asked_in (world_after w (Ok out) r) event
+    out.request ≡ request_after_event (world_after w (Ok out) r) event
 request-given w event out (Refused why) is sane answer = absurd answer
 request-given w event out (Accepted world given items) is sane answer = rw answer (events-give w event world given items sane is)
 
 pub step-gives : (w : WorldState) (event : Event) (out : Out) → IsSane w → IsAnswer event (Ok out) (step_of w event) →
-    out.request ≡ asked_in (world_after w (Ok out) (step_of w event)) event
+    out.request ≡ request_after_event (world_after w (Ok out) (step_of w event)) event
 step-gives w event out sane answer = request-given w event out (step_of w event) refl sane answer
 
 -- a resident entry stays in use

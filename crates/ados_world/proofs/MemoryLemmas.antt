@@ -11,12 +11,12 @@ use Rattle.ados_machine.specs.Items.{Item}
 use Rattle.ados_machine.specs.Limits.{IsSane, RunsFrame}
 use Rattle.ados_machine.specs.Numbers.{free_number}
 use Rattle.ados_machine.specs.Runs as memory
-use Rattle.ados_machine.specs.Course.{shared_behind}
+use Rattle.ados_machine.specs.Course.{shared_after_event}
 use Rattle.ados_machine.specs.Runs.{IsAnswer}
-use Rattle.ados_machine.specs.Settle.{Turned}
+use Rattle.ados_machine.specs.Settle.{TurnResult}
 use Rattle.ados_machine.specs.Shells.{ShellState}
 use Rattle.ados_machine.specs.Stacks.{stack_of}
-use Rattle.ados_machine.specs.Step.{applied, begun_items, ended_with, is_done, left, moved_in, of_shell, queue_behind, start, turned, unflagged}
+use Rattle.ados_machine.specs.Step.{turning_response, begun_items, codes_of_ended, is_done, shell_after_turn, moved_at_turn, of_shell, queue_after_event, start, turn_response, course_without_flag}
 use Rattle.ados_machine.specs.Turning as turning
 use Rattle.ados_machine.specs.World.{WorldState, has_frame, input_of, shell_at}
 use Rattle.ados_machine.proofs.Shells.{shells_behind, found, found-left}
@@ -31,7 +31,7 @@ stack-frame [] (frame ∷ others) e h = cc
 stack-frame (frame ∷ frames) others e h = refl
 
 -- without an item in its trace a shell keeps its frames
-silent-frames : (shell : ShellState) (t : Turned) → Goes shell.parts shell.frames t → t.log ≡ [] → stack_of t.frames ≡ stack_of shell.frames
+silent-frames : (shell : ShellState) (t : TurnResult) → Goes shell.parts shell.frames t → t.log ≡ [] → stack_of t.frames ≡ stack_of shell.frames
 silent-frames shell t goes none = ap (λ s. s.stack) (rw none at goes.follows)
 
 runs-frame : (o : Option ShellState) (shell : ShellState) → o ≡ Some shell → RunsFrame o → has_frame shell.frames ≡ true
@@ -39,7 +39,7 @@ runs-frame None shell e h = cc
 runs-frame (Some other) shell e h = (let same : other ≡ shell = cc in rw (← same) h)
 
 -- and is not done by that
-runs-on : (w : WorldState) (k : ℕ) (shell : ShellState) (t : Turned) → IsSane w → shell_at w k ≡ Some shell → Goes shell.parts shell.frames t → t.log ≡ []
+runs-on : (w : WorldState) (k : ℕ) (shell : ShellState) (t : TurnResult) → IsSane w → shell_at w k ≡ Some shell → Goes shell.parts shell.frames t → t.log ≡ []
     → is_done k t.frames ≡ false
 runs-on w k shell t sane here goes none =
     elim (cases_eq k 1) [
@@ -52,14 +52,14 @@ runs-on w k shell t sane here goes none =
     nobody true = refl
     nobody false = refl
 
-left-is : (k : ℕ) (moved : Option Renamed) (t : Turned) → is_done k t.frames ≡ false → is_some (left k moved t) ≡ true
+left-is : (k : ℕ) (moved : Option Renamed) (t : TurnResult) → is_done k t.frames ≡ false → is_some (shell_after_turn k moved t) ≡ true
 left-is k moved t e = rw e refl
 
 -- its shell is still at its place
-shell-stays : (w : WorldState) (k : ℕ) (shell : ShellState) (t : Turned) → IsSane w → shell_at w k ≡ Some shell → Goes shell.parts shell.frames t → t.log ≡ []
-    → is_some (found (shells_behind w.shells k (moved_in w t) t) k) ≡ true
+shell-stays : (w : WorldState) (k : ℕ) (shell : ShellState) (t : TurnResult) → IsSane w → shell_at w k ≡ Some shell → Goes shell.parts shell.frames t → t.log ≡ []
+    → is_some (found (shells_behind w.shells k (moved_at_turn w t) t) k) ≡ true
 shell-stays w k shell t sane here goes none =
-    ap is_some (found-left w.shells k shell (moved_in w t) t here) ∙ left-is k (moved_in w t) t (runs-on w k shell t sane here goes none)
+    ap is_some (found-left w.shells k shell (moved_at_turn w t) t here) ∙ left-is k (moved_at_turn w t) t (runs-on w k shell t sane here goes none)
 
 -- a turn after which the shell runs on may need memory
 may-want : (k : ℕ) (world : WorldState) (items : List (ℕ × Item)) → is_some (shell_at world k) ≡ true → memory.MayWantMemory (event.Turn k) world items
@@ -72,16 +72,16 @@ log-wants k world all [] more e runs = may-want k world more (runs e)
 log-wants k world all (item ∷ log) more e runs = tt
 
 -- the world after a turn
-abbrev behind : WorldState → ℕ → List (List ℕ) → Turned → WorldState
+abbrev behind : WorldState → ℕ → List (List ℕ) → TurnResult → WorldState
 behind w k rest t = record w {
-  shells = shells_behind w.shells k (moved_in w t) t;
-  ended = ended_with (is_done k t.frames) k t.course.parts.codes w.ended;
-  queue = queue_behind k w.queue rest;
-  shared = shared_behind t.course;
+  shells = shells_behind w.shells k (moved_at_turn w t) t;
+  ended = codes_of_ended (is_done k t.frames) k t.course.parts.codes w.ended;
+  queue = queue_after_event k w.queue rest;
+  shared = shared_after_event t.course;
 }
 
 wants : (w : WorldState) (k : ℕ) (shell : ShellState) (turning : turning.Turning) → IsSane w → shell_at w k ≡ Some shell
-    → TurningGoes shell.parts shell.frames turning → MayWantMemory turning → IsAnswer (event.Turn k) (Err NoMemory) (applied w k shell.parts.codes turning)
+    → TurningGoes shell.parts shell.frames turning → MayWantMemory turning → IsAnswer (event.Turn k) (Err NoMemory) (turning_response w k shell.parts.codes turning)
 wants w k shell (turning.Refuses why) sane here goes m = absurd m
 wants w k shell turning.Ends sane here goes m = absurd m
 wants w k shell (turning.Takes rest t) sane here goes m =
@@ -89,9 +89,9 @@ wants w k shell (turning.Takes rest t) sane here goes m =
 
 -- a turn that was accepted may need memory
 pub turn-may : (w : WorldState) (k : ℕ) (shell : ShellState) → IsSane w → shell_at w k ≡ Some shell
-    → MayWantMemory (turning.flagged_turning shell.flagged (input_of w k) shell.frames (unflagged (start w shell)) shell.phase)
-    → IsAnswer (event.Turn k) (Err NoMemory) (turned w k (Some shell))
+    → MayWantMemory (turning.flagged_turning shell.flagged (input_of w k) shell.frames (course_without_flag (start w shell)) shell.phase)
+    → IsAnswer (event.Turn k) (Err NoMemory) (turn_response w k (Some shell))
 turn-may w k shell sane here m =
-    let course = unflagged (start w shell) in
+    let course = course_without_flag (start w shell) in
     wants w k shell (turning.flagged_turning shell.flagged (input_of w k) shell.frames course shell.phase) sane here
     (flagged-goes shell.flagged (input_of w k) shell.frames course shell.phase (rw here at (sane.each k))) m

@@ -3,14 +3,14 @@ use Rattle.std.proofs.Common.{◌≡◌, ◌≢◌, ◌≤◌, ◌+◌, ◌-◌,
 use Rattle.std.specs.Prelude.{IfSome, if◌then◌else◌, slice_get, slice_set}
 use Rattle.ados_find.specs.declared.codes.Codes.{Codes}
 use Rattle.ados_find.specs.declared.outcomes.Renamed.{Renamed}
-use Rattle.ados_machine.specs.Carrying.{carried_by}
+use Rattle.ados_machine.specs.Carrying.{carried_or_same}
 use Rattle.ados_machine.specs.Numbers.{free_from, free_number}
-use Rattle.ados_machine.specs.Settle.{Turned}
-use Rattle.ados_machine.specs.Shells.{Begun, begun_shell, ShellState}
-use Rattle.ados_machine.specs.Step.{ended_with, is_done, shell_of_turn, with_begun}
+use Rattle.ados_machine.specs.Settle.{TurnResult}
+use Rattle.ados_machine.specs.Shells.{ShellStart, begun_shell, ShellState}
+use Rattle.ados_machine.specs.Step.{codes_of_ended, is_done, shell_of_turn, with_begun}
 use Rattle.ados_machine.proofs.Shells.{IsFree, found}
-use Rattle.ados_world.specs.Endings.{codes_left, ended_left, shells_left}
-use Rattle.ados_world.specs.NewShells.{joined, new_shell}
+use Rattle.ados_world.specs.Endings.{final_codes, recorded_codes, remaining_shells}
+use Rattle.ados_world.specs.NewShells.{joined_shells, new_shell}
 use Rattle.ados_world.specs.Shells.{IsShellNumber}
 
 -- two places can be set in any order
@@ -44,7 +44,7 @@ numbers_within shells None twenty e = tt
 numbers_within shells (Some m) twenty e = number_within shells m twenty e
 
 -- the shell that begins is placed among the others as the machine defines it
-pub joined-is : (begun : Option Begun) (number : Option ℕ) (shells : List (Option ShellState)) → joined (new_shell begun number) shells ≡ with_begun begun number shells
+pub joined-is : (begun : Option ShellStart) (number : Option ℕ) (shells : List (Option ShellState)) → joined_shells (new_shell begun number) shells ≡ with_begun begun number shells
 joined-is None number shells = refl
 joined-is (Some begun) None shells = refl
 joined-is (Some begun) (Some number) shells = refl
@@ -59,7 +59,7 @@ other-place shells n (suc i) shell free e = λ same.
     cc)
 
 -- so the one that runs may be set before or after it
-pub begun-behind : (begun : Option Begun) (number : Option ℕ) (shells : List (Option ShellState)) (k : ℕ) (shell : ShellState) (now : Option ShellState)
+pub begun-behind : (begun : Option ShellStart) (number : Option ℕ) (shells : List (Option ShellState)) (k : ℕ) (shell : ShellState) (now : Option ShellState)
     → IsFree shells number → found shells k ≡ Some shell → with_begun begun number (slice_set shells (k - 1) now) ≡ slice_set (with_begun begun number shells) (k - 1) now
 begun-behind None number shells k shell now free e = refl
 begun-behind (Some begun) None shells k shell now free e = refl
@@ -70,16 +70,16 @@ begun-behind (Some begun) (Some number) shells k shell now free e =
 abbrev pub codes_of_end : Bool → Codes → Option Codes
 codes_of_end done codes = if done then Some codes else None
 
-pub codes-left : (k : ℕ) (moved : Option Renamed) (t : Turned) →
-    codes_left k (Some (carried_by moved (shell_of_turn t))) ≡ codes_of_end (is_done k t.frames) t.course.parts.codes
+pub codes-left : (k : ℕ) (moved : Option Renamed) (t : TurnResult) →
+    final_codes k (Some (carried_or_same moved (shell_of_turn t))) ≡ codes_of_end (is_done k t.frames) t.course.parts.codes
 codes-left k None t = refl
 codes-left k (Some moved) t = refl
 
 pub shells-left : (done : Bool) (codes : Codes) (k : ℕ) (shells : List (Option ShellState)) (shell : ShellState) →
-    shells_left (codes_of_end done codes) k (slice_set shells (k - 1) (Some shell)) ≡ slice_set shells (k - 1) (if done then None else Some shell)
+    remaining_shells (codes_of_end done codes) k (slice_set shells (k - 1) (Some shell)) ≡ slice_set shells (k - 1) (if done then None else Some shell)
 shells-left true codes k shells shell = set-over shells (k - 1) (Some shell) None
 shells-left false codes k shells shell = refl
 
-pub ended-left : (done : Bool) (codes : Codes) (k : ℕ) (ended : List Codes) → ended_left (codes_of_end done codes) k ended ≡ ended_with done k codes ended
+pub ended-left : (done : Bool) (codes : Codes) (k : ℕ) (ended : List Codes) → recorded_codes (codes_of_end done codes) k ended ≡ codes_of_ended done k codes ended
 ended-left true codes k ended = refl
 ended-left false codes k ended = refl

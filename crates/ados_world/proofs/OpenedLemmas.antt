@@ -6,18 +6,18 @@ use Rattle.ados_machine.specs.Numbers.{free_number}
 use Rattle.ados_machine.specs.World.{WorldState, shell_at}
 use Rattle.ados_machine.specs.Trace.{frames_of}
 use Rattle.ados_machine.specs.Limits.{AllRunOn, RunsFrame, IsNumbered, IsSane}
-use Rattle.ados_machine.specs.Whole.{opened, opened_shell}
+use Rattle.ados_machine.specs.Whole.{world_with_opened, opened_shell}
 use Rattle.ados_machine.proofs.Shells.{IsFree, found-set_other, free-number}
 use Rattle.ados_machine.proofs.Systems.{opened-stands}
 
 -- the other shells
 opened-other : (w : WorldState) (k : ℕ) (commands : List Text) (j : ℕ) → free_number w.shells ≡ Some k → j ≢ k →
-    shell_at (opened w k commands) j ≡ shell_at w j
+    shell_at (world_with_opened w k commands) j ≡ shell_at w j
 opened-other w k commands j free differ =
     let number : IsFree w.shells (Some k) = rw free at (free-number w.shells) in
     found-set_other w.shells k (Some (opened_shell k commands)) j differ (omega (arith, number.1))
 
-opened-runs : (w : WorldState) (k : ℕ) (commands : List Text) → IsSane w → free_number w.shells ≡ Some k → (j : ℕ) → AllRunOn (frames_of j (opened w k commands))
+opened-runs : (w : WorldState) (k : ℕ) (commands : List Text) → IsSane w → free_number w.shells ≡ Some k → (j : ℕ) → AllRunOn (frames_of j (world_with_opened w k commands))
 opened-runs w k commands sane free j =
     elim (cases_eq j k) [
       | inl same ↦ rw (same, opened-stands w k commands free) (tt, tt)
@@ -25,7 +25,7 @@ opened-runs w k commands sane free j =
     ]
 
 opened-background : (w : WorldState) (k : ℕ) (commands : List Text) → IsSane w → free_number w.shells ≡ Some k → (j : ℕ) → j ≢ 1 →
-    RunsFrame (shell_at (opened w k commands) j)
+    RunsFrame (shell_at (world_with_opened w k commands) j)
 opened-background w k commands sane free j ne =
     elim (cases_eq j k) [
       | inl same ↦ rw (same, opened-stands w k commands free) refl
@@ -33,14 +33,14 @@ opened-background w k commands sane free j ne =
     ]
 
 opened-numbered : (w : WorldState) (k : ℕ) (commands : List Text) → IsSane w → free_number w.shells ≡ Some k → (j : ℕ) →
-    IsNumbered j (shell_at (opened w k commands) j)
+    IsNumbered j (shell_at (world_with_opened w k commands) j)
 opened-numbered w k commands sane free j =
     elim (cases_eq j k) [
       | inl same ↦ rw (same, opened-stands w k commands free) refl
       | inr differ ↦ rw (opened-other w k commands j free differ) (sane.numbered j)
     ]
 
-pub opened-sane : (w : WorldState) (k : ℕ) (commands : List Text) → IsSane w → free_number w.shells ≡ Some k → IsSane (opened w k commands)
+pub opened-sane : (w : WorldState) (k : ℕ) (commands : List Text) → IsSane w → free_number w.shells ≡ Some k → IsSane (world_with_opened w k commands)
 opened-sane w k commands sane free = record {
   each = opened-runs w k commands sane free;
   background = opened-background w k commands sane free;

@@ -19,23 +19,23 @@ use Rattle.ados_machine.specs.World.{WorldState, input_of, is_over, seen_in, she
 use Rattle.ados_machine.specs.Course.{Course}
 use Rattle.ados_machine.specs.Numbers.{free_number}
 use Rattle.ados_machine.specs.Requests.{request_of}
-use Rattle.ados_machine.specs.Step.{Response, Refused, Accepted, applied, begun_items, giving, of_shell, queue_behind, start, turned, unflagged}
+use Rattle.ados_machine.specs.Step.{Response, Refused, Accepted, turning_response, begun_items, out_with, of_shell, queue_after_event, start, turn_response, course_without_flag}
 use Rattle.ados_machine.proofs.Sane.{sane-after}
 use Rattle.ados_shell.specs.declared.drafts.Draft.{Draft}
 use Rattle.ados_shell.specs.declared.scenes.Scene.{Scene}
 use Rattle.ados_shell.specs.declared.turnings.Turning.TheVariants as turn
 use Rattle.ados_shell.specs.Drafts.{start_of}
 use Rattle.ados_shell.specs.declared.scenes.Input.{Input}
-use Rattle.ados_shell.specs.Turnings.{IsTurning, MayWantMemory, turning_in}
+use Rattle.ados_shell.specs.Turnings.{IsTurning, MayWantMemory, scene_turning}
 use Rattle.ados_world.specs.Scenes.{Shows}
-use Rattle.ados_world.specs.Steps.{answering, asked_by, ended_world, taken}
+use Rattle.ados_world.specs.Steps.{step_answer, drafted_out, ended_world, world_after_turn}
 use Rattle.ados_world.proofs.MemoryLemmas.{turn-may}
 use Rattle.ados_world.proofs.TakenLemmas.{behind_turn, gives, taken-is}
 
-queue-stays : (w : WorldState) (k : ℕ) → queue_behind k w.queue (input_of w k).queue ≡ w.queue
+queue-stays : (w : WorldState) (k : ℕ) → queue_after_event k w.queue (input_of w k).queue ≡ w.queue
 queue-stays w k = elim (cases_Bool (k == 1)) [ inl e ↦ rw e refl | inr e ↦ rw e refl ]
 
-queue-next : (w : WorldState) (k : ℕ) → queue_behind k w.queue (drop 1 (input_of w k).queue) ≡ queue_behind k w.queue (drop 1 w.queue)
+queue-next : (w : WorldState) (k : ℕ) → queue_after_event k w.queue (drop 1 (input_of w k).queue) ≡ queue_after_event k w.queue (drop 1 w.queue)
 queue-next w k = elim (cases_Bool (k == 1)) [ inl e ↦ rw e refl | inr e ↦ rw e refl ]
 
 -- a turn of a shell begins
@@ -56,13 +56,13 @@ start_in shared shells shell = record {
 -- the machine's turn of a shell, by what the scene shows
 pub turning-is : (w : WorldState) (k : ℕ) (shell : ShellState) (scene : Scene) (input : Input)
     → Shows w k shell scene → input.is_ended ≡ (input_of w k).is_ended
-    → turning_in scene input (input_of w k).queue
-    ≡ turning.flagged_turning shell.flagged (input_of w k) shell.frames (unflagged (start w shell)) shell.phase
+    → scene_turning scene input (input_of w k).queue
+    ≡ turning.flagged_turning shell.flagged (input_of w k) shell.frames (course_without_flag (start w shell)) shell.phase
 turning-is w k shell scene input s e =
-    ap (λ x. turning.flagged_turning scene.shell.now.flagged (record { queue = (input_of w k).queue; is_ended = x }) scene.shell.now.frames (unflagged (start_of scene)) scene.shell.now.phase) e
-    ∙ ap (λ x. turning.flagged_turning x.flagged (input_of w k) x.frames (unflagged (start_in scene.shared.now scene.shells.now x)) x.phase) s.shell_is
-    ∙ ap (λ x. turning.flagged_turning shell.flagged (input_of w k) shell.frames (unflagged (start_in x scene.shells.now shell)) shell.phase) s.shared_is
-    ∙ ap (λ x. turning.flagged_turning shell.flagged (input_of w k) shell.frames (unflagged (start_in w.shared x shell)) shell.phase) s.shells_are
+    ap (λ x. turning.flagged_turning scene.shell.now.flagged (record { queue = (input_of w k).queue; is_ended = x }) scene.shell.now.frames (course_without_flag (start_of scene)) scene.shell.now.phase) e
+    ∙ ap (λ x. turning.flagged_turning x.flagged (input_of w k) x.frames (course_without_flag (start_in scene.shared.now scene.shells.now x)) x.phase) s.shell_is
+    ∙ ap (λ x. turning.flagged_turning shell.flagged (input_of w k) shell.frames (course_without_flag (start_in x scene.shells.now shell)) shell.phase) s.shared_is
+    ∙ ap (λ x. turning.flagged_turning shell.flagged (input_of w k) shell.frames (course_without_flag (start_in w.shared x shell)) shell.phase) s.shells_are
 
 -- an event is accepted, and leaves this world and gives this
 abbrev pub Accepts : Response → WorldState → Out → Type 0
@@ -72,86 +72,86 @@ Accepts response world given = (items : List (ℕ × Item)) × response ≡ Acce
 pub goes : (w : WorldState) (k : ℕ) (shell : ShellState) (scene : Scene) (draft : Draft) (turning : turning.Turning)
     → Shows w k shell scene
     → IsTurning scene (input_of w k).queue turn.Goes draft turning
-    → Accepts (applied w k shell.parts.codes turning) (taken k draft w) (asked_by (shell_at w k) draft)
+    → Accepts (turning_response w k shell.parts.codes turning) (world_after_turn k draft w) (drafted_out (shell_at w k) draft)
 goes w k shell scene draft (turning.Refuses why) s t = absurd t
 goes w k shell scene draft turning.Ends s t = absurd t
-goes w k shell scene draft (turning.Takes rest turned) s t =
-    let items = of_shell k turned.log ++ begun_items turned.course.begun (free_number w.shells) in
-    let given = giving turned.course.printed (request_of turned.course.parts.number turned.phase) (reports_of k turned.log) in (
+goes w k shell scene draft (turning.Takes rest turn_response) s t =
+    let items = of_shell k turn_response.log ++ begun_items turn_response.course.begun (free_number w.shells) in
+    let given = out_with turn_response.course.printed (request_of turn_response.course.parts.number turn_response.phase) (reports_of k turn_response.log) in (
       items,
-      ap (λ q. Accepted (record (behind_turn w k turned) { queue = q }) given items)
-          (ap (queue_behind k w.queue) t.0 ∙ queue-stays w k)
-          ∙ ap (λ x. Accepted x given items) (sym (taken-is w k shell scene draft turned s t.1))
-          ∙ ap (λ g. Accepted (taken k draft w) g items) (sym (gives w k shell scene draft turned s t.1)),
+      ap (λ q. Accepted (record (behind_turn w k turn_response) { queue = q }) given items)
+          (ap (queue_after_event k w.queue) t.0 ∙ queue-stays w k)
+          ∙ ap (λ x. Accepted x given items) (sym (taken-is w k shell scene draft turn_response s t.1))
+          ∙ ap (λ g. Accepted (world_after_turn k draft w) g items) (sym (gives w k shell scene draft turn_response s t.1)),
     )
 
 -- a turn that took the first line of its input
 takes : (w : WorldState) (k : ℕ) (shell : ShellState) (scene : Scene) (draft : Draft) (turning : turning.Turning)
     → Shows w k shell scene
     → IsTurning scene (input_of w k).queue turn.Takes draft turning
-    → Accepts (applied w k shell.parts.codes turning) (record (taken k draft w) { queue = queue_behind k w.queue (drop 1 w.queue) }) (asked_by (shell_at w k) draft)
+    → Accepts (turning_response w k shell.parts.codes turning) (record (world_after_turn k draft w) { queue = queue_after_event k w.queue (drop 1 w.queue) }) (drafted_out (shell_at w k) draft)
 takes w k shell scene draft (turning.Refuses why) s t = absurd t
 takes w k shell scene draft turning.Ends s t = absurd t
-takes w k shell scene draft (turning.Takes rest turned) s t =
-    let items = of_shell k turned.log ++ begun_items turned.course.begun (free_number w.shells) in
-    let given = giving turned.course.printed (request_of turned.course.parts.number turned.phase) (reports_of k turned.log) in
-    let queue = queue_behind k w.queue (drop 1 w.queue) in (
+takes w k shell scene draft (turning.Takes rest turn_response) s t =
+    let items = of_shell k turn_response.log ++ begun_items turn_response.course.begun (free_number w.shells) in
+    let given = out_with turn_response.course.printed (request_of turn_response.course.parts.number turn_response.phase) (reports_of k turn_response.log) in
+    let queue = queue_after_event k w.queue (drop 1 w.queue) in (
       items,
-      ap (λ q. Accepted (record (behind_turn w k turned) { queue = q }) given items)
-          (ap (λ q. queue_behind k w.queue (drop 1 q)) (sym t.1) ∙ queue-next w k)
-          ∙ ap (λ x. Accepted (record x { queue = queue }) given items) (sym (taken-is w k shell scene draft turned s t.2))
-          ∙ ap (λ g. Accepted (record (taken k draft w) { queue = queue }) g items) (sym (gives w k shell scene draft turned s t.2)),
+      ap (λ q. Accepted (record (behind_turn w k turn_response) { queue = q }) given items)
+          (ap (λ q. queue_after_event k w.queue (drop 1 q)) (sym t.1) ∙ queue-next w k)
+          ∙ ap (λ x. Accepted (record x { queue = queue }) given items) (sym (taken-is w k shell scene draft turn_response s t.2))
+          ∙ ap (λ g. Accepted (record (world_after_turn k draft w) { queue = queue }) g items) (sym (gives w k shell scene draft turn_response s t.2)),
     )
 
 -- a turn at which the shell ended
 ends : (w : WorldState) (k : ℕ) (shell : ShellState) (scene : Scene) (draft : Draft) (turning : turning.Turning)
     → IsTurning scene (input_of w k).queue turn.Ends draft turning
-    → Accepts (applied w k shell.parts.codes turning) (ended_world k shell.parts.codes w) (giving [] None [])
+    → Accepts (turning_response w k shell.parts.codes turning) (ended_world k shell.parts.codes w) (out_with [] None [])
 ends w k shell scene draft (turning.Refuses why) t = absurd t
 ends w k shell scene draft turning.Ends t = ([], refl)
-ends w k shell scene draft (turning.Takes rest turned) t = absurd t
+ends w k shell scene draft (turning.Takes rest turn_response) t = absurd t
 
 -- a turn that went on may need memory
 goes-may : (scene : Scene) (queue : List (List ℕ)) (draft : Draft) (turning : turning.Turning) → IsTurning scene queue turn.Goes draft turning → MayWantMemory turning
 goes-may scene queue draft (turning.Refuses why) t = absurd t
 goes-may scene queue draft turning.Ends t = absurd t
-goes-may scene queue draft (turning.Takes rest turned) t = tt
+goes-may scene queue draft (turning.Takes rest turn_response) t = tt
 
 takes-may : (scene : Scene) (queue : List (List ℕ)) (draft : Draft) (turning : turning.Turning) → IsTurning scene queue turn.Takes draft turning → MayWantMemory turning
 takes-may scene queue draft (turning.Refuses why) t = absurd t
 takes-may scene queue draft turning.Ends t = absurd t
-takes-may scene queue draft (turning.Takes rest turned) t = tt
+takes-may scene queue draft (turning.Takes rest turn_response) t = tt
 
 pub turn-wants : (w : WorldState) (k : ℕ) (shell : ShellState) (scene : Scene) (input : Input)
     → IsSane w → Shows w k shell scene → input.is_ended ≡ (input_of w k).is_ended
-    → MayWantMemory (turning_in scene input (input_of w k).queue)
-    → IsAnswer (event.Turn k) (Err NoMemory) (turned w k (shell_at w k))
+    → MayWantMemory (scene_turning scene input (input_of w k).queue)
+    → IsAnswer (event.Turn k) (Err NoMemory) (turn_response w k (shell_at w k))
 turn-wants w k shell scene input sane s e m =
     (let P : Response → Type 0 = λ r. IsAnswer (event.Turn k) (Err NoMemory) r in
-    subst P (sym (ap (turned w k) s.here)) (turn-may w k shell sane s.here (subst MayWantMemory (turning-is w k shell scene input s e) m)))
+    subst P (sym (ap (turn_response w k) s.here)) (turn-may w k shell sane s.here (subst MayWantMemory (turning-is w k shell scene input s e) m)))
 
 pub goes-wants : (w : WorldState) (k : ℕ) (shell : ShellState) (scene : Scene) (input : Input) (draft : Draft)
     → IsSane w → Shows w k shell scene → input.is_ended ≡ (input_of w k).is_ended
-    → IsTurning scene (input_of w k).queue turn.Goes draft (turning_in scene input (input_of w k).queue)
-    → IsAnswer (event.Turn k) (Err NoMemory) (turned w k (shell_at w k))
+    → IsTurning scene (input_of w k).queue turn.Goes draft (scene_turning scene input (input_of w k).queue)
+    → IsAnswer (event.Turn k) (Err NoMemory) (turn_response w k (shell_at w k))
 goes-wants w k shell scene input draft sane s e t = turn-wants w k shell scene input sane s e (goes-may scene _ draft _ t)
 
 pub takes-wants : (w : WorldState) (k : ℕ) (shell : ShellState) (scene : Scene) (input : Input) (draft : Draft)
     → IsSane w → Shows w k shell scene → input.is_ended ≡ (input_of w k).is_ended
-    → IsTurning scene (input_of w k).queue turn.Takes draft (turning_in scene input (input_of w k).queue)
-    → IsAnswer (event.Turn k) (Err NoMemory) (turned w k (shell_at w k))
+    → IsTurning scene (input_of w k).queue turn.Takes draft (scene_turning scene input (input_of w k).queue)
+    → IsAnswer (event.Turn k) (Err NoMemory) (turn_response w k (shell_at w k))
 takes-wants w k shell scene input draft sane s e t = turn-wants w k shell scene input sane s e (takes-may scene _ draft _ t)
 
 -- no script runs on after a failure in the world that an event leaves
-pub sane-behind : (w world : WorldState) (k : ℕ) (given : Out) → IsSane w → is_over w ≡ false → Accepts (turned w k (shell_at w k)) world given → IsSane world
+pub sane-behind : (w world : WorldState) (k : ℕ) (given : Out) → IsSane w → is_over w ≡ false → Accepts (turn_response w k (shell_at w k)) world given → IsSane world
 sane-behind w world k given sane over (items, e) =
     (let P : Response → Type 0 = λ r. IsSane (world_after w (Ok given) r) in
-    subst P (ap (λ b. if b then Refused Over else turned w k (shell_at w k)) over ∙ e) (sane-after w (event.Turn k) (Ok given) sane))
+    subst P (ap (λ b. if b then Refused Over else turn_response w k (shell_at w k)) over ∙ e) (sane-after w (event.Turn k) (Ok given) sane))
 
 -- the event was accepted, unless an allocation failed: the answer is the step's answer
 pub answered : {X : Type 0} (world : WorldState) (e : Event) (given out : Out) (result : Result X Refusal) (response : Response)
     → Accepts response world given → IsAnswer e (Err NoMemory) response → OnOk result (out ≡ given) → IfErr result (λ why. why ≡ NoMemory)
-    → IsAnswer e (answering out result) response
+    → IsAnswer e (step_answer out result) response
 answered world e given out (Ok accepted) response (items, a) wants g n =
     (let P : Response → Type 0 = λ r. IsAnswer e (Ok out) r in subst P (sym a) g)
 answered world e given out (Err why) response (items, a) wants g n =
@@ -159,56 +159,56 @@ answered world e given out (Err why) response (items, a) wants g n =
 
 -- the answer is the step's answer, and its world is the world after it
 pub answers : {X : Type 0} (w world new : WorldState) (given out : Out) (result : Result X Refusal) (response : Response) → Accepts response world given
-    → OnOk result (new ≡ world) → OnErr result (new ≡ w) → new ≡ world_after w (answering out result) response
+    → OnOk result (new ≡ world) → OnErr result (new ≡ w) → new ≡ world_after w (step_answer out result) response
 answers w world new given out (Ok accepted) response (items, e) a b = a ∙ sym (ap (world_after w (Ok out)) e)
 answers w world new given out (Err why) response (items, e) a b = b ∙ sym (ap (world_after w (Err why)) e)
 
 to-turned : (w world : WorldState) (k : ℕ) (given : Out) (shell : ShellState) → shell_at w k ≡ Some shell
-    → Accepts (applied w k shell.parts.codes (turning.flagged_turning shell.flagged (input_of w k) shell.frames (unflagged (start w shell)) shell.phase)) world given
-    → Accepts (turned w k (shell_at w k)) world given
-to-turned w world k given shell here (items, e) = (items, ap (turned w k) here ∙ e)
+    → Accepts (turning_response w k shell.parts.codes (turning.flagged_turning shell.flagged (input_of w k) shell.frames (course_without_flag (start w shell)) shell.phase)) world given
+    → Accepts (turn_response w k (shell_at w k)) world given
+to-turned w world k given shell here (items, e) = (items, ap (turn_response w k) here ∙ e)
 
 pub turn-goes : (w : WorldState) (k : ℕ) (shell : ShellState) (scene : Scene) (input : Input) (draft : Draft)
     → Shows w k shell scene → input.is_ended ≡ (input_of w k).is_ended
-    → IsTurning scene (input_of w k).queue turn.Goes draft (turning_in scene input (input_of w k).queue)
-    → Accepts (turned w k (shell_at w k)) (taken k draft w) (asked_by (shell_at w k) draft)
+    → IsTurning scene (input_of w k).queue turn.Goes draft (scene_turning scene input (input_of w k).queue)
+    → Accepts (turn_response w k (shell_at w k)) (world_after_turn k draft w) (drafted_out (shell_at w k) draft)
 turn-goes w k shell scene input draft s e t =
     (let P : turning.Turning → Type 0 = λ x. IsTurning scene (input_of w k).queue turn.Goes draft x in
     to-turned w _ k _ shell s.here (goes w k shell scene draft _ s (subst P (turning-is w k shell scene input s e) t)))
 
 pub turn-takes : (w : WorldState) (k : ℕ) (shell : ShellState) (scene : Scene) (input : Input) (draft : Draft)
     → Shows w k shell scene → input.is_ended ≡ (input_of w k).is_ended
-    → IsTurning scene (input_of w k).queue turn.Takes draft (turning_in scene input (input_of w k).queue)
-    → Accepts (turned w k (shell_at w k)) (record (taken k draft w) { queue = queue_behind k w.queue (drop 1 w.queue) }) (asked_by (shell_at w k) draft)
+    → IsTurning scene (input_of w k).queue turn.Takes draft (scene_turning scene input (input_of w k).queue)
+    → Accepts (turn_response w k (shell_at w k)) (record (world_after_turn k draft w) { queue = queue_after_event k w.queue (drop 1 w.queue) }) (drafted_out (shell_at w k) draft)
 turn-takes w k shell scene input draft s e t =
     (let P : turning.Turning → Type 0 = λ x. IsTurning scene (input_of w k).queue turn.Takes draft x in
     to-turned w _ k _ shell s.here (takes w k shell scene draft _ s (subst P (turning-is w k shell scene input s e) t)))
 
 pub turn-ends : (w : WorldState) (k : ℕ) (shell : ShellState) (scene : Scene) (input : Input) (draft : Draft) (codes : Codes)
     → Shows w k shell scene → input.is_ended ≡ (input_of w k).is_ended → codes ≡ shell.parts.codes
-    → IsTurning scene (input_of w k).queue turn.Ends draft (turning_in scene input (input_of w k).queue)
-    → Accepts (turned w k (shell_at w k)) (ended_world k codes w) (giving [] None [])
+    → IsTurning scene (input_of w k).queue turn.Ends draft (scene_turning scene input (input_of w k).queue)
+    → Accepts (turn_response w k (shell_at w k)) (ended_world k codes w) (out_with [] None [])
 turn-ends w k shell scene input draft codes s e c t =
     (let P : turning.Turning → Type 0 = λ x. IsTurning scene (input_of w k).queue turn.Ends draft x in
-    let Q : Codes → Type 0 = λ x. Accepts (turned w k (shell_at w k)) (ended_world k x w) (giving [] None []) in
+    let Q : Codes → Type 0 = λ x. Accepts (turn_response w k (shell_at w k)) (ended_world k x w) (out_with [] None []) in
     subst Q (sym c) (to-turned w _ k _ shell s.here (ends w k shell scene draft _ (subst P (turning-is w k shell scene input s e) t))))
 
 -- a turn that was refused
 refuses : (w : WorldState) (k : ℕ) (shell : ShellState) (scene : Scene) (draft : Draft) (turning : turning.Turning)
     → IsTurning scene (input_of w k).queue turn.NotReady draft turning
-    → IsAnswer (event.Turn k) (Err NotReady) (applied w k shell.parts.codes turning)
+    → IsAnswer (event.Turn k) (Err NotReady) (turning_response w k shell.parts.codes turning)
 refuses w k shell scene draft (turning.Refuses why) t = sym t
 refuses w k shell scene draft turning.Ends t = absurd t
-refuses w k shell scene draft (turning.Takes rest turned) t = absurd t
+refuses w k shell scene draft (turning.Takes rest turn_response) t = absurd t
 
 pub turn-refused : (w : WorldState) (k : ℕ) (shell : ShellState) (scene : Scene) (input : Input) (draft : Draft)
     → Shows w k shell scene → input.is_ended ≡ (input_of w k).is_ended
-    → IsTurning scene (input_of w k).queue turn.NotReady draft (turning_in scene input (input_of w k).queue)
-    → IsAnswer (event.Turn k) (Err NotReady) (turned w k (shell_at w k))
+    → IsTurning scene (input_of w k).queue turn.NotReady draft (scene_turning scene input (input_of w k).queue)
+    → IsAnswer (event.Turn k) (Err NotReady) (turn_response w k (shell_at w k))
 turn-refused w k shell scene input draft s e t =
     (let P : Response → Type 0 = λ r. IsAnswer (event.Turn k) (Err NotReady) r in
     let Q : turning.Turning → Type 0 = λ x. IsTurning scene (input_of w k).queue turn.NotReady draft x in
-    subst P (sym (ap (turned w k) s.here)) (refuses w k shell scene draft _ (subst Q (turning-is w k shell scene input s e) t)))
+    subst P (sym (ap (turn_response w k) s.here)) (refuses w k shell scene draft _ (subst Q (turning-is w k shell scene input s e) t)))
 
 -- the same world with other lines that wait
 pub sane-taken : (w : WorldState) (queue : List (List ℕ)) → IsSane (record w { queue = queue }) → IsSane w

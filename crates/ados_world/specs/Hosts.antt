@@ -32,14 +32,14 @@ name_fault before place name =
     if not (is_name name) then Some (BadName place) else (if is_taken before name then Some (Double place) else None)
 
 -- the fault of the first of these that has one; the number is that of the entries before them
-abbrev pub faults_from : List HostEntry → ℕ → List HostEntry → Option NewFault
-faults_from hosts before [] = None
-faults_from hosts before (entry ∷ entries) =
-    option_or (name_fault (take before hosts) (suc before) entry.name) (faults_from hosts (suc before) entries)
+abbrev pub first_host_fault : List HostEntry → ℕ → List HostEntry → Option NewFault
+first_host_fault hosts before [] = None
+first_host_fault hosts before (entry ∷ entries) =
+    option_or (name_fault (take before hosts) (suc before) entry.name) (first_host_fault hosts (suc before) entries)
 
 -- why a world is not made with these: there are too many, or else the fault of the first that has one
 abbrev pub hosts_fault : List HostEntry → Option NewFault
-hosts_fault hosts = if nat_lt host_limit (length hosts) then Some TooMany else faults_from hosts 0 hosts
+hosts_fault hosts = if nat_lt host_limit (length hosts) then Some TooMany else first_host_fault hosts 0 hosts
 
 -- a world is made if there is no fault, and otherwise the refusal is the fault; `NoMemory` is possible only if there is none
 abbrev pub Answers : {X : Type 0} → Result X NewFault → Option NewFault → Type 0

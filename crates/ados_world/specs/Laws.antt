@@ -32,14 +32,14 @@ NextLeavesNothing k w now (event ∷ events) (Err why ∷ outs) = NextLeavesNoth
 NextLeavesNothing k w now _ _ = Unit {0}
 
 -- after a turn that was accepted
-abbrev pub BehindTurn : WorldState → Event → Result Out Refusal → WorldState → List Event → List (Result Out Refusal) → Type 0
-BehindTurn w (Turn k) (Ok out) now events outs = NextLeavesNothing k w now events outs
-BehindTurn w event out now events outs = Unit {0}
+abbrev pub AfterTurn : WorldState → Event → Result Out Refusal → WorldState → List Event → List (Result Out Refusal) → Type 0
+AfterTurn w (Turn k) (Ok out) now events outs = NextLeavesNothing k w now events outs
+AfterTurn w event out now events outs = Unit {0}
 
 -- and of each turn of a run
 abbrev pub FailedStartsLeaveNothingIn : WorldState → List Event → List (Result Out Refusal) → Type 0
 FailedStartsLeaveNothingIn w (event ∷ events) (out ∷ outs) =
-    BehindTurn w event out (world_after w out (step_of w event)) events outs
+    AfterTurn w event out (world_after w out (step_of w event)) events outs
     × FailedStartsLeaveNothingIn (world_after w out (step_of w event)) events outs
 FailedStartsLeaveNothingIn w _ _ = Unit {0}
 

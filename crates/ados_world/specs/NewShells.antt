@@ -1,14 +1,14 @@
 -- The shell that a turn makes.
 use Rattle.std.specs.Prelude.{◌-◌, ℕ, List, Option, Some, None, slice_set}
-use Rattle.ados_machine.specs.Shells.{Begun, begun_shell, ShellState}
+use Rattle.ados_machine.specs.Shells.{ShellStart, begun_shell, ShellState}
 
 -- a shell begins if there is a number for it
-abbrev pub new_shell : Option Begun → Option ℕ → Option ShellState
+abbrev pub new_shell : Option ShellStart → Option ℕ → Option ShellState
 new_shell (Some begun) (Some number) = Some (begun_shell number begun)
 new_shell (Some begun) None = None
 new_shell None number = None
 
 -- it is placed among the others at its number
-abbrev pub joined : Option ShellState → List (Option ShellState) → List (Option ShellState)
-joined None shells = shells
-joined (Some shell) shells = slice_set shells (shell.parts.number - 1) (Some shell)
+abbrev pub joined_shells : Option ShellState → List (Option ShellState) → List (Option ShellState)
+joined_shells None shells = shells
+joined_shells (Some shell) shells = slice_set shells (shell.parts.number - 1) (Some shell)

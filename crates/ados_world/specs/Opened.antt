@@ -4,7 +4,7 @@ use Rattle.ados_text.specs.Text.{Text}
 use Rattle.ados_text.specs.declared.lines.TheConstants.{LINE_BYTES}
 use Rattle.ados_machine.specs.declared.refusals.Refusal.{Refusal}
 use Rattle.ados_machine.specs.declared.refusals.Refusal.TheVariants.{Over, LineTooLong, NoMemory}
-use Rattle.ados_machine.specs.Whole.{opened}
+use Rattle.ados_machine.specs.Whole.{world_with_opened}
 use Rattle.ados_machine.specs.World.{WorldState, is_over}
 
 -- why no shell is opened for a line: none is left, or the line is too long
@@ -19,6 +19,6 @@ Refuses (Err why) None (Some number) = why ≡ NoMemory
 Refuses (Err why) None None = ⊥
 
 -- the world after an opening: it is unchanged after a refusal, and if no number is free
-abbrev pub behind_opening : WorldState → Text → Result (Option ℕ) Refusal → WorldState
-behind_opening w line (Ok (Some k)) = opened w k (line ∷ [])
-behind_opening w line _ = w
+abbrev pub world_after_opening : WorldState → Text → Result (Option ℕ) Refusal → WorldState
+world_after_opening w line (Ok (Some k)) = world_with_opened w k (line ∷ [])
+world_after_opening w line _ = w

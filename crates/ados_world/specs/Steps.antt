@@ -5,43 +5,43 @@ use Rattle.ados_find.specs.Shared.{version}
 use Rattle.ados_machine.specs.declared.outs.Out.{Out}
 use Rattle.ados_machine.specs.declared.refusals.Refusal.{Refusal}
 use Rattle.ados_machine.specs.Shells.{ShellState}
-use Rattle.ados_machine.specs.Carrying.{moved_by}
+use Rattle.ados_machine.specs.Carrying.{moved_object}
 use Rattle.ados_machine.specs.Numbers.{free_number}
 use Rattle.ados_machine.specs.Requests.{request_of}
-use Rattle.ados_machine.specs.Step.{giving}
-use Rattle.ados_machine.specs.World.{WorldState, flatten, numbered}
+use Rattle.ados_machine.specs.Step.{out_with}
+use Rattle.ados_machine.specs.World.{WorldState, flatten, at_number}
 use Rattle.ados_shell.specs.declared.drafts.Draft.{Draft}
-use Rattle.ados_shell.specs.Drafts.{out_of, phase_in}
-use Rattle.ados_world.specs.Breaks.{others_broken}
-use Rattle.ados_world.specs.Endings.{codes_left, ended_left, shells_left}
-use Rattle.ados_world.specs.NewShells.{joined, new_shell}
-use Rattle.ados_world.specs.Shells.{shells_by}
+use Rattle.ados_shell.specs.Drafts.{out_of, drafted_phase}
+use Rattle.ados_world.specs.Breaks.{shells_with_broken}
+use Rattle.ados_world.specs.Endings.{final_codes, recorded_codes, remaining_shells}
+use Rattle.ados_world.specs.NewShells.{joined_shells, new_shell}
+use Rattle.ados_world.specs.Shells.{shells_after_draft}
 
 -- the shells after what a turn makes of one of them, with the one that begins at the lowest free number
-abbrev pub shells_standing : ℕ → Draft → WorldState → List (Option ShellState)
-shells_standing number draft w =
-    joined (new_shell (option_map (λ b. b.value) draft.begun) (free_number w.shells))
-    (shells_by number draft.shell (moved_by w.shared (version w.shared draft.shared) (option_map (λ r. r.value) draft.renamed)) w.shells)
+abbrev pub shells_with_begun : ℕ → Draft → WorldState → List (Option ShellState)
+shells_with_begun number draft w =
+    joined_shells (new_shell (option_map (λ b. b.value) draft.begun) (free_number w.shells))
+    (shells_after_draft number draft.shell (moved_object w.shared (version w.shared draft.shared) (option_map (λ r. r.value) draft.renamed)) w.shells)
 
 -- the same when another one may be broken
-abbrev pub shells_with : ℕ → Draft → WorldState → List (Option ShellState)
-shells_with number draft w = others_broken number draft.breaking (shells_standing number draft w)
+abbrev pub shells_after_turn : ℕ → Draft → WorldState → List (Option ShellState)
+shells_after_turn number draft w = shells_with_broken number draft.breaking (shells_with_begun number draft w)
 
 -- the world after what a turn changes: a background shell that no longer runs a frame is removed, and its codes are kept
-abbrev pub taken : ℕ → Draft → WorldState → WorldState
-taken number draft w =
-    (let shells = shells_with number draft w in
-    let codes = codes_left number (flatten (numbered shells number)) in
+abbrev pub world_after_turn : ℕ → Draft → WorldState → WorldState
+world_after_turn number draft w =
+    (let shells = shells_after_turn number draft w in
+    let codes = final_codes number (flatten (at_number shells number)) in
     record w {
-      shells = shells_left codes number shells;
-      ended = ended_left codes number w.ended;
+      shells = remaining_shells codes number shells;
+      ended = recorded_codes codes number w.ended;
       shared = version w.shared draft.shared;
     })
 
 -- what an event gives by a draft that changes a shell: it asks for what the shell waits for then
-abbrev pub asked_by : Option ShellState → Draft → Out
-asked_by None draft = out_of draft
-asked_by (Some shell) draft = giving draft.printed.items (request_of shell.parts.number (phase_in draft.shell)) draft.reports.items
+abbrev pub drafted_out : Option ShellState → Draft → Out
+drafted_out None draft = out_of draft
+drafted_out (Some shell) draft = out_with draft.printed.items (request_of shell.parts.number (drafted_phase draft.shell)) draft.reports.items
 
 -- the world after the end of a shell, whose codes are kept
 abbrev pub ended_world : ℕ → Codes → WorldState → WorldState
@@ -52,6 +52,6 @@ abbrev pub with_line : List ℕ → WorldState → WorldState
 with_line line w = record w { queue = w.queue ++ line ∷ [] }
 
 -- the answer to an event with this output, if it was accepted
-abbrev pub answering : {X : Type 0} → Out → Result X Refusal → Result Out Refusal
-answering out (Ok accepted) = Ok out
-answering out (Err why) = Err why
+abbrev pub step_answer : {X : Type 0} → Out → Result X Refusal → Result Out Refusal
+step_answer out (Ok accepted) = Ok out
+step_answer out (Err why) = Err why

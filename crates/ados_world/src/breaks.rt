@@ -3,7 +3,7 @@ ghost use Rattle.std.specs.Prelude.{◌≡◌, ◌<◌};
 ghost use Rattle.std.specs.List.{slice_get, slice_set};
 ghost use Rattle.ados_machine.specs.Breaks.{breaks_by, broken_number, broken_place};
 ghost use Rattle.ados_machine.specs.World.{flatten};
-ghost use Rattle.ados_world.specs.Breaks.{others_broken};
+ghost use Rattle.ados_world.specs.Breaks.{shells_with_broken};
 
 use ados_find::{Breaking, Breaks};
 use ados_machine::Kind;
@@ -42,7 +42,7 @@ fn break_place(shells: &mut [Option<Shell>; 20], place: usize, breaks: Breaks)
 
 /// The shell that a command broke is broken, unless it is the command's own, which has this number.
 pub fn break_other(shells: &mut [Option<Shell>; 20], number: u8, breaking: Option<Breaking>)
-    ensures { shells.new ≡ others_broken number breaking shells.old }
+    ensures { shells.new ≡ shells_with_broken number breaking shells.old }
 {
     match breaking {
         Some(breaking) if breaking.shell != number as usize => {

@@ -2,8 +2,8 @@
 ghost use Rattle.std.specs.Prelude.{◌≡◌, IfOk, None, option_map, replicate};
 ghost use Rattle.std.specs.Option.{option_copied};
 ghost use Rattle.ados_find.specs.Shared.{version};
-ghost use Rattle.ados_machine.specs.Carrying.{carried_directory, has_moved, moved_by};
-ghost use Rattle.ados_world.specs.Shells.{all_placed, carried_directories, placed};
+ghost use Rattle.ados_machine.specs.Carrying.{carried_directory, has_moved, moved_object};
+ghost use Rattle.ados_world.specs.Shells.{placed_shells, carried_directories, placed_shell};
 
 use ados_find::{Renamed, Shared};
 use ados_ram::Place;
@@ -16,7 +16,7 @@ pub fn moved_by<'a>(
     new: Option<&Shared>,
     renamed: Option<&'a Renamed>,
 ) -> Option<&'a Renamed>
-    ensures { option_copied result ≡ moved_by old.now (version old.now (option_copied new.entry)) (option_copied renamed.entry) }
+    ensures { option_copied result ≡ moved_object old.now (version old.now (option_copied new.entry)) (option_copied renamed.entry) }
 {
     match (new, renamed) {
         (Some(new), Some(renamed)) if has_moved(old, new, renamed) => Some(renamed),
@@ -55,7 +55,7 @@ fn carried_directory(shell: &Option<Shell>, moved: &Renamed) -> Result<Option<Pl
 
 /// From now on these are the current directories of the shells.
 pub fn place_all(shells: &mut [Option<Shell>; 20], directories: [Option<Place>; 20])
-    ensures { shells.new ≡ all_placed directories shells.old }
+    ensures { shells.new ≡ placed_shells directories shells.old }
 {
     let mut left = directories;
     for place in 0..20 {
@@ -64,7 +64,7 @@ pub fn place_all(shells: &mut [Option<Shell>; 20], directories: [Option<Place>; 
 }
 
 fn move_to(shell: &mut Option<Shell>, directory: Option<Place>)
-    ensures { shell.new ≡ placed directory shell.old }
+    ensures { shell.new ≡ placed_shell directory shell.old }
 {
     if let (Some(shell), Some(directory)) = (shell, directory) {
         shell.move_to(directory);

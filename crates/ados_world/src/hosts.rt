@@ -1,7 +1,7 @@
 // The host's commands that a world is made with.
 ghost use Rattle.std.specs.Prelude.{◌≡◌};
 ghost use Rattle.ados_text.specs.Text.{is_same};
-ghost use Rattle.ados_world.specs.Hosts.{faults_from, hosts_fault, is_command, is_host, is_taken, name_fault};
+ghost use Rattle.ados_world.specs.Hosts.{first_host_fault, hosts_fault, is_command, is_host, is_taken, name_fault};
 
 use ados_names::is_name;
 use ados_resident::{DiskCommand, HostEntry, InternalCommand};
@@ -41,7 +41,7 @@ pub fn hosts_fault(hosts: &[HostEntry]) -> Option<NewFault>
 
 /// The fault of the first that has one.
 fn first_fault(hosts: &[HostEntry]) -> Option<NewFault>
-    ensures { result ≡ faults_from hosts.now 0 hosts.now }
+    ensures { result ≡ first_host_fault hosts.now 0 hosts.now }
 {
     for place in 0..hosts.len() {
         if let Some(fault) = name_fault(&hosts[..place], place + 1, &hosts[place].name) {

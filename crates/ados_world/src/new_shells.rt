@@ -1,7 +1,7 @@
 // The shell that a turn makes, and its number.
 ghost use Rattle.std.specs.Prelude.{◌≡◌, IfOk, IfSome, option_map};
 ghost use Rattle.ados_machine.specs.Numbers.{free_number};
-ghost use Rattle.ados_world.specs.NewShells.{joined, new_shell};
+ghost use Rattle.ados_world.specs.NewShells.{joined_shells, new_shell};
 ghost use Rattle.ados_world.specs.Shells.{IsShellNumber};
 
 use ados_shell::{Begun, Shell, free_number};
@@ -42,7 +42,7 @@ pub fn new_shell(
 /// A shell that begins is placed at its number.
 pub fn join(shells: &mut [Option<Shell>; 20], shell: Option<Shell>)
     requires { IfSome shell (λ new. IsShellNumber new.parts.number) }
-    ensures { shells.new ≡ joined shell shells.old }
+    ensures { shells.new ≡ joined_shells shell shells.old }
 {
     if let Some(shell) = shell {
         let place = shell.number() as usize - 1;

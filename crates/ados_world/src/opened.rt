@@ -4,9 +4,9 @@ ghost use Rattle.std.specs.List.{slice_set};
 ghost use Rattle.ados_machine.specs.Limits.{IsSane};
 ghost use Rattle.ados_machine.specs.Numbers.{free_number};
 ghost use Rattle.ados_machine.specs.declared.answers.Answer.{Answer};
-ghost use Rattle.ados_machine.specs.Told.{TellsReports, told};
+ghost use Rattle.ados_machine.specs.Told.{TellsReports, collect_reports};
 ghost use Rattle.ados_machine.specs.Whole.{opened_shell, whole};
-ghost use Rattle.ados_world.specs.Opened.{Refuses, behind_opening, opening_fault};
+ghost use Rattle.ados_world.specs.Opened.{Refuses, world_after_opening, opening_fault};
 ghost use Rattle.ados_world.specs.Shells.{IsShellNumber};
 
 use crate::new_shells::next_number;
@@ -34,9 +34,9 @@ impl World {
         ensures place { IfOk result (λ number. IfSome number (λ k. k ≤ length self.old.ended)) }
         // What it reports, if it runs alone from then on.
         ensures reports { IfOk result (λ number. IfSome number (λ k. (n : ℕ) (answers : List Answer) →
-            TellsReports (whole n k self.old (line.now ∷ []) answers) (told k n answers self.new []))) }
+            TellsReports (whole n k self.old (line.now ∷ []) answers) (collect_reports k n answers self.new []))) }
         ensures refusal { Refuses result (opening_fault self.old line.now) (free_number self.old.shells) }
-        ensures world { self.new ≡ behind_opening self.old line.now result }
+        ensures world { self.new ≡ world_after_opening self.old line.now result }
     {
         if self.is_over() {
             return Err(Refusal::Over);

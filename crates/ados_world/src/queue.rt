@@ -2,11 +2,11 @@
 ghost use Rattle.std.specs.Prelude.{◌≡◌, [], ◌∷◌, ◌++◌, IfErr, OnErr, OnOk};
 ghost use Rattle.std.specs.Option.{option_copied};
 ghost use Rattle.ados_machine.specs.World.{has_input, input_of};
-ghost use Rattle.ados_machine.specs.Step.{Accepted, Refused, typed, end_of_input, giving};
+ghost use Rattle.ados_machine.specs.Step.{Accepted, Refused, typing_response, end_of_input, out_with};
 ghost use Rattle.ados_machine.specs.Runs.{IsAnswer, world_after};
 ghost use Rattle.ados_machine.specs.declared.refusals.Refusal.TheVariants.{NoMemory};
 ghost use Rattle.ados_shell.specs.Turnings.{IsFirst};
-ghost use Rattle.ados_world.specs.Steps.{answering, with_line};
+ghost use Rattle.ados_world.specs.Steps.{step_answer, with_line};
 
 use crate::worlds::World;
 use ados_machine::{Event, Refusal};
@@ -18,8 +18,8 @@ const QUEUE_LINES: usize = 256;
 impl World {
     /// A copy of a line joins the queue.
     pub(crate) fn queue_copy(&mut self, line: &Text) -> Result<(), Refusal>
-        ensures answer { IsAnswer (Event.Typed line.now) (answering (giving [] None []) result) (typed self.old line.now) }
-        ensures world { self.new ≡ world_after self.old (answering (giving [] None []) result) (typed self.old line.now) }
+        ensures answer { IsAnswer (Event.Typed line.now) (step_answer (out_with [] None []) result) (typing_response self.old line.now) }
+        ensures world { self.new ≡ world_after self.old (step_answer (out_with [] None []) result) (typing_response self.old line.now) }
     {
         self.admit(line)?;
         match line.copy() {
@@ -30,8 +30,8 @@ impl World {
 
     /// A line may join the queue, unless an allocation fails.
     pub(crate) fn admit(&self, line: &Text) -> Result<(), Refusal>
-        ensures ok { OnOk result (typed self.now line.now ≡ Accepted (with_line line.now self.now) (giving [] None []) []) }
-        ensures err { IfErr result (λ why. typed self.now line.now ≡ Refused why) }
+        ensures ok { OnOk result (typing_response self.now line.now ≡ Accepted (with_line line.now self.now) (out_with [] None []) []) }
+        ensures err { IfErr result (λ why. typing_response self.now line.now ≡ Refused why) }
     {
         if self.input_ended {
             return Err(Refusal::NotReady);
@@ -59,8 +59,8 @@ impl World {
 
     /// No more lines will be typed.
     pub(crate) fn end_input(&mut self) -> Result<(), Refusal>
-        ensures answer { IsAnswer Event.EndOfInput (answering (giving [] None []) result) (end_of_input self.old) }
-        ensures world { self.new ≡ world_after self.old (answering (giving [] None []) result) (end_of_input self.old) }
+        ensures answer { IsAnswer Event.EndOfInput (step_answer (out_with [] None []) result) (end_of_input self.old) }
+        ensures world { self.new ≡ world_after self.old (step_answer (out_with [] None []) result) (end_of_input self.old) }
     {
         if self.input_ended {
             return Err(Refusal::NotReady);

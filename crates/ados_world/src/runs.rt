@@ -1,10 +1,10 @@
 // Runs: a list of events, one after another.
 ghost use Rattle.std.specs.Prelude.{◌≡◌, ℕ, ◌++◌, IfOk, IfErr};
-ghost use Rattle.ados_machine.specs.Given.{taken_in, typed_in};
-ghost use Rattle.ados_machine.specs.Kept.{codes_behind};
+ghost use Rattle.ados_machine.specs.Given.{all_lines_taken, all_lines_typed};
+ghost use Rattle.ados_machine.specs.Kept.{codes_after_trace};
 ghost use Rattle.ados_machine.specs.Runs.{Runs};
 ghost use Rattle.ados_machine.specs.Limits.{LimitsHold, ReportsHold};
-ghost use Rattle.ados_machine.specs.Reports.{reports_by, stacks_in};
+ghost use Rattle.ados_machine.specs.Reports.{reports_of_trace, stacks_in};
 ghost use Rattle.ados_machine.specs.Stacks.{FramesHold};
 ghost use Rattle.ados_machine.specs.Trace.{own, reports_in, trace};
 ghost use Rattle.ados_machine.specs.World.{codes_at};
@@ -84,9 +84,9 @@ impl World {
         ensures breaks { IfOk result (λ run. BreaksEndScriptsIn self events.now run.outs) }
         ensures starts { IfOk result (λ run. FailedStartsLeaveNothingIn self events.now run.outs) }
         ensures quiet { IfOk result (λ run. QuietShellsAreInvisibleIn self events.now run.outs run.world) }
-        ensures typed { IfOk result (λ run. self.queue ++ typed_in events.now run.outs ≡ taken_in self events.now run.outs ++ run.world.queue) }
-        ensures records { IfOk result (λ run. reports_in run.outs ≡ reports_by (stacks_in self) (trace self events.now run.outs)) }
-        ensures codes { IfOk result (λ run. (k : ℕ) → codes_at run.world k ≡ codes_behind (codes_at self k) (own k (trace self events.now run.outs))) }
+        ensures typed { IfOk result (λ run. self.queue ++ all_lines_typed events.now run.outs ≡ all_lines_taken self events.now run.outs ++ run.world.queue) }
+        ensures records { IfOk result (λ run. reports_in run.outs ≡ reports_of_trace (stacks_in self) (trace self events.now run.outs)) }
+        ensures codes { IfOk result (λ run. (k : ℕ) → codes_at run.world k ≡ codes_after_trace (codes_at self k) (own k (trace self events.now run.outs))) }
         ensures err { IfErr result (λ world. world ≡ self) }
     {
         let Ok(mut outs) = Vec::with_capacity(self.alloc, events.len()) else {

@@ -2,8 +2,8 @@
 ghost use Rattle.std.specs.Prelude.{◌≡◌, None, map, length, replicate, is_some, IfOk, OnErr, OnOk, OnSome, true};
 ghost use Rattle.std.specs.List.{filter, list_any};
 ghost use Rattle.std.specs.Option.{option_copied};
-ghost use Rattle.ados_machine.specs.World.{flatten, numbered};
-ghost use Rattle.ados_world.specs.Shells.{IsShellNumber, carried_in, is_entry, moved_in, runs_from, shells_by};
+ghost use Rattle.ados_machine.specs.World.{flatten, at_number};
+ghost use Rattle.ados_world.specs.Shells.{IsShellNumber, updated_carried_shells, is_entry, updated_shells, runs_from, shells_after_draft};
 
 use crate::carrying::{carried_directories, place_all};
 use ados_find::Renamed;
@@ -67,7 +67,7 @@ pub fn taken(shells: &[Option<Shell>; 20]) -> [bool; 20]
 
 /// The shell with this number, counted from 1.
 pub fn find_shell(shells: &[Option<Shell>; 20], number: u8) -> Option<&Shell>
-    ensures shell { option_copied result ≡ flatten (numbered shells.now number) }
+    ensures shell { option_copied result ≡ flatten (at_number shells.now number) }
     ensures number { OnSome result (IsShellNumber number) }
 {
     match number {
@@ -90,8 +90,8 @@ pub fn change_shell(
     moved: Option<&Renamed>,
 ) -> Result<(), NoMemory>
     requires number { IsShellNumber number }
-    requires runs { is_some (flatten (numbered shells.old number)) ≡ true }
-    ensures ok { OnOk result (shells.new ≡ shells_by number draft.old (option_copied moved.entry) shells.old) }
+    requires runs { is_some (flatten (at_number shells.old number)) ≡ true }
+    ensures ok { OnOk result (shells.new ≡ shells_after_draft number draft.old (option_copied moved.entry) shells.old) }
     ensures err { OnErr result (shells.new ≡ shells.old) }
 {
     match moved {
@@ -109,7 +109,7 @@ fn move_in(
     draft: &mut ShellDraft,
 ) -> Result<(), NoMemory>
     requires { IsShellNumber number }
-    ensures ok { OnOk result (shells.new ≡ moved_in number draft.old shells.old) }
+    ensures ok { OnOk result (shells.new ≡ updated_shells number draft.old shells.old) }
     ensures err { OnErr result (shells.new ≡ shells.old) }
 {
     match &mut shells[number as usize - 1] {
@@ -126,8 +126,8 @@ fn carry_in(
     moved: &Renamed,
 ) -> Result<(), NoMemory>
     requires number { IsShellNumber number }
-    requires runs { is_some (flatten (numbered shells.old number)) ≡ true }
-    ensures ok { OnOk result (shells.new ≡ carried_in number moved.now draft.old shells.old) }
+    requires runs { is_some (flatten (at_number shells.old number)) ≡ true }
+    ensures ok { OnOk result (shells.new ≡ updated_carried_shells number moved.now draft.old shells.old) }
     ensures err { OnErr result (shells.new ≡ shells.old) }
 {
     let Some(shell) = find_shell(shells, number) else {

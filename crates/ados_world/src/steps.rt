@@ -1,11 +1,11 @@
 // The step: what an event makes of a world.
 ghost use Rattle.std.specs.Prelude.{◌≡◌, ℕ, [], drop, false, Err, IfErr, IfOk, OnErr, OnOk, is_some, true};
-ghost use Rattle.ados_machine.specs.Given.{asked_in};
+ghost use Rattle.ados_machine.specs.Given.{request_after_event};
 ghost use Rattle.ados_machine.specs.InUse.{asks, entry_of};
 ghost use Rattle.ados_machine.specs.Laws.{finds_flag};
 ghost use Rattle.ados_machine.specs.Limits.{IsSane};
 ghost use Rattle.ados_machine.specs.World.{is_over, shell_at};
-ghost use Rattle.ados_machine.specs.Step.{step_of, turned, answered, broken, giving, queue_behind};
+ghost use Rattle.ados_machine.specs.Step.{step_of, turn_response, answer_response, break_response, out_with, queue_after_event};
 ghost use Rattle.ados_machine.specs.Runs.{IsAnswer, world_after};
 ghost use Rattle.ados_machine.specs.declared.refusals.Refusal.TheVariants.{NoMemory as WantOfMemory};
 ghost use Rattle.ados_find.specs.Shared.{version};
@@ -13,7 +13,7 @@ ghost use Rattle.ados_shell.specs.Drafts.{out_of};
 ghost use Rattle.ados_world.specs.Binding.{BindsWhatItUsed};
 ghost use Rattle.ados_world.specs.Laws.{FailedStart, tells_break};
 ghost use Rattle.ados_world.specs.Shells.{IsShellNumber};
-ghost use Rattle.ados_world.specs.Steps.{answering, asked_by, ended_world, taken};
+ghost use Rattle.ados_world.specs.Steps.{step_answer, drafted_out, ended_world, world_after_turn};
 
 use crate::breaks::{break_number, break_other, breaks_by};
 use crate::carrying::moved_by;
@@ -41,7 +41,7 @@ impl World {
         ensures answer { IsAnswer event.now result (step_of self.old event.now) }
         ensures world { self.new ≡ world_after self.old result (step_of self.old event.now) }
         ensures failed_start { OnOk result (FailedStart self.old event.now self.new) }
-        ensures request { IfOk result (λ out. out.request ≡ asked_in self.new event.now) }
+        ensures request { IfOk result (λ out. out.request ≡ request_after_event self.new event.now) }
         ensures binding { OnOk result (BindsWhatItUsed self.old event.now self.new) }
         ensures breaks { IfOk result (λ out. tells_break out.reports ≡ finds_flag self.old event.now) }
         ensures entries { OnOk result ((k : ℕ) → asks self.old k ≡ true → asks self.new k ≡ true → entry_of self.new k ≡ entry_of self.old k) }
@@ -54,8 +54,8 @@ impl World {
     /// The same with a draft that is lent; it then holds what the event gives. What it held before is forgotten: one
     /// draft serves for a whole run, and its buffers live on.
     pub fn step_into(&mut self, event: &Event, draft: &mut Draft) -> Result<(), Refusal>
-        ensures answer { IsAnswer event.now (answering (out_of draft.new) result) (step_of self.old event.now) }
-        ensures world { self.new ≡ world_after self.old (answering (out_of draft.new) result) (step_of self.old event.now) }
+        ensures answer { IsAnswer event.now (step_answer (out_of draft.new) result) (step_of self.old event.now) }
+        ensures world { self.new ≡ world_after self.old (step_answer (out_of draft.new) result) (step_of self.old event.now) }
     {
         if self.is_over() {
             return Err(Refusal::Over);
@@ -80,8 +80,8 @@ impl World {
 
     /// A line was typed: the event of that name, which gives nothing, by a line that the world keeps.
     pub fn type_line(&mut self, line: Text) -> Result<(), Refusal>
-        ensures answer { IsAnswer (Event.Typed line) (answering (giving [] None []) result) (step_of self.old (Event.Typed line)) }
-        ensures world { self.new ≡ world_after self.old (answering (giving [] None []) result) (step_of self.old (Event.Typed line)) }
+        ensures answer { IsAnswer (Event.Typed line) (step_answer (out_with [] None []) result) (step_of self.old (Event.Typed line)) }
+        ensures world { self.new ≡ world_after self.old (step_answer (out_with [] None []) result) (step_of self.old (Event.Typed line)) }
     {
         if self.is_over() {
             return Err(Refusal::Over);
@@ -92,8 +92,8 @@ impl World {
 
     fn turn(&mut self, number: u8, draft: &mut Draft) -> Result<(), Refusal>
         requires { is_over self.old ≡ false }
-        ensures answer { IsAnswer (Event.Turn number) (answering (out_of draft.new) result) (turned self.old number (shell_at self.old number)) }
-        ensures world { self.new ≡ world_after self.old (answering (out_of draft.new) result) (turned self.old number (shell_at self.old number)) }
+        ensures answer { IsAnswer (Event.Turn number) (step_answer (out_of draft.new) result) (turn_response self.old number (shell_at self.old number)) }
+        ensures world { self.new ≡ world_after self.old (step_answer (out_of draft.new) result) (turn_response self.old number (shell_at self.old number)) }
     {
         // This lets a turn use what holds of every world: no script runs on after a failure, each background shell runs a
         // frame, and each shell has the number of its place.
@@ -117,8 +117,8 @@ impl World {
 
     fn answer(&mut self, number: u8, answer: &Answer, draft: &mut Draft) -> Result<(), Refusal>
         requires { is_over self.old ≡ false }
-        ensures answer { IsAnswer (Event.Answer number answer.now) (answering (out_of draft.new) result) (answered self.old number answer.now (shell_at self.old number)) }
-        ensures world { self.new ≡ world_after self.old (answering (out_of draft.new) result) (answered self.old number answer.now (shell_at self.old number)) }
+        ensures answer { IsAnswer (Event.Answer number answer.now) (step_answer (out_of draft.new) result) (answer_response self.old number answer.now (shell_at self.old number)) }
+        ensures world { self.new ≡ world_after self.old (step_answer (out_of draft.new) result) (answer_response self.old number answer.now (shell_at self.old number)) }
     {
         // This lets an answer use what holds of every world, as a turn does.
         let _ = &self.alloc;
@@ -134,8 +134,8 @@ impl World {
 
     fn break_shell(&mut self, number: u8, kind: Kind) -> Result<(), Refusal>
         requires { is_over self.old ≡ false }
-        ensures answer { IsAnswer (Event.Break number kind) (answering (giving [] None []) result) (broken self.old number kind (shell_at self.old number)) }
-        ensures world { self.new ≡ world_after self.old (answering (giving [] None []) result) (broken self.old number kind (shell_at self.old number)) }
+        ensures answer { IsAnswer (Event.Break number kind) (step_answer (out_with [] None []) result) (break_response self.old number kind (shell_at self.old number)) }
+        ensures world { self.new ≡ world_after self.old (step_answer (out_with [] None []) result) (break_response self.old number kind (shell_at self.old number)) }
     {
         // This lets a break use what holds of every world, as a turn does.
         let _ = &self.alloc;
@@ -150,9 +150,9 @@ impl World {
     fn take_typed(&mut self, number: u8, draft: &mut Draft) -> Result<(), Refusal>
         requires number { IsShellNumber number }
         requires runs { is_some (shell_at self.old number) ≡ true }
-        requires sane { IsSane (taken number draft.old self.old) }
-        ensures out { OnOk result (out_of draft.new ≡ asked_by (shell_at self.old number) draft.old) }
-        ensures world { OnOk result (self.new ≡ record (taken number draft.old self.old) { queue = queue_behind number self.old.queue (drop 1 self.old.queue) }) }
+        requires sane { IsSane (world_after_turn number draft.old self.old) }
+        ensures out { OnOk result (out_of draft.new ≡ drafted_out (shell_at self.old number) draft.old) }
+        ensures world { OnOk result (self.new ≡ record (world_after_turn number draft.old self.old) { queue = queue_after_event number self.old.queue (drop 1 self.old.queue) }) }
         ensures refusal { IfErr result (λ why. why ≡ WantOfMemory) }
         ensures unchanged { OnErr result (self.new ≡ self.old) }
     {
@@ -168,9 +168,9 @@ impl World {
     fn take(&mut self, number: u8, draft: &mut Draft) -> Result<(), Refusal>
         requires number { IsShellNumber number }
         requires runs { is_some (shell_at self.old number) ≡ true }
-        requires sane { IsSane (taken number draft.old self.old) }
-        ensures out { OnOk result (out_of draft.new ≡ asked_by (shell_at self.old number) draft.old) }
-        ensures world { OnOk result (self.new ≡ taken number draft.old self.old) }
+        requires sane { IsSane (world_after_turn number draft.old self.old) }
+        ensures out { OnOk result (out_of draft.new ≡ drafted_out (shell_at self.old number) draft.old) }
+        ensures world { OnOk result (self.new ≡ world_after_turn number draft.old self.old) }
         ensures refusal { IfErr result (λ why. why ≡ WantOfMemory) }
         ensures unchanged { OnErr result (self.new ≡ self.old) }
     {
@@ -202,7 +202,7 @@ impl World {
 
     /// The launcher is asked for what the shell of this number waits for after the event.
     fn ask(&self, number: u8, draft: &mut Draft) -> Result<(), NoMemory>
-        ensures out { OnOk result (out_of draft.new ≡ asked_by (shell_at self.now number) draft.old) }
+        ensures out { OnOk result (out_of draft.new ≡ drafted_out (shell_at self.now number) draft.old) }
         ensures same { OnOk result (draft.new ≡ record draft.old { request = draft.new.request }) }
     {
         match self.shell(number) {

@@ -7,7 +7,7 @@ ghost use Rattle.ados_world.specs.Shells.{IsShellNumber};
 ghost use Rattle.ados_machine.specs.Children.{child_in};
 ghost use Rattle.ados_machine.specs.Limits.{IsSane};
 ghost use Rattle.ados_machine.specs.Starts.{use_count};
-ghost use Rattle.ados_machine.specs.World.{fresh_world, shell_at, is_over, is_ready, wants_line, codes_at, ended_at, running, pending_of};
+ghost use Rattle.ados_machine.specs.World.{fresh_world, shell_at, is_over, is_ready, wants_line, codes_at, ended_at, running_numbers, pending_of};
 
 use crate::hosts::{NewFault, hosts_fault};
 use crate::shells::{any_runs, count_uses, find_shell, no_shells, taken};
@@ -102,7 +102,7 @@ impl World {
 
     /// Which numbers from 1 to 20 have a shell.
     pub fn shells(&self) -> [bool; 20]
-        ensures { result ≡ running self.now }
+        ensures { result ≡ running_numbers self.now }
     {
         taken(&self.shells)
     }

@@ -3,7 +3,7 @@ use Rattle.std.proofs.lemmas.Result.{IfOk-weaker}
 use Rattle.ados_ram.specs.Place.{key_of}
 use Rattle.ados_ram.specs.FileOperations.{rename_fault}
 use Rattle.ados_find.specs.Codes.{went_well}
-use Rattle.ados_find.specs.Effects.{Effect, answering}
+use Rattle.ados_find.specs.Effects.{Effect, codes_effect}
 use Rattle.ados_files.proofs.RenameLemmas.{renamed-is}
 use Rattle.ados_files.proofs.rename.renamed_to.Goals as goal
 
@@ -18,6 +18,6 @@ returns c =
     (λ outcome h. h shared
     ∙ ap (λ (e : Effect). record e { renamed = Some c.args.renamed }) (c.with_shared.ensures shared
     ∙ ap (λ (e : Effect). record e { shared = c.in-Ok.new }) (c.answering-in-Ok.ensures shared)
-    ∙ ap (λ s. answering s went_well) c.in-Ok.ensures.ok)
+    ∙ ap (λ s. codes_effect s went_well) c.in-Ok.ensures.ok)
     ∙ renamed-is shared from to _ none)
     c.with_renamed.ensures

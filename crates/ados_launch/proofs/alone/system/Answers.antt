@@ -1,6 +1,6 @@
 use Rattle.std.proofs.Common.{rules, arith, ◌≡◌, ◌<◌, ◌≤◌, ◌-◌, ◌++◌, ◌∷◌, [], length, Some, None, true, is_some, refl}
 use Rattle.ados_machine.specs.Numbers.{free_number}
-use Rattle.ados_machine.specs.Whole.{opened}
+use Rattle.ados_machine.specs.Whole.{world_with_opened}
 use Rattle.ados_machine.specs.World.{codes_at, shell_at}
 use Rattle.ados_machine.proofs.Systems.{free-two}
 use Rattle.ados_world.specs.Opened.{opening_fault}
@@ -12,7 +12,7 @@ use Rattle.ados_launch.proofs.alone.system.Goals as goal
 pub loop-events-init : goal.loop-events-init
 loop-events-init g c =
     let free : free_number c.args.world.now.shells ≡ Some c.in-Ok-Some.number = search rules in
-    let is : c.open_shell.new.self ≡ opened c.args.world.now c.in-Ok-Some.number (c.args.line.now ∷ []) = search rules in
+    let is : c.open_shell.new.self ≡ world_with_opened c.args.world.now c.in-Ok-Some.number (c.args.line.now ∷ []) = search rules in
     record {
       agrees = rw is (opened-agrees c.args.world.now c.in-Ok-Some.number (c.args.line.now ∷ []) (g.L.Launcher.calls c.args.launcher.now) free c.requires.agrees);
       going = going-none c.in-Ok-Some.number c.args.world.now c.args.line.now c.args.turns (g.L.Launcher.is_full c.args.launcher.now) c.open_shell.new.self c.args.out.now.items

@@ -2,11 +2,11 @@ use Rattle.std.proofs.Common.{arith, rules, ap, inr, length, sym, ◌∙◌, [],
 use Rattle.std.proofs.lemmas.List.{length-map}
 use Rattle.ados_text.specs.Text.{to_ascii}
 use Rattle.ados_machine.specs.declared.events.Event.TheVariants.{Typed, EndOfInput}
-use Rattle.ados_machine.specs.Step.{giving}
+use Rattle.ados_machine.specs.Step.{out_with}
 use Rattle.std.specs.Prelude.{None}
 use Rattle.ados_shell.specs.Drafts.{out_of}
-use Rattle.ados_launch.specs.Lines.{ahead}
-use Rattle.ados_launch.specs.Session.{TakesLineAt}
+use Rattle.ados_launch.specs.Lines.{bytes_ahead}
+use Rattle.ados_launch.specs.Session.{TakesLineOrEnd}
 use Rattle.ados_launch.proofs.Accepts.{end-accepted, line-accepted}
 use Rattle.ados_launch.specs.declared.lines.LineKind.TheVariants.{End, Long, Short}
 use Rattle.ados_launch.proofs.PartLines.{part-kind}
@@ -26,9 +26,9 @@ returns-in-End-clause-took g c = took-line _ _ _ _ EndOfInput (out_of c.give.new
 
 pub returns-in_ok-text-in-Short-clause-took : goal.returns-in_ok-text-in-Short-clause-took
 returns-in_ok-text-in-Short-clause-took g c =
-    let P : List ℕ → Type 0 = λ b. OnOk c.give_line.result (TakesLineAt c.args.world.now (ahead c.args.held.now (g.S.Source.left c.args.reader.now)) c.give_line.new.world (ahead c.next_line.new.held (g.S.Source.left c.next_line.new.source)) b) in
+    let P : List ℕ → Type 0 = λ b. OnOk c.give_line.result (TakesLineOrEnd c.args.world.now (bytes_ahead c.args.held.now (g.S.Source.left c.args.reader.now)) c.give_line.new.world (bytes_ahead c.next_line.new.held (g.S.Source.left c.next_line.new.source)) b) in
     subst P (sym (ap (λ o. o.bytes) c.give_nothing.ensures))
-    (took-line _ _ _ _ (Typed c.in_ok-text-in-Short.text) (giving [] None []) c.give_line.result c.give_line.ensures.answer c.give_line.ensures.world tt
+    (took-line _ _ _ _ (Typed c.in_ok-text-in-Short.text) (out_with [] None []) c.give_line.result c.give_line.ensures.answer c.give_line.ensures.world tt
     (λ bytes e. next-short bytes _ _ _ _ _ (c.in_ok-next_line.ensures.taken bytes (rw c.heed.ensures.left e)) c.in-Short.is c.in_ok-text-in-Short.ensures c.as_slice.ensures.value))
 
 pub returns-in-Overlong-clause-read : goal.returns-in-Overlong-clause-read

@@ -1,7 +1,7 @@
 use Rattle.std.proofs.Common.{refl, subst}
 use Rattle.ados_machine.specs.declared.events.Event.TheVariants.{Break}
 use Rattle.ados_shell.specs.Drafts.{out_of}
-use Rattle.ados_launch.specs.Schedule.{MayCome, next_as}
+use Rattle.ados_launch.specs.Schedule.{MayCome, found_next}
 use Rattle.ados_launch.proofs.Accepts.{break-accepted}
 use Rattle.ados_launch.proofs.Agreeing.{given-agrees}
 use Rattle.ados_launch.proofs.PartLines.{part-at-none}
@@ -21,7 +21,7 @@ returns-in-Break-clause-agrees g c =
     given-agrees c.args.world.now _ (Break c.in-Break.at.shell c.in-Break.at.kind) (out_of c.give.new.draft) (g.L.Launcher.calls c.args.launcher.now) c.give.result c.requires.agrees refl c.give.ensures.answer c.give.ensures.world
 
 pub returns-in-Break-clause-memory_unread : goal.returns-in-Break-clause-memory_unread
-returns-in-Break-clause-memory_unread g c failed bytes e = part-at-none (next_as c.args.next) bytes _ e
+returns-in-Break-clause-memory_unread g c failed bytes e = part-at-none (found_next c.args.next) bytes _ e
 
 pub returns-in-Due-clause-memory_unread : goal.returns-in-Due-clause-memory_unread
 returns-in-Due-clause-memory_unread g c = rw c.in-Due.is c.take_event.ensures.memory_unread

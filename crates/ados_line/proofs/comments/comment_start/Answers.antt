@@ -1,5 +1,5 @@
 use Rattle.std.proofs.Common.{suc, ◌-◌, ◌∙◌, length, arith, ap, sym}
-use Rattle.ados_line.specs.Comment.{comment_from}
+use Rattle.ados_line.specs.Comment.{comment_search}
 use Rattle.ados_line.proofs.CommentLemmas.{comment_from-item}
 use Rattle.ados_line.proofs.comments.comment_start.Goals as goal
 use Rattle.ados_line.proofs.comments.comment_start.Goals.{in-Word, in-Quoted, in-Equal}
@@ -20,11 +20,11 @@ loop-step-preserved c = λ n h.
     let here = c.loop-step.invariant (suc n) (omega arith) in
     elim c.match-next_item.branch [
       | in-Word w ↦
-          here ∙ comment_from-item n line c.loop-step.place _ w.in-Word.ensures.value ∙ ap (λ p. comment_from n line p) (sym w.place-is)
+          here ∙ comment_from-item n line c.loop-step.place _ w.in-Word.ensures.value ∙ ap (λ p. comment_search n line p) (sym w.place-is)
       | in-Quoted w ↦
-          here ∙ comment_from-item n line c.loop-step.place _ w.in-Quoted.ensures.value ∙ ap (λ p. comment_from n line p) (sym w.place-is)
+          here ∙ comment_from-item n line c.loop-step.place _ w.in-Quoted.ensures.value ∙ ap (λ p. comment_search n line p) (sym w.place-is)
       | in-Equal w ↦
-          here ∙ comment_from-item n line c.loop-step.place _ w.in-Equal.ensures.value ∙ ap (λ p. comment_from n line p) (sym w.place-is)
+          here ∙ comment_from-item n line c.loop-step.place _ w.in-Equal.ensures.value ∙ ap (λ p. comment_search n line p) (sym w.place-is)
     ]
 
 pub returns : goal.returns

@@ -1,5 +1,5 @@
 use Rattle.std.proofs.Common.{◌≡◌, false, length, nat_lt, ap, sym, ◌∙◌}
-use Rattle.ados_readargs.specs.Shares.{vacant_count, shares_to}
+use Rattle.ados_readargs.specs.Shares.{vacant_count, first_shares}
 use Rattle.ados_readargs.proofs.SharesLemmas.{takes_all-none, takes_all-some}
 use Rattle.ados_readargs.proofs.shares.is_left.Goals as goal
 
@@ -11,10 +11,10 @@ returns-in-None-clause-taken c =
     ∙ ap (λ plain. nat_lt (vacant_count false 0 c.args.options.now c.as_slice-given.result.now) (length plain)) (sym c.as_slice-plain.ensures.value)
     ∙ ap (λ options. nat_lt (vacant_count false 0 options c.as_slice-given.result.now) (length c.as_slice-plain.result.now)) (sym c.as_slice.ensures)
     ∙ ap (λ n. nat_lt n (length c.as_slice-plain.result.now)) (sym c.vacant_count.ensures.value) ∙ h in
-    ap (λ m. shares_to m (length c.args.options.now) c.args.options.now c.args.readings.now) (sym c.in-None.ensures.value)
+    ap (λ m. first_shares m (length c.args.options.now) c.args.options.now c.args.readings.now) (sym c.in-None.ensures.value)
     ∙ takes_all-none c.args.options.now c.args.readings.now few
 
 pub returns-in-Some-clause-taken : goal.returns-in-Some-clause-taken
 returns-in-Some-clause-taken c =
-    λ _. ap (λ m. shares_to m (length c.args.options.now) c.args.options.now c.args.readings.now) (sym c.in-Some.ensures.value)
+    λ _. ap (λ m. first_shares m (length c.args.options.now) c.args.options.now c.args.readings.now) (sym c.in-Some.ensures.value)
     ∙ takes_all-some c.in-Some.field-0 c.args.options.now c.args.readings.now c.in-Some.ensures.within

@@ -1,6 +1,6 @@
 use Rattle.std.proofs.Common.{arith, ◌+◌}
 use Rattle.std.proofs.lemmas.List.{take_rest}
-use Rattle.ados_subst.specs.References.{referred}
+use Rattle.ados_subst.specs.References.{reference_value}
 use Rattle.ados_subst.proofs.LineLemmas.{taken-one, segment-put, all-put}
 use Rattle.ados_subst.proofs.lines.substituted.Goals as goal
 use Rattle.ados_subst.proofs.lines.substituted.Goals.{then-taken-gt0, else-taken-gt0+in_ok-taken}
@@ -8,7 +8,7 @@ use Rattle.ados_subst.proofs.lines.substituted.Goals.{then-taken-gt0, else-taken
 pub loop-place-preserved : goal.loop-place-preserved
 loop-place-preserved c =
     let m = c.args.above.now.marks in
-    let r = referred c.args.above.now c.args.process.now in
+    let r = reference_value c.args.above.now c.args.process.now in
     elim c.if-taken-gt0.branch [
       | then-taken-gt0 w ↦
           rw (w.text-is, w.taken-is) (
@@ -29,5 +29,5 @@ loop-place-preserved c =
 pub returns : goal.returns
 returns c =
     let m = c.args.above.now.marks in
-    let r = referred c.args.above.now c.args.process.now in
+    let r = reference_value c.args.above.now c.args.process.now in
     all-put m r _ _ _ _ _ c.loop-place-test.false c.loop-place.invariant.0

@@ -1,6 +1,6 @@
 use Rattle.std.proofs.Common.{◌≡◌, drop}
-use Rattle.ados_world.specs.Hosts.{faults_from}
+use Rattle.ados_world.specs.Hosts.{first_host_fault}
 use Rattle.ados_world.proofs.hosts.first_fault.Given as goal
 
 abbrev pub invariant-loop-place : goal.invariant-loop-place
-invariant-loop-place l = faults_from l.hosts l.place (drop l.place l.hosts) ≡ faults_from l.hosts 0 l.hosts
+invariant-loop-place l = first_host_fault l.hosts l.place (drop l.place l.hosts) ≡ first_host_fault l.hosts 0 l.hosts

@@ -4,9 +4,9 @@ use Rattle.ados_launch.proofs.Coming.{due-none, due-some, in-round, next-none, p
 use Rattle.ados_launch.proofs.Outcomes.{comes-by, ends, stops-memory, stops-read, stops-turns, stops-write}
 use Rattle.ados_launch.proofs.Places.{idle, running}
 use Rattle.ados_launch.proofs.Sessions.{driven-more, driven-none}
-use Rattle.ados_launch.specs.Lines.{ahead}
-use Rattle.ados_launch.specs.Rounds.{due, IsIdle}
-use Rattle.ados_launch.specs.Schedule.{next_as, next_in, standing_behind}
+use Rattle.ados_launch.specs.Lines.{bytes_ahead}
+use Rattle.ados_launch.specs.Rounds.{due_place, IsIdle}
+use Rattle.ados_launch.specs.Schedule.{found_next, next_in, following_schedule_state}
 use Rattle.ados_launch.specs.declared.faults.DriveFault.TheVariants.{Memory, Read, Turns, Write}
 use Rattle.ados_launch.proofs.driver.Drive.run_schedule.Goals as goal
 
@@ -32,8 +32,8 @@ pub loop-events-preserved : goal.loop-events-preserved
 loop-events-preserved g c =
     let i = c.loop-events.invariant in
     let may = c.in-Some.ensures.may_come in
-    let here : next_in c.loop-events.schedule c.loop-events.world ≡ Some (next_as c.in-Some.next) = sym c.in-Some.ensures.next in
-    let behind : c.pass.new.self ≡ standing_behind c.loop-events.schedule c.loop-events.world (next_as c.in-Some.next) = c.pass.ensures ∙ c.in-Some.ensures.passed in
+    let here : next_in c.loop-events.schedule c.loop-events.world ≡ Some (found_next c.in-Some.next) = sym c.in-Some.ensures.next in
+    let behind : c.pass.new.self ≡ following_schedule_state c.loop-events.schedule c.loop-events.world (found_next c.in-Some.next) = c.pass.ensures ∙ c.in-Some.ensures.passed in
     record {
       reader = c.in_ok-take_next.ensures.honest ∙ i.reader;
       writer = c.in_ok-write_whole.ensures.honest.0 ∙ i.writer;
@@ -45,23 +45,23 @@ loop-events-preserved g c =
       fresh_writer = λ none. absurd (omega (arith, none));
       agrees = c.in_ok-take_next.ensures.agrees;
       children = c.take_next.ensures.children;
-      driven = driven-more _ _ _ c.args.self.now.breaks.now c.loop-events.events c.loop-events.schedule c.pass.new.self (ahead c.loop-events.held (g.S.Source.left c.loop-events.reader)) (ahead c.take_next.new.held (g.S.Source.left c.take_next.new.reader)) (next_as c.in-Some.next) c.take_next.new.draft.printed.items
+      driven = driven-more _ _ _ c.args.self.now.breaks.now c.loop-events.events c.loop-events.schedule c.pass.new.self (bytes_ahead c.loop-events.held (g.S.Source.left c.loop-events.reader)) (bytes_ahead c.take_next.new.held (g.S.Source.left c.take_next.new.reader)) (found_next c.in-Some.next) c.take_next.new.draft.printed.items
           i.driven here c.take_next.ensures.stays c.in_ok-take_next.ensures.took c.in_ok-take_next.ensures.agrees (rw c.as_slice.ensures.value at c.in_ok-write_whole.ensures.whole) behind;
     }
 
 pub returns-in_err-take_next-clause-comes_to : goal.returns-in_err-take_next-clause-comes_to
 returns-in_err-take_next-clause-comes_to g c =
     let i = c.loop-events.invariant in
-    let here : next_in c.loop-events.schedule c.loop-events.world ≡ Some (next_as c.in-Some.next) = sym c.in-Some.ensures.next in
+    let here : next_in c.loop-events.schedule c.loop-events.world ≡ Some (found_next c.in-Some.next) = sym c.in-Some.ensures.next in
     let dropped = c.in_err-take_next.ensures.dropped in
     comes-by c.args.self.now.turns c.args.self.now.breaks.now _ _ c.from_residual.result _ c.from_residual.ensures.1
     (λ is.
     let failed : IsErrOf c.take_next.result Memory = search rules in
-    stops-memory c.args.self.now.turns c.loop-events.events c.args.self.now.breaks.now _ _ _ c.loop-events.schedule (ahead c.loop-events.held (g.S.Source.left c.loop-events.reader)) c.take_next.new.held (next_as c.in-Some.next) dropped.0 i.driven c.loop-events-test.true i.in_round here
+    stops-memory c.args.self.now.turns c.loop-events.events c.args.self.now.breaks.now _ _ _ c.loop-events.schedule (bytes_ahead c.loop-events.held (g.S.Source.left c.loop-events.reader)) c.take_next.new.held (found_next c.in-Some.next) dropped.0 i.driven c.loop-events-test.true i.in_round here
     c.take_next.ensures.stays c.in_err-take_next.ensures.err refl dropped.2 dropped.1 (c.take_next.ensures.few i.few) (c.take_next.ensures.memory_unread failed) (c.take_next.ensures.memory_honest failed ∙ i.reader) (i.writer, i.stalls))
     (λ is.
     let failed : IsErrOf c.take_next.result Read = search rules in
-    stops-read c.args.self.now.turns c.loop-events.events c.args.self.now.breaks.now _ _ _ c.loop-events.schedule (ahead c.loop-events.held (g.S.Source.left c.loop-events.reader)) c.take_next.new.held i.driven c.loop-events-test.true (rw (c.take_next.ensures.reading failed) at here)
+    stops-read c.args.self.now.turns c.loop-events.events c.args.self.now.breaks.now _ _ _ c.loop-events.schedule (bytes_ahead c.loop-events.held (g.S.Source.left c.loop-events.reader)) c.take_next.new.held i.driven c.loop-events-test.true (rw (c.take_next.ensures.reading failed) at here)
     c.take_next.ensures.stays c.in_err-take_next.ensures.err refl (c.take_next.ensures.unasked failed) (c.take_next.ensures.few i.few) i.reader (c.take_next.ensures.read failed) (i.writer, i.stalls))
     (λ is.
     let failed : IsErrOf c.take_next.result Write = search rules in
@@ -73,13 +73,13 @@ returns-in_err-take_next-clause-comes_to g c =
 pub returns-in_err-write_whole-clause-comes_to : goal.returns-in_err-write_whole-clause-comes_to
 returns-in_err-write_whole-clause-comes_to g c =
     let i = c.loop-events.invariant in
-    let here : next_in c.loop-events.schedule c.loop-events.world ≡ Some (next_as c.in-Some.next) = sym c.in-Some.ensures.next in
+    let here : next_in c.loop-events.schedule c.loop-events.world ≡ Some (found_next c.in-Some.next) = sym c.in-Some.ensures.next in
     let front = c.in_err-write_whole.ensures.front in
     comes-by c.args.self.now.turns c.args.self.now.breaks.now _ _ c.from_residual-in_err-write_whole.result _ c.from_residual-in_err-write_whole.ensures.1
     (λ is. cc)
     (λ is. cc)
     (λ is.
-    stops-write c.args.self.now.turns c.loop-events.events front.0 c.args.self.now.breaks.now _ _ _ c.loop-events.schedule (ahead c.loop-events.held (g.S.Source.left c.loop-events.reader)) (ahead c.take_next.new.held (g.S.Source.left c.take_next.new.reader)) (next_as c.in-Some.next) c.take_next.new.draft.printed.items i.driven c.loop-events-test.true here
+    stops-write c.args.self.now.turns c.loop-events.events front.0 c.args.self.now.breaks.now _ _ _ c.loop-events.schedule (bytes_ahead c.loop-events.held (g.S.Source.left c.loop-events.reader)) (bytes_ahead c.take_next.new.held (g.S.Source.left c.take_next.new.reader)) (found_next c.in-Some.next) c.take_next.new.draft.printed.items i.driven c.loop-events-test.true here
     c.take_next.ensures.stays c.in_ok-take_next.ensures.took c.in_ok-take_next.ensures.agrees (rw c.as_slice.ensures.value at front.1) (rw c.as_slice.ensures.value at front.2) (c.in_ok-take_next.ensures.honest ∙ i.reader)
     (rw (i.writer, i.stalls) at c.in_err-write_whole.ensures.cause))
     (λ is. cc)
@@ -96,7 +96,7 @@ returns-in_default-clause-whole g c = agrees-whole c.loop-events.world (g.L.Laun
 pub returns-then-is_over-clause-comes_to : goal.returns-then-is_over-clause-comes_to
 returns-then-is_over-clause-comes_to g c =
     let i = c.loop-events.invariant in
-    let none : IsIdle c.loop-events.world = idle c.loop-events.schedule.round c.loop-events.world (due-none (due c.loop-events.schedule.round c.loop-events.world) c.is_over.result c.is_over.ensures c.if-is_over.true) in
+    let none : IsIdle c.loop-events.world = idle c.loop-events.schedule.round c.loop-events.world (due-none (due_place c.loop-events.schedule.round c.loop-events.world) c.is_over.result c.is_over.ensures c.if-is_over.true) in
     ends c.args.self.now.turns c.loop-events.events c.args.self.now.breaks.now _ _ c.loop-events.schedule c.loop-events.held _ i.driven (omega arith) (search rules) (search rules) (search rules) (search rules) none i.reader (i.writer, i.stalls)
 
 pub returns-then-is_over-clause-whole : goal.returns-then-is_over-clause-whole
@@ -105,7 +105,7 @@ returns-then-is_over-clause-whole g c = agrees-whole c.loop-events.world (g.L.La
 pub returns-clause-comes_to : goal.returns-clause-comes_to
 returns-clause-comes_to g c =
     let i = c.loop-events.invariant in
-    let some = due-some (due c.loop-events.schedule.round c.loop-events.world) c.is_over.result c.is_over.ensures c.if-is_over.false in
+    let some = due-some (due_place c.loop-events.schedule.round c.loop-events.world) c.is_over.result c.is_over.ensures c.if-is_over.false in
     stops-turns c.args.self.now.turns c.loop-events.events c.args.self.now.breaks.now _ _ c.loop-events.schedule c.loop-events.held i.driven (omega arith) i.few
     (running c.loop-events.schedule.round some.0 c.loop-events.world i.in_round some.1) i.reader (i.writer, i.stalls)
 

@@ -1,6 +1,6 @@
 use Rattle.std.proofs.Common.{◌≡◌, ◌≤◌, ◌<◌, length}
 use Rattle.ados_launch.specs.Agreement.{Agrees, IsOpenTable}
-use Rattle.ados_launch.specs.Lines.{ahead}
+use Rattle.ados_launch.specs.Lines.{bytes_ahead}
 use Rattle.ados_launch.specs.Session.{moment_of}
 use Rattle.ados_launch.proofs.Sessions.{Driven}
 use Rattle.ados_launch.proofs.driver.Drive.run_schedule.Given as goal
@@ -20,5 +20,5 @@ invariant-loop-events g l = record {
   driven : Driven
       (moment_of g.S.Source.left g.S.Source.faults g.K.Sink.contents g.K.Sink.faults g.K.Sink.stalls g.L.Launcher.calls g.L.Launcher.is_full l.fn.world l.fn.reader l.fn.writer l.fn.launcher)
       (moment_of g.S.Source.left g.S.Source.faults g.K.Sink.contents g.K.Sink.faults g.K.Sink.stalls g.L.Launcher.calls g.L.Launcher.is_full l.world l.reader l.writer l.launcher)
-      l.self.breaks.now l.events l.schedule (ahead l.held (g.S.Source.left l.reader));
+      l.self.breaks.now l.events l.schedule (bytes_ahead l.held (g.S.Source.left l.reader));
 }

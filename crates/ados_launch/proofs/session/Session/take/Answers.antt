@@ -1,6 +1,6 @@
 use Rattle.std.proofs.Common.{rules, ◌≡◌, refl, sym, ◌∙◌}
 use Rattle.ados_launch.proofs.Leading.{leads_at}
-use Rattle.ados_launch.specs.Schedule.{next_as}
+use Rattle.ados_launch.specs.Schedule.{found_next}
 use Rattle.ados_launch.proofs.session.Session.take.Goals as goal
 
 pub returns-in_default-clause-over : goal.returns-in_default-clause-over
@@ -14,7 +14,7 @@ returns-clause-leads g c = leads_at c.args.world.now _ _ _ _ c.take_next.new.wor
 
 pub returns-clause-takes : goal.returns-clause-takes
 returns-clause-takes g c = λ e. rw (← c.self.view_is) (record {
-  next = next_as c.in-Some.next;
+  next = found_next c.in-Some.next;
   next_is = sym c.in-Some.ensures.next;
   bytes = c.take_next.new.draft.printed.items;
   takes = c.in_ok-take_next.ensures.took;

@@ -1,6 +1,6 @@
 use Rattle.std.proofs.Common.{◌≡◌, ◌∙◌, ◌+◌, arith, length, ap}
 use Rattle.ados_names.specs.Lengths.{pieces_len}
-use Rattle.ados_names.specs.Path.{PathParts, text_of, longer}
+use Rattle.ados_names.specs.Path.{PathParts, text_of, path_with_name}
 use Rattle.ados_names.proofs.PieceLemmas.{name-parts}
 use Rattle.ados_names.proofs.PathLemmas.{path-lengths, longer-length}
 use Rattle.ados_names.proofs.paths.Path.joined_len.Goals as goal
@@ -29,5 +29,5 @@ returns c =
     let path : PathParts = record { device = c.self.inside.device; steps = c.self.inside.steps.items } in
     let pieces : c.pieces_len.result ≡ pieces_len path.steps = c.pieces_len.ensures ∙ ap pieces_len c.deref.ensures in
     let name : length c.as_bytes.result.now ≡ length c.args.name.now = ap length c.as_bytes.ensures.value in
-    let whole : c.device_len.result + c.pieces_len.result + length c.as_bytes.result.now ≡ length (text_of (longer path c.args.name.now)) = omega (arith, longer-length path c.args.name.now) in
-    whole ∙ ap (λ (p : PathParts). length (text_of (longer p c.args.name.now))) c.self.view_is
+    let whole : c.device_len.result + c.pieces_len.result + length c.as_bytes.result.now ≡ length (text_of (path_with_name path c.args.name.now)) = omega (arith, longer-length path c.args.name.now) in
+    whole ∙ ap (λ (p : PathParts). length (text_of (path_with_name p c.args.name.now))) c.self.view_is

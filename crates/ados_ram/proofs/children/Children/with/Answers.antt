@@ -1,8 +1,8 @@
 use Rattle.std.proofs.Common.{◌≡◌, ◌∙◌, ◌++◌, ◌∷◌, List, ap, sym, subst, take, drop, IsTrue}
 use Rattle.std.specs.FinMap as map
-use Rattle.ados_text.specs.Text.{folded}
+use Rattle.ados_text.specs.Text.{folded_text}
 use Rattle.ados_text.specs.Name.{name_cmp}
-use Rattle.ados_ram.specs.Tree.{Kids, kids_with}
+use Rattle.ados_ram.specs.Tree.{Kids, replace_kid}
 use Rattle.ados_ram.specs.Blocks.{all_kids, AllFull, IsBlockOf}
 use Rattle.ados_ram.proofs.ChangeLemmas.{sorted-with}
 use Rattle.ados_ram.proofs.BlockLemmas.{all-append, full-front, full-back, middle-sorted, changed_in, changed_behind, full-append}
@@ -12,10 +12,10 @@ pub invariant_of-result : goal.invariant_of-result
 invariant_of-result c =
     let bs = c.self.inside.blocks.items in
     let i = c.block_of-at.result in
-    let x = folded c.args.name.now in
+    let x = folded_text c.args.name.now in
     let at : IsBlockOf x bs i = subst (λ (t : List Kids). IsBlockOf x t i) c.deref.ensures.value c.block_of-at.ensures.parted in
     let shared : c.share_blocks.new.out.items ≡ c.split_at.result.0.now = c.in_ok-share_blocks.ensures ∙ ap (λ (t : List Kids). t ++ c.split_at.result.0.now) c.in_ok-blocks.ensures.items in
-    let kids : all_kids c.push_block.new.out.items ≡ kids_with x c.args.new (all_kids bs) =
+    let kids : all_kids c.push_block.new.out.items ≡ replace_kid x c.args.new (all_kids bs) =
     changed_behind x c.args.new bs c.split_at.result.0.now c.split_at.result.1.now i c.in_ok-changed.field-0.items c.push_block.new.out.items at
     (c.split_at.ensures.front ∙ ap (take i) c.deref-2.ensures.value) (c.split_at.ensures.back ∙ ap (drop i) c.deref-2.ensures.value) c.in_default.ensures.cases c.in_ok-changed.ensures
     (c.in_ok-push_block.ensures.kids ∙ ap (λ (t : List Kids). all_kids t ++ c.in_ok-changed.field-0.items) shared) in
@@ -28,13 +28,13 @@ pub returns-in_default : goal.returns-in_default
 returns-in_default c =
     let bs = c.self.inside.blocks.items in
     let i = c.block_of-at.result in
-    let x = folded c.args.name.now in
+    let x = folded_text c.args.name.now in
     let at : IsBlockOf x bs i = subst (λ (t : List Kids). IsBlockOf x t i) c.deref.ensures.value c.block_of-at.ensures.parted in
     let shared : c.share_blocks.new.out.items ≡ c.split_at.result.0.now = c.in_ok-share_blocks.ensures ∙ ap (λ (t : List Kids). t ++ c.split_at.result.0.now) c.in_ok-blocks.ensures.items in
     changed_behind x c.args.new bs c.split_at.result.0.now c.split_at.result.1.now i c.in_ok-changed.field-0.items c.push_block.new.out.items at
     (c.split_at.ensures.front ∙ ap (take i) c.deref-2.ensures.value) (c.split_at.ensures.back ∙ ap (drop i) c.deref-2.ensures.value) c.in_default.ensures.cases c.in_ok-changed.ensures
     (c.in_ok-push_block.ensures.kids ∙ ap (λ (t : List Kids). all_kids t ++ c.in_ok-changed.field-0.items) shared)
-    ∙ ap (kids_with x c.args.new) c.self.view_is
+    ∙ ap (replace_kid x c.args.new) c.self.view_is
 
 pub changed-requires-2-clause-sorted : goal.changed-requires-2-clause-sorted
 changed-requires-2-clause-sorted c =
@@ -57,16 +57,16 @@ pub invariant_of-result-2 : goal.invariant_of-result-2
 invariant_of-result-2 c =
     let bs = c.self.inside.blocks.items in
     let i = c.block_of-at.result in
-    let x = folded c.args.name.now in
+    let x = folded_text c.args.name.now in
     let front = c.split_at.result.0.now in
     let after = c.in-Some.after.now in
     let at : IsBlockOf x bs i = subst (λ (t : List Kids). IsBlockOf x t i) c.deref.ensures.value c.block_of-at.ensures.parted in
     let shared : c.share_blocks.new.out.items ≡ front = c.in_ok-share_blocks.ensures ∙ ap (λ (t : List Kids). t ++ front) c.in_ok-blocks.ensures.items in
-    let out : c.in_ok-changed-2.field-0.items ≡ kids_with x c.args.new c.in-Some.block.now = c.in_ok-changed-2.ensures ∙ ap (kids_with x c.args.new) c.kids.ensures in
+    let out : c.in_ok-changed-2.field-0.items ≡ replace_kid x c.args.new c.in-Some.block.now = c.in_ok-changed-2.ensures ∙ ap (replace_kid x c.args.new) c.kids.ensures in
     let made : all_kids c.share_blocks-2.new.out.items ≡ (all_kids front ++ c.in_ok-changed-2.field-0.items) ++ all_kids after =
     ap all_kids c.in_ok-share_blocks-2.ensures ∙ all-append c.push_block-2.new.out.items after
     ∙ ap (λ (ks : Kids). ks ++ all_kids after) (c.in_ok-push_block-2.ensures.kids ∙ ap (λ (t : List Kids). all_kids t ++ c.in_ok-changed-2.field-0.items) shared) in
-    let kids : all_kids c.share_blocks-2.new.out.items ≡ kids_with x c.args.new (all_kids bs) =
+    let kids : all_kids c.share_blocks-2.new.out.items ≡ replace_kid x c.args.new (all_kids bs) =
     changed_in x c.args.new bs front after i c.in-Some.block.now c.in_ok-changed-2.field-0.items c.share_blocks-2.new.out.items at
     (c.split_at.ensures.front ∙ ap (take i) c.deref-2.ensures.value) (sym (c.split_at.ensures.back ∙ ap (drop i) c.deref-2.ensures.value) ∙ c.in-Some.ensures.cases.0) out made in
     let whole : bs ≡ front ++ c.split_at.result.1.now = sym c.deref-2.ensures.value ∙ c.split_at.ensures.by_index.0 in
@@ -81,15 +81,15 @@ pub returns : goal.returns
 returns c =
     let bs = c.self.inside.blocks.items in
     let i = c.block_of-at.result in
-    let x = folded c.args.name.now in
+    let x = folded_text c.args.name.now in
     let front = c.split_at.result.0.now in
     let after = c.in-Some.after.now in
     let at : IsBlockOf x bs i = subst (λ (t : List Kids). IsBlockOf x t i) c.deref.ensures.value c.block_of-at.ensures.parted in
     let shared : c.share_blocks.new.out.items ≡ front = c.in_ok-share_blocks.ensures ∙ ap (λ (t : List Kids). t ++ front) c.in_ok-blocks.ensures.items in
-    let out : c.in_ok-changed-2.field-0.items ≡ kids_with x c.args.new c.in-Some.block.now = c.in_ok-changed-2.ensures ∙ ap (kids_with x c.args.new) c.kids.ensures in
+    let out : c.in_ok-changed-2.field-0.items ≡ replace_kid x c.args.new c.in-Some.block.now = c.in_ok-changed-2.ensures ∙ ap (replace_kid x c.args.new) c.kids.ensures in
     let made : all_kids c.share_blocks-2.new.out.items ≡ (all_kids front ++ c.in_ok-changed-2.field-0.items) ++ all_kids after =
     ap all_kids c.in_ok-share_blocks-2.ensures ∙ all-append c.push_block-2.new.out.items after
     ∙ ap (λ (ks : Kids). ks ++ all_kids after) (c.in_ok-push_block-2.ensures.kids ∙ ap (λ (t : List Kids). all_kids t ++ c.in_ok-changed-2.field-0.items) shared) in
     changed_in x c.args.new bs front after i c.in-Some.block.now c.in_ok-changed-2.field-0.items c.share_blocks-2.new.out.items at
     (c.split_at.ensures.front ∙ ap (take i) c.deref-2.ensures.value) (sym (c.split_at.ensures.back ∙ ap (drop i) c.deref-2.ensures.value) ∙ c.in-Some.ensures.cases.0) out made
-    ∙ ap (kids_with x c.args.new) c.self.view_is
+    ∙ ap (replace_kid x c.args.new) c.self.view_is

@@ -5,7 +5,7 @@ use Rattle.ados_ram.specs.declared.entries.Entry.{Entry}
 use Rattle.ados_ram.specs.Place.{Key, key_of, is_same_key}
 use Rattle.ados_ram.specs.Entry.{size_of}
 use Rattle.ados_ram.specs.Files.{Rows, total_of}
-use Rattle.ados_ram.specs.Tree.{MayStand, IsReplaced, IsEntryAt, above, rows_from}
+use Rattle.ados_ram.specs.Tree.{MayStand, IsReplaced, IsEntryAt, key_above, subtree_rows}
 use Rattle.ados_ram.proofs.RowsLemmas.{get_rows, entries_rows}
 use Rattle.ados_ram.proofs.TreeLemmas.{find-from}
 use Rattle.ados_ram.proofs.TableLemmas.{inserted}
@@ -16,7 +16,7 @@ pub with-requires-clause-stands : goal.with-requires-clause-stands
 with-requires-clause-stands c =
     subst (λ (k : Key). MayStand k (Some c.in_ok-new.new) c.self.inside.root.1) (sym (ap key_of c.names-4.ensures)) (record {
       named = (c.in_ok-new.ensures.name, c.in_ok-new.ensures.rows.whole);
-      inside = subst (λ (o : Option Entry). IsSome o) (get_rows c.self.inside.root.1 (above (key_of c.args.place.now)) c.self.view_is c.self.invariant.sorted)
+      inside = subst (λ (o : Option Entry). IsSome o) (get_rows c.self.inside.root.1 (key_above (key_of c.args.place.now)) c.self.view_is c.self.invariant.sorted)
           (inside c.args.self.now (key_of c.args.place.now) c.args.entry c.requires.root c.requires.files);
     })
 
@@ -25,7 +25,7 @@ returns c =
     let key = key_of c.args.place.now in
     let made : IsReplaced key c.in_ok-new.new.1 c.self.inside.root.1 c.in_ok-with.field-0.1 = subst (λ (k : Key). IsReplaced k c.in_ok-new.new.1 c.self.inside.root.1 c.in_ok-with.field-0.1) (ap key_of c.names-4.ensures) c.in_ok-with.ensures.rows in
     inserted key c.args.entry c.in_ok-new.new.1 c.self.inside.root.1 c.in_ok-with.field-0.1 c.self.view_is c.self.invariant.sorted made
-    (λ w. (subst (λ (r : Rows). IsEntryAt c.args.entry r c.in_ok-new.new.1) (c.at-there.ensures ∙ ap (λ (k : Key). rows_from (key_of k) c.self.inside.root.1) c.names.ensures) c.in_ok-new.ensures.rows).found w ∙ ap (λ (o : Option Entry). cond (is_same_key w []) (Some c.args.entry) o) (find-from key w c.self.inside.root.1))
+    (λ w. (subst (λ (r : Rows). IsEntryAt c.args.entry r c.in_ok-new.new.1) (c.at-there.ensures ∙ ap (λ (k : Key). subtree_rows (key_of k) c.self.inside.root.1) c.names.ensures) c.in_ok-new.ensures.rows).found w ∙ ap (λ (o : Option Entry). cond (is_same_key w []) (Some c.args.entry) o) (find-from key w c.self.inside.root.1))
 
 pub invariant_of-result : goal.invariant_of-result
 invariant_of-result c =
@@ -34,7 +34,7 @@ invariant_of-result c =
     let new = c.in_ok-with.field-0.1 in
     let made : IsReplaced key c.in_ok-new.new.1 c.self.inside.root.1 new = subst (λ (k : Key). IsReplaced k c.in_ok-new.new.1 c.self.inside.root.1 new) (ap key_of c.names-4.ensures) c.in_ok-with.ensures.rows in
     let is : map.from_sorted new ≡ map.insert c.args.self.now key entry = inserted key entry c.in_ok-new.new.1 c.self.inside.root.1 new c.self.view_is c.self.invariant.sorted made
-    (λ w. (subst (λ (r : Rows). IsEntryAt c.args.entry r c.in_ok-new.new.1) (c.at-there.ensures ∙ ap (λ (k : Key). rows_from (key_of k) c.self.inside.root.1) c.names.ensures) c.in_ok-new.ensures.rows).found w ∙ ap (λ (o : Option Entry). cond (is_same_key w []) (Some entry) o) (find-from key w c.self.inside.root.1)) in
+    (λ w. (subst (λ (r : Rows). IsEntryAt c.args.entry r c.in_ok-new.new.1) (c.at-there.ensures ∙ ap (λ (k : Key). subtree_rows (key_of k) c.self.inside.root.1) c.names.ensures) c.in_ok-new.ensures.rows).found w ∙ ap (λ (o : Option Entry). cond (is_same_key w []) (Some entry) o) (find-from key w c.self.inside.root.1)) in
     let rows : map.entries (map.insert c.args.self.now key entry) ≡ new = entries_rows new (record { is = is; sorted = made.whole.sorted }) in
     let sum : total_of (map.entries (map.insert c.args.self.now key entry)) ≡ size_of entry + c.bytes_beside.result = subst (λ (k : Key). total_of (map.entries (map.insert c.args.self.now k entry)) ≡ size_of entry + c.bytes_beside.result) (ap key_of c.names-2.ensures) (c.bytes_beside.ensures.total entry) in
     let number : map.len (map.insert c.args.self.now key entry) ≡ c.objects_with-count.result = subst (λ (k : Key). map.len (map.insert c.args.self.now k entry) ≡ c.objects_with-count.result) (ap key_of c.names-3.ensures) (c.objects_with-count.ensures entry) in

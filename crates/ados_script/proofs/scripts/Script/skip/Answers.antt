@@ -1,7 +1,7 @@
 use Rattle.std.proofs.Common.{◌≡◌, ◌∙◌, ℕ, List, Bor, cond, refl}
 use Rattle.std.specs.List.{find}
 use Rattle.std.specs.Option.{option_map}
-use Rattle.ados_script.specs.Lines.{below}
+use Rattle.ados_script.specs.Lines.{numbers_below}
 use Rattle.ados_script.specs.Skips.{is_end_skip_at}
 use Rattle.ados_script.specs.Tables.{is_lab_at}
 use Rattle.ados_script.proofs.SkipLemmas.{any-is, first-is, found-within, label-is, leads_first, numbers_rise, skip-is, small, sought_at, text_rises}
@@ -25,7 +25,7 @@ first_below-requires c =
 pub behind_first-requires-clause-lab : goal.behind_first-requires-clause-lab
 behind_first-requires-clause-lab c =
     let lines = c.self.inside.lines.items in
-    let lab : c.match-label.lab ≡ find (sought_at (option_map (λ (t : Bor (List ℕ)). t.now) c.args.label) lines) (below lines c.if-back.start) = elim c.match-label.branch [
+    let lab : c.match-label.lab ≡ find (sought_at (option_map (λ (t : Bor (List ℕ)). t.now) c.args.label) lines) (numbers_below lines c.if-back.start) = elim c.match-label.branch [
       | in-None w ↦ rw (w.in-None.is, w.lab-is, w.first_below-lab.ensures, w.deref.ensures.value, c.self.invariant.labs)
           (first-is (is_lab_at lines) lines c.if-back.start ∙ any-is lines c.if-back.start)
       | in-Some w ↦ rw (w.in-Some.is, w.lab-is, w.first_of-lab.ensures, w.deref-in-Some.ensures.value)
@@ -36,20 +36,20 @@ behind_first-requires-clause-lab c =
 pub behind_first-requires-clause-end_skip : goal.behind_first-requires-clause-end_skip
 behind_first-requires-clause-end_skip c =
     let lines = c.self.inside.lines.items in
-    let end : c.first_below.result ≡ find (is_end_skip_at lines) (below lines c.if-back.start) =
+    let end : c.first_below.result ≡ find (is_end_skip_at lines) (numbers_below lines c.if-back.start) =
     rw (c.first_below.ensures, c.deref-2.ensures.value, c.self.invariant.end_skips) (first-is (is_end_skip_at lines) lines c.if-back.start) in
     small lines c.first_below.result c.self.invariant.few (found-within (is_end_skip_at lines) lines c.if-back.start c.first_below.result end)
 
 pub returns-clause-jump : goal.returns-clause-jump
 returns-clause-jump c =
     let lines = c.self.inside.lines.items in
-    let lab : c.match-label.lab ≡ find (sought_at (option_map (λ (t : Bor (List ℕ)). t.now) c.args.label) lines) (below lines c.if-back.start) = elim c.match-label.branch [
+    let lab : c.match-label.lab ≡ find (sought_at (option_map (λ (t : Bor (List ℕ)). t.now) c.args.label) lines) (numbers_below lines c.if-back.start) = elim c.match-label.branch [
       | in-None w ↦ rw (w.in-None.is, w.lab-is, w.first_below-lab.ensures, w.deref.ensures.value, c.self.invariant.labs)
           (first-is (is_lab_at lines) lines c.if-back.start ∙ any-is lines c.if-back.start)
       | in-Some w ↦ rw (w.in-Some.is, w.lab-is, w.first_of-lab.ensures, w.deref-in-Some.ensures.value)
           (label-is w.in-Some.label.now lines c.self.inside.tables.labels.items c.if-back.start c.self.invariant.labels)
     ] in
-    let end : c.first_below.result ≡ find (is_end_skip_at lines) (below lines c.if-back.start) =
+    let end : c.first_below.result ≡ find (is_end_skip_at lines) (numbers_below lines c.if-back.start) =
     rw (c.first_below.ensures, c.deref-2.ensures.value, c.self.invariant.end_skips) (first-is (is_end_skip_at lines) lines c.if-back.start) in
     let start : c.if-back.start ≡ cond c.args.back 0 c.args.i = elim c.if-back.branch [
       | then-back w ↦ rw (w.if-back.true, w.start-is) refl
@@ -60,13 +60,13 @@ returns-clause-jump c =
 pub returns-clause-within : goal.returns-clause-within
 returns-clause-within c =
     let lines = c.self.inside.lines.items in
-    let lab : c.match-label.lab ≡ find (sought_at (option_map (λ (t : Bor (List ℕ)). t.now) c.args.label) lines) (below lines c.if-back.start) = elim c.match-label.branch [
+    let lab : c.match-label.lab ≡ find (sought_at (option_map (λ (t : Bor (List ℕ)). t.now) c.args.label) lines) (numbers_below lines c.if-back.start) = elim c.match-label.branch [
       | in-None w ↦ rw (w.in-None.is, w.lab-is, w.first_below-lab.ensures, w.deref.ensures.value, c.self.invariant.labs)
           (first-is (is_lab_at lines) lines c.if-back.start ∙ any-is lines c.if-back.start)
       | in-Some w ↦ rw (w.in-Some.is, w.lab-is, w.first_of-lab.ensures, w.deref-in-Some.ensures.value)
           (label-is w.in-Some.label.now lines c.self.inside.tables.labels.items c.if-back.start c.self.invariant.labels)
     ] in
-    let end : c.first_below.result ≡ find (is_end_skip_at lines) (below lines c.if-back.start) =
+    let end : c.first_below.result ≡ find (is_end_skip_at lines) (numbers_below lines c.if-back.start) =
     rw (c.first_below.ensures, c.deref-2.ensures.value, c.self.invariant.end_skips) (first-is (is_end_skip_at lines) lines c.if-back.start) in
     rw (← c.self.view_is, c.behind_first.ensures)
     (leads_first lines c.match-label.lab c.first_below.result (found-within (sought_at (option_map (λ (t : Bor (List ℕ)). t.now) c.args.label) lines) lines c.if-back.start c.match-label.lab lab) (found-within (is_end_skip_at lines) lines c.if-back.start c.first_below.result end))

@@ -6,7 +6,7 @@ use Rattle.ados_shell.specs.declared.drafts.Draft.{Draft}
 use Rattle.ados_shell.specs.Drafts.{IsReported, IsRuled, course_of, frames_of}
 use Rattle.ados_machine.specs.Settled.{finish}
 use Rattle.ados_machine.specs.Settle.{said_of}
-use Rattle.ados_shell.specs.Stacks.{IsPopped, frames_in}
+use Rattle.ados_shell.specs.Stacks.{IsPopped, drafted_frames}
 use Rattle.ados_shell.proofs.TurnLemmas.{finish-ends, finish-stays, lines-lead, script-leads, tick-leads}
 use Rattle.ados_shell.proofs.drafts.Draft.+finish.Goals as goal
 
@@ -14,7 +14,7 @@ pub returns-then-not-is_ended : goal.returns-then-not-is_ended
 returns-then-not-is_ended t c =
     let scene = c.args.scene.now in
     let before = c.args.self.now in
-    let frames = frames_in scene.shell.now c.pop.new.self in
+    let frames = drafted_frames scene.shell.now c.pop.new.self in
     let P : Option FrameState → Type 0 = IsPopped scene.shell.now before.shell.frames c.pop.new.self in
     let test : is_ended c.args.quits c.args.codes before.shell.limit c.in-Some.frame ≡ false =
     ap (is_ended c.args.quits c.args.codes before.shell.limit) (sym (c.answer.ensures frames)) ∙ sym c.is_ended.ensures ∙ c.if-not-is_ended.true in
@@ -28,7 +28,7 @@ pub returns-in-Script : goal.returns-in-Script
 returns-in-Script t c =
     let scene = c.args.scene.now in
     let before = c.args.self.now in
-    let frames = frames_in scene.shell.now c.pop.new.self in
+    let frames = drafted_frames scene.shell.now c.pop.new.self in
     let P : Option FrameState → Type 0 = IsPopped scene.shell.now before.shell.frames c.pop.new.self in
     let now = answered_frame c.in-Some.frame frames c.args.codes before.shell.limit in
     let last : c.answer.new.self ≡ now = c.answer.ensures frames in
@@ -49,7 +49,7 @@ pub returns-in-Lines : goal.returns-in-Lines
 returns-in-Lines t c =
     let scene = c.args.scene.now in
     let before = c.args.self.now in
-    let frames = frames_in scene.shell.now c.pop.new.self in
+    let frames = drafted_frames scene.shell.now c.pop.new.self in
     let P : Option FrameState → Type 0 = IsPopped scene.shell.now before.shell.frames c.pop.new.self in
     let now = answered_frame c.in-Some.frame frames c.args.codes before.shell.limit in
     let last : c.answer.new.self ≡ now = c.answer.ensures frames in
@@ -64,7 +64,7 @@ pub returns : goal.returns
 returns t c =
     let scene = c.args.scene.now in
     let before = c.args.self.now in
-    let frames = frames_in scene.shell.now c.pop.new.self in
+    let frames = drafted_frames scene.shell.now c.pop.new.self in
     let P : Option FrameState → Type 0 = IsPopped scene.shell.now before.shell.frames c.pop.new.self in
     let now = answered_frame c.in-Some.frame frames c.args.codes before.shell.limit in
     let last : c.answer.new.self ≡ now = c.answer.ensures frames in

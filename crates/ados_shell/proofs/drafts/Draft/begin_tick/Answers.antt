@@ -2,7 +2,7 @@ use Rattle.std.proofs.Common.{◌∙◌, ◌∷◌, [], List, None, ap, refl, re
 use Rattle.std.proofs.lemmas.List.{reverse-append}
 use Rattle.std.proofs.lemmas.Result.{on_ok_weaker}
 use Rattle.ados_text.specs.Text.{Bytes}
-use Rattle.ados_flow.specs.Frames.{began}
+use Rattle.ados_flow.specs.Frames.{new_frame}
 use Rattle.ados_flow.specs.declared.kinds.Kind.TheVariants.{Tick}
 use Rattle.ados_shell.specs.Drafts.{course_of, frames_of}
 use Rattle.ados_shell.proofs.DeedLemmas.{tick-goes}
@@ -15,7 +15,7 @@ returns c =
     on_ok_weaker c.push-2.result
     (λ g. tick-goes scene before _ c.args.tick.before c.args.tick.command c.args.tick.after
     (g scene.shell.now ∙ ap (λ x. x ∷ frames_of scene before)
-    (c.in_ok-frame.ensures ∙ ap (λ s. began (Tick c.args.tick.before c.args.tick.after) s before.shell.limit None) c.in_ok-script.ensures))
+    (c.in_ok-frame.ensures ∙ ap (λ s. new_frame (Tick c.args.tick.before c.args.tick.after) s before.shell.limit None) c.in_ok-script.ensures))
     refl
     (ap (λ k. record (course_of scene before) { kept = k })
     (ap reverse c.in_ok-push.ensures.items ∙ reverse-append c.in_ok-kept.kept.items (c.from_vec.result ∷ [])

@@ -2,10 +2,10 @@ use Rattle.std.proofs.Common.{Err, List, None, Ok, OnOk, Option, Some, subst}
 use Rattle.std.proofs.lemmas.Result.{on_ok_weaker}
 use Rattle.ados_text.specs.Text.{Text}
 use Rattle.ados_machine.specs.Course.{Course}
-use Rattle.ados_machine.specs.Deeds.{Deed, Here, refused}
+use Rattle.ados_machine.specs.Deeds.{Deed, Here, refusal_deed}
 use Rattle.ados_machine.specs.Lines.{asked_deed}
 use Rattle.ados_machine.specs.Prompts.{input_lines}
-use Rattle.ados_shell.specs.Drafts.{Settles, course_of, here}
+use Rattle.ados_shell.specs.Drafts.{Settles, course_of, next_line_place}
 use Rattle.ados_shell.specs.Inputs.{HasRead}
 use Rattle.ados_shell.proofs.LineLemmas.{input-given, input-refused}
 use Rattle.ados_shell.proofs.drafts.Draft.prepare.Goals as goal
@@ -22,7 +22,7 @@ returns-in-Err-Refused c =
     (λ at lines course. asked_deed c.args.builtin c.args.line.now at lines course) c.in-Err-Refused.fault input read
     (subst (λ x. HasRead scene before mid input (Err x) read) c.in-Err-Refused.field-0-is
     (subst (λ i. HasRead scene before mid i (Err c.in-Err-Refused.field-0) (input_lines (course_of scene before) i)) c.as_ref.ensures.value c.in-Err-Refused.ensures)) g)
-    (subst (λ f. OnOk c.refuse.result (Settles scene mid c.refuse.new.self (refused c.args.line.now.command f (course_of scene mid)))) c.in-Err-Refused.fault-is c.refuse.ensures)
+    (subst (λ f. OnOk c.refuse.result (Settles scene mid c.refuse.new.self (refusal_deed c.args.line.now.command f (course_of scene mid)))) c.in-Err-Refused.fault-is c.refuse.ensures)
 
 pub returns-in-Ok-None : goal.returns-in-Ok-None
 returns-in-Ok-None c =
@@ -45,7 +45,7 @@ returns-in-Ok-Some c =
     let after = c.proceed-in-Ok-Some.new.self in
     let input = c.args.line.now.input in
     let work : Here → Option (List Text) → Course → Deed = λ at lines course. asked_deed c.args.builtin c.args.line.now at lines course in
-    let P : List Text → Type 0 = λ l. Settles scene mid after (work (here scene mid) (Some l) (course_of scene mid)) in
+    let P : List Text → Type 0 = λ l. Settles scene mid after (work (next_line_place scene mid) (Some l) (course_of scene mid)) in
     on_ok_weaker c.proceed-in-Ok-Some.result
     (λ g. input-given scene before mid after c.args.line.now.command work (Some c.in-Ok-Some.lines) input (input_lines (course_of scene before) input)
     (subst (λ x. HasRead scene before mid input (Ok x) (input_lines (course_of scene before) input)) c.in-Ok-Some.field-0-is

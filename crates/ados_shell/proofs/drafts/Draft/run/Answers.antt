@@ -2,7 +2,7 @@ use Rattle.std.proofs.Common.{Err, Ok, OnOk, subst}
 use Rattle.std.proofs.lemmas.Result.{on_ok_weaker}
 use Rattle.ados_machine.specs.NewShells.{run_deed, running_deed}
 use Rattle.ados_machine.specs.Prompts.{input_lines}
-use Rattle.ados_shell.specs.Drafts.{Settles, course_of, here}
+use Rattle.ados_shell.specs.Drafts.{Settles, course_of, next_line_place}
 use Rattle.ados_shell.specs.Inputs.{HasRead}
 use Rattle.ados_shell.proofs.LineLemmas.{input-given, input-refused}
 use Rattle.ados_shell.proofs.drafts.Draft.run.Goals as goal
@@ -15,7 +15,7 @@ returns c =
     let mid = c.read_own.new.self in
     let input = c.args.line.now.input in
     let read = input_lines (course_of scene before) input in
-    elim c.match-read_own.branch as (λ x. OnOk c.match-read_own.result (Settles scene before c.match-read_own.self (run_deed c.args.line.now (here scene before) (course_of scene before)))) [
+    elim c.match-read_own.branch as (λ x. OnOk c.match-read_own.result (Settles scene before c.match-read_own.self (run_deed c.args.line.now (next_line_place scene before) (course_of scene before)))) [
       | in-Err-NoMemory w ↦ rw w.result-is tt
       | in-Err-Refused w ↦ rw (w.result-is, w.self-is) (on_ok_weaker w.refuse.result
           (λ g. input-refused scene before mid w.refuse.new.self c.args.line.now.command

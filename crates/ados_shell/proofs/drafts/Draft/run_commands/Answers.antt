@@ -1,10 +1,10 @@
 use Rattle.std.proofs.Common.{◌≡◌, ◌∙◌, ◌-◌, Some, drop, subst, sym}
 use Rattle.std.proofs.lemmas.Result.{on_ok_weaker}
 use Rattle.std.specs.Option.{option_map}
-use Rattle.ados_flow.specs.Gathering.{gathered, run_limit}
+use Rattle.ados_flow.specs.Gathering.{run_gathering, run_limit}
 use Rattle.ados_machine.specs.Deeds.{FrameLines}
 use Rattle.ados_machine.specs.NewShells.{new_shell}
-use Rattle.ados_shell.specs.Drafts.{course_of, here}
+use Rattle.ados_shell.specs.Drafts.{course_of, next_line_place}
 use Rattle.ados_shell.specs.Outputs.{IsPut}
 use Rattle.ados_shell.proofs.RunLemmas.{run-goes}
 use Rattle.ados_shell.proofs.drafts.Draft.run_commands.Goals as goal
@@ -13,12 +13,12 @@ pub returns-in_ok-codes-in-Some : goal.returns-in_ok-codes-in-Some
 returns-in_ok-codes-in-Some c =
     let scene = c.args.scene.now in
     let before = c.args.self.now in
-    let given : option_map (λ (frame : FrameLines). gathered (run_limit - 1) c.args.line.now.args (drop frame.position frame.lines)) (here scene before).frame_lines ≡ Some c.in-Some.field-0 =
+    let given : option_map (λ (frame : FrameLines). run_gathering (run_limit - 1) c.args.line.now.args (drop frame.position frame.lines)) (next_line_place scene before).frame_lines ≡ Some c.in-Some.field-0 =
     sym c.in_ok-gathered.ensures.gathered ∙ c.in-Some.is in
     on_ok_weaker c.skip.result
     (λ g. run-goes scene before c.make_shell.new.self c.skip.new.self c.args.line.now.command c.args.line.now.args c.in_ok-codes-in-Some.codes c.in-Some.field-0 c.args.output
     given
-    (subst (λ o. IsPut scene before c.make_shell.new.self c.in_ok-codes-in-Some.codes (new_shell c.in-Some.field-0.commands o (here scene before).sink (course_of scene before)))
+    (subst (λ o. IsPut scene before c.make_shell.new.self c.in_ok-codes-in-Some.codes (new_shell c.in-Some.field-0.commands o (next_line_place scene before).sink (course_of scene before)))
     c.as_ref.ensures.value c.in_ok-codes-in-Some.ensures)
     g)
     c.skip.ensures

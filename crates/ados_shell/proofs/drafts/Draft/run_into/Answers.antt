@@ -1,7 +1,7 @@
 use Rattle.std.proofs.Common.{Err, Ok, ap, subst}
 use Rattle.std.proofs.lemmas.Result.{on_ok_weaker}
 use Rattle.ados_machine.specs.NewShells.{run_into}
-use Rattle.ados_machine.specs.Opening.{opening}
+use Rattle.ados_machine.specs.Opening.{line_output}
 use Rattle.ados_shell.specs.Drafts.{course_of}
 use Rattle.ados_shell.specs.Outputs.{HasOpened}
 use Rattle.ados_shell.proofs.LineLemmas.{output-given, output-refused}
@@ -12,10 +12,10 @@ returns-in-Err-Refused c =
     on_ok_weaker c.refuse.result
     (λ g. output-refused c.args.scene.now c.args.self.now c.open_own.new.self c.refuse.new.self c.args.line.now.command
     (λ here target further. run_into c.args.line.now here target further) c.in-Err-Refused.fault
-    c.args.line.now.output (opening (course_of c.args.scene.now c.args.self.now) c.args.line.now.output)
-    (subst (λ x. HasOpened c.args.scene.now c.args.self.now c.open_own.new.self c.args.line.now.output x (opening (course_of c.args.scene.now c.args.self.now) c.args.line.now.output))
+    c.args.line.now.output (line_output (course_of c.args.scene.now c.args.self.now) c.args.line.now.output)
+    (subst (λ x. HasOpened c.args.scene.now c.args.self.now c.open_own.new.self c.args.line.now.output x (line_output (course_of c.args.scene.now c.args.self.now) c.args.line.now.output))
     (ap Err c.in-Err-Refused.field-0-is)
-    (subst (λ o. HasOpened c.args.scene.now c.args.self.now c.open_own.new.self o (Err c.in-Err-Refused.field-0) (opening (course_of c.args.scene.now c.args.self.now) o))
+    (subst (λ o. HasOpened c.args.scene.now c.args.self.now c.open_own.new.self o (Err c.in-Err-Refused.field-0) (line_output (course_of c.args.scene.now c.args.self.now) o))
     c.as_ref.ensures.value c.in-Err-Refused.ensures)) g)
     c.refuse.ensures
 
@@ -24,7 +24,7 @@ returns-in-Ok c =
     on_ok_weaker c.run_text.result
     (λ g. output-given c.args.scene.now c.args.self.now c.open_own.new.self c.run_text.new.self c.args.line.now.command
     (λ here target further. run_into c.args.line.now here target further) c.in-Ok.target
-    c.args.line.now.output (opening (course_of c.args.scene.now c.args.self.now) c.args.line.now.output)
-    (subst (λ o. HasOpened c.args.scene.now c.args.self.now c.open_own.new.self o (Ok c.in-Ok.target) (opening (course_of c.args.scene.now c.args.self.now) o))
+    c.args.line.now.output (line_output (course_of c.args.scene.now c.args.self.now) c.args.line.now.output)
+    (subst (λ o. HasOpened c.args.scene.now c.args.self.now c.open_own.new.self o (Ok c.in-Ok.target) (line_output (course_of c.args.scene.now c.args.self.now) o))
     c.as_ref.ensures.value c.in-Ok.ensures) g)
     c.run_text.ensures
