@@ -15,7 +15,7 @@ use Rattle.ados_machine.specs.Requests.{request_of}
 use Rattle.ados_machine.specs.Runs.{IsAnswer, Runs, world_after}
 use Rattle.ados_machine.specs.Shells.{ShellState}
 use Rattle.ados_machine.specs.Step.{Response, Accepted, Refused, is_accepted, step_of}
-use Rattle.ados_machine.specs.Whole.{world_with_opened, opened_shell}
+use Rattle.ados_machine.specs.LoneShell.{world_with_opened, opened_shell}
 use Rattle.ados_machine.specs.World.{WorldState, shell_at, request_of_shell, pending_of}
 use Rattle.ados_machine.proofs.Loops.{IsTaken, alone-turn, alone-reply, pending-hosted, turn-taken}
 use Rattle.ados_machine.proofs.Shells.{IsFree, found, found-set_other, free-number}
@@ -45,11 +45,11 @@ opened-agrees w k commands calls free agrees j = agrees j ∙ ap life_for_state 
 
 -- the answers in an event
 abbrev pub replies_in : Event → List Reply
-pub replies_in (Answer k reply) = reply ∷ []
-pub replies_in (Turn k) = []
-pub replies_in (Typed line) = []
+replies_in (Answer k reply) = reply ∷ []
+replies_in (Turn k) = []
+replies_in (Typed line) = []
 replies_in EndOfInput = []
-pub replies_in (Break k kind) = []
+replies_in (Break k kind) = []
 
 accepted-of : (response : Response) → IsTaken response → is_accepted response ≡ true
 accepted-of (Refused why) taken = absurd taken
@@ -196,14 +196,14 @@ are-more k (LongLine ∷ taken) answers event out pending are is = are-more k ta
 
 pub events-more : (taken : List TakenItem) (event : Event) (out : Out) → length (taken_events (taken ++ Given event out ∷ [])) ≡ length (taken_events taken) + 1
 events-more [] event out = refl
-pub events-more (Given first given ∷ taken) event out = let more = events-more taken event out in omega (arith, more)
-pub events-more (LongLine ∷ taken) event out = events-more taken event out
+events-more (Given first given ∷ taken) event out = let more = events-more taken event out in omega (arith, more)
+events-more (LongLine ∷ taken) event out = events-more taken event out
 
 pub bytes-more : (taken : List TakenItem) (event : Event) (out : Out) → bytes_in (taken_outs (taken ++ Given event out ∷ [])) ≡ bytes_in (taken_outs taken) ++ out.bytes
 bytes-more [] event out = append-nil out.bytes
-pub bytes-more (Given first given ∷ taken) event out =
+bytes-more (Given first given ∷ taken) event out =
     ap (λ bytes. given.bytes ++ bytes) (bytes-more taken event out) ∙ sym (append_assoc given.bytes (bytes_in (taken_outs taken)) out.bytes)
-pub bytes-more (LongLine ∷ taken) event out = bytes-more taken event out
+bytes-more (LongLine ∷ taken) event out = bytes-more taken event out
 
 pub printed-more : (before mid last bytes more now : Bytes) → mid ≡ before ++ bytes → last ≡ mid ++ more → now ≡ bytes ++ more → last ≡ before ++ now
 printed-more before mid last bytes more now e f h = f ∙ (ap (λ xs. xs ++ more) e ∙ (append_assoc before bytes more ∙ ap (λ xs. before ++ xs) (sym h)))

@@ -7,7 +7,7 @@ use Rattle.ados_machine.specs.declared.refusals.Refusal.TheVariants.{NoMemory}
 use Rattle.ados_machine.specs.Alone.{exec_alone, bytes_in}
 use Rattle.ados_machine.specs.Numbers.{free_number}
 use Rattle.ados_machine.specs.Shells.{ShellState}
-use Rattle.ados_machine.specs.Whole.{world_with_opened}
+use Rattle.ados_machine.specs.LoneShell.{world_with_opened}
 use Rattle.ados_machine.specs.World.{WorldState, shell_at, pending_of, codes_at}
 use Rattle.ados_machine.proofs.Systems.{system-ended, system-late}
 use Rattle.ados_world.specs.Opened.{opening_fault}

@@ -18,8 +18,8 @@ use Rattle.ados_machine.specs.Breaks.{breaks_by, broken_at, shells_after_break, 
 use Rattle.ados_machine.specs.Carrying.{carried_shells}
 use Rattle.ados_machine.specs.Answers.{answered_in}
 use Rattle.ados_machine.specs.Sinks.{sink_in}
-use Rattle.ados_machine.specs.Deeds.{Deed}
-use Rattle.ados_machine.specs.Turning.{Input, Turning, Refuses, Ends, Takes, turning_at_break, turning_in_phase, console_turning, ready_turning, input_turning, turning_of_deed}
+use Rattle.ados_machine.specs.Completions.{Completion}
+use Rattle.ados_machine.specs.Turning.{Input, Turning, Refuses, Ends, Takes, turning_at_break, turning_in_phase, console_turning, ready_turning, input_turning, turning_of_completion}
 use Rattle.ados_machine.specs.Step.{break_response, step_of, turn_response, turning_response, shell_after_turn, start, moved_at_turn, answer_response, course_without_flag, with_begun}
 use Rattle.ados_machine.specs.Runs.{world_after}
 use Rattle.ados_machine.specs.declared.answers.Answer.{Answer as Reply}
@@ -95,7 +95,7 @@ ready-ends : (input : Input) (frames : List FrameState) (course : Course) → re
 ready-ends input [] course e = console-ends input.queue input.is_ended course e
 ready-ends input (frame ∷ frames) course e = cc
 
-input-ends : (queue : List (List ℕ)) (is_ended : Bool) (frames : List FrameState) (by_line : List ℕ → Deed) (by_end : Deed) → input_turning queue is_ended frames by_line by_end ≡ Ends → is_ended ≡ true
+input-ends : (queue : List (List ℕ)) (is_ended : Bool) (frames : List FrameState) (by_line : List ℕ → Completion) (by_end : Completion) → input_turning queue is_ended frames by_line by_end ≡ Ends → is_ended ≡ true
 input-ends [] true frames by_line by_end e = refl
 input-ends [] false frames by_line by_end e = cc
 input-ends (line ∷ rest) is_ended frames by_line by_end e = cc
@@ -157,9 +157,9 @@ turn-takes w out k e =
     ]
 
 -- only a background shell ends by an answer
-replied-never : (input : Input) (frames : List FrameState) (deed : Option Deed) → turning_of_deed input frames deed ≡ Ends → ⊥
+replied-never : (input : Input) (frames : List FrameState) (completion : Option Completion) → turning_of_completion input frames completion ≡ Ends → ⊥
 replied-never input frames None e = cc
-replied-never input frames (Some deed) e = cc
+replied-never input frames (Some completion) e = cc
 
 answered-takes : (w : WorldState) (out : Out) (k : ℕ) (reply : Reply) (found : Option ShellState) → shell_at w k ≡ found → takes_input w ≡ true →
     takes_input (world_after w (Ok out) (answer_response w k reply found)) ≡ true

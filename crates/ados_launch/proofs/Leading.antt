@@ -4,7 +4,7 @@ use Rattle.ados_text.specs.Text.{Text, Bytes}
 use Rattle.ados_machine.specs.Numbers.{free_number}
 use Rattle.ados_machine.specs.Runs.{Runs, world_after}
 use Rattle.ados_machine.specs.Step.{step_of}
-use Rattle.ados_machine.specs.Whole.{world_with_opened}
+use Rattle.ados_machine.specs.LoneShell.{world_with_opened}
 use Rattle.ados_machine.specs.World.{WorldState}
 use Rattle.ados_world.specs.Opened.{opening_fault}
 use Rattle.ados_launcher.specs.declared.calls.Call.{Call}

@@ -13,7 +13,7 @@ use Rattle.ados_machine.specs.Alone.{AreOf, IsEnd, IsLate, bytes_in}
 use Rattle.ados_machine.specs.Numbers.{free_number}
 use Rattle.ados_machine.specs.Runs.{IsAnswer, Runs, world_after}
 use Rattle.ados_machine.specs.Step.{step_of}
-use Rattle.ados_machine.specs.Whole.{world_with_opened, whole}
+use Rattle.ados_machine.specs.LoneShell.{world_with_opened, whole}
 use Rattle.ados_machine.specs.World.{WorldState, pending_of, shell_at}
 use Rattle.ados_world.specs.Opened.{Refuses, opening_fault}
 use Rattle.ados_launcher.specs.declared.calls.Call.{Call}

@@ -26,7 +26,7 @@ use std::alloc::Global;
 /// order, each a character of the line or the value of one variable. Inside quotes of the text a star before a back-tick
 /// is removed, and the back-tick stands for itself. `LineTooLong` comes first, then `UnmatchedQuotes` for a single
 /// back-tick; the other faults are those of the cut: the first one in the text.
-#[tactic(auto, unfolding(crate::specs::Expansion::expanded_in))]
+#[tactic(auto, unfolding(crate::specs::Expansion::expand_raw_line))]
 pub fn expand(scope: &Scope, raw: &Text) -> Result<Expanded, LineFault>
     ensures value { Gives result (expand_raw_line scope.now.aliases.now (variables_in scope.now) raw.now) }
     ensures long { 512 < length raw.now → result ≡ Err LineFault.LineTooLong }
@@ -51,7 +51,7 @@ pub fn expand(scope: &Scope, raw: &Text) -> Result<Expanded, LineFault>
 /// The text up to the end of the output is not read for back-ticks again; quotes are read in the whole text, so that a
 /// star at the end of the output escapes the byte after it. `LineTooLong` for more than 512 bytes of the whole text
 /// comes before `UnmatchedQuotes` for a single back-tick; the other faults are those of the cut.
-#[tactic(auto, unfolding(crate::specs::Expansion::resumed_of))]
+#[tactic(auto, unfolding(crate::specs::Expansion::resume_line))]
 pub fn resume(
     alloc: Global,
     before: &Text,

@@ -10,11 +10,11 @@ use Rattle.ados_machine.specs.declared.phases.Phase.TheVariants as phase
 use Rattle.ados_machine.specs.declared.phases.Wait.{Wait}
 use Rattle.ados_machine.specs.declared.phases.Wait.TheVariants.{ForAnswer, ForLines, ForStart, ForPiece, ForEnd}
 use Rattle.ados_machine.specs.Course.{Course, with_no_device_used, with_bytes_printed}
-use Rattle.ados_machine.specs.Deeds.{Deed, Passes, Answers, Jumps, Calls, Ticks, Waits}
-use Rattle.ados_machine.specs.NewShells.{gathered_deed, joined_deed}
-use Rattle.ados_machine.specs.Lines.{with_variables, variables_in, line_deed, parted_deed, answer_deed}
+use Rattle.ados_machine.specs.Completions.{Completion, Passes, Answers, Jumps, Calls, Ticks, Waits}
+use Rattle.ados_machine.specs.NewShells.{gathered_completion, joined_completion}
+use Rattle.ados_machine.specs.Lines.{with_variables, variables_in, line_completion, parted_completion, answer_completion}
 use Rattle.ados_machine.specs.Settled.{RuleState, RuleResult}
-use Rattle.ados_machine.specs.Settle.{TurnResult, here_of, frames_at_line, said_of, turn_by_rule, turn_of_deed}
+use Rattle.ados_machine.specs.Settle.{TurnResult, here_of, frames_at_line, said_of, turn_by_rule, turn_of_completion}
 use Rattle.ados_machine.specs.Breaks.{break_text, has_script}
 use Rattle.ados_machine.specs.declared.refusals.Refusal.TheVariants.{NotReady}
 use Rattle.ados_machine.specs.Turning.{turning_at_break, flagged_turning, Input, Turning, Refuses, Ends, Takes, turn_of_frame, turning_at_end, console_turning, ready_turning, input_turning, turning_in_phase}
@@ -39,7 +39,7 @@ idle-hands from now (phase.Waiting wait) idle = absurd idle
 rule-hands : (from course : Course) (said : RuleState) (settled : RuleResult) → Rests said settled → TurnHands from (turn_by_rule course settled)
 rule-hands from course said settled rests = idle-hands from (turn_by_rule course settled).course settled.phase rests.idle
 
-pub settle-hands : (from : Course) (deed : Deed) (frames : List FrameState) → Hands from deed → TurnHands from (turn_of_deed deed frames)
+pub settle-hands : (from : Course) (completion : Completion) (frames : List FrameState) → Hands from completion → TurnHands from (turn_of_completion completion frames)
 settle-hands from (Passes course) frames hands = rule-hands from course _ _ (passed-rests frames (said_of course))
 settle-hands from (Answers word answer quits course) frames hands =
     rule-hands from course _ _ (finished-rests word answer quits frames (said_of course))
@@ -62,9 +62,9 @@ at_end-hands course true turning_in_phase hands = hands
 at_end-hands course false turning_in_phase hands = tt
 
 line-hands : (raw : List ℕ) (frames : List FrameState) (course : Course) →
-    TurnHands (with_no_device_used course) (turn_of_deed (line_deed raw (here_of frames) course) frames)
+    TurnHands (with_no_device_used course) (turn_of_completion (line_completion raw (here_of frames) course) frames)
 line-hands raw frames course =
-    settle-hands (with_no_device_used course) (line_deed raw (here_of frames) course) frames
+    settle-hands (with_no_device_used course) (line_completion raw (here_of frames) course) frames
     (expanded-hands (expand_raw_line course.parts.settings.aliases (variables_in course) raw) (here_of frames) (with_variables raw course))
 
 frame-hands : (frame : FrameState) (frames : List FrameState) (course : Course) (line : Option (List ℕ)) →
@@ -81,10 +81,10 @@ ready-hands : (input : Input) (frames : List FrameState) (course : Course) → T
 ready-hands input [] course = console-hands input.queue input.is_ended course
 ready-hands input (frame ∷ frames) course = frame-hands frame frames course (slice_get frame.lines frame.position)
 
-input-hands : (queue : List (List ℕ)) (is_ended : Bool) (frames : List FrameState) (course : Course) (by_line : List ℕ → Deed) (by_end : Deed) →
+input-hands : (queue : List (List ℕ)) (is_ended : Bool) (frames : List FrameState) (course : Course) (by_line : List ℕ → Completion) (by_end : Completion) →
     ((line : List ℕ) → Never (by_line line)) → Never by_end → TurningHands course (input_turning queue is_ended frames by_line by_end)
 input-hands [] is_ended frames course by_line by_end lines end =
-    at_end-hands course is_ended (Takes [] (turn_of_deed by_end frames)) (settle-hands course by_end frames (never-hands course by_end end))
+    at_end-hands course is_ended (Takes [] (turn_of_completion by_end frames)) (settle-hands course by_end frames (never-hands course by_end end))
 input-hands (line ∷ rest) is_ended frames course by_line by_end lines end =
     settle-hands course (by_line line) frames (never-hands course (by_line line) (lines line))
 
@@ -92,15 +92,15 @@ pub turning-hands : (input : Input) (frames : List FrameState) (course : Course)
     TurningHands (with_no_device_used course) (turning_in_phase input frames course now)
 turning-hands input frames course phase.Ready = ready-hands input frames course
 turning-hands input frames course (phase.GoingOn parted) =
-    settle-hands (with_no_device_used course) (parted_deed parted (here_of frames) course) frames
+    settle-hands (with_no_device_used course) (parted_completion parted (here_of frames) course) frames
     (expanded-hands (resume_line parted.before parted.output parted.after) (here_of frames) course)
 turning-hands input frames course (phase.Waiting (ForAnswer asking)) =
     let here = here_of frames in
-    input-hands input.queue input.is_ended frames (with_no_device_used course) (λ line. answer_deed line asking here course) (answer_deed [] asking here course)
+    input-hands input.queue input.is_ended frames (with_no_device_used course) (λ line. answer_completion line asking here course) (answer_completion [] asking here course)
     (λ line. answer-never line asking here course) (answer-never [] asking here course)
 turning-hands input frames course (phase.Waiting (ForLines gathering)) =
     let sink = (here_of frames).sink in
-    input-hands input.queue input.is_ended frames (with_no_device_used course) (λ line. joined_deed gathering line sink course) (gathered_deed gathering sink course)
+    input-hands input.queue input.is_ended frames (with_no_device_used course) (λ line. joined_completion gathering line sink course) (gathered_completion gathering sink course)
     (λ line. joined_by-never gathering line sink course (before_plus line)) tt
 turning-hands input frames course (phase.Waiting (ForStart starting)) = tt
 turning-hands input frames course (phase.Waiting (ForPiece child)) = tt

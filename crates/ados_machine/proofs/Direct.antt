@@ -18,15 +18,16 @@ use Rattle.ados_machine.specs.declared.phases.Phase.TheVariants.{GoingOn, Waitin
 use Rattle.ados_machine.specs.declared.phases.Wait.{Wait}
 use Rattle.ados_machine.specs.declared.phases.Wait.TheVariants.{ForAnswer, ForLines, ForStart, ForPiece, ForEnd}
 use Rattle.ados_machine.specs.Sinks.{sink_in}
-use Rattle.ados_machine.specs.Deeds.{Here, Deed, Passes, Answers, Jumps, Calls, Ticks, Waits, course_of}
-use Rattle.ados_machine.specs.Lines.{line_deed, parted_deed, answer_deed}
-use Rattle.ados_machine.specs.NewShells.{gathered_deed}
+use Rattle.ados_machine.specs.Completions.{Here, Completion, Passes, Answers, Jumps, Calls, Ticks, Waits, course_of}
+use Rattle.ados_machine.specs.Lines.{line_completion, parted_completion, answer_completion}
+use Rattle.ados_machine.specs.NewShells.{gathered_completion}
 use Rattle.ados_machine.specs.Items.{broken_codes}
 use Rattle.ados_machine.specs.Breaks.{has_script}
 use Rattle.ados_machine.specs.Settled.{RuleState, RuleResult, after_break, end_at_break, with_limit, finish, pass_line, finish_with_fault, with_fault_line, newest_kept}
 use Rattle.ados_machine.specs.Settle.{here_of, frames_at_line, code_rule_of}
-use Rattle.ados_machine.specs.Whole.{record_at, report_of, report_broken, with_report, after_broken, common_without_flag, turn_at, Broken, Common, common_after_event, Whole, Done, Late, Short, says, here_at, start_at, after_answer, after_own_answer, after_call, after_tick, after_deed, waits, lines, common_with_tick, common_without_tick, reply_of, deed_of, script_at, tick_at}
-use Rattle.ados_machine.proofs.Alone.{Go, line_event, start_in, turn_event, Lone, go_by, does, deed_event, exec}
+use Rattle.ados_machine.specs.Whole.{record_at, report_of, report_broken, with_report, after_broken, common_without_flag, Broken, Common, common_after_event, Whole, Done, Late, Short, says, here_at, start_at, after_answer, after_own_answer, after_call, after_tick, after_completion, common_with_tick, common_without_tick, reply_of, completion_of, script_at, tick_at}
+use Rattle.ados_machine.specs.LoneShell.{turn_at, waits, lines}
+use Rattle.ados_machine.proofs.Alone.{Go, line_event, start_in, turn_event, Lone, go_by, does, completion_event, exec}
 use Rattle.ados_machine.proofs.DirectStates.{ended, breaking, AgreesBy, at_of, AgreesAt, here-is, weaker, lines-over, there}
 
 -- the newest frame continues, or ends if no line is left
@@ -159,20 +160,20 @@ abbrev WaitsAgree : ℕ → ℕ → List Reply → FrameState → List FrameStat
 WaitsAgree k n answers frame frames further = (common : Common) (wait : Wait) →
     AgreesBy n (exec k n answers (frame ∷ frames) (Waiting wait) common) (further common wait) (ended k frame frames) (breaking k frame frames) (scripts_in (frame ∷ frames))
 
--- what any deed does
-deed-agrees : (k gas : ℕ) → AgreesAt k gas →
+-- what any completion does
+completion-agrees : (k gas : ℕ) → AgreesAt k gas →
     (n : ℕ) (answers : List Reply) (common : Common) (frame : FrameState) (frames : List FrameState)
-    (further : Common → Wait → Whole) (deed : Deed) → n < gas → WaitsAgree k n answers frame frames further →
-    AgreesBy n (go_by k (exec k n answers) common (code_rule_of deed (frame ∷ frames) common.said))
-    (after_deed further (lines k gas) n answers common (at_of k frame frames) deed)
+    (further : Common → Wait → Whole) (completion : Completion) → n < gas → WaitsAgree k n answers frame frames further →
+    AgreesBy n (go_by k (exec k n answers) common (code_rule_of completion (frame ∷ frames) common.said))
+    (after_completion further (lines k gas) n answers common (at_of k frame frames) completion)
     (ended k frame frames) (breaking k frame frames) (scripts_in (frame ∷ frames))
-deed-agrees k gas ih n answers common frame frames further (Passes course) lt waits =
+completion-agrees k gas ih n answers common frame frames further (Passes course) lt waits =
     passed-agrees k gas ih n answers common frame frames lt
-deed-agrees k gas ih n answers common frame frames further (Answers word answer quits course) lt waits =
+completion-agrees k gas ih n answers common frame frames further (Answers word answer quits course) lt waits =
     finished-agrees k gas ih n answers common frame frames word answer quits lt
-deed-agrees k gas ih n answers common frame frames further (Jumps word answer line course) lt waits =
+completion-agrees k gas ih n answers common frame frames further (Jumps word answer line course) lt waits =
     jumped-agrees k gas ih n answers common frame frames word answer line lt
-deed-agrees k gas ih n answers common frame frames further (Calls word output script course) lt waits =
+completion-agrees k gas ih n answers common frame frames further (Calls word output script course) lt waits =
     elim (cases_Bool (nat_le frame_limit (length (frame ∷ frames)))) [
       | inl e ↦ rw e (finished-agrees k gas ih n answers common frame frames word (fail_codes TOO_MANY_LEVELS) false lt)
       | inr e ↦ rw e (call-agrees k gas ih n _
@@ -181,32 +182,32 @@ deed-agrees k gas ih n answers common frame frames further (Calls word output sc
           (passed-agrees k gas ih n answers common (new_frame (Script script.name word) script.script common.said.parts.limit output)
           (frame ∷ frames) lt))
     ]
-deed-agrees k gas ih n answers common frame frames further (Ticks before command after course) lt waits =
+completion-agrees k gas ih n answers common frame frames further (Ticks before command after course) lt waits =
     tick-agrees k gas ih n _
     (lines k gas n answers (common_with_tick common) (tick_at (at_of k frame frames) command) None) frame frames
     before after (command ∷ []) common.said.parts.limit lt
     (ih n answers (common_with_tick common) (new_frame (Tick before after) (command ∷ []) common.said.parts.limit None)
     (frame ∷ frames) None lt refl)
-deed-agrees k gas ih n answers common frame frames further (Waits wait course) lt waits = waits common wait
+completion-agrees k gas ih n answers common frame frames further (Waits wait course) lt waits = waits common wait
 
--- an event that results in a deed
+-- an event that results in a completion
 event-agrees : (k gas : ℕ) → AgreesAt k gas →
     (n : ℕ) (answers : List Reply) (common : Common) (frame : FrameState) (frames : List FrameState)
-    (further : Common → Wait → Whole) (deed : Deed) → n < gas → WaitsAgree k n answers frame frames further →
-    AgreesBy (suc n) (does k (exec k n answers) (frame ∷ frames) common deed)
-    (deed_of further (lines k gas) n answers common (at_of k frame frames) deed)
+    (further : Common → Wait → Whole) (completion : Completion) → n < gas → WaitsAgree k n answers frame frames further →
+    AgreesBy (suc n) (does k (exec k n answers) (frame ∷ frames) common completion)
+    (completion_of further (lines k gas) n answers common (at_of k frame frames) completion)
     (ended k frame frames) (breaking k frame frames) (scripts_in (frame ∷ frames))
-event-agrees k gas ih n answers common frame frames further deed lt waits =
-    let behind = common_after_event common (course_of deed) in
-    weaker n (suc n) _ (after_deed further (lines k gas) n answers behind (at_of k frame frames) deed) (ended k frame frames) (breaking k frame frames) (scripts_in (frame ∷ frames))
-    (omega arith) (deed-agrees k gas ih n answers behind frame frames further deed lt waits)
+event-agrees k gas ih n answers common frame frames further completion lt waits =
+    let behind = common_after_event common (course_of completion) in
+    weaker n (suc n) _ (after_completion further (lines k gas) n answers behind (at_of k frame frames) completion) (ended k frame frames) (breaking k frame frames) (scripts_in (frame ∷ frames))
+    (omega arith) (completion-agrees k gas ih n answers behind frame frames further completion lt waits)
 
--- an event that results in the deed of a line
+-- an event that results in the completion of a line
 work-agrees : (k gas : ℕ) → AgreesAt k gas →
     (n : ℕ) (answers : List Reply) (common : Common) (frame : FrameState) (frames : List FrameState)
-    (further : Common → Wait → Whole) (work : Here → Deed) → n < gas → WaitsAgree k n answers frame frames further →
+    (further : Common → Wait → Whole) (work : Here → Completion) → n < gas → WaitsAgree k n answers frame frames further →
     AgreesBy (suc n) (does k (exec k n answers) (frame ∷ frames) common (work (here_of (frame ∷ frames))))
-    (deed_of further (lines k gas) n answers common (at_of k frame frames) (work (here_at (at_of k frame frames))))
+    (completion_of further (lines k gas) n answers common (at_of k frame frames) (work (here_at (at_of k frame frames))))
     (ended k frame frames) (breaking k frame frames) (scripts_in (frame ∷ frames))
 work-agrees k gas ih n answers common frame frames further work lt waits =
     rw (here-is k frame frames)
@@ -215,13 +216,13 @@ work-agrees k gas ih n answers common frame frames further work lt waits =
 -- what an answer does
 reply-agrees : (k gas : ℕ) → AgreesAt k gas →
     (n : ℕ) (answers : List Reply) (common : Common) (frame : FrameState) (frames : List FrameState)
-    (further : Common → Wait → Whole) (deed : Option Deed) → n < gas → WaitsAgree k n answers frame frames further →
-    AgreesBy (suc n) (deed_event k (exec k n answers) (frame ∷ frames) common deed)
-    (reply_of (deed_of further (lines k gas) n answers common (at_of k frame frames)) deed)
+    (further : Common → Wait → Whole) (completion : Option Completion) → n < gas → WaitsAgree k n answers frame frames further →
+    AgreesBy (suc n) (completion_event k (exec k n answers) (frame ∷ frames) common completion)
+    (reply_of (completion_of further (lines k gas) n answers common (at_of k frame frames)) completion)
     (ended k frame frames) (breaking k frame frames) (scripts_in (frame ∷ frames))
 reply-agrees k gas ih n answers common frame frames further None lt waits = refl
-reply-agrees k gas ih n answers common frame frames further (Some deed) lt waits =
-    event-agrees k gas ih n answers common frame frames further deed lt waits
+reply-agrees k gas ih n answers common frame frames further (Some completion) lt waits =
+    event-agrees k gas ih n answers common frame frames further completion lt waits
 
 -- what the shell waits for, one event each
 waits-agree : (k gas : ℕ) → AgreesAt k gas → (n : ℕ) (answers : List Reply) (frame : FrameState) (frames : List FrameState) → n < gas →
@@ -229,17 +230,17 @@ waits-agree : (k gas : ℕ) → AgreesAt k gas → (n : ℕ) (answers : List Rep
 waits-agree k gas ih zero answers frame frames lt common wait = refl
 waits-agree k gas ih (suc n) answers frame frames lt common (ForAnswer asking) =
     turn-agrees k n answers common frame frames
-    (λ now. does k (exec k n answers) (frame ∷ frames) now (answer_deed [] asking (here_of (frame ∷ frames)) (start_in k (frame ∷ frames) (Waiting (ForAnswer asking)) now)))
-    (λ now. deed_of (waits k (lines k gas) (at_of k frame frames) n answers) (lines k gas) n answers now (at_of k frame frames) (answer_deed [] asking (here_at (at_of k frame frames)) (start_at k (at_of k frame frames) (Some (ForAnswer asking)) now)))
+    (λ now. does k (exec k n answers) (frame ∷ frames) now (answer_completion [] asking (here_of (frame ∷ frames)) (start_in k (frame ∷ frames) (Waiting (ForAnswer asking)) now)))
+    (λ now. completion_of (waits k (lines k gas) (at_of k frame frames) n answers) (lines k gas) n answers now (at_of k frame frames) (answer_completion [] asking (here_at (at_of k frame frames)) (start_at k (at_of k frame frames) (Some (ForAnswer asking)) now)))
     (work-agrees k gas ih n answers (common_without_flag common) frame frames (waits k (lines k gas) (at_of k frame frames) n answers)
-    (λ here. answer_deed [] asking here (start_at k (at_of k frame frames) (Some (ForAnswer asking)) (common_without_flag common))) (omega arith)
+    (λ here. answer_completion [] asking here (start_at k (at_of k frame frames) (Some (ForAnswer asking)) (common_without_flag common))) (omega arith)
     (waits-agree k gas ih n answers frame frames (omega arith)))
 waits-agree k gas ih (suc n) answers frame frames lt common (ForLines gathering) =
     turn-agrees k n answers common frame frames
-    (λ now. does k (exec k n answers) (frame ∷ frames) now (gathered_deed gathering (sink_in (frame ∷ frames)) (start_in k (frame ∷ frames) (Waiting (ForLines gathering)) now)))
-    (λ now. deed_of (waits k (lines k gas) (at_of k frame frames) n answers) (lines k gas) n answers now (at_of k frame frames) (gathered_deed gathering (at_of k frame frames).sink (start_at k (at_of k frame frames) (Some (ForLines gathering)) now)))
+    (λ now. does k (exec k n answers) (frame ∷ frames) now (gathered_completion gathering (sink_in (frame ∷ frames)) (start_in k (frame ∷ frames) (Waiting (ForLines gathering)) now)))
+    (λ now. completion_of (waits k (lines k gas) (at_of k frame frames) n answers) (lines k gas) n answers now (at_of k frame frames) (gathered_completion gathering (at_of k frame frames).sink (start_at k (at_of k frame frames) (Some (ForLines gathering)) now)))
     (event-agrees k gas ih n answers (common_without_flag common) frame frames (waits k (lines k gas) (at_of k frame frames) n answers)
-    (gathered_deed gathering (sink_in (frame ∷ frames)) (start_at k (at_of k frame frames) (Some (ForLines gathering)) (common_without_flag common))) (omega arith)
+    (gathered_completion gathering (sink_in (frame ∷ frames)) (start_at k (at_of k frame frames) (Some (ForLines gathering)) (common_without_flag common))) (omega arith)
     (waits-agree k gas ih n answers frame frames (omega arith)))
 waits-agree k gas ih (suc n) [] frame frames lt common (ForStart starting) = refl
 waits-agree k gas ih (suc n) [] frame frames lt common (ForPiece child) = refl
@@ -258,17 +259,17 @@ agrees k (suc gas) zero answers common frame frames (Some parted) lt next = refl
 agrees k (suc gas) zero answers common frame frames None lt next = rw (there frame.lines frame.position next) refl
 agrees k (suc gas) (suc n) answers common frame frames (Some parted) lt next =
     turn-agrees k n answers common frame frames
-    (λ now. does k (exec k n answers) (frame ∷ frames) now (parted_deed parted (here_of (frame ∷ frames)) (start_in k (frame ∷ frames) (GoingOn parted) now)))
-    (λ now. deed_of (waits k (lines k gas) (at_of k frame frames) n answers) (lines k gas) n answers now (at_of k frame frames) (parted_deed parted (here_at (at_of k frame frames)) (start_at k (at_of k frame frames) None now)))
+    (λ now. does k (exec k n answers) (frame ∷ frames) now (parted_completion parted (here_of (frame ∷ frames)) (start_in k (frame ∷ frames) (GoingOn parted) now)))
+    (λ now. completion_of (waits k (lines k gas) (at_of k frame frames) n answers) (lines k gas) n answers now (at_of k frame frames) (parted_completion parted (here_at (at_of k frame frames)) (start_at k (at_of k frame frames) None now)))
     (work-agrees k gas (agrees k gas) n answers (common_without_flag common) frame frames (waits k (lines k gas) (at_of k frame frames) n answers)
-    (λ here. parted_deed parted here (start_at k (at_of k frame frames) None (common_without_flag common))) (omega arith)
+    (λ here. parted_completion parted here (start_at k (at_of k frame frames) None (common_without_flag common))) (omega arith)
     (waits-agree k gas (agrees k gas) n answers frame frames (omega arith)))
 agrees k (suc gas) (suc n) answers common frame frames None lt next =
     let line = get_or frame.lines frame.position [] in
     rw (there frame.lines frame.position next)
     (turn-agrees k n answers common frame frames
     (λ now. line_event k (exec k n answers) frame frames now (Some line))
-    (λ now. deed_of (waits k (lines k gas) (at_of k (advanced_frame frame) frames) n answers) (lines k gas) n answers now (at_of k (advanced_frame frame) frames) (line_deed line (here_at (at_of k (advanced_frame frame) frames)) (start_at k (at_of k frame frames) None now)))
+    (λ now. completion_of (waits k (lines k gas) (at_of k (advanced_frame frame) frames) n answers) (lines k gas) n answers now (at_of k (advanced_frame frame) frames) (line_completion line (here_at (at_of k (advanced_frame frame) frames)) (start_at k (at_of k frame frames) None now)))
     (work-agrees k gas (agrees k gas) n answers (common_without_flag common) (advanced_frame frame) frames (waits k (lines k gas) (at_of k (advanced_frame frame) frames) n answers)
-    (λ here. line_deed line here (start_at k (at_of k frame frames) None (common_without_flag common))) (omega arith)
+    (λ here. line_completion line here (start_at k (at_of k frame frames) None (common_without_flag common))) (omega arith)
     (waits-agree k gas (agrees k gas) n answers (advanced_frame frame) frames (omega arith))))

@@ -16,7 +16,8 @@ use Rattle.ados_machine.specs.Names.{name_in}
 use Rattle.ados_machine.specs.Settled.{end_at_break, with_limit, after_end, finish}
 use Rattle.ados_machine.specs.Settle.{here_of}
 use Rattle.ados_flow.specs.declared.records.Record.{Record}
-use Rattle.ados_machine.specs.Whole.{Broken, Common, At, Whole, Done, Late, Short, here_at, lines}
+use Rattle.ados_machine.specs.Whole.{Broken, Common, At, Whole, Done, Late, Short, here_at}
+use Rattle.ados_machine.specs.LoneShell.{lines}
 use Rattle.ados_machine.proofs.Alone.{with_end, Lone, Going, Unfed, go_by, exec}
 
 abbrev pub Next : Type 0

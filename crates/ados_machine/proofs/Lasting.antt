@@ -18,13 +18,13 @@ use Rattle.ados_machine.specs.Answers.{answered_in}
 use Rattle.ados_machine.specs.Breaks.{breaks_by, shells_after_break, marked_if}
 use Rattle.ados_machine.specs.Carrying.{carried_shells, carried_or_same}
 use Rattle.ados_machine.specs.Course.{Course}
-use Rattle.ados_machine.specs.Deeds.{Deed, Passes, Answers, Jumps, Calls, Ticks, Waits}
+use Rattle.ados_machine.specs.Completions.{Completion, Passes, Answers, Jumps, Calls, Ticks, Waits}
 use Rattle.ados_machine.specs.Numbers.{free_number}
-use Rattle.ados_machine.specs.Settle.{TurnResult, frames_at_line, said_of, turn_of_deed}
+use Rattle.ados_machine.specs.Settle.{TurnResult, frames_at_line, said_of, turn_of_completion}
 use Rattle.ados_machine.specs.Shells.{ShellStart, begun_shell, ShellState}
 use Rattle.ados_machine.specs.Sinks.{Sink, sink_in}
 use Rattle.ados_machine.specs.Step.{Response, Refused, Accepted, shell_of_turn, with_begun, is_done, shell_after_turn, moved_at_turn, turn_taken, shell_ended, start, course_without_flag, turning_response, turn_response, answer_response, break_response, typing_response, step_of}
-use Rattle.ados_machine.specs.Turning.{Turning, Refuses, Ends, Takes, flagged_turning, turning_of_deed}
+use Rattle.ados_machine.specs.Turning.{Turning, Refuses, Ends, Takes, flagged_turning, turning_of_completion}
 use Rattle.ados_machine.specs.World.{WorldState, shell_at, input_of}
 use Rattle.ados_machine.proofs.AskedTurns.{flagged-refused}
 use Rattle.ados_machine.proofs.Moves.{placed-at}
@@ -32,10 +32,10 @@ use Rattle.ados_machine.proofs.Rests.{IsIdle, passed-rests, finished-rests, call
 use Rattle.ados_machine.proofs.Shells.{shells_behind, broken_maybe, broken_for, found-broken, found, IsFree, free-number, carried-free, carried_found, found-carried, found-set_same, found-set_other, found-left, runs_pos}
 use Rattle.ados_machine.proofs.StepCases.{of-step}
 
--- if a deed waits on, the same is seen above these frames
-abbrev pub SeenBehind : {X : Type 0} → (List FrameState → Phase → X) → List FrameState → X → Option Deed → Type 0
+-- if a completion waits on, the same is seen above these frames
+abbrev pub SeenBehind : {X : Type 0} → (List FrameState → Phase → X) → List FrameState → X → Option Completion → Type 0
 SeenBehind look frames value (Some (Waits wait course)) = look frames (phase.Waiting wait) ≡ value
-SeenBehind look frames value deed = Unit {0}
+SeenBehind look frames value completion = Unit {0}
 
 -- what is seen of a shell by its frames and its phase, and nothing if there is none; while its phase holds that, it
 -- waits for a launcher, whose answers keep it
@@ -188,34 +188,34 @@ idle-keeps s k moved value t idle =
     ]
 
 pub waits-keeps : {X : Type 0} (s : Watch X) (k : ℕ) (moved : Option Renamed) (value : X) (wait : Wait) (course : Course) (frames : List FrameState) →
-    s.look frames (phase.Waiting wait) ≡ value → LeftKeeps s k moved value (turn_of_deed (Waits wait course) frames)
+    s.look frames (phase.Waiting wait) ≡ value → LeftKeeps s k moved value (turn_of_completion (Waits wait course) frames)
 waits-keeps s k moved value wait course frames same =
     elim (cases_Bool (is_done k frames)) [
       | inl d ↦ rw d (λ held. absurd (never held))
-      | inr d ↦ rw d (λ held. own-seen s moved (shell_of_turn (turn_of_deed (Waits wait course) frames)) ∙ same)
+      | inr d ↦ rw d (λ held. own-seen s moved (shell_of_turn (turn_of_completion (Waits wait course) frames)) ∙ same)
     ]
 
-settle-keeps : {X : Type 0} (s : Watch X) (k : ℕ) (moved : Option Renamed) (value : X) (deed : Deed) (frames : List FrameState) →
-    SeenBehind s.look frames value (Some deed) → LeftKeeps s k moved value (turn_of_deed deed frames)
-settle-keeps s k moved value (Passes course) frames keeps = idle-keeps s k moved value (turn_of_deed (Passes course) frames) (passed-rests frames (said_of course)).idle
+settle-keeps : {X : Type 0} (s : Watch X) (k : ℕ) (moved : Option Renamed) (value : X) (completion : Completion) (frames : List FrameState) →
+    SeenBehind s.look frames value (Some completion) → LeftKeeps s k moved value (turn_of_completion completion frames)
+settle-keeps s k moved value (Passes course) frames keeps = idle-keeps s k moved value (turn_of_completion (Passes course) frames) (passed-rests frames (said_of course)).idle
 settle-keeps s k moved value (Answers word answer quits course) frames keeps =
-    idle-keeps s k moved value (turn_of_deed (Answers word answer quits course) frames) (finished-rests word answer quits frames (said_of course)).idle
+    idle-keeps s k moved value (turn_of_completion (Answers word answer quits course) frames) (finished-rests word answer quits frames (said_of course)).idle
 settle-keeps s k moved value (Jumps word answer line course) frames keeps =
-    idle-keeps s k moved value (turn_of_deed (Jumps word answer line course) frames) (finished-rests word answer false (frames_at_line line frames) (said_of course)).idle
+    idle-keeps s k moved value (turn_of_completion (Jumps word answer line course) frames) (finished-rests word answer false (frames_at_line line frames) (said_of course)).idle
 settle-keeps s k moved value (Calls word output script course) frames keeps =
-    idle-keeps s k moved value (turn_of_deed (Calls word output script course) frames) (called-rests word output script frames (said_of course)).idle
+    idle-keeps s k moved value (turn_of_completion (Calls word output script course) frames) (called-rests word output script frames (said_of course)).idle
 settle-keeps s k moved value (Ticks before command after course) frames keeps =
-    idle-keeps s k moved value (turn_of_deed (Ticks before command after course) frames) (ticked-rests before command after frames (said_of course)).idle
+    idle-keeps s k moved value (turn_of_completion (Ticks before command after course) frames) (ticked-rests before command after frames (said_of course)).idle
 settle-keeps s k moved value (Waits wait course) frames keeps = waits-keeps s k moved value wait course frames keeps
 
-replied-keeps : {X : Type 0} (s : Watch X) (w : WorldState) (k : ℕ) (shell : ShellState) (deed : Option Deed) → shell_at w k ≡ Some shell →
-    (s.holds shell.phase ≡ true → SeenBehind s.look shell.frames (s.look shell.frames shell.phase) deed) →
-    Keeps s w (turning_response w k shell.parts.codes (turning_of_deed (input_of w k) shell.frames deed))
+replied-keeps : {X : Type 0} (s : Watch X) (w : WorldState) (k : ℕ) (shell : ShellState) (completion : Option Completion) → shell_at w k ≡ Some shell →
+    (s.holds shell.phase ≡ true → SeenBehind s.look shell.frames (s.look shell.frames shell.phase) completion) →
+    Keeps s w (turning_response w k shell.parts.codes (turning_of_completion (input_of w k) shell.frames completion))
 replied-keeps s w k shell None is keeps = tt
-replied-keeps s w k shell (Some deed) is keeps =
-    let t = turn_of_deed deed shell.frames in
+replied-keeps s w k shell (Some completion) is keeps =
+    let t = turn_of_completion completion shell.frames in
     took-keeps s w k shell (input_of w k).queue t is
-    (λ before behind. settle-keeps s k (moved_at_turn w t) (s.look shell.frames shell.phase) deed shell.frames (keeps before) behind)
+    (λ before behind. settle-keeps s k (moved_at_turn w t) (s.look shell.frames shell.phase) completion shell.frames (keeps before) behind)
 
 answered-keeps : {X : Type 0} (s : Watch X) (w : WorldState) (k : ℕ) (reply : Reply) (o : Option ShellState) → shell_at w k ≡ o → Keeps s w (answer_response w k reply o)
 answered-keeps s w k reply None is = tt

@@ -17,13 +17,13 @@ use Rattle.ados_machine.specs.Numbers.{free_number}
 use Rattle.ados_machine.specs.Shells.{ShellStart, ShellState, seen_of}
 use Rattle.ados_machine.specs.Sinks.{sink_in}
 use Rattle.ados_machine.specs.Course.{Course, shared_after_event, with_bytes_printed}
-use Rattle.ados_machine.specs.Deeds.{Deed, Passes, course_of}
-use Rattle.ados_machine.specs.Lines.{line_deed, parted_deed, answer_deed}
-use Rattle.ados_machine.specs.NewShells.{gathered_deed}
+use Rattle.ados_machine.specs.Completions.{Completion, Passes, course_of}
+use Rattle.ados_machine.specs.Lines.{line_completion, parted_completion, answer_completion}
+use Rattle.ados_machine.specs.NewShells.{gathered_completion}
 use Rattle.ados_machine.specs.Answers.{answered_in}
 use Rattle.ados_machine.specs.Settled.{RuleState, RuleResult, end_at_break}
-use Rattle.ados_machine.specs.Settle.{TurnResult, here_of, said_of, turn_by_rule, code_rule_of, turn_of_deed}
-use Rattle.ados_machine.specs.Turning.{Input, Takes, turn_of_frame, flagged_turning, turning_in_phase, turning_of_deed}
+use Rattle.ados_machine.specs.Settle.{TurnResult, here_of, said_of, turn_by_rule, code_rule_of, turn_of_completion}
+use Rattle.ados_machine.specs.Turning.{Input, Takes, turn_of_frame, flagged_turning, turning_in_phase, turning_of_completion}
 use Rattle.ados_machine.specs.World.{WorldState, shell_at, input_of, is_over}
 use Rattle.ados_machine.specs.Carrying.{carried_shells, carried_or_same, moved_object}
 use Rattle.ados_machine.specs.Step.{with_begun, codes_of_ended, queue_after_event, is_done, moved_at_turn, turn_taken, start, course_without_flag, turning_response, step_of}
@@ -32,7 +32,7 @@ use Rattle.ados_machine.specs.Alone.{Exec, exec_step, reply_next, event_next, ex
 use Rattle.ados_machine.proofs.Shells.{shells_behind, broken_one, broken_for, broken-there, found, found-set_same, found-carried, carried-runs, found-placed_other, carried-free, free-number}
 use Rattle.ados_machine.proofs.Places.{map-set, any-found, shells-same, broken-same_set}
 use Rattle.ados_machine.proofs.Fronts.{front, fronted, broken-front, ruled-front}
-use Rattle.ados_machine.proofs.Alone.{Lone, go_by, turn_event, lift, shell_of, standing, start_in, Go, with_ends, does, line_event, deed_event, reply_event, event_in, exec}
+use Rattle.ados_machine.proofs.Alone.{Lone, go_by, turn_event, lift, shell_of, standing, start_in, Go, with_ends, does, line_event, completion_event, reply_event, event_in, exec}
 
 -- a background shell's number, at which a shell runs
 pub record Stands (k : ℕ) (common : Common) : Type 0 where
@@ -166,15 +166,15 @@ took-rules k w go on old phase common course rule stands fronts same =
     (same settled.frames settled.phase (common_by k common course settled.said settled.log)
     (stands-again k common course (front common.said.printed advanced_frame settled.said) settled.log stands))
 
--- an event that results in a deed
-took-does : (k : ℕ) (w : WorldState) (go : Goes) (on : Go) (old : List FrameState) (phase : Phase) (common : Common) (deed : Deed)
+-- an event that results in a completion
+took-does : (k : ℕ) (w : WorldState) (go : Goes) (on : Go) (old : List FrameState) (phase : Phase) (common : Common) (completion : Completion)
     (frames : List FrameState) → Stands k common →
     ((frames : List FrameState) (phase : Phase) (common : Common) → Stands k common →
     go (world_of k w frames phase common) common.said.printed ≡ lift k w (on frames phase common)) →
-    exec_step go common.said.printed (turn_taken (standing k w old phase common) k [] (turn_of_deed deed frames)) ≡ lift k w (does k on frames common deed)
-took-does k w go on old phase common deed frames stands same =
-    took-rules k w go on old phase common (course_of deed) (code_rule_of deed frames) stands
-    (λ bytes advanced_frame said. ruled-front bytes advanced_frame deed frames said) same
+    exec_step go common.said.printed (turn_taken (standing k w old phase common) k [] (turn_of_completion completion frames)) ≡ lift k w (does k on frames common completion)
+took-does k w go on old phase common completion frames stands same =
+    took-rules k w go on old phase common (course_of completion) (code_rule_of completion frames) stands
+    (λ bytes advanced_frame said. ruled-front bytes advanced_frame completion frames said) same
 
 -- the world's turn of the shell
 pub turn-is : (k : ℕ) (w : WorldState) (frames : List FrameState) (phase : Phase) (common : Common) → Stands k common →
@@ -193,7 +193,7 @@ turn-is k w frames phase common stands =
 pub answer-is : (k : ℕ) (w : WorldState) (frames : List FrameState) (phase : Phase) (common : Common) (reply : Reply) → Stands k common →
     step_of (standing k w frames phase common) (Answer k reply)
     ≡ turning_response (standing k w frames phase common) k common.said.parts.codes
-    (turning_of_deed no_input frames (answered_in (sink_in frames) (start_in k frames phase common) phase reply))
+    (turning_of_completion no_input frames (answered_in (sink_in frames) (start_in k frames phase common) phase reply))
 answer-is k w frames phase common reply stands =
     rw (
       not-over k w frames phase common stands,
@@ -216,7 +216,7 @@ line-same k w go on frame frames common None stands same =
     took-does k w go on (frame ∷ frames) Ready common (Passes (start_in k (frame ∷ frames) Ready (common_without_flag common))) (frame ∷ frames) stands same
 line-same k w go on frame frames common (Some line) stands same =
     took-does k w go on (frame ∷ frames) Ready common
-    (line_deed line (here_of (advanced_frame frame ∷ frames)) (start_in k (frame ∷ frames) Ready (common_without_flag common))) (advanced_frame frame ∷ frames) stands same
+    (line_completion line (here_of (advanced_frame frame ∷ frames)) (start_in k (frame ∷ frames) Ready (common_without_flag common))) (advanced_frame frame ∷ frames) stands same
 
 -- a turn, which may find the flag
 turn-same : (k : ℕ) (w : WorldState) (go : Goes) (on : Go) (frames : List FrameState) (common : Common) (phase : Phase) (queue : List (List ℕ))
@@ -235,13 +235,13 @@ turn-same k w go on frames common phase queue turned work stands same takes plai
       | inr e ↦ rw e plain
     ])
 
-deed-same : (k : ℕ) (w : WorldState) (go : Goes) (on : Go) (frames : List FrameState) (phase : Phase) (common : Common)
-    (deed : Option Deed) → Stands k common → Same k w go on →
+completion-same : (k : ℕ) (w : WorldState) (go : Goes) (on : Go) (frames : List FrameState) (phase : Phase) (common : Common)
+    (completion : Option Completion) → Stands k common → Same k w go on →
     exec_step go common.said.printed
-    (turning_response (standing k w frames phase common) k common.said.parts.codes (turning_of_deed no_input frames deed))
-    ≡ lift k w (deed_event k on frames common deed)
-deed-same k w go on frames phase common None stands same = refl
-deed-same k w go on frames phase common (Some deed) stands same = took-does k w go on frames phase common deed frames stands same
+    (turning_response (standing k w frames phase common) k common.said.parts.codes (turning_of_completion no_input frames completion))
+    ≡ lift k w (completion_event k on frames common completion)
+completion-same k w go on frames phase common None stands same = refl
+completion-same k w go on frames phase common (Some completion) stands same = took-does k w go on frames phase common completion frames stands same
 
 reply-same : (k : ℕ) (w : WorldState) (go : List Reply → Goes) (on : List Reply → Go) (frames : List FrameState) (phase : Phase)
     (common : Common) (answers : List Reply) → Stands k common →
@@ -250,7 +250,7 @@ reply-same : (k : ℕ) (w : WorldState) (go : List Reply → Goes) (on : List Re
 reply-same k w go on frames phase common [] stands same = refl
 reply-same k w go on frames phase common (reply ∷ answers) stands same =
     rw (answer-is k w frames phase common reply stands)
-    (deed-same k w (go answers) (on answers) frames phase common
+    (completion-same k w (go answers) (on answers) frames phase common
     (answered_in (sink_in frames) (start_in k frames phase common) phase reply) stands (same answers))
 
 -- an event of the shell
@@ -266,17 +266,17 @@ event-same k w go on n answers frame frames common Ready stands same =
     (line-same k w (go answers) (on answers) frame frames common (slice_get frame.lines frame.position) stands (same answers))
 event-same k w go on n answers frame frames common (GoingOn parted) stands same =
     turn-same k w (go answers) (on answers) (frame ∷ frames) common (GoingOn parted) _ _
-    (λ now. does k (on answers) (frame ∷ frames) now (parted_deed parted (here_of (frame ∷ frames)) (start_in k (frame ∷ frames) (GoingOn parted) now))) stands (same answers) refl
+    (λ now. does k (on answers) (frame ∷ frames) now (parted_completion parted (here_of (frame ∷ frames)) (start_in k (frame ∷ frames) (GoingOn parted) now))) stands (same answers) refl
     (took-does k w (go answers) (on answers) (frame ∷ frames) (GoingOn parted) common _ (frame ∷ frames) stands (same answers))
 event-same k w go on n answers frame frames common (Waiting (ForAnswer asking)) stands same =
     turn-same k w (go answers) (on answers) (frame ∷ frames) common (Waiting (ForAnswer asking)) _ _
-    (λ now. does k (on answers) (frame ∷ frames) now (answer_deed [] asking (here_of (frame ∷ frames)) (start_in k (frame ∷ frames) (Waiting (ForAnswer asking)) now))) stands (same answers) refl
+    (λ now. does k (on answers) (frame ∷ frames) now (answer_completion [] asking (here_of (frame ∷ frames)) (start_in k (frame ∷ frames) (Waiting (ForAnswer asking)) now))) stands (same answers) refl
     (took-does k w (go answers) (on answers) (frame ∷ frames) (Waiting (ForAnswer asking)) common _ (frame ∷ frames) stands (same answers))
 event-same k w go on n answers frame frames common (Waiting (ForLines gathering)) stands same =
     turn-same k w (go answers) (on answers) (frame ∷ frames) common (Waiting (ForLines gathering)) _ _
-    (λ now. does k (on answers) (frame ∷ frames) now (gathered_deed gathering (sink_in (frame ∷ frames)) (start_in k (frame ∷ frames) (Waiting (ForLines gathering)) now))) stands (same answers) refl
+    (λ now. does k (on answers) (frame ∷ frames) now (gathered_completion gathering (sink_in (frame ∷ frames)) (start_in k (frame ∷ frames) (Waiting (ForLines gathering)) now))) stands (same answers) refl
     (took-does k w (go answers) (on answers) (frame ∷ frames) (Waiting (ForLines gathering)) common
-    (gathered_deed gathering (sink_in (frame ∷ frames)) (start_in k (frame ∷ frames) (Waiting (ForLines gathering)) (common_without_flag common)))
+    (gathered_completion gathering (sink_in (frame ∷ frames)) (start_in k (frame ∷ frames) (Waiting (ForLines gathering)) (common_without_flag common)))
     (frame ∷ frames) stands (same answers))
 event-same k w go on n answers frame frames common (Waiting (ForStart starting)) stands same =
     reply-same k w go on (frame ∷ frames) (Waiting (ForStart starting)) common answers stands same

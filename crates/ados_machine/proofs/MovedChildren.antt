@@ -20,35 +20,35 @@ use Rattle.ados_machine.specs.declared.phases.Starting.{Starting}
 use Rattle.ados_machine.specs.declared.phases.Wait.{Wait}
 use Rattle.ados_machine.specs.declared.phases.Wait.TheVariants.{ForStart, ForPiece, ForEnd}
 use Rattle.ados_machine.specs.declared.requests.Request.{Request}
-use Rattle.ados_machine.specs.Answers.{next_wait, with_break, child_after_piece, child_of, started_deed, piece_deed, is_piece, ended_deed, answered_deed, answered_in}
+use Rattle.ados_machine.specs.Answers.{next_wait, with_break, child_after_piece, child_of, started_completion, piece_completion, is_piece, ended_completion, answered_completion, answered_in}
 use Rattle.ados_machine.specs.Children.{read_unless, mark_of_shell, is_marked, fits, child_after_answer, child_while, child_of_shell, child_in}
 use Rattle.ados_machine.specs.Course.{Course}
-use Rattle.ados_machine.specs.Deeds.{Deed, Passes, Answers, Jumps, Calls, Ticks, Waits}
+use Rattle.ados_machine.specs.Completions.{Completion, Passes, Answers, Jumps, Calls, Ticks, Waits}
 use Rattle.ados_machine.specs.Laws.{AnswersMoveChildren}
 use Rattle.ados_machine.specs.Limits.{RunsFrame}
 use Rattle.ados_machine.specs.Opening.{OpenedOutput, line_output}
 use Rattle.ados_machine.specs.Requests.{request_while, request_of}
-use Rattle.ados_machine.specs.Settle.{turn_by_rule, frames_at_line, said_of, turn_of_deed}
+use Rattle.ados_machine.specs.Settle.{turn_by_rule, frames_at_line, said_of, turn_of_completion}
 use Rattle.ados_machine.specs.Settled.{RuleResult}
 use Rattle.ados_machine.specs.Shells.{ShellState}
 use Rattle.ados_machine.specs.Sinks.{Sink, sink_in}
 use Rattle.ados_machine.specs.Step.{Response, Refused, Accepted, shell_of_turn, is_done, shell_after_turn, moved_at_turn, start, turning_response, answer_response, step_of}
-use Rattle.ados_machine.specs.Turning.{turning_of_deed}
+use Rattle.ados_machine.specs.Turning.{turning_of_completion}
 use Rattle.ados_machine.specs.World.{WorldState, flatten, shell_at, is_over, input_of, request_of_shell, pending_of}
 use Rattle.ados_machine.proofs.Shells.{found-left}
 use Rattle.ados_machine.proofs.Rests.{Rests, passed-rests, finished-rests, called-rests, ticked-rests}
 use Rattle.ados_machine.proofs.CarriedChildren.{same_some, idle-asked, carried_by-child, others-pending, others-child, left-child}
 
--- the child of a shell after a deed
-abbrev child_behind : Deed → ChildState
+-- the child of a shell after a completion
+abbrev child_behind : Completion → ChildState
 child_behind (Waits wait course) = child_while wait
-child_behind deed = Closed
+child_behind completion = Closed
 
--- what an answer does: it is taken exactly if it is of the kind that was asked for, and its deed moves the child
-abbrev MovesBy : Bool → Option Request → Reply → Option Deed → Type 0
-MovesBy marked None answer deed = deed ≡ None
+-- what an answer does: it is taken exactly if it is of the kind that was asked for, and its completion moves the child
+abbrev MovesBy : Bool → Option Request → Reply → Option Completion → Type 0
+MovesBy marked None answer completion = completion ≡ None
 MovesBy marked (Some request) answer None = fits request answer ≡ false
-MovesBy marked (Some request) answer (Some deed) = (fits request answer ≡ true) × (child_behind deed ≡ child_after_answer marked request answer)
+MovesBy marked (Some request) answer (Some completion) = (fits request answer ≡ true) × (child_behind completion ≡ child_after_answer marked request answer)
 
 next-while : (child : Child) → child_while (next_wait child) ≡ read_unless child.marked
 next-while child =
@@ -69,22 +69,22 @@ piece-marked child None = refl
 piece-marked child (Some fault) = refl
 
 started-moves : (starting : Starting) (course : Course) (opened : Result OpenedOutput Result2) →
-    child_behind (started_deed starting course opened) ≡ read_unless starting.marked
+    child_behind (started_completion starting course opened) ≡ read_unless starting.marked
 started-moves starting course (Err fault) = next-while (child_of starting None (Some fault))
 started-moves starting course (Ok opened) = next-while (child_of starting opened.target None)
 
 piece-moves : (child : Child) (bytes : Bytes) (sink : Sink) (course : Course) (fault : Option Result2) →
-    child_behind (piece_deed child bytes sink course fault) ≡ read_unless child.marked
+    child_behind (piece_completion child bytes sink course fault) ≡ read_unless child.marked
 piece-moves child bytes sink course (Some fault) = next-while (with_break child) ∙ ap read_unless (break-marked child)
 piece-moves child bytes sink course None =
     next-while (child_after_piece (with_break child) _) ∙ ap read_unless (piece-marked (with_break child) _ ∙ break-marked child)
 
-ended-moves : (child : Child) (codes : Codes) (course : Course) (fault : Option Result2) → child_behind (ended_deed child codes course fault) ≡ Closed
+ended-moves : (child : Child) (codes : Codes) (course : Course) (fault : Option Result2) → child_behind (ended_completion child codes course fault) ≡ Closed
 ended-moves child codes course (Some fault) = refl
 ended-moves child codes course None = refl
 
 wait-moves : (n : ℕ) (sink : Sink) (course : Course) (wait : Wait) (answer : Reply) →
-    MovesBy (mark_while wait) (request_while n wait) answer (answered_deed sink course wait answer)
+    MovesBy (mark_while wait) (request_while n wait) answer (answered_completion sink course wait answer)
 wait-moves n sink course (ForStart starting) Started = (refl, started-moves starting course (line_output course starting.output))
 wait-moves n sink course (ForStart starting) NotFound = (refl, refl)
 wait-moves n sink course (ForStart starting) Denied = (refl, refl)
@@ -107,18 +107,18 @@ phase-moves n sink course phase.Ready answer = refl
 phase-moves n sink course (phase.GoingOn parted) answer = refl
 phase-moves n sink course (phase.Waiting wait) answer = wait-moves n sink course wait answer
 
--- a deed leaves its shell with the child after it; a shell that waits runs on
+-- a completion leaves its shell with the child after it; a shell that waits runs on
 waits-child : (k : ℕ) (moved : Option Renamed) (wait : Wait) (course : Course) (frames : List FrameState) → is_done k frames ≡ false →
-    child_of_shell (shell_after_turn k moved (turn_of_deed (Waits wait course) frames)) ≡ child_while wait
+    child_of_shell (shell_after_turn k moved (turn_of_completion (Waits wait course) frames)) ≡ child_while wait
 waits-child k moved wait course frames runs =
-    rw (runs, carried_by-child moved (shell_of_turn (turn_of_deed (Waits wait course) frames))) refl
+    rw (runs, carried_by-child moved (shell_of_turn (turn_of_completion (Waits wait course) frames))) refl
 
 rests-child : (k : ℕ) (moved : Option Renamed) (course : Course) (settled : RuleResult) → Rests (said_of course) settled →
     child_of_shell (shell_after_turn k moved (turn_by_rule course settled)) ≡ Closed
 rests-child k moved course settled rests = left-child k moved (turn_by_rule course settled) (idle-asked settled.phase rests.idle)
 
-settled-child : (k : ℕ) (moved : Option Renamed) (deed : Deed) (frames : List FrameState) → is_done k frames ≡ false →
-    child_of_shell (shell_after_turn k moved (turn_of_deed deed frames)) ≡ child_behind deed
+settled-child : (k : ℕ) (moved : Option Renamed) (completion : Completion) (frames : List FrameState) → is_done k frames ≡ false →
+    child_of_shell (shell_after_turn k moved (turn_of_completion completion frames)) ≡ child_behind completion
 settled-child k moved (Passes course) frames runs = rests-child k moved course _ (passed-rests frames (said_of course))
 settled-child k moved (Answers word answer quits course) frames runs =
     rests-child k moved course _ (finished-rests word answer quits frames (said_of course))
@@ -149,19 +149,19 @@ runs-done k shell runs =
       | inr differ ↦ rw (ne_eqb k 1 differ, runs differ) refl
     ]
 
-deed-responds : (w : WorldState) (k : ℕ) (shell : ShellState) (answer : Reply) (o : Option Request) (deed : Option Deed) → shell_at w k ≡ Some shell →
-    MovesBy (mark_in shell.phase) o answer deed → Responds w k answer o (turning_response w k shell.parts.codes (turning_of_deed (input_of w k) shell.frames deed))
-deed-responds w k shell answer None None is moves = λ request e. cc
-deed-responds w k shell answer None (Some deed) is moves = cc
-deed-responds w k shell answer (Some request) None is moves = λ other e. rw (same_some e) at moves
-deed-responds w k shell answer (Some request) (Some deed) is moves =
-    let t = turn_of_deed deed shell.frames in
+completion-responds : (w : WorldState) (k : ℕ) (shell : ShellState) (answer : Reply) (o : Option Request) (completion : Option Completion) → shell_at w k ≡ Some shell →
+    MovesBy (mark_in shell.phase) o answer completion → Responds w k answer o (turning_response w k shell.parts.codes (turning_of_completion (input_of w k) shell.frames completion))
+completion-responds w k shell answer None None is moves = λ request e. cc
+completion-responds w k shell answer None (Some completion) is moves = cc
+completion-responds w k shell answer (Some request) None is moves = λ other e. rw (same_some e) at moves
+completion-responds w k shell answer (Some request) (Some completion) is moves =
+    let t = turn_of_completion completion shell.frames in
     let moved = moved_at_turn w t in (
       moves.0,
       record {
         own = λ runs.
             ap child_of_shell (found-left w.shells k shell moved t is)
-            ∙ (settled-child k moved deed shell.frames (runs-done k shell (rw is at runs)) ∙ (moves.1 ∙ ap (λ m. child_after_answer m request answer) (sym (ap mark_of_shell is))));
+            ∙ (settled-child k moved completion shell.frames (runs-done k shell (rw is at runs)) ∙ (moves.1 ∙ ap (λ m. child_after_answer m request answer) (sym (ap mark_of_shell is))));
         others = others-pending w.shells k shell moved t is;
         children = others-child w.shells k shell moved t is;
       },
@@ -171,7 +171,7 @@ shell-responds : (w : WorldState) (k : ℕ) (answer : Reply) (o : Option ShellSt
     Responds w k answer (request_of_shell o) (answer_response w k answer o)
 shell-responds w k answer None is = λ request e. cc
 shell-responds w k answer (Some shell) is =
-    deed-responds w k shell answer (request_of shell.parts.number shell.phase) (answered_in (sink_in shell.frames) (start w shell) shell.phase answer) is
+    completion-responds w k shell answer (request_of shell.parts.number shell.phase) (answered_in (sink_in shell.frames) (start w shell) shell.phase answer) is
     (phase-moves shell.parts.number (sink_in shell.frames) (start w shell) shell.phase answer)
 
 -- if no shell is left there is none at any number

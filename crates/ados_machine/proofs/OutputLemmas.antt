@@ -18,18 +18,18 @@ use Rattle.ados_machine.specs.declared.phases.Phase.TheVariants as phase
 use Rattle.ados_machine.specs.declared.phases.Starting.{Starting}
 use Rattle.ados_machine.specs.declared.phases.Wait.{Wait}
 use Rattle.ados_machine.specs.declared.phases.Wait.TheVariants.{ForAnswer, ForLines, ForStart, ForPiece, ForEnd}
-use Rattle.ados_machine.specs.Answers.{child_of, next_wait, with_break, started_deed, child_after_piece, fault_in, piece_deed, is_piece, ended_deed, answered_deed, answered_in}
+use Rattle.ados_machine.specs.Answers.{child_of, next_wait, with_break, started_completion, child_after_piece, fault_in, piece_completion, is_piece, ended_completion, answered_completion, answered_in}
 use Rattle.ados_machine.specs.Breaks.{marked_if}
 use Rattle.ados_machine.specs.Children.{child_during, child_of_shell}
 use Rattle.ados_machine.specs.Course.{Course, put, with_devices_used}
-use Rattle.ados_machine.specs.Deeds.{Waits}
+use Rattle.ados_machine.specs.Completions.{Waits}
 use Rattle.ados_machine.specs.InUse.{outputs_seen, outputs_held, is_running, runs_program, OutputsStayOpen, StartsOpenOutputs}
 use Rattle.ados_machine.specs.Opening.{OpenedOutput, line_output, output_devices}
-use Rattle.ados_machine.specs.Settle.{turn_of_deed}
+use Rattle.ados_machine.specs.Settle.{turn_of_completion}
 use Rattle.ados_machine.specs.Shells.{ShellState, seen_of}
 use Rattle.ados_machine.specs.Sinks.{Sink, sink_in, sink_or, outputs_in, held_while, held_in_phase}
 use Rattle.ados_machine.specs.Step.{Response, Refused, Accepted, shell_after_turn, moved_at_turn, turn_taken, start, turning_response, answer_response, step_of}
-use Rattle.ados_machine.specs.Turning.{turning_of_deed}
+use Rattle.ados_machine.specs.Turning.{turning_of_completion}
 use Rattle.ados_machine.specs.World.{WorldState, shell_at, is_over, input_of}
 use Rattle.ados_machine.proofs.Lasting.{Watch, SeenBehind, Keeps, seen_by, is_held, step-keeps, waits-keeps}
 use Rattle.ados_machine.proofs.Rests.{IsIdle}
@@ -81,19 +81,19 @@ put-held child None = refl
 put-held child (Some fault) = refl
 
 piece-held : (frames : List FrameState) (child : Child) (bytes : Bytes) (sink : Sink) (course : Course) (fault : Option Result2) →
-    SeenBehind held_above frames (outputs_in frames ++ open_places child.output) (Some (piece_deed child bytes sink course fault))
+    SeenBehind held_above frames (outputs_in frames ++ open_places child.output) (Some (piece_completion child bytes sink course fault))
 piece-held frames child bytes sink course (Some fault) = ap (λ l. outputs_in frames ++ l) (next-held (with_break child) ∙ break-held child)
 piece-held frames child bytes sink course None =
     let fault = fault_in (put (sink_or child.output sink) bytes went_well course).codes in
     ap (λ l. outputs_in frames ++ l) (next-held (child_after_piece (with_break child) fault) ∙ (put-held (with_break child) fault ∙ break-held child))
 
 ended-held : (frames : List FrameState) (outputs : List Place) (child : Child) (codes : Codes) (course : Course) (fault : Option Result2) →
-    SeenBehind held_above frames outputs (Some (ended_deed child codes course fault))
+    SeenBehind held_above frames outputs (Some (ended_completion child codes course fault))
 ended-held frames outputs child codes course (Some fault) = tt
 ended-held frames outputs child codes course None = tt
 
 wait-held : (frames : List FrameState) (sink : Sink) (course : Course) (wait : Wait) (answer : Reply) → runs_in (phase.Waiting wait) ≡ true →
-    SeenBehind held_above frames (held_above frames (phase.Waiting wait)) (answered_deed sink course wait answer)
+    SeenBehind held_above frames (held_above frames (phase.Waiting wait)) (answered_completion sink course wait answer)
 wait-held frames sink course (ForStart starting) answer runs = absurd (never runs)
 wait-held frames sink course (ForPiece child) (Piece bytes) runs =
     elim (cases_Bool (is_piece bytes)) [
@@ -146,9 +146,9 @@ HoldsBehind k outputs (Refused why) = Unit {0}
 HoldsBehind k outputs (Accepted world out items) = runs_program world k ≡ true → outputs_held world k ≡ outputs
 
 waits-hold : (w : WorldState) (k : ℕ) (shell : ShellState) (queue : List (List ℕ)) (wait : Wait) (course : Course) (outputs : List Place) → shell_at w k ≡ Some shell →
-    held_above shell.frames (phase.Waiting wait) ≡ outputs → HoldsBehind k outputs (turn_taken w k queue (turn_of_deed (Waits wait course) shell.frames))
+    held_above shell.frames (phase.Waiting wait) ≡ outputs → HoldsBehind k outputs (turn_taken w k queue (turn_of_completion (Waits wait course) shell.frames))
 waits-hold w k shell queue wait course outputs is same = λ runs.
-    let t = turn_of_deed (Waits wait course) shell.frames in
+    let t = turn_of_completion (Waits wait course) shell.frames in
     let moved = moved_at_turn w t in
     let behind = found (shells_behind w.shells k moved t) k in
     let there : behind ≡ shell_after_turn k moved t = found-left w.shells k shell moved t is in
@@ -158,7 +158,7 @@ waits-hold w k shell queue wait course outputs is same = λ runs.
 by-opening : (w : WorldState) (k : ℕ) (shell : ShellState) (starting : Starting) (opened : OpenedOutput) (result : Result OpenedOutput Result2) → shell_at w k ≡ Some shell →
     result ≡ Ok opened →
     HoldsBehind k (outputs_in shell.frames ++ open_places opened.target)
-    (turning_response w k shell.parts.codes (turning_of_deed (input_of w k) shell.frames (Some (started_deed starting (start w shell) result))))
+    (turning_response w k shell.parts.codes (turning_of_completion (input_of w k) shell.frames (Some (started_completion starting (start w shell) result))))
 by-opening w k shell starting opened result is e =
     rw e
     (waits-hold w k shell (input_of w k).queue (next_wait (child_of starting opened.target None))
@@ -168,7 +168,7 @@ by-opening w k shell starting opened result is e =
 by-phase : (w : WorldState) (k : ℕ) (shell : ShellState) (starting : Starting) (opened : OpenedOutput) (now : Phase) → shell_at w k ≡ Some shell →
     now ≡ phase.Waiting (ForStart starting) → line_output (start w shell) starting.output ≡ Ok opened →
     HoldsBehind k (outputs_in shell.frames ++ open_places opened.target)
-    (turning_response w k shell.parts.codes (turning_of_deed (input_of w k) shell.frames (answered_in (sink_in shell.frames) (start w shell) now Started)))
+    (turning_response w k shell.parts.codes (turning_of_completion (input_of w k) shell.frames (answered_in (sink_in shell.frames) (start w shell) now Started)))
 by-phase w k shell starting opened now is waits opens =
     rw waits (by-opening w k shell starting opened (line_output (start w shell) starting.output) is opens)
 

@@ -14,15 +14,15 @@ use Rattle.ados_machine.specs.declared.phases.Wait.TheVariants.{ForAnswer, ForLi
 use Rattle.ados_machine.specs.Answers.{answered_in}
 use Rattle.ados_machine.specs.Breaks.{has_script}
 use Rattle.ados_machine.specs.Course.{Course}
-use Rattle.ados_machine.specs.Deeds.{Deed}
-use Rattle.ados_machine.specs.Lines.{answer_deed}
-use Rattle.ados_machine.specs.NewShells.{gathered_deed, joined_deed}
+use Rattle.ados_machine.specs.Completions.{Completion}
+use Rattle.ados_machine.specs.Lines.{answer_completion}
+use Rattle.ados_machine.specs.NewShells.{gathered_completion, joined_completion}
 use Rattle.ados_machine.specs.Runs.{world_after, IsAnswer}
 use Rattle.ados_machine.specs.Settle.{here_of}
 use Rattle.ados_machine.specs.Shells.{ShellState}
 use Rattle.ados_machine.specs.Sinks.{sink_in}
 use Rattle.ados_machine.specs.Step.{Response, Refused, Accepted, start, course_without_flag, turning_response, break_response, turn_response, answer_response, typing_response, step_of}
-use Rattle.ados_machine.specs.Turning.{Input, Turning, Refuses, Ends, Takes, console_turning, input_turning, turning_in_phase, turning_at_break, flagged_turning, turning_of_deed}
+use Rattle.ados_machine.specs.Turning.{Input, Turning, Refuses, Ends, Takes, console_turning, input_turning, turning_in_phase, turning_at_break, flagged_turning, turning_of_completion}
 use Rattle.ados_machine.specs.World.{WorldState, shell_at, input_of, takes_input, wants_input}
 use Rattle.ados_machine.specs.Laws.{is_breakable}
 use Rattle.ados_machine.specs.Given.{lines_taken, lines_typed, all_lines_typed, all_lines_taken, TypedLinesAreTakenInOrder}
@@ -39,7 +39,7 @@ console-takes [] true course = refl
 console-takes [] false course = tt
 console-takes (line ∷ rest) is_ended course = refl
 
-input-takes : (queue : List (List ℕ)) (is_ended : Bool) (frames : List FrameState) (by_line : List ℕ → Deed) (by_end : Deed) →
+input-takes : (queue : List (List ℕ)) (is_ended : Bool) (frames : List FrameState) (by_line : List ℕ → Completion) (by_end : Completion) →
     Takes_of true queue (input_turning queue is_ended frames by_line by_end)
 input-takes [] true frames by_line by_end = refl
 input-takes [] false frames by_line by_end = tt
@@ -51,9 +51,9 @@ turning-takes input [] course Ready = console-takes input.queue input.is_ended c
 turning-takes input (frame ∷ frames) course Ready = refl
 turning-takes input frames course (GoingOn parted) = refl
 turning-takes input frames course (Waiting (ForAnswer asking)) =
-    input-takes input.queue input.is_ended frames (λ line. answer_deed line asking (here_of frames) course) (answer_deed [] asking (here_of frames) course)
+    input-takes input.queue input.is_ended frames (λ line. answer_completion line asking (here_of frames) course) (answer_completion [] asking (here_of frames) course)
 turning-takes input frames course (Waiting (ForLines gathering)) =
-    input-takes input.queue input.is_ended frames (λ line. joined_deed gathering line (here_of frames).sink course) (gathered_deed gathering (here_of frames).sink course)
+    input-takes input.queue input.is_ended frames (λ line. joined_completion gathering line (here_of frames).sink course) (gathered_completion gathering (here_of frames).sink course)
 turning-takes input frames course (Waiting (ForStart starting)) = tt
 turning-takes input frames course (Waiting (ForPiece child)) = tt
 turning-takes input frames course (Waiting (ForEnd child)) = tt
@@ -106,10 +106,10 @@ turned-queues w k =
       | inr differ ↦ other-turned w k (shell_at w k) differ
     ]
 
-replied-queues : (w : WorldState) (k : ℕ) (reply : Reply) (codes : Codes) (frames : List FrameState) (deed : Option Deed) →
-    Queues w (Answer k reply) (turning_response w k codes (turning_of_deed (input_of w k) frames deed))
+replied-queues : (w : WorldState) (k : ℕ) (reply : Reply) (codes : Codes) (frames : List FrameState) (completion : Option Completion) →
+    Queues w (Answer k reply) (turning_response w k codes (turning_of_completion (input_of w k) frames completion))
 replied-queues w k reply codes frames None = tt
-replied-queues w k reply codes frames (Some deed) =
+replied-queues w k reply codes frames (Some completion) =
     elim (cases_Bool (k == 1)) [
       | inl e ↦ rw e (append-nil w.queue)
       | inr e ↦ rw e (append-nil w.queue)

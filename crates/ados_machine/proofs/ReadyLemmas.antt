@@ -9,9 +9,9 @@ use Rattle.ados_machine.specs.declared.phases.Phase.TheVariants.{Ready, GoingOn,
 use Rattle.ados_machine.specs.declared.phases.Wait.TheVariants.{ForAnswer, ForLines, ForStart, ForPiece, ForEnd}
 use Rattle.ados_machine.specs.Breaks.{has_script}
 use Rattle.ados_machine.specs.Course.{Course}
-use Rattle.ados_machine.specs.Deeds.{Deed}
-use Rattle.ados_machine.specs.Lines.{answer_deed}
-use Rattle.ados_machine.specs.NewShells.{gathered_deed, joined_deed}
+use Rattle.ados_machine.specs.Completions.{Completion}
+use Rattle.ados_machine.specs.Lines.{answer_completion}
+use Rattle.ados_machine.specs.NewShells.{gathered_completion, joined_completion}
 use Rattle.ados_machine.specs.Settle.{here_of}
 use Rattle.ados_machine.specs.Shells.{ShellState}
 use Rattle.ados_machine.specs.Step.{is_accepted, start, course_without_flag, turning_response, turn_response}
@@ -39,7 +39,7 @@ console-accepts [] true course = refl
 console-accepts [] false course = refl
 console-accepts (line ∷ rest) is_ended course = rw (some-waits (length rest)) refl
 
-input-accepts : (queue : List (List ℕ)) (is_ended : Bool) (frames : List FrameState) (by_line : List ℕ → Deed) (by_end : Deed) →
+input-accepts : (queue : List (List ℕ)) (is_ended : Bool) (frames : List FrameState) (by_line : List ℕ → Completion) (by_end : Completion) →
     accepts (input_turning queue is_ended frames by_line by_end) ≡ (nat_lt 0 (length queue) || is_ended)
 input-accepts [] true frames by_line by_end = refl
 input-accepts [] false frames by_line by_end = refl
@@ -51,9 +51,9 @@ turning-accepts input [] course Ready = console-accepts input.queue input.is_end
 turning-accepts input (frame ∷ frames) course Ready = refl
 turning-accepts input frames course (GoingOn parted) = refl
 turning-accepts input frames course (Waiting (ForAnswer asking)) =
-    input-accepts input.queue input.is_ended frames (λ line. answer_deed line asking (here_of frames) course) (answer_deed [] asking (here_of frames) course)
+    input-accepts input.queue input.is_ended frames (λ line. answer_completion line asking (here_of frames) course) (answer_completion [] asking (here_of frames) course)
 turning-accepts input frames course (Waiting (ForLines gathering)) =
-    input-accepts input.queue input.is_ended frames (λ line. joined_deed gathering line (here_of frames).sink course) (gathered_deed gathering (here_of frames).sink course)
+    input-accepts input.queue input.is_ended frames (λ line. joined_completion gathering line (here_of frames).sink course) (gathered_completion gathering (here_of frames).sink course)
 turning-accepts input frames course (Waiting (ForStart starting)) = refl
 turning-accepts input frames course (Waiting (ForPiece child)) = refl
 turning-accepts input frames course (Waiting (ForEnd child)) = refl

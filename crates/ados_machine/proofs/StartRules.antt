@@ -15,10 +15,10 @@ use Rattle.ados_machine.specs.declared.phases.Wait.{Wait}
 use Rattle.ados_machine.specs.declared.phases.Wait.TheVariants.{ForStart, ForPiece, ForEnd}
 use Rattle.ados_machine.specs.Shells.{ShellState}
 use Rattle.ados_machine.specs.Course.{Course, shared_after_event}
-use Rattle.ados_machine.specs.Deeds.{Deed, refusal_deed}
+use Rattle.ados_machine.specs.Completions.{Completion, refusal_completion}
 use Rattle.ados_machine.specs.Settled.{RuleState, RuleResult, with_fault_line, with_answer, with_limit, after_end, finish}
-use Rattle.ados_machine.specs.Settle.{TurnResult, said_of, turn_of_deed}
-use Rattle.ados_machine.specs.Answers.{answered_deed, answered_in}
+use Rattle.ados_machine.specs.Settle.{TurnResult, said_of, turn_of_completion}
+use Rattle.ados_machine.specs.Answers.{answered_completion, answered_in}
 use Rattle.ados_machine.specs.Sinks.{Sink}
 use Rattle.ados_machine.specs.Step.{shell_of_turn}
 use Rattle.ados_machine.specs.Starts.{IsFailure, IsAfterEnd, HasAnswered, KeepsSettings}
@@ -77,18 +77,18 @@ pub record Keeps (frames : List FrameState) (course : Course) (t : TurnResult) :
   pub answered : HasAnswered frames course.kept (shell_of_turn t)
 
 refused-keeps : (word : List ℕ) (fault : Result2) (frames : List FrameState) (course : Course) →
-    Keeps frames course (turn_of_deed (refusal_deed word fault course) frames)
+    Keeps frames course (turn_of_completion (refusal_completion word fault course) frames)
 refused-keeps word fault frames course =
     let rules = finish-rules course.flagged word (fail_codes fault) false frames (with_fault_line word fault (said_of course)) in
     record { shared = refl; renamed = refl; breaking = refl; flagged = refl; begun = refl; parts = rules.parts; answered = rules.answered }
 
 -- a failure is taken only for a start, and finishes its command
-abbrev pub OnlyFinishes : List FrameState → Course → Option Deed → Type 0
+abbrev pub OnlyFinishes : List FrameState → Course → Option Completion → Type 0
 OnlyFinishes frames course None = Unit {0}
-OnlyFinishes frames course (Some deed) = Keeps frames course (turn_of_deed deed frames)
+OnlyFinishes frames course (Some completion) = Keeps frames course (turn_of_completion completion frames)
 
 wait-finishes : (frames : List FrameState) (sink : Sink) (course : Course) (wait : Wait) (reply : Reply) → IsFailure reply →
-    OnlyFinishes frames course (answered_deed sink course wait reply)
+    OnlyFinishes frames course (answered_completion sink course wait reply)
 wait-finishes frames sink course (ForStart starting) NotFound h = refused-keeps starting.word _ frames course
 wait-finishes frames sink course (ForStart starting) Denied h = refused-keeps starting.word _ frames course
 wait-finishes frames sink course (ForStart starting) Memory h = refused-keeps starting.word _ frames course

@@ -10,29 +10,30 @@ use Rattle.ados_machine.specs.declared.phases.Wait.TheVariants.{ForAnswer, ForEn
 use Rattle.ados_machine.specs.Items.{Item}
 use Rattle.ados_machine.specs.Shells.{ShellState}
 use Rattle.ados_machine.specs.Sinks.{sink_in}
-use Rattle.ados_machine.specs.Deeds.{Deed, Passes, course_of}
-use Rattle.ados_machine.specs.Lines.{line_deed, parted_deed, answer_deed}
-use Rattle.ados_machine.specs.NewShells.{gathered_deed}
+use Rattle.ados_machine.specs.Completions.{Completion, Passes, course_of}
+use Rattle.ados_machine.specs.Lines.{line_completion, parted_completion, answer_completion}
+use Rattle.ados_machine.specs.NewShells.{gathered_completion}
 use Rattle.ados_machine.specs.Answers.{answered_in}
-use Rattle.ados_machine.specs.Settle.{TurnResult, here_of, said_of, turn_by_rule, code_rule_of, turn_of_deed}
+use Rattle.ados_machine.specs.Settle.{TurnResult, here_of, said_of, turn_by_rule, code_rule_of, turn_of_completion}
 use Rattle.ados_machine.specs.Settled.{RuleState, RuleResult, end_at_break}
 use Rattle.ados_machine.specs.Breaks.{break_text, has_script}
 use Rattle.ados_find.specs.declared.outcomes.Renamed.{Renamed}
 use Rattle.ados_machine.specs.declared.events.Event.TheVariants.{Turn}
-use Rattle.ados_machine.specs.Turning.{Takes, turn_of_frame, turning_in_phase, turning_of_deed}
+use Rattle.ados_machine.specs.Turning.{Takes, turn_of_frame, turning_in_phase, turning_of_completion}
 use Rattle.ados_machine.specs.World.{WorldState}
 use Rattle.ados_machine.specs.Carrying.{moved_object}
 use Rattle.ados_machine.specs.Step.{turn_taken, turning_response, step_of}
 use Rattle.ados_machine.specs.Whole.{Common, common_after_event, common_without_flag}
 use Rattle.ados_machine.proofs.Fronts.{front, fronted, broken-front, ruled-front}
-use Rattle.ados_machine.proofs.Alone.{go_by, turn_event, shell_of, standing, start_in, Go, does, line_event, deed_event, reply_event, event_in, exec}
+use Rattle.ados_machine.proofs.Alone.{go_by, turn_event, shell_of, standing, start_in, Go, does, line_event, completion_event, reply_event, event_in, exec}
 use Rattle.ados_flow.specs.declared.kinds.Kind.TheVariants.{Script, Lines, Tick}
 use Rattle.ados_flow.specs.Frames.{new_frame, first_limit, scripts_in}
 use Rattle.std.proofs.lemmas.Bool.{cases_Bool, lt-leb}
 use Rattle.std.proofs.Common.{length}
 use Rattle.ados_machine.specs.declared.outs.EndReport.{EndReport}
 use Rattle.ados_machine.specs.Items.{Began, Answered, Ended, Broke, broken_codes, reports_of}
-use Rattle.ados_machine.specs.Whole.{Whole, Done, Broken, Late, Short, lines, at_bottom, opened_shell, world_with_opened, first_common}
+use Rattle.ados_machine.specs.Whole.{Whole, Done, Broken, Late, Short}
+use Rattle.ados_machine.specs.LoneShell.{lines, at_bottom, opened_shell, world_with_opened, first_common}
 use Rattle.ados_machine.specs.Course.{Course, shared_after_event, with_bytes_printed}
 use Rattle.ados_machine.specs.Told.{reports_onto, collect_reports_after, collect_reports_of_reply, collect_next_reports, collect_reports, TellsReports, AloneTellsReports}
 use Rattle.ados_machine.proofs.Alone.{with_ends, Lone, Rested, Going, Unfed, exec-rests}
@@ -83,15 +84,15 @@ took-rules k w go on old phase common course rule stands fronts same =
     (same settled.frames settled.phase (common_by k common course settled.said settled.log)
     (stands-again k common course (front common.said.printed advanced_frame settled.said) settled.log stands))
 
--- an event that results in a deed
-took-does : (k : ℕ) (w : WorldState) (go : Goes) (on : Go) (old : List FrameState) (phase : Phase) (common : Common) (deed : Deed)
+-- an event that results in a completion
+took-does : (k : ℕ) (w : WorldState) (go : Goes) (on : Go) (old : List FrameState) (phase : Phase) (common : Common) (completion : Completion)
     (frames : List FrameState) → Stands k common →
     ((frames : List FrameState) (phase : Phase) (common : Common) → Stands k common →
     go (world_of k w frames phase common) common.reports ≡ told_by (on frames phase common)) →
-    collect_reports_after go common.reports (turn_taken (standing k w old phase common) k [] (turn_of_deed deed frames)) ≡ told_by (does k on frames common deed)
-took-does k w go on old phase common deed frames stands same =
-    took-rules k w go on old phase common (course_of deed) (code_rule_of deed frames) stands
-    (λ bytes advanced_frame said. ruled-front bytes advanced_frame deed frames said) same
+    collect_reports_after go common.reports (turn_taken (standing k w old phase common) k [] (turn_of_completion completion frames)) ≡ told_by (does k on frames common completion)
+took-does k w go on old phase common completion frames stands same =
+    took-rules k w go on old phase common (course_of completion) (code_rule_of completion frames) stands
+    (λ bytes advanced_frame said. ruled-front bytes advanced_frame completion frames said) same
 
 -- the world continues as the shell does
 abbrev pub Same : ℕ → WorldState → Goes → Go → Type 0
@@ -107,7 +108,7 @@ line-same k w go on frame frames common None stands same =
     took-does k w go on (frame ∷ frames) Ready common (Passes (start_in k (frame ∷ frames) Ready (common_without_flag common))) (frame ∷ frames) stands same
 line-same k w go on frame frames common (Some line) stands same =
     took-does k w go on (frame ∷ frames) Ready common
-    (line_deed line (here_of (advanced_frame frame ∷ frames)) (start_in k (frame ∷ frames) Ready (common_without_flag common))) (advanced_frame frame ∷ frames) stands same
+    (line_completion line (here_of (advanced_frame frame ∷ frames)) (start_in k (frame ∷ frames) Ready (common_without_flag common))) (advanced_frame frame ∷ frames) stands same
 
 -- a turn, which may find the flag
 turn-same : (k : ℕ) (w : WorldState) (go : Goes) (on : Go) (frames : List FrameState) (common : Common) (phase : Phase) (queue : List (List ℕ))
@@ -126,13 +127,13 @@ turn-same k w go on frames common phase queue turned work stands same takes plai
       | inr e ↦ rw e plain
     ])
 
-deed-same : (k : ℕ) (w : WorldState) (go : Goes) (on : Go) (frames : List FrameState) (phase : Phase) (common : Common)
-    (deed : Option Deed) → Stands k common → Same k w go on →
+completion-same : (k : ℕ) (w : WorldState) (go : Goes) (on : Go) (frames : List FrameState) (phase : Phase) (common : Common)
+    (completion : Option Completion) → Stands k common → Same k w go on →
     collect_reports_after go common.reports
-    (turning_response (standing k w frames phase common) k common.said.parts.codes (turning_of_deed no_input frames deed))
-    ≡ told_by (deed_event k on frames common deed)
-deed-same k w go on frames phase common None stands same = refl
-deed-same k w go on frames phase common (Some deed) stands same = took-does k w go on frames phase common deed frames stands same
+    (turning_response (standing k w frames phase common) k common.said.parts.codes (turning_of_completion no_input frames completion))
+    ≡ told_by (completion_event k on frames common completion)
+completion-same k w go on frames phase common None stands same = refl
+completion-same k w go on frames phase common (Some completion) stands same = took-does k w go on frames phase common completion frames stands same
 
 reply-same : (k : ℕ) (w : WorldState) (go : List Reply → Goes) (on : List Reply → Go) (frames : List FrameState) (phase : Phase)
     (common : Common) (answers : List Reply) → Stands k common →
@@ -141,7 +142,7 @@ reply-same : (k : ℕ) (w : WorldState) (go : List Reply → Goes) (on : List Re
 reply-same k w go on frames phase common [] stands same = refl
 reply-same k w go on frames phase common (reply ∷ answers) stands same =
     rw (answer-is k w frames phase common reply stands)
-    (deed-same k w (go answers) (on answers) frames phase common
+    (completion-same k w (go answers) (on answers) frames phase common
     (answered_in (sink_in frames) (start_in k frames phase common) phase reply) stands (same answers))
 
 -- an event of the shell
@@ -157,17 +158,17 @@ event-same k w go on n answers frame frames common Ready stands same =
     (line-same k w (go answers) (on answers) frame frames common (slice_get frame.lines frame.position) stands (same answers))
 event-same k w go on n answers frame frames common (GoingOn parted) stands same =
     turn-same k w (go answers) (on answers) (frame ∷ frames) common (GoingOn parted) _ _
-    (λ now. does k (on answers) (frame ∷ frames) now (parted_deed parted (here_of (frame ∷ frames)) (start_in k (frame ∷ frames) (GoingOn parted) now))) stands (same answers) refl
+    (λ now. does k (on answers) (frame ∷ frames) now (parted_completion parted (here_of (frame ∷ frames)) (start_in k (frame ∷ frames) (GoingOn parted) now))) stands (same answers) refl
     (took-does k w (go answers) (on answers) (frame ∷ frames) (GoingOn parted) common _ (frame ∷ frames) stands (same answers))
 event-same k w go on n answers frame frames common (Waiting (ForAnswer asking)) stands same =
     turn-same k w (go answers) (on answers) (frame ∷ frames) common (Waiting (ForAnswer asking)) _ _
-    (λ now. does k (on answers) (frame ∷ frames) now (answer_deed [] asking (here_of (frame ∷ frames)) (start_in k (frame ∷ frames) (Waiting (ForAnswer asking)) now))) stands (same answers) refl
+    (λ now. does k (on answers) (frame ∷ frames) now (answer_completion [] asking (here_of (frame ∷ frames)) (start_in k (frame ∷ frames) (Waiting (ForAnswer asking)) now))) stands (same answers) refl
     (took-does k w (go answers) (on answers) (frame ∷ frames) (Waiting (ForAnswer asking)) common _ (frame ∷ frames) stands (same answers))
 event-same k w go on n answers frame frames common (Waiting (ForLines gathering)) stands same =
     turn-same k w (go answers) (on answers) (frame ∷ frames) common (Waiting (ForLines gathering)) _ _
-    (λ now. does k (on answers) (frame ∷ frames) now (gathered_deed gathering (sink_in (frame ∷ frames)) (start_in k (frame ∷ frames) (Waiting (ForLines gathering)) now))) stands (same answers) refl
+    (λ now. does k (on answers) (frame ∷ frames) now (gathered_completion gathering (sink_in (frame ∷ frames)) (start_in k (frame ∷ frames) (Waiting (ForLines gathering)) now))) stands (same answers) refl
     (took-does k w (go answers) (on answers) (frame ∷ frames) (Waiting (ForLines gathering)) common
-    (gathered_deed gathering (sink_in (frame ∷ frames)) (start_in k (frame ∷ frames) (Waiting (ForLines gathering)) (common_without_flag common)))
+    (gathered_completion gathering (sink_in (frame ∷ frames)) (start_in k (frame ∷ frames) (Waiting (ForLines gathering)) (common_without_flag common)))
     (frame ∷ frames) stands (same answers))
 event-same k w go on n answers frame frames common (Waiting (ForStart starting)) stands same =
     reply-same k w go on (frame ∷ frames) (Waiting (ForStart starting)) common answers stands same

@@ -15,7 +15,7 @@ use Rattle.ados_machine.specs.declared.phases.Phase.TheVariants as phase
 use Rattle.ados_machine.specs.declared.phases.Starting.{Starting}
 use Rattle.ados_machine.specs.declared.phases.Wait.{Wait}
 use Rattle.ados_machine.specs.declared.phases.Wait.TheVariants.{ForAnswer, ForLines, ForStart, ForPiece, ForEnd}
-use Rattle.ados_machine.specs.Answers.{child_of, next_wait, with_break, started_deed, child_after_piece, fault_in, piece_deed, is_piece, ended_deed, answered_deed, answered_in}
+use Rattle.ados_machine.specs.Answers.{child_of, next_wait, with_break, started_completion, child_after_piece, fault_in, piece_completion, is_piece, ended_completion, answered_completion, answered_in}
 use Rattle.ados_machine.specs.Breaks.{marked_if}
 use Rattle.ados_machine.specs.Course.{Course, put}
 use Rattle.ados_machine.specs.InUse.{entry_seen, EntriesStayInUse, IdleShellsUseNoEntry}
@@ -51,7 +51,7 @@ idle-asks phase.Ready idle = refl
 idle-asks (phase.GoingOn parted) idle = refl
 idle-asks (phase.Waiting wait) idle = absurd idle
 
--- an answer: if its deed waits on, it waits with the same entry
+-- an answer: if its completion waits on, it waits with the same entry
 next-entry : (child : Child) → entry_while (next_wait child) ≡ child.entry
 next-entry child =
     elim (cases_Bool child.marked) [
@@ -67,7 +67,7 @@ break-entry child =
     ]
 
 started-entry : (frames : List FrameState) (starting : Starting) (course : Course) (opened : Result OpenedOutput Result2) →
-    SeenBehind entry_above frames starting.entry (Some (started_deed starting course opened))
+    SeenBehind entry_above frames starting.entry (Some (started_completion starting course opened))
 started-entry frames starting course (Err fault) = next-entry (child_of starting None (Some fault))
 started-entry frames starting course (Ok opened) = next-entry (child_of starting opened.target None)
 
@@ -76,19 +76,19 @@ put-entry child None = refl
 put-entry child (Some fault) = refl
 
 piece-entry : (frames : List FrameState) (child : Child) (bytes : Bytes) (sink : Sink) (course : Course) (fault : Option Result2) →
-    SeenBehind entry_above frames child.entry (Some (piece_deed child bytes sink course fault))
+    SeenBehind entry_above frames child.entry (Some (piece_completion child bytes sink course fault))
 piece-entry frames child bytes sink course (Some fault) = next-entry (with_break child) ∙ break-entry child
 piece-entry frames child bytes sink course None =
     let fault = fault_in (put (sink_or child.output sink) bytes went_well course).codes in
     next-entry (child_after_piece (with_break child) fault) ∙ (put-entry (with_break child) fault ∙ break-entry child)
 
 ended-entry : (frames : List FrameState) (entry : Option Text) (child : Child) (codes : Codes) (course : Course) (fault : Option Result2) →
-    SeenBehind entry_above frames entry (Some (ended_deed child codes course fault))
+    SeenBehind entry_above frames entry (Some (ended_completion child codes course fault))
 ended-entry frames entry child codes course (Some fault) = tt
 ended-entry frames entry child codes course None = tt
 
 wait-entry : (frames : List FrameState) (sink : Sink) (course : Course) (wait : Wait) (answer : Reply) →
-    SeenBehind entry_above frames (entry_while wait) (answered_deed sink course wait answer)
+    SeenBehind entry_above frames (entry_while wait) (answered_completion sink course wait answer)
 wait-entry frames sink course (ForStart starting) Started = started-entry frames starting course (line_output course starting.output)
 wait-entry frames sink course (ForStart starting) NotFound = tt
 wait-entry frames sink course (ForStart starting) Denied = tt

@@ -1,5 +1,5 @@
 -- The meaning of lines that run alone in a shell, by direct recursion: no frames, no phases.
-use Rattle.std.specs.Prelude.{nat_lt, ℕ, zero, suc, ◌+◌, ◌-◌, List, [], ◌∷◌, ◌++◌, Bool, true, false, ◌&&◌, ◌||◌, nat_le, Option, Some, None, slice_get, slice_set, codes, if◌then◌else◌}
+use Rattle.std.specs.Prelude.{nat_lt, ℕ, zero, suc, ◌+◌, ◌-◌, List, [], ◌∷◌, ◌++◌, Bool, true, false, ◌&&◌, ◌||◌, nat_le, Option, Some, None, slice_set, codes, if◌then◌else◌}
 use Rattle.ados_text.specs.Text.{Text}
 use Rattle.ados_text.specs.declared.codes.Code.{Code}
 use Rattle.ados_text.specs.declared.codes.TheConstants.Result2.{TOO_MANY_LEVELS}
@@ -9,7 +9,6 @@ use Rattle.ados_find.specs.declared.outcomes.Renamed.{Renamed}
 use Rattle.ados_find.specs.declared.targets.Target.{Target}
 use Rattle.ados_find.specs.Codes.{fail_codes}
 use Rattle.ados_find.specs.Parts.{Parts}
-use Rattle.ados_find.specs.Settings.{first_settings}
 use Rattle.ados_find.specs.Shared.{SharedState}
 use Rattle.ados_find.specs.Targets.{open_places}
 use Rattle.ados_flow.specs.declared.called.Called.{Called}
@@ -20,19 +19,15 @@ use Rattle.ados_machine.specs.declared.outs.EndReport.{EndReport}
 use Rattle.ados_machine.specs.declared.answers.Answer.{Answer as Reply}
 use Rattle.ados_machine.specs.declared.phases.Parted.{Parted}
 use Rattle.ados_machine.specs.declared.phases.Wait.{Wait}
-use Rattle.ados_machine.specs.declared.phases.Wait.TheVariants.{ForAnswer, ForLines}
-use Rattle.ados_machine.specs.Sinks.{Sink, Console, Kept, sink_or, held_while}
+use Rattle.ados_machine.specs.Sinks.{Sink, Kept, sink_or, held_while}
 use Rattle.ados_machine.specs.Names.{waiting_word}
-use Rattle.ados_machine.specs.Shells.{ShellState, SeenShell, begun_shell, entry_while, parts_in}
+use Rattle.ados_machine.specs.Shells.{ShellState, SeenShell, entry_while}
 use Rattle.ados_machine.specs.Breaks.{break_text}
 use Rattle.ados_machine.specs.Course.{Course}
 use Rattle.ados_machine.specs.Items.{broken_codes}
-use Rattle.ados_machine.specs.Deeds.{Here, Deed, Passes, Answers, Jumps, Calls, Ticks, Waits, course_of}
-use Rattle.ados_machine.specs.Lines.{line_deed, parted_deed, answer_deed}
-use Rattle.ados_machine.specs.NewShells.{gathered_deed}
-use Rattle.ados_machine.specs.Answers.{answered_deed}
+use Rattle.ados_machine.specs.Completions.{Here, Completion, Passes, Answers, Jumps, Calls, Ticks, Waits, course_of}
 use Rattle.ados_machine.specs.Settled.{RuleState, with_fault_line, with_answer, with_limit, newest_kept, with_tick, without_tick}
-use Rattle.ados_machine.specs.World.{WorldState, seen_in}
+use Rattle.ados_machine.specs.World.{seen_in}
 use Rattle.ados_machine.specs.Step.{after_event}
 
 -- what lines pass on: the shells (at the shell's own number it only matters that there is one), what all share, what the shell
@@ -251,27 +246,27 @@ after_tick go at before after (Broken n answers last common) = Broken n answers 
 after_tick go at before after (Late answers) = Late answers
 after_tick go at before after Short = Short
 
--- what a deed means after its event; `further` is what it means to wait
-abbrev pub after_deed : (Common → Wait → Whole) → Meaning → ℕ → List Reply → Common → At → Deed → Whole
-after_deed further go n answers common at (Passes course) = go n answers common at None
-after_deed further go n answers common at (Answers word answer quits course) = after_own_answer go n answers common at word answer quits
-after_deed further go n answers common at (Jumps word answer line course) =
+-- what a completion means after its event; `further` is what it means to wait
+abbrev pub after_completion : (Common → Wait → Whole) → Meaning → ℕ → List Reply → Common → At → Completion → Whole
+after_completion further go n answers common at (Passes course) = go n answers common at None
+after_completion further go n answers common at (Answers word answer quits course) = after_own_answer go n answers common at word answer quits
+after_completion further go n answers common at (Jumps word answer line course) =
     after_own_answer go n answers common (record at { position = line - 1 }) word answer false
-after_deed further go n answers common at (Calls word output called course) =
+after_completion further go n answers common at (Calls word output called course) =
     if is_deepest at then after_own_answer go n answers common at word (fail_codes TOO_MANY_LEVELS) false
     else after_call go at common.said.parts.limit called.name word (go n answers common (script_at at output called) None)
-after_deed further go n answers common at (Ticks before command after course) =
+after_completion further go n answers common at (Ticks before command after course) =
     after_tick go at before after (go n answers (common_with_tick common) (tick_at at command) None)
-after_deed further go n answers common at (Waits wait course) = further common wait
+after_completion further go n answers common at (Waits wait course) = further common wait
 
--- what a deed means
-abbrev pub deed_of : (Common → Wait → Whole) → Meaning → ℕ → List Reply → Common → At → Deed → Whole
-deed_of further go n answers common at deed = after_deed further go n answers (common_after_event common (course_of deed)) at deed
+-- what a completion means
+abbrev pub completion_of : (Common → Wait → Whole) → Meaning → ℕ → List Reply → Common → At → Completion → Whole
+completion_of further go n answers common at completion = after_completion further go n answers (common_after_event common (course_of completion)) at completion
 
 -- an answer of another kind is treated as missing
-abbrev pub reply_of : (Deed → Whole) → Option Deed → Whole
+abbrev pub reply_of : (Completion → Whole) → Option Completion → Whole
 reply_of meaning None = Short
-reply_of meaning (Some deed) = meaning deed
+reply_of meaning (Some completion) = meaning completion
 
 -- a turn clears the flag
 abbrev pub common_without_flag : Common → Common
@@ -283,82 +278,3 @@ breaks_at common at = common.flagged && nat_lt 0 at.scripts
 
 abbrev pub common_after_break : Common → Common
 common_after_break common = record common { said = record common.said { printed = common.said.printed ++ break_text }; flagged = false }
-
--- a turn does this, unless it finds the flag in a script
-abbrev pub turn_at : ℕ → List Reply → Common → At → (Common → Whole) → Whole
-turn_at n answers common at work = if breaks_at common at then Broken n answers at.last (common_after_break common) else work (common_without_flag common)
-
--- what it means to wait, one event each: a prompt takes the end of input (and so would a Run that asks for more lines, as none
--- does in lines); of a program the next answer is taken
-abbrev pub waits : ℕ → Meaning → At → ℕ → List Reply → Common → Wait → Whole
-waits k go at zero answers common wait = Late answers
-waits k go at (suc n) answers common (ForAnswer asking) =
-    turn_at n answers common at
-    (λ now. deed_of (waits k go at n answers) go n answers now at (answer_deed [] asking (here_at at) (start_at k at (Some (ForAnswer asking)) now)))
-waits k go at (suc n) answers common (ForLines gathering) =
-    turn_at n answers common at
-    (λ now. deed_of (waits k go at n answers) go n answers now at (gathered_deed gathering at.sink (start_at k at (Some (ForLines gathering)) now)))
-waits k go at (suc n) [] common wait = Short
-waits k go at (suc n) (reply ∷ answers) common wait =
-    reply_of (deed_of (waits k go at n answers) go n answers common at)
-    (answered_deed at.sink (start_at k at (Some wait) common) wait reply)
-
--- the place moves on before the command runs
-abbrev pub at_next_line : At → At
-at_next_line at = record at { position = at.position + 1; line = at.position + 1 }
-
--- the next line, or the one that continues after its command substitution, takes an event; if no line is left that costs nothing
-abbrev pub next_of : ℕ → Meaning → ℕ → List Reply → Common → At → Option Parted → Option Text → Whole
-next_of k go n answers common at None None = Done n answers at.last common
-next_of k go zero answers common at parted line = Late answers
-next_of k go (suc n) answers common at (Some parted) line =
-    turn_at n answers common at
-    (λ now. deed_of (waits k go at n answers) go n answers now at (parted_deed parted (here_at at) (start_at k at None now)))
-next_of k go (suc n) answers common at None (Some line) =
-    turn_at n answers common at
-    (λ now. deed_of (waits k go (at_next_line at) n answers) go n answers now (at_next_line at)
-    (line_deed line (here_at (at_next_line at)) (start_at k at None now)))
-
--- what lines mean in the shell of a number, by a bound on how deep the calls go, which the events left never exceed
-abbrev pub lines : ℕ → ℕ → Meaning
-lines k zero n answers common at parted = Late answers
-lines k (suc gas) n answers common at parted = next_of k (lines k gas) n answers common at parted (slice_get at.lines at.position)
-
--- where the lines of a shell begin
-abbrev pub at_bottom : ℕ → List Text → At
-at_bottom k commands = record {
-  shell = k;
-  sink = Console;
-  in_script = false;
-  scripts = 0;
-  depth = 1;
-  lines = commands;
-  outputs = [];
-  name = codes "No command";
-  position = 0;
-  line = 0;
-  last = None;
-}
-
--- a fresh shell of a number, with these lines: it begins in the root, and nothing except its own variables is set there
-abbrev pub opened_shell : ℕ → List Text → ShellState
-opened_shell k commands =
-    begun_shell k (record { directory = []; settings = first_settings k; commands = commands; output = None })
-
--- a world in which it was opened
-abbrev pub world_with_opened : WorldState → ℕ → List Text → WorldState
-world_with_opened w k commands = record w { shells = slice_set w.shells (k - 1) (Some (opened_shell k commands)) }
-
--- what its lines are passed as they begin
-abbrev pub first_common : WorldState → ℕ → List Text → Common
-first_common w k commands = record {
-  shells = (world_with_opened w k commands).shells;
-  shared = w.shared;
-  said = record { parts = parts_in k [] (first_settings k); kept = []; printed = [] };
-  reports = [];
-  flagged = false;
-}
-
--- the direct meaning of lines in a shell that is opened in a world and runs alone, with n events and these answers
-abbrev pub whole : ℕ → ℕ → WorldState → List Text → List Reply → Whole
-whole n k w commands answers = lines k (suc n) n answers (first_common w k commands) (at_bottom k commands) None

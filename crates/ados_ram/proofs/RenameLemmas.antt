@@ -29,8 +29,8 @@ cons x y xs ys e f = ap (λ z. z ∷ xs) e ∙ ap (λ zs. y ∷ zs) f
 -- a place is the directory followed by the path from it
 pub behind-exact : (place q way : List (List ℕ)) → path_below place q ≡ Some way → q ≡ place ++ way
 behind-exact [] q way e = same_way q way e
-pub behind-exact (n ∷ ns) [] way e = cc
-pub behind-exact (n ∷ ns) (x ∷ xs) way e =
+behind-exact (n ∷ ns) [] way e = cc
+behind-exact (n ∷ ns) (x ∷ xs) way e =
     elim (is_eq (name_cmp n x)) as (λ b. is_eq (name_cmp n x) ≡ b → cond b (path_below ns xs) None ≡ Some way → x ∷ xs ≡ n ∷ (ns ++ way)) [
       | true ↦ λ t g. cons x n xs (ns ++ way) (sym (name_cmp_exact n x (equal (name_cmp n x) t))) (behind-exact ns xs way g)
       | false ↦ λ t g. cc

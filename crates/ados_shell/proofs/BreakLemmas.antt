@@ -14,7 +14,7 @@ use Rattle.ados_machine.specs.declared.phases.Wait.TheVariants.{ForAnswer, ForLi
 use Rattle.ados_machine.specs.declared.refusals.Refusal.TheVariants.{NotReady}
 use Rattle.ados_machine.specs.Breaks.{has_script, kept_after_break, marked_in}
 use Rattle.ados_machine.specs.Course.{Course}
-use Rattle.ados_machine.specs.Deeds.{Deed}
+use Rattle.ados_machine.specs.Completions.{Completion}
 use Rattle.ados_machine.specs.Items.{Item, Broke, break_of, broken_codes, reports_of}
 use Rattle.ados_machine.specs.Requests.{request_of}
 use Rattle.ados_machine.specs.Settle.{TurnResult, turn_by_rule, said_of}
@@ -48,7 +48,7 @@ never : true ≡ false → ⊥
 never e = cc
 
 -- a turn that takes a line of its input, or the end of that, if one is there
-input-taken : (queue : List (List ℕ)) (is_ended : Bool) (input : Input) (frames : List FrameState) (course : Course) (by_line : List ℕ → Deed) (by_end : Deed)
+input-taken : (queue : List (List ℕ)) (is_ended : Bool) (input : Input) (frames : List FrameState) (course : Course) (by_line : List ℕ → Completion) (by_end : Completion)
     → (nat_lt 0 (length queue) || is_ended) ≡ true
     → turning_at_break (input_turning queue is_ended frames by_line by_end) input frames course ≡ Takes input.queue (turn_at_break frames course)
 input-taken [] true input frames course by_line by_end e = refl
@@ -56,7 +56,7 @@ input-taken [] false input frames course by_line by_end e = absurd cc
 input-taken (line ∷ rest) is_ended input frames course by_line by_end e = refl
 
 -- and if none is
-input-refused : (queue : List (List ℕ)) (is_ended : Bool) (input : Input) (frames : List FrameState) (course : Course) (by_line : List ℕ → Deed) (by_end : Deed)
+input-refused : (queue : List (List ℕ)) (is_ended : Bool) (input : Input) (frames : List FrameState) (course : Course) (by_line : List ℕ → Completion) (by_end : Completion)
     → (nat_lt 0 (length queue) || is_ended) ≡ false
     → turning_at_break (input_turning queue is_ended frames by_line by_end) input frames course ≡ Refuses NotReady
 input-refused [] true input frames course by_line by_end e = absurd cc

@@ -2,7 +2,7 @@ mod LineLemmas
 pub mod CommandLemmas
 pub mod StackLemmas
 pub mod TurnLemmas
-pub mod DeedLemmas
+pub mod CompletionLemmas
 pub mod RunLemmas
 pub mod NumberLemmas
 pub mod UseLemmas

@@ -14,10 +14,10 @@ use Rattle.ados_text.specs.Text.{IsText, to_ascii}
 use Rattle.ados_machine.specs.declared.phases.Gathering.{Gathering}
 use Rattle.ados_machine.specs.declared.phases.Wait.TheVariants.{ForLines}
 use Rattle.ados_machine.specs.Course.{put}
-use Rattle.ados_machine.specs.Deeds.{Deed, FrameLines, Jumps, Waits}
-use Rattle.ados_machine.specs.NewShells.{begun_put, console_run, frame_run, gathered_deed, joined_or_waiting, joined_deed, new_shell, run_at, with_command}
+use Rattle.ados_machine.specs.Completions.{Completion, FrameLines, Jumps, Waits}
+use Rattle.ados_machine.specs.NewShells.{begun_put, console_run, frame_run, gathered_completion, joined_or_waiting, joined_completion, new_shell, run_at, with_command}
 use Rattle.ados_machine.specs.Numbers.{free_number}
-use Rattle.ados_machine.specs.Settle.{lines_of_frame, newest, turn_of_deed}
+use Rattle.ados_machine.specs.Settle.{lines_of_frame, newest, turn_of_completion}
 use Rattle.ados_machine.specs.Sinks.{Sink, sink_in, sink_or}
 use Rattle.ados_machine.specs.World.{seen_in}
 use Rattle.ados_shell.specs.declared.scenes.Scene.{Scene}
@@ -63,24 +63,24 @@ typed-waits scene before after word text command output sink e g =
 pub joins-waits : (scene : Scene) (before after : Draft) (gathering : Gathering) (line command : Text) (sink : Sink)
     → before_plus line ≡ Some command → nat_le (run_limit - 1) (length gathering.commands) ≡ false
     → Settles scene before after (Waits (ForLines (with_command command gathering)) (course_of scene before))
-    → Settles scene before after (joined_deed gathering line sink (course_of scene before))
+    → Settles scene before after (joined_completion gathering line sink (course_of scene before))
 joins-waits scene before after gathering line command sink e b g =
     let course = course_of scene before in
     let P : Option Text → Type 0 = λ o. Settles scene before after (joined_or_waiting gathering line sink course o) in
     let Q : Bool → Type 0 = λ x. Settles scene before after
-    (if x then gathered_deed (with_command command gathering) sink course else Waits (ForLines (with_command command gathering)) course) in
+    (if x then gathered_completion (with_command command gathering) sink course else Waits (ForLines (with_command command gathering)) course) in
     subst P (sym e) (subst Q (sym b) g)
 
 -- and makes its shell, if it may not
 pub joins-last : (scene : Scene) (before after : Draft) (gathering : Gathering) (line command : Text) (sink : Sink)
     → before_plus line ≡ Some command → nat_le (run_limit - 1) (length gathering.commands) ≡ true
-    → Settles scene before after (gathered_deed (with_command command gathering) sink (course_of scene before))
-    → Settles scene before after (joined_deed gathering line sink (course_of scene before))
+    → Settles scene before after (gathered_completion (with_command command gathering) sink (course_of scene before))
+    → Settles scene before after (joined_completion gathering line sink (course_of scene before))
 joins-last scene before after gathering line command sink e b g =
     let course = course_of scene before in
     let P : Option Text → Type 0 = λ o. Settles scene before after (joined_or_waiting gathering line sink course o) in
     let Q : Bool → Type 0 = λ x. Settles scene before after
-    (if x then gathered_deed (with_command command gathering) sink course else Waits (ForLines (with_command command gathering)) course) in
+    (if x then gathered_completion (with_command command gathering) sink course else Waits (ForLines (with_command command gathering)) course) in
     subst P (sym e) (subst Q (sym b) g)
 
 abbrev all_of : Text → FrameLines → Gathered
@@ -98,7 +98,7 @@ run-goes scene before mid after word text codes all output h p g = in_frame (fra
     still : frames_of scene mid ≡ frames_of scene before
     still = ap (drafted_frames scene.shell.now) p.frames
 
-    run-of : List FrameState → Deed
+    run-of : List FrameState → Completion
     run-of frames = run_at word output text (next_line_place scene before).sink (course_of scene before) (option_map lines_of_frame (newest frames))
 
     in_frame : (frames : List FrameState) → frames_of scene before ≡ frames
@@ -111,9 +111,9 @@ run-goes scene before mid after word text codes all output h p g = in_frame (fra
         let course = course_of scene before in
         let line = suc (frame.position + all.taken) in
         goes-same scene before mid after _ _ p.reports
-        (ap (λ x. turn_of_deed (Jumps word codes line (course_of scene mid)) x) still
-        ∙ ap (λ x. turn_of_deed (Jumps word x line (course_of scene mid)) (frames_of scene before)) p.codes_are
-        ∙ ap (λ x. turn_of_deed (Jumps word (new_shell all.commands output sink course).codes line x) (frames_of scene before)) p.course
-        ∙ ap (λ x. turn_of_deed (frame_run word output frame.position sink course x) (frames_of scene before)) (sym same)
-        ∙ ap (λ x. turn_of_deed (run-of x) (frames_of scene before)) (sym e))
+        (ap (λ x. turn_of_completion (Jumps word codes line (course_of scene mid)) x) still
+        ∙ ap (λ x. turn_of_completion (Jumps word x line (course_of scene mid)) (frames_of scene before)) p.codes_are
+        ∙ ap (λ x. turn_of_completion (Jumps word (new_shell all.commands output sink course).codes line x) (frames_of scene before)) p.course
+        ∙ ap (λ x. turn_of_completion (frame_run word output frame.position sink course x) (frames_of scene before)) (sym same)
+        ∙ ap (λ x. turn_of_completion (run-of x) (frames_of scene before)) (sym e))
         (g frame frames (still ∙ e))

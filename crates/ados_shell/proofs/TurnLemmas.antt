@@ -13,7 +13,7 @@ use Rattle.ados_machine.specs.declared.phases.Phase.TheVariants.{Ready, GoingOn}
 use Rattle.ados_machine.specs.CodeRule.{failed_line}
 use Rattle.ados_machine.specs.Items.{Item, Ended, answered_item, end_of, reports_of}
 use Rattle.ados_machine.specs.Course.{Course}
-use Rattle.ados_machine.specs.Deeds.{Passes}
+use Rattle.ados_machine.specs.Completions.{Passes}
 use Rattle.ados_machine.specs.Settled.{RuleState, RuleResult, with_items_first, rule_at_rest, with_answer, with_limit, newest_kept, without_tick, after_end, finish, pass_line}
 use Rattle.ados_machine.specs.Settle.{TurnResult, turn_by_rule, said_of}
 use Rattle.ados_shell.specs.declared.scenes.Scene.{Scene}

@@ -2,7 +2,7 @@
 use Rattle.std.specs.Prelude.{◌≡◌, ℕ, List, Option, Some, None}
 use Rattle.ados_machine.specs.declared.answers.Answer.{Answer}
 use Rattle.ados_machine.specs.declared.refusals.Refusal.TheVariants as refusal
-use Rattle.ados_machine.specs.Deeds.{Deed}
+use Rattle.ados_machine.specs.Completions.{Completion}
 use Rattle.ados_machine.specs.Turning as machine
 use Rattle.ados_shell.specs.declared.answers.Answering.{Answering}
 use Rattle.ados_shell.specs.declared.answers.Answering.TheVariants.{WrongAnswer, Goes}
@@ -29,8 +29,8 @@ GivesReply scene answer answering draft = (input : machine.Input) → IsAnswerin
 abbrev pub TakesReply : Scene → Answer → Type 0
 TakesReply scene answer = (input : machine.Input) → MayWantMemory (scene_answering scene input answer)
 
--- a turn went on by the deed that an answer gives, if it gives one
-abbrev pub IsReplied : Scene → Draft → Draft → Answering → Option Deed → Type 0
+-- a turn went on by the completion that an answer gives, if it gives one
+abbrev pub IsReplied : Scene → Draft → Draft → Answering → Option Completion → Type 0
 IsReplied scene before after WrongAnswer None = Unit {0}
-IsReplied scene before after Goes (Some deed) = Settles scene before after deed
+IsReplied scene before after Goes (Some completion) = Settles scene before after completion
 IsReplied scene before after _ _ = ⊥

@@ -22,9 +22,9 @@ use Rattle.ados_machine.specs.Shells.{ShellStart, ShellState}
 use Rattle.ados_find.specs.declared.targets.Target.{Target}
 use Rattle.ados_machine.specs.Course.{Course, shared_after_event}
 use Rattle.ados_machine.specs.NewShells.{with_shell_begun}
-use Rattle.ados_machine.specs.Deeds.{Here, Deed}
+use Rattle.ados_machine.specs.Completions.{Here, Completion}
 use Rattle.ados_machine.specs.Settled.{RuleResult, newest_kept}
-use Rattle.ados_machine.specs.Settle.{TurnResult, turn_by_rule, here_of, turn_of_deed}
+use Rattle.ados_machine.specs.Settle.{TurnResult, turn_by_rule, here_of, turn_of_completion}
 use Rattle.ados_machine.specs.Step.{out_with, shell_of_turn, course_without_flag}
 use Rattle.ados_machine.specs.World.{seen_in}
 use Rattle.ados_shell.specs.declared.scenes.Scene.{Scene}
@@ -175,9 +175,9 @@ pub record GoesOn (scene : Scene) (before after : Draft) (turned : TurnResult) :
   pub course : course_of scene after ≡ turned.course
   pub reports : after.reports.items ≡ before.reports.items ++ reports_of scene.number turned.log
 
--- a turn went on by a deed
-abbrev pub Settles : Scene → Draft → Draft → Deed → Type 0
-Settles scene before after deed = GoesOn scene before after (turn_of_deed deed (frames_of scene before))
+-- a turn went on by a completion
+abbrev pub Settles : Scene → Draft → Draft → Completion → Type 0
+Settles scene before after completion = GoesOn scene before after (turn_of_completion completion (frames_of scene before))
 
 -- a turn went on by what the code rule leaves
 abbrev pub IsRuled : Scene → Draft → Draft → RuleResult → Type 0

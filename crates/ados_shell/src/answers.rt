@@ -1,7 +1,7 @@
 // Answers of a launcher, for a shell that waits for one.
 ghost use Rattle.std.specs.Prelude.{◌≡◌, IfOk, OnErr, OnOk, is_some, true};
 ghost use Rattle.std.specs.Option.{option_copied};
-ghost use Rattle.ados_machine.specs.Answers.{answered_deed, answered_in, code_of, ended_deed, fault_in, is_piece, piece_deed, started_deed};
+ghost use Rattle.ados_machine.specs.Answers.{answered_completion, answered_in, code_of, ended_completion, fault_in, is_piece, piece_completion, started_completion};
 ghost use Rattle.std.specs.Prelude.{None};
 ghost use Rattle.ados_machine.specs.Opening.{line_output};
 ghost use Rattle.ados_text.specs.declared.codes.TheConstants.Result2.{NONE};
@@ -53,7 +53,7 @@ impl Draft {
 
     /// An answer for the scene's shell, of which nothing is changed yet.
     fn reply_by(&mut self, scene: &Scene, answer: &Answer) -> Result<Answering, NoMemory>
-        ensures deed { IfOk result (λ answering. IsReplied scene.now self.old self.new answering
+        ensures completion { IfOk result (λ answering. IsReplied scene.now self.old self.new answering
             (answered_in (next_line_place scene.now self.old).sink (course_of scene.now self.old) scene.now.shell.now.phase answer.now)) }
         ensures memory { OnErr result (is_some (answered_in (next_line_place scene.now self.old).sink (course_of scene.now self.old) scene.now.shell.now.phase answer.now) ≡ true) }
     {
@@ -74,9 +74,9 @@ impl Draft {
         wait: &Wait,
         answer: &Answer,
     ) -> Result<Answering, NoMemory>
-        ensures deed { IfOk result (λ answering. IsReplied scene.now self.old self.new answering
-            (answered_deed (next_line_place scene.now self.old).sink (course_of scene.now self.old) wait.now answer.now)) }
-        ensures memory { OnErr result (is_some (answered_deed (next_line_place scene.now self.old).sink (course_of scene.now self.old) wait.now answer.now) ≡ true) }
+        ensures completion { IfOk result (λ answering. IsReplied scene.now self.old self.new answering
+            (answered_completion (next_line_place scene.now self.old).sink (course_of scene.now self.old) wait.now answer.now)) }
+        ensures memory { OnErr result (is_some (answered_completion (next_line_place scene.now self.old).sink (course_of scene.now self.old) wait.now answer.now) ≡ true) }
     {
         match wait {
             Wait::ForAnswer(_) | Wait::ForLines(_) => Ok(Answering::WrongAnswer),
@@ -93,9 +93,9 @@ impl Draft {
         starting: &Starting,
         answer: &Answer,
     ) -> Result<Answering, NoMemory>
-        ensures deed { IfOk result (λ answering. IsReplied scene.now self.old self.new answering
-            (answered_deed (next_line_place scene.now self.old).sink (course_of scene.now self.old) (StartOf starting.now) answer.now)) }
-        ensures memory { OnErr result (is_some (answered_deed (next_line_place scene.now self.old).sink (course_of scene.now self.old) (StartOf starting.now) answer.now) ≡ true) }
+        ensures completion { IfOk result (λ answering. IsReplied scene.now self.old self.new answering
+            (answered_completion (next_line_place scene.now self.old).sink (course_of scene.now self.old) (StartOf starting.now) answer.now)) }
+        ensures memory { OnErr result (is_some (answered_completion (next_line_place scene.now self.old).sink (course_of scene.now self.old) (StartOf starting.now) answer.now) ≡ true) }
     {
         let word = &starting.word;
         match answer {
@@ -118,7 +118,7 @@ impl Draft {
     /// if that was broken. That the output is refused is the program's first fault.
     fn begin_to_read(&mut self, scene: &Scene, starting: &Starting) -> Result<(), NoMemory>
         ensures { OnOk result (Settles scene.now self.old self.new
-            (started_deed starting.now (course_of scene.now self.old) (line_output (course_of scene.now self.old) starting.now.output))) }
+            (started_completion starting.now (course_of scene.now self.old) (line_output (course_of scene.now self.old) starting.now.output))) }
     {
         match self.open_own(scene, starting.output.as_ref()) {
             Err(FsFault::NoMemory) => Err(NoMemory),
@@ -140,9 +140,9 @@ impl Draft {
         child: &Child,
         answer: &Answer,
     ) -> Result<Answering, NoMemory>
-        ensures deed { IfOk result (λ answering. IsReplied scene.now self.old self.new answering
-            (answered_deed (next_line_place scene.now self.old).sink (course_of scene.now self.old) (PieceOf child.now) answer.now)) }
-        ensures memory { OnErr result (is_some (answered_deed (next_line_place scene.now self.old).sink (course_of scene.now self.old) (PieceOf child.now) answer.now) ≡ true) }
+        ensures completion { IfOk result (λ answering. IsReplied scene.now self.old self.new answering
+            (answered_completion (next_line_place scene.now self.old).sink (course_of scene.now self.old) (PieceOf child.now) answer.now)) }
+        ensures memory { OnErr result (is_some (answered_completion (next_line_place scene.now self.old).sink (course_of scene.now self.old) (PieceOf child.now) answer.now) ≡ true) }
     {
         match answer {
             Answer::Bytes(bytes) if is_piece(bytes) => self.take_piece(scene, child, bytes)?,
@@ -169,7 +169,7 @@ impl Draft {
     /// that was broken; after a fault the piece is dropped.
     fn take_piece(&mut self, scene: &Scene, child: &Child, bytes: &Octets) -> Result<(), NoMemory>
         ensures { OnOk result (Settles scene.now self.old self.new
-            (piece_deed child.now bytes.now (next_line_place scene.now self.old).sink (course_of scene.now self.old) child.now.fault)) }
+            (piece_completion child.now bytes.now (next_line_place scene.now self.old).sink (course_of scene.now self.old) child.now.fault)) }
     {
         match child.fault {
             Some(_) => self.wait(scene, child.copy()?.with_break().next()),
@@ -181,7 +181,7 @@ impl Draft {
     /// program's first fault, unless it was broken before; its output stays open.
     fn put_piece(&mut self, scene: &Scene, child: &Child, bytes: &Octets) -> Result<(), NoMemory>
         ensures { OnOk result (Settles scene.now self.old self.new
-            (piece_deed child.now bytes.now (next_line_place scene.now self.old).sink (course_of scene.now self.old) None)) }
+            (piece_completion child.now bytes.now (next_line_place scene.now self.old).sink (course_of scene.now self.old) None)) }
     {
         let output = child.output.as_ref();
         let codes = self.put(scene, output, bytes.copy()?, Codes::NONE)?;
@@ -197,9 +197,9 @@ impl Draft {
         child: &Child,
         answer: &Answer,
     ) -> Result<Answering, NoMemory>
-        ensures deed { IfOk result (λ answering. IsReplied scene.now self.old self.new answering
-            (answered_deed (next_line_place scene.now self.old).sink (course_of scene.now self.old) (EndOf child.now) answer.now)) }
-        ensures memory { OnErr result (is_some (answered_deed (next_line_place scene.now self.old).sink (course_of scene.now self.old) (EndOf child.now) answer.now) ≡ true) }
+        ensures completion { IfOk result (λ answering. IsReplied scene.now self.old self.new answering
+            (answered_completion (next_line_place scene.now self.old).sink (course_of scene.now self.old) (EndOf child.now) answer.now)) }
+        ensures memory { OnErr result (is_some (answered_completion (next_line_place scene.now self.old).sink (course_of scene.now self.old) (EndOf child.now) answer.now) ≡ true) }
     {
         match answer {
             Answer::Exit(status) => self.end_program(scene, child, codes_of(*status))?,
@@ -225,7 +225,7 @@ impl Draft {
 
     /// The program has ended: the first fault that came is its command's; without one the command answers with these codes.
     fn end_program(&mut self, scene: &Scene, child: &Child, codes: Codes) -> Result<(), NoMemory>
-        ensures { OnOk result (Settles scene.now self.old self.new (ended_deed child.now codes (course_of scene.now self.old) child.now.fault)) }
+        ensures { OnOk result (Settles scene.now self.old self.new (ended_completion child.now codes (course_of scene.now self.old) child.now.fault)) }
     {
         match child.fault {
             Some(fault) => self.refuse(scene, &child.word, fault),

@@ -1,7 +1,7 @@
 // A line whose word leads to a directory: the change to it.
 ghost use Rattle.std.specs.Prelude.{◌≡◌, IfOk, OnOk};
 ghost use Rattle.ados_find.specs.Effects.{DoesTo};
-ghost use Rattle.ados_machine.specs.Lines.{arrival, arrived_deed, arriving_deed, directory_deed};
+ghost use Rattle.ados_machine.specs.Lines.{arrival, arrived_completion, arriving_completion, directory_completion};
 
 use crate::drafts::Draft;
 use crate::inputs::is_end;
@@ -20,7 +20,7 @@ impl Draft {
     pub fn arrive(&mut self, scene: &Scene, place: Place, line: &Line) -> Result<(), NoMemory>
         requires { IsUnset self.old }
         ensures { OnOk result (Settles scene.now self.old self.new
-            (directory_deed place line.now (next_line_place scene.now self.old) (course_of scene.now self.old))) }
+            (directory_completion place line.now (next_line_place scene.now self.old) (course_of scene.now self.old))) }
     {
         match self.read_own(scene, line.input.as_ref()) {
             Err(FsFault::NoMemory) => Err(NoMemory),
@@ -33,7 +33,7 @@ impl Draft {
     fn change_to(&mut self, scene: &Scene, place: Place, line: &Line) -> Result<(), NoMemory>
         requires { IsUnset self.old }
         ensures { OnOk result (Settles scene.now self.old self.new
-            (arriving_deed place line.now (next_line_place scene.now self.old) (course_of scene.now self.old))) }
+            (arriving_completion place line.now (next_line_place scene.now self.old) (course_of scene.now self.old))) }
     {
         match self.open_own(scene, line.output.as_ref()) {
             Err(FsFault::NoMemory) => Err(NoMemory),
@@ -52,7 +52,7 @@ impl Draft {
     ) -> Result<(), NoMemory>
         requires { IsUnset self.old }
         ensures { OnOk result (Settles scene.now self.old self.new
-            (arrived_deed place line.now target (next_line_place scene.now self.old) (course_of scene.now self.old))) }
+            (arrived_completion place line.now target (next_line_place scene.now self.old) (course_of scene.now self.old))) }
     {
         let outcome = arrival(scene.alloc, place, &line.args)?;
         self.apply(scene, &line.command, target.as_ref(), outcome)

@@ -1,6 +1,6 @@
 // A line whose word is a script: its call.
 ghost use Rattle.std.specs.Prelude.{◌≡◌, OnOk};
-ghost use Rattle.ados_machine.specs.Lines.{called_deed, calling_deed, script_deed};
+ghost use Rattle.ados_machine.specs.Lines.{called_completion, calling_completion, script_completion};
 
 use crate::drafts::Draft;
 use crate::scenes::Scene;
@@ -23,7 +23,7 @@ impl Draft {
     pub fn run_script(&mut self, scene: &Scene, place: Place, line: &Line) -> Result<(), NoMemory>
         requires { IsUnset self.old }
         ensures { OnOk result (Settles scene.now self.old self.new
-            (script_deed place line.now (next_line_place scene.now self.old) (course_of scene.now self.old))) }
+            (script_completion place line.now (next_line_place scene.now self.old) (course_of scene.now self.old))) }
     {
         match self.read_own(scene, line.input.as_ref()) {
             Err(FsFault::NoMemory) => Err(NoMemory),
@@ -36,7 +36,7 @@ impl Draft {
     fn call_into(&mut self, scene: &Scene, place: &Place, line: &Line) -> Result<(), NoMemory>
         requires { IsUnset self.old }
         ensures { OnOk result (Settles scene.now self.old self.new
-            (calling_deed place.now line.now (next_line_place scene.now self.old) (course_of scene.now self.old))) }
+            (calling_completion place.now line.now (next_line_place scene.now self.old) (course_of scene.now self.old))) }
     {
         match self.open_own(scene, line.output.as_ref()) {
             Err(FsFault::NoMemory) => Err(NoMemory),
@@ -55,7 +55,7 @@ impl Draft {
     ) -> Result<(), NoMemory>
         requires { IsUnset self.old }
         ensures { OnOk result (Settles scene.now self.old self.new
-            (called_deed place.now line.now target (next_line_place scene.now self.old) (course_of scene.now self.old))) }
+            (called_completion place.now line.now target (next_line_place scene.now self.old) (course_of scene.now self.old))) }
     {
         let action = self.script(scene, place, line, target.as_ref())?;
         self.act(scene, &line.command, target, None, action)

@@ -3,7 +3,7 @@ ghost use Rattle.std.specs.Prelude.{◌≡◌, ◌+◌, ◌∷◌, List, suc, If
 ghost use Rattle.ados_flow.specs.Frames.{FrameState};
 ghost use Rattle.ados_shell.specs.Stacks.{HasTaken};
 ghost use Rattle.ados_machine.specs.Settled.{finish, pass_line};
-ghost use Rattle.ados_machine.specs.Deeds.{Answers, Calls, Jumps, Passes, refusal_deed};
+ghost use Rattle.ados_machine.specs.Completions.{Answers, Calls, Jumps, Passes, refusal_completion};
 ghost use Rattle.ados_machine.specs.Settle.{enter_script, said_of};
 ghost use Rattle.ados_shell.specs.Reports.{report_of};
 
@@ -55,7 +55,7 @@ impl Draft {
 
     /// A command is refused with 20.
     pub fn refuse(&mut self, scene: &Scene, word: &Text, fault: Result2) -> Result<(), NoMemory>
-        ensures { OnOk result (Settles scene.now self.old self.new (refusal_deed word.now fault (course_of scene.now self.old))) }
+        ensures { OnOk result (Settles scene.now self.old self.new (refusal_completion word.now fault (course_of scene.now self.old))) }
     {
         self.answer(scene, word.as_bytes(), Codes::failed(fault), false)
     }

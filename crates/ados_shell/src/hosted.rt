@@ -2,8 +2,8 @@
 ghost use Rattle.std.specs.Prelude.{◌≡◌, ℕ, List, Option, Some, IfOk, OnOk};
 ghost use Rattle.ados_items.specs.Items.{words_of};
 ghost use Rattle.std.specs.Option.{option_copied};
-ghost use Rattle.ados_machine.specs.Hosted.{host_deed, start_deed, tested_deed};
-ghost use Rattle.ados_machine.specs.Lines.{program_deed};
+ghost use Rattle.ados_machine.specs.Hosted.{host_completion, start_completion, tested_completion};
+ghost use Rattle.ados_machine.specs.Lines.{program_completion};
 ghost use Rattle.ados_machine.specs.Opening.{line_output};
 
 use crate::drafts::Draft;
@@ -28,7 +28,7 @@ impl Draft {
     ) -> Result<(), NoMemory>
         requires { IsUnset self.old }
         ensures { OnOk result (Settles scene.now self.old self.new
-            (program_deed entry program line.now (next_line_place scene.now self.old) (course_of scene.now self.old))) }
+            (program_completion entry program line.now (next_line_place scene.now self.old) (course_of scene.now self.old))) }
     {
         match program {
             Program::Disk(command) => self.prepare(scene, Builtin::from(command), line),
@@ -44,7 +44,7 @@ impl Draft {
         program: Text,
         line: &Line,
     ) -> Result<(), NoMemory>
-        ensures { OnOk result (Settles scene.now self.old self.new (host_deed entry program line.now (course_of scene.now self.old))) }
+        ensures { OnOk result (Settles scene.now self.old self.new (host_completion entry program line.now (course_of scene.now self.old))) }
     {
         match &line.input {
             Some(_) => self.refuse(scene, &line.command, Result2::NOT_IMPLEMENTED),
@@ -61,7 +61,7 @@ impl Draft {
         line: &Line,
     ) -> Result<(), NoMemory>
         ensures { OnOk result (Settles scene.now self.old self.new
-            (tested_deed entry program line.now (course_of scene.now self.old) (line_output (course_of scene.now self.old) line.now.output))) }
+            (tested_completion entry program line.now (course_of scene.now self.old) (line_output (course_of scene.now self.old) line.now.output))) }
     {
         match self.open(scene, line.output.as_ref()) {
             Err(FsFault::NoMemory) => Err(NoMemory),
@@ -79,7 +79,7 @@ impl Draft {
         line: &Line,
     ) -> Result<(), NoMemory>
         ensures { OnOk result ((words : Option (List (List ℕ))) → words ≡ words_of line.now.args →
-            Settles scene.now self.old self.new (start_deed entry program line.now (course_of scene.now self.old) words)) }
+            Settles scene.now self.old self.new (start_completion entry program line.now (course_of scene.now self.old) words)) }
     {
         match words(scene.alloc, line.args.as_bytes()) {
             Err(ItemFault::NoMemory) => Err(NoMemory),
@@ -99,7 +99,7 @@ impl Draft {
         args: Texts,
         line: &Line,
     ) -> Result<(), NoMemory>
-        ensures { OnOk result (Settles scene.now self.old self.new (start_deed entry program line.now (course_of scene.now self.old) (Some args))) }
+        ensures { OnOk result (Settles scene.now self.old self.new (start_completion entry program line.now (course_of scene.now self.old) (Some args))) }
     {
         let starting = Starting {
             word: line.command.copy()?,

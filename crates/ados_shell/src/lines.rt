@@ -2,8 +2,8 @@
 ghost use Rattle.std.specs.Prelude.{◌≡◌, IfOk, OnOk};
 ghost use Rattle.ados_find.specs.Routes.{route_devices};
 ghost use Rattle.ados_machine.specs.Course.{with_devices_used};
-ghost use Rattle.ados_machine.specs.Deeds.{line_fault};
-ghost use Rattle.ados_machine.specs.Lines.{expanded_deed, found_deed, found_in, line_deed, with_search_used};
+ghost use Rattle.ados_machine.specs.Completions.{line_fault};
+ghost use Rattle.ados_machine.specs.Lines.{expanded_completion, found_completion, found_in, line_completion, with_search_used};
 
 use crate::drafts::Draft;
 use crate::scenes::Scene;
@@ -28,7 +28,7 @@ impl Draft {
     pub fn obey(&mut self, scene: &Scene, raw: &Text) -> Result<(), NoMemory>
         requires { IsUnset self.old }
         ensures { OnOk result (Settles scene.now self.old self.new
-            (line_deed raw.now (next_line_place scene.now self.old) (course_of scene.now self.old))) }
+            (line_completion raw.now (next_line_place scene.now self.old) (course_of scene.now self.old))) }
     {
         let expanded = self.expanded(scene, raw);
         self.use_variables(scene, raw)?;
@@ -43,7 +43,7 @@ impl Draft {
     ) -> Result<(), NoMemory>
         requires { IsUnset self.old }
         ensures { OnOk result ((found : Result Expanded LineFault) → Gives expanded found →
-            Settles scene.now self.old self.new (expanded_deed found (next_line_place scene.now self.old) (course_of scene.now self.old))) }
+            Settles scene.now self.old self.new (expanded_completion found (next_line_place scene.now self.old) (course_of scene.now self.old))) }
     {
         match expanded {
             Err(LineFault::NoMemory) => Err(NoMemory),
@@ -96,7 +96,7 @@ impl Draft {
     fn seek(&mut self, scene: &Scene, line: &Line) -> Result<(), NoMemory>
         requires { IsUnset self.old }
         ensures { OnOk result (Settles scene.now self.old self.new
-            (found_deed (found_in (course_of scene.now self.old) line.now.command) line.now (next_line_place scene.now self.old) (with_search_used line.now.command (course_of scene.now self.old)))) }
+            (found_completion (found_in (course_of scene.now self.old) line.now.command) line.now (next_line_place scene.now self.old) (with_search_used line.now.command (course_of scene.now self.old)))) }
     {
         let Search { found, route } = self.find(scene, &line.command)?;
         self.use_route(scene, route, &line.command)?;
@@ -107,7 +107,7 @@ impl Draft {
     fn work_found(&mut self, scene: &Scene, found: Found, line: &Line) -> Result<(), NoMemory>
         requires { IsUnset self.old }
         ensures { OnOk result (Settles scene.now self.old self.new
-            (found_deed found line.now (next_line_place scene.now self.old) (course_of scene.now self.old))) }
+            (found_completion found line.now (next_line_place scene.now self.old) (course_of scene.now self.old))) }
     {
         let word = line.command.as_bytes();
         match found {

@@ -1,8 +1,8 @@
 // Prompts: a command that asks for its arguments.
 ghost use Rattle.std.specs.Prelude.{◌≡◌, ◌++◌, Ok, Some, IfOk, OnOk, drop};
 ghost use Rattle.std.specs.Option.{option_copied, option_map};
-ghost use Rattle.ados_machine.specs.Deeds.{Waits};
-ghost use Rattle.ados_machine.specs.Lines.{answer_deed, asked_deed, builtin_deed, command_deed, prompt_deed};
+ghost use Rattle.ados_machine.specs.Completions.{Waits};
+ghost use Rattle.ados_machine.specs.Lines.{answer_completion, asked_completion, builtin_completion, command_completion, prompt_completion};
 ghost use Rattle.ados_machine.specs.Prompts.{first_of, input_lines, prompt, with_args};
 ghost use Rattle.ados_ram.specs.FileOperations.{Gives};
 
@@ -24,7 +24,7 @@ impl Draft {
     pub fn prepare(&mut self, scene: &Scene, builtin: Builtin, line: &Line) -> Result<(), NoMemory>
         requires { IsUnset self.old }
         ensures { OnOk result (Settles scene.now self.old self.new
-            (builtin_deed builtin line.now (next_line_place scene.now self.old) (course_of scene.now self.old))) }
+            (builtin_completion builtin line.now (next_line_place scene.now self.old) (course_of scene.now self.old))) }
     {
         match self.read_own(scene, line.input.as_ref()) {
             Err(FsFault::NoMemory) => Err(NoMemory),
@@ -69,7 +69,7 @@ impl Draft {
     ) -> Result<(), NoMemory>
         requires { IsUnset self.old }
         ensures { OnOk result (Settles scene.now self.old self.new
-            (asked_deed builtin line.now (next_line_place scene.now self.old) (option_map (λ l. l.now) input.entry) (course_of scene.now self.old))) }
+            (asked_completion builtin line.now (next_line_place scene.now self.old) (option_map (λ l. l.now) input.entry) (course_of scene.now self.old))) }
     {
         if asks(&line.args) {
             self.ask(scene, builtin, line, input)
@@ -88,7 +88,7 @@ impl Draft {
     ) -> Result<(), NoMemory>
         requires { IsUnset self.old }
         ensures { OnOk result (Settles scene.now self.old self.new
-            (prompt_deed builtin line.now (next_line_place scene.now self.old) (course_of scene.now self.old) (option_map (λ l. l.now) input.entry))) }
+            (prompt_completion builtin line.now (next_line_place scene.now self.old) (course_of scene.now self.old) (option_map (λ l. l.now) input.entry))) }
     {
         push_prompt(&mut self.printed, builtin)?;
         match input {
@@ -121,7 +121,7 @@ impl Draft {
     ) -> Result<(), NoMemory>
         requires { IsUnset self.old }
         ensures { OnOk result (Settles scene.now self.old self.new
-            (command_deed builtin (with_args line.now (first_of lines.now)) (Some (drop 1 lines.now)) (next_line_place scene.now self.old) (course_of scene.now self.old))) }
+            (command_completion builtin (with_args line.now (first_of lines.now)) (Some (drop 1 lines.now)) (next_line_place scene.now self.old) (course_of scene.now self.old))) }
     {
         let line = line.with_args(first_of(scene.alloc, lines)?)?;
         self.begin(scene, builtin, &line, Some(behind_first(lines)))
@@ -131,7 +131,7 @@ impl Draft {
     pub fn resume(&mut self, scene: &Scene, asking: &Asking, answer: &Text) -> Result<(), NoMemory>
         requires { IsUnset self.old }
         ensures { OnOk result (Settles scene.now self.old self.new
-            (answer_deed answer.now asking.now (next_line_place scene.now self.old) (course_of scene.now self.old))) }
+            (answer_completion answer.now asking.now (next_line_place scene.now self.old) (course_of scene.now self.old))) }
     {
         match asking {
             Asking::Arguments { builtin, line } => {

@@ -1,7 +1,7 @@
 // Questions: what Ask does, and what a reply does.
 ghost use Rattle.std.specs.Prelude.{◌≡◌, ◌++◌, IfOk, OnOk};
 ghost use Rattle.std.specs.Option.{option_map};
-ghost use Rattle.ados_machine.specs.Questions.{ask_deed, inquiry, question_deed, question_text, reply_deed};
+ghost use Rattle.ados_machine.specs.Questions.{ask_completion, inquiry, question_completion, question_text, reply_completion};
 
 use crate::drafts::Draft;
 use crate::scenes::Scene;
@@ -22,7 +22,7 @@ impl Draft {
         input: Option<&[Text]>,
     ) -> Result<(), NoMemory>
         ensures { OnOk result (Settles scene.now self.old self.new
-            (ask_deed question (option_map (λ l. l.now) input.entry) (course_of scene.now self.old))) }
+            (ask_completion question (option_map (λ l. l.now) input.entry) (course_of scene.now self.old))) }
     {
         match input {
             None => self.question(scene, question),
@@ -35,7 +35,7 @@ impl Draft {
 
     /// The question is asked, and its shell waits for a line.
     fn question(&mut self, scene: &Scene, question: Question) -> Result<(), NoMemory>
-        ensures { OnOk result (Settles scene.now self.old self.new (question_deed question (course_of scene.now self.old))) }
+        ensures { OnOk result (Settles scene.now self.old self.new (question_completion question (course_of scene.now self.old))) }
     {
         push_question(&mut self.printed, &question.prompt)?;
         self.wait(scene, Wait::ForAnswer(Asking::Reply(question)))
@@ -43,7 +43,7 @@ impl Draft {
 
     /// Takes a reply to a question that waited; if it is not a reply, the question is asked again.
     pub fn reply(&mut self, scene: &Scene, question: &Question, line: &Text) -> Result<(), NoMemory>
-        ensures { OnOk result (Settles scene.now self.old self.new (reply_deed line.now question.now (course_of scene.now self.old))) }
+        ensures { OnOk result (Settles scene.now self.old self.new (reply_completion line.now question.now (course_of scene.now self.old))) }
     {
         match reply_of(line) {
             Some(codes) => self.answer(scene, question.word.as_bytes(), codes, false),

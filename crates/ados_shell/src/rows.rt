@@ -3,7 +3,7 @@ ghost use Rattle.std.specs.Prelude.{◌≡◌, None, IfOk, OnOk};
 ghost use Rattle.std.specs.Option.{option_copied, option_map};
 ghost use Rattle.ados_find.specs.Effects.{effect_of};
 ghost use Rattle.ados_flow.specs.Actions.{Does, action_effect};
-ghost use Rattle.ados_machine.specs.Lines.{action_deed, action_in, busy_in, command_deed, names_in, view_of, with_arguments, work_deed};
+ghost use Rattle.ados_machine.specs.Lines.{action_completion, action_in, busy_in, command_completion, names_in, view_of, with_arguments, work_completion};
 
 use crate::drafts::{Draft, ShellDraft};
 use crate::scenes::Scene;
@@ -32,7 +32,7 @@ impl Draft {
     ) -> Result<(), NoMemory>
         requires { IsUnset self.old }
         ensures { OnOk result (Settles scene.now self.old self.new
-            (command_deed builtin line.now (option_map (λ l. l.now) input.entry) (next_line_place scene.now self.old) (course_of scene.now self.old))) }
+            (command_completion builtin line.now (option_map (λ l. l.now) input.entry) (next_line_place scene.now self.old) (course_of scene.now self.old))) }
     {
         match self.open_own(scene, line.output.as_ref()) {
             Err(FsFault::NoMemory) => Err(NoMemory),
@@ -52,7 +52,7 @@ impl Draft {
     ) -> Result<(), NoMemory>
         requires { IsUnset self.old }
         ensures { OnOk result (Settles scene.now self.old self.new
-            (work_deed builtin line.now target (option_map (λ l. l.now) input.entry) (next_line_place scene.now self.old) (course_of scene.now self.old))) }
+            (work_completion builtin line.now target (option_map (λ l. l.now) input.entry) (next_line_place scene.now self.old) (course_of scene.now self.old))) }
     {
         let action = self.action(scene, builtin, line, target.as_ref())?;
         self.act(scene, &line.command, target, input, action)
@@ -69,7 +69,7 @@ impl Draft {
     ) -> Result<(), NoMemory>
         requires { IsUnset self.old }
         ensures { OnOk result (Settles scene.now self.old self.new
-            (action_deed word.now target (option_map (λ l. l.now) input.entry) (action_effect (course_of scene.now self.old).shared action)
+            (action_completion word.now target (option_map (λ l. l.now) input.entry) (action_effect (course_of scene.now self.old).shared action)
             (next_line_place scene.now self.old) (course_of scene.now self.old))) }
     {
         match action {
@@ -90,7 +90,7 @@ impl Draft {
 
     /// What a command does whose output leads there, with the shell and the shared parts as they are now; the devices that its
     /// arguments use are used.
-    #[tactic(auto, unfolding(ados_machine::specs::Uses::reached))]
+    #[tactic(auto, unfolding(ados_machine::specs::Uses::devices_reached))]
     fn action(
         &mut self,
         scene: &Scene,
@@ -196,7 +196,7 @@ impl Draft {
     ) -> Result<(), NoMemory>
         requires { IsUnset self.old }
         ensures { OnOk result (Settles scene.now self.old self.new
-            (action_deed word.now (option_copied target.entry) None (Does (effect_of (course_of scene.now self.old).shared outcome))
+            (action_completion word.now (option_copied target.entry) None (Does (effect_of (course_of scene.now self.old).shared outcome))
             (next_line_place scene.now self.old) (course_of scene.now self.old))) }
     {
         let Outcome {

@@ -2,7 +2,7 @@
 ghost use Rattle.std.specs.Prelude.{◌≡◌, ◌-◌, ◌++◌, ◌∷◌, [], drop, IfOk, IfSome, OnOk};
 ghost use Rattle.std.specs.Option.{option_copied, option_map};
 ghost use Rattle.ados_flow.specs.Gathering.{before_plus, run_gathering, run_limit};
-ghost use Rattle.ados_machine.specs.NewShells.{answered_put, console_run, gathered_deed, joined_deed, new_shell, run_at, run_deed, run_into, running_deed};
+ghost use Rattle.ados_machine.specs.NewShells.{answered_put, console_run, gathered_completion, joined_completion, new_shell, run_at, run_completion, run_into, running_completion};
 ghost use Rattle.ados_shell.specs.Stacks.{HasTaken};
 
 use crate::begun::Begun;
@@ -27,7 +27,7 @@ impl Draft {
     pub fn run(&mut self, scene: &Scene, line: &Line) -> Result<(), NoMemory>
         requires { IsUnset self.old }
         ensures { OnOk result (Settles scene.now self.old self.new
-            (run_deed line.now (next_line_place scene.now self.old) (course_of scene.now self.old))) }
+            (run_completion line.now (next_line_place scene.now self.old) (course_of scene.now self.old))) }
     {
         match self.read_own(scene, line.input.as_ref()) {
             Err(FsFault::NoMemory) => Err(NoMemory),
@@ -40,7 +40,7 @@ impl Draft {
     fn run_into(&mut self, scene: &Scene, line: &Line) -> Result<(), NoMemory>
         requires { IsUnset self.old }
         ensures { OnOk result (Settles scene.now self.old self.new
-            (running_deed line.now (next_line_place scene.now self.old) (course_of scene.now self.old))) }
+            (running_completion line.now (next_line_place scene.now self.old) (course_of scene.now self.old))) }
     {
         match self.open_own(scene, line.output.as_ref()) {
             Err(FsFault::NoMemory) => Err(NoMemory),
@@ -138,7 +138,7 @@ impl Draft {
     ) -> Result<(), NoMemory>
         requires { IsUnset self.old }
         ensures { OnOk result (Settles scene.now self.old self.new
-            (joined_deed gathering.now line.now (next_line_place scene.now self.old).sink (course_of scene.now self.old))) }
+            (joined_completion gathering.now line.now (next_line_place scene.now self.old).sink (course_of scene.now self.old))) }
     {
         let before = gathering.commands.as_slice();
         let Gathering { word, output, .. } = gathering;
@@ -168,7 +168,7 @@ impl Draft {
     pub fn gather_no_more(&mut self, scene: &Scene, gathering: &Gathering) -> Result<(), NoMemory>
         requires { IsUnset self.old }
         ensures { OnOk result (Settles scene.now self.old self.new
-            (gathered_deed gathering.now (next_line_place scene.now self.old).sink (course_of scene.now self.old))) }
+            (gathered_completion gathering.now (next_line_place scene.now self.old).sink (course_of scene.now self.old))) }
     {
         let Gathering {
             word,

@@ -3,8 +3,8 @@ ghost use Rattle.std.specs.Prelude.{◌≡◌, ◌++◌, ◌∷◌, [], reverse,
 ghost use Rattle.ados_machine.specs.Course.{put, tick_limit};
 ghost use Rattle.std.specs.Prelude.{if◌then◌else◌};
 ghost use Rattle.ados_text.specs.declared.codes.TheConstants.Result2.{TOO_MANY_LEVELS};
-ghost use Rattle.ados_machine.specs.Deeds.{Ticks, line_fault};
-ghost use Rattle.ados_machine.specs.Lines.{parted_deed};
+ghost use Rattle.ados_machine.specs.Completions.{Ticks, line_fault};
+ghost use Rattle.ados_machine.specs.Lines.{parted_completion};
 ghost use Rattle.ados_machine.specs.Settle.{said_of, enter_tick};
 ghost use Rattle.ados_machine.specs.Sinks.{Kept};
 
@@ -93,7 +93,7 @@ impl Draft {
     pub fn go_on(&mut self, scene: &Scene, parted: &Parted) -> Result<(), NoMemory>
         requires { IsUnset self.old }
         ensures { OnOk result (Settles scene.now self.old self.new
-            (parted_deed parted.now (next_line_place scene.now self.old) (course_of scene.now self.old))) }
+            (parted_completion parted.now (next_line_place scene.now self.old) (course_of scene.now self.old))) }
     {
         let output = parted.output.as_bytes();
         let expanded = resume(scene.alloc, &parted.before, output, &parted.after);

@@ -1,9 +1,9 @@
 // A turn of a shell.
 ghost use Rattle.std.specs.Prelude.{◌≡◌, [], IfOk, OnErr, OnOk, OnSome};
 ghost use Rattle.std.specs.Option.{option_copied};
-ghost use Rattle.ados_machine.specs.Lines.{answer_deed, line_deed, parted_deed};
-ghost use Rattle.ados_machine.specs.NewShells.{gathered_deed, joined_deed};
-ghost use Rattle.ados_machine.specs.Settle.{here_of, turn_of_deed};
+ghost use Rattle.ados_machine.specs.Lines.{answer_completion, line_completion, parted_completion};
+ghost use Rattle.ados_machine.specs.NewShells.{gathered_completion, joined_completion};
+ghost use Rattle.ados_machine.specs.Settle.{here_of, turn_of_completion};
 ghost use Rattle.ados_shell.specs.Stacks.{HasRoom};
 ghost use Rattle.ados_shell.specs.Turnings.{next_of};
 
@@ -81,7 +81,7 @@ impl Draft {
     /// A line whose tick has ended goes on.
     fn take_parted(&mut self, scene: &Scene, parted: &Parted) -> Result<(), NoMemory>
         ensures { OnOk result (IsDrafted scene.now self.new
-            (turn_of_deed (parted_deed parted.now (here_of scene.now.shell.now.frames) (turn_start scene.now)) scene.now.shell.now.frames)) }
+            (turn_of_completion (parted_completion parted.now (here_of scene.now.shell.now.frames) (turn_start scene.now)) scene.now.shell.now.frames)) }
     {
         self.begin_turn(scene.shell);
         self.go_on(scene, parted)?;
@@ -133,7 +133,7 @@ impl Draft {
         line: &Text,
     ) -> Result<(), NoMemory>
         ensures { OnOk result (IsDrafted scene.now self.new
-            (turn_of_deed (joined_deed gathering.now line.now (here_of scene.now.shell.now.frames).sink (turn_start scene.now)) scene.now.shell.now.frames)) }
+            (turn_of_completion (joined_completion gathering.now line.now (here_of scene.now.shell.now.frames).sink (turn_start scene.now)) scene.now.shell.now.frames)) }
     {
         self.begin_turn(scene.shell);
         self.join(scene, gathering, line)?;
@@ -143,7 +143,7 @@ impl Draft {
     /// No more lines come for a Run that gathers.
     fn take_no_command(&mut self, scene: &Scene, gathering: &Gathering) -> Result<(), NoMemory>
         ensures { OnOk result (IsDrafted scene.now self.new
-            (turn_of_deed (gathered_deed gathering.now (here_of scene.now.shell.now.frames).sink (turn_start scene.now)) scene.now.shell.now.frames)) }
+            (turn_of_completion (gathered_completion gathering.now (here_of scene.now.shell.now.frames).sink (turn_start scene.now)) scene.now.shell.now.frames)) }
     {
         self.begin_turn(scene.shell);
         self.gather_no_more(scene, gathering)?;
@@ -176,7 +176,7 @@ impl Draft {
     /// The answer to a prompt is taken: the line stands for the arguments as it is.
     fn take_answer(&mut self, scene: &Scene, asking: &Asking, line: &Text) -> Result<(), NoMemory>
         ensures { OnOk result (IsDrafted scene.now self.new
-            (turn_of_deed (answer_deed line.now asking.now (here_of scene.now.shell.now.frames) (turn_start scene.now)) scene.now.shell.now.frames)) }
+            (turn_of_completion (answer_completion line.now asking.now (here_of scene.now.shell.now.frames) (turn_start scene.now)) scene.now.shell.now.frames)) }
     {
         self.begin_turn(scene.shell);
         self.resume(scene, asking, line)?;
@@ -202,7 +202,7 @@ impl Draft {
     /// A typed line is taken.
     fn take_typed(&mut self, scene: &Scene, line: &Text) -> Result<(), NoMemory>
         ensures { OnOk result (IsDrafted scene.now self.new
-            (turn_of_deed (line_deed line.now (here_of scene.now.shell.now.frames) (turn_start scene.now)) scene.now.shell.now.frames)) }
+            (turn_of_completion (line_completion line.now (here_of scene.now.shell.now.frames) (turn_start scene.now)) scene.now.shell.now.frames)) }
     {
         self.begin_turn(scene.shell);
         self.obey(scene, line)?;

@@ -19,7 +19,7 @@ impl Draft {
     ghost use Rattle.ados_shell.specs.Uses.{HasBound, HasUsed, IsBound};
 
     /// The device of a path's text is used.
-    #[tactic(auto, unfolding(ados_machine::specs::Uses::reached))]
+    #[tactic(auto, unfolding(ados_machine::specs::Uses::devices_reached))]
     pub fn use_path(&mut self, scene: &Scene, text: &Text) -> Result<(), NoMemory>
         ensures { OnOk result (HasUsed scene.now self.old self.new (with_devices_used (device_named text.now) (course_of scene.now self.old))) }
     {
@@ -31,7 +31,7 @@ impl Draft {
     }
 
     /// A device is used.
-    #[tactic(auto, unfolding(ados_machine::specs::Uses::reached))]
+    #[tactic(auto, unfolding(ados_machine::specs::Uses::devices_reached))]
     fn use_device(&mut self, scene: &Scene, device: Name) -> Result<(), NoMemory>
         ensures { OnOk result (HasUsed scene.now self.old self.new (with_devices_used (device ∷ []) (course_of scene.now self.old))) }
     {

@@ -79,7 +79,7 @@ impl Locals {
     /// Removes a name, if it exists. RC and Result2 are set again by the end of each command: one of them goes last.
     ///
     /// On `NoMemory` nothing is changed; only RC and Result2 allocate.
-    #[tactic(auto, unfolding(crate::specs::Locals::unset_in))]
+    #[tactic(auto, unfolding(crate::specs::Locals::unset_pair))]
     pub fn unset(&mut self, name: &Name) -> Result<(), NoMemory>
         ensures ok { OnOk result (self.new ≡ unset_pair self.old name.now) }
         ensures err { OnErr result (self.new ≡ self.old) }
@@ -113,7 +113,7 @@ impl Locals {
     }
 
     /// All names with their values, in order, after these results of the last command.
-    #[tactic(auto, unfolding(crate::specs::Locals::shown))]
+    #[tactic(auto, unfolding(crate::specs::Locals::shown_pairs))]
     pub fn list(&self, code: Code, result2: Result2) -> Result<Vars, NoMemory>
         ensures { IfOk result (λ vars. vars ≡ shown_pairs self.now code result2) }
     {

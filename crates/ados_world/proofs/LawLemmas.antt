@@ -7,7 +7,7 @@ use Rattle.ados_machine.specs.declared.events.Event.TheVariants.{Typed, EndOfInp
 use Rattle.ados_machine.specs.declared.outs.Out.{Out}
 use Rattle.ados_machine.specs.declared.refusals.Refusal.{Refusal}
 use Rattle.ados_machine.specs.Given.{request_after_event}
-use Rattle.ados_machine.specs.InUse.{asks, entry_of}
+use Rattle.ados_machine.specs.InUse.{asks, entry_of, outputs_held, runs_program}
 use Rattle.ados_machine.specs.Limits.{IsSane}
 use Rattle.ados_machine.specs.Shells.{ShellState}
 use Rattle.ados_machine.specs.World.{WorldState, shell_at}
@@ -19,6 +19,7 @@ use Rattle.ados_machine.proofs.RunLemmas.{Runs-more}
 use Rattle.ados_machine.proofs.Starts.{Fails, step-fails}
 use Rattle.ados_machine.proofs.InVain.{leaves-nothing}
 use Rattle.ados_machine.proofs.UseLemmas.{entries-stay}
+use Rattle.ados_machine.proofs.OutputLemmas.{outputs-stay}
 use Rattle.ados_world.specs.Laws.{FailedStart, LeavesNothing, NextLeavesNothing, AfterTurn, FailedStartsLeaveNothingIn}
 
 -- an answer that was accepted
@@ -124,3 +125,14 @@ entry-stays w event out (Accepted world given items) is answer k before behind =
 pub step-keeps-entries : (w : WorldState) (event : Event) (out : Out) → IsAnswer event (Ok out) (step_of w event) →
     (k : ℕ) → asks w k ≡ true → asks (world_after w (Ok out) (step_of w event)) k ≡ true → entry_of (world_after w (Ok out) (step_of w event)) k ≡ entry_of w k
 step-keeps-entries w event out answer k before behind = entry-stays w event out (step_of w event) refl answer k before behind
+
+-- the outputs of a shell stay open while its program runs
+output-stays : (w : WorldState) (event : Event) (out : Out) (r : Response) → step_of w event ≡ r → IsAnswer event (Ok out) r →
+    (k : ℕ) → runs_program w k ≡ true → runs_program (world_after w (Ok out) r) k ≡ true → outputs_held (world_after w (Ok out) r) k ≡ outputs_held w k
+output-stays w event out (Refused why) is answer k before behind = absurd answer
+output-stays w event out (Accepted world given items) is answer k before behind = outputs-stay w event world given items is k before behind
+
+pub step-keeps-outputs : (w : WorldState) (event : Event) (out : Out) → IsAnswer event (Ok out) (step_of w event) →
+    (k : ℕ) → runs_program w k ≡ true → runs_program (world_after w (Ok out) (step_of w event)) k ≡ true →
+    outputs_held (world_after w (Ok out) (step_of w event)) k ≡ outputs_held w k
+step-keeps-outputs w event out answer k before behind = output-stays w event out (step_of w event) refl answer k before behind

@@ -6,7 +6,7 @@ use Rattle.ados_machine.specs.Numbers.{free_number}
 use Rattle.ados_machine.specs.World.{WorldState, shell_at}
 use Rattle.ados_machine.specs.Trace.{frames_of}
 use Rattle.ados_machine.specs.Limits.{AllRunOn, RunsFrame, IsNumbered, IsSane}
-use Rattle.ados_machine.specs.Whole.{world_with_opened, opened_shell}
+use Rattle.ados_machine.specs.LoneShell.{world_with_opened, opened_shell}
 use Rattle.ados_machine.proofs.Shells.{IsFree, found-set_other, free-number}
 use Rattle.ados_machine.proofs.Systems.{opened-stands}
 

@@ -4,7 +4,7 @@ use Rattle.ados_text.specs.Text.{Text}
 use Rattle.ados_text.specs.declared.lines.TheConstants.{LINE_BYTES}
 use Rattle.ados_machine.specs.declared.refusals.Refusal.{Refusal}
 use Rattle.ados_machine.specs.declared.refusals.Refusal.TheVariants.{Over, LineTooLong, NoMemory}
-use Rattle.ados_machine.specs.Whole.{world_with_opened}
+use Rattle.ados_machine.specs.LoneShell.{world_with_opened}
 use Rattle.ados_machine.specs.World.{WorldState, is_over}
 
 -- why no shell is opened for a line: none is left, or the line is too long

@@ -1,7 +1,7 @@
 // The step: what an event makes of a world.
 ghost use Rattle.std.specs.Prelude.{◌≡◌, ℕ, [], drop, false, Err, IfErr, IfOk, OnErr, OnOk, is_some, true};
 ghost use Rattle.ados_machine.specs.Given.{request_after_event};
-ghost use Rattle.ados_machine.specs.InUse.{asks, entry_of};
+ghost use Rattle.ados_machine.specs.InUse.{asks, entry_of, outputs_held, runs_program};
 ghost use Rattle.ados_machine.specs.Laws.{finds_flag};
 ghost use Rattle.ados_machine.specs.Limits.{IsSane};
 ghost use Rattle.ados_machine.specs.World.{is_over, shell_at};
@@ -36,7 +36,7 @@ impl World {
     /// given is what the event's shell waits for then, and none after a typed line, the end of input or a break. The end of
     /// the event binds only assigns of Defer that it used. A report is about a break exactly when the event is a turn that finds
     /// the flag of its shell, in which a script runs. A resident entry stays in use from the start of its program to the answer
-    /// that ends it.
+    /// that ends it, and the outputs that its shell holds stay open as long as the program runs.
     pub fn step(&mut self, event: &Event) -> Result<Out, Refusal>
         ensures answer { IsAnswer event.now result (step_of self.old event.now) }
         ensures world { self.new ≡ world_after self.old result (step_of self.old event.now) }
@@ -45,6 +45,7 @@ impl World {
         ensures binding { OnOk result (BindsWhatItUsed self.old event.now self.new) }
         ensures breaks { IfOk result (λ out. tells_break out.reports ≡ finds_flag self.old event.now) }
         ensures entries { OnOk result ((k : ℕ) → asks self.old k ≡ true → asks self.new k ≡ true → entry_of self.new k ≡ entry_of self.old k) }
+        ensures outputs { OnOk result ((k : ℕ) → runs_program self.old k ≡ true → runs_program self.new k ≡ true → outputs_held self.new k ≡ outputs_held self.old k) }
     {
         let mut draft = Draft::new(self.alloc);
         self.step_into(event, &mut draft)?;

@@ -1,6 +1,6 @@
 use Rattle.std.proofs.Common.{rules, arith, ◌≡◌, ◌<◌, ◌≤◌, ◌-◌, ◌++◌, ◌∷◌, [], length, Some, None, true, is_some, refl}
 use Rattle.ados_machine.specs.Numbers.{free_number}
-use Rattle.ados_machine.specs.Whole.{world_with_opened}
+use Rattle.ados_machine.specs.LoneShell.{world_with_opened}
 use Rattle.ados_machine.specs.World.{codes_at, shell_at}
 use Rattle.ados_machine.proofs.Systems.{free-two}
 use Rattle.ados_world.specs.Opened.{opening_fault}

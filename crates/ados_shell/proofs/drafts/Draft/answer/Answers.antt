@@ -1,6 +1,6 @@
 use Rattle.std.proofs.Common.{refl}
 use Rattle.std.proofs.lemmas.Result.{on_ok_weaker}
-use Rattle.ados_shell.proofs.DeedLemmas.{answer-goes}
+use Rattle.ados_shell.proofs.CompletionLemmas.{answer-goes}
 use Rattle.ados_shell.proofs.drafts.Draft.answer.Goals as goal
 
 pub returns : goal.returns

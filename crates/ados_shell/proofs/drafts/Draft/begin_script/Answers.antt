@@ -3,7 +3,7 @@ use Rattle.std.proofs.lemmas.Result.{on_ok_weaker}
 use Rattle.ados_flow.specs.declared.kinds.Kind.TheVariants.{Script}
 use Rattle.ados_flow.specs.Frames.{new_frame}
 use Rattle.ados_shell.specs.Drafts.{frames_of}
-use Rattle.ados_shell.proofs.DeedLemmas.{begin-goes}
+use Rattle.ados_shell.proofs.CompletionLemmas.{begin-goes}
 use Rattle.ados_shell.proofs.drafts.Draft.begin_script.Goals as goal
 
 pub returns : goal.returns

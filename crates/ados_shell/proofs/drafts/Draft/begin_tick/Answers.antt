@@ -5,7 +5,7 @@ use Rattle.ados_text.specs.Text.{Bytes}
 use Rattle.ados_flow.specs.Frames.{new_frame}
 use Rattle.ados_flow.specs.declared.kinds.Kind.TheVariants.{Tick}
 use Rattle.ados_shell.specs.Drafts.{course_of, frames_of}
-use Rattle.ados_shell.proofs.DeedLemmas.{tick-goes}
+use Rattle.ados_shell.proofs.CompletionLemmas.{tick-goes}
 use Rattle.ados_shell.proofs.drafts.Draft.begin_tick.Goals as goal
 
 pub returns : goal.returns

@@ -1,6 +1,6 @@
 use Rattle.std.proofs.Common.{◌∙◌, sym}
 use Rattle.std.proofs.lemmas.Result.{on_ok_weaker}
-use Rattle.ados_shell.proofs.DeedLemmas.{call-begins, call-refused}
+use Rattle.ados_shell.proofs.CompletionLemmas.{call-begins, call-refused}
 use Rattle.ados_shell.proofs.drafts.Draft.call.Goals as goal
 
 pub returns-then-is_full : goal.returns-then-is_full

@@ -1,7 +1,7 @@
 use Rattle.std.proofs.Common.{Err, OnOk, ap, subst}
 use Rattle.std.proofs.lemmas.Result.{on_ok_weaker}
-use Rattle.ados_machine.specs.Lines.{arrived_deed}
-use Rattle.ados_machine.specs.Deeds.{refusal_deed}
+use Rattle.ados_machine.specs.Lines.{arrived_completion}
+use Rattle.ados_machine.specs.Completions.{refusal_completion}
 use Rattle.ados_machine.specs.Opening.{line_output}
 use Rattle.ados_shell.specs.Drafts.{Settles, course_of}
 use Rattle.ados_shell.specs.Outputs.{HasOpened}
@@ -12,11 +12,11 @@ pub returns-in-Err-Refused : goal.returns-in-Err-Refused
 returns-in-Err-Refused c =
     on_ok_weaker c.refuse.result
     (λ g. output-refused c.args.scene.now c.args.self.now c.open_own.new.self c.refuse.new.self c.args.line.now.command
-    (λ here target further. arrived_deed c.args.place c.args.line.now target here further) c.in-Err-Refused.fault
+    (λ here target further. arrived_completion c.args.place c.args.line.now target here further) c.in-Err-Refused.fault
     c.args.line.now.output (line_output (course_of c.args.scene.now c.args.self.now) c.args.line.now.output)
     (subst (λ x. HasOpened c.args.scene.now c.args.self.now c.open_own.new.self c.args.line.now.output x (line_output (course_of c.args.scene.now c.args.self.now) c.args.line.now.output))
     (ap Err c.in-Err-Refused.field-0-is)
     (subst (λ o. HasOpened c.args.scene.now c.args.self.now c.open_own.new.self o (Err c.in-Err-Refused.field-0) (line_output (course_of c.args.scene.now c.args.self.now) o))
     c.as_ref.ensures.value c.in-Err-Refused.ensures)) g)
-    (subst (λ f. OnOk c.refuse.result (Settles c.args.scene.now c.open_own.new.self c.refuse.new.self (refusal_deed c.args.line.now.command f (course_of c.args.scene.now c.open_own.new.self))))
+    (subst (λ f. OnOk c.refuse.result (Settles c.args.scene.now c.open_own.new.self c.refuse.new.self (refusal_completion c.args.line.now.command f (course_of c.args.scene.now c.open_own.new.self))))
     c.in-Err-Refused.fault-is c.refuse.ensures)

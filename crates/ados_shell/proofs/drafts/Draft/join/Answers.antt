@@ -6,7 +6,7 @@ use Rattle.ados_text.specs.Text.{Text}
 use Rattle.ados_find.specs.declared.targets.Target.{Target}
 use Rattle.ados_flow.specs.Gathering.{before_plus}
 use Rattle.ados_machine.specs.declared.phases.Wait.TheVariants.{ForLines}
-use Rattle.ados_machine.specs.Deeds.{Waits}
+use Rattle.ados_machine.specs.Completions.{Waits}
 use Rattle.ados_machine.specs.NewShells.{answered_put, new_shell}
 use Rattle.ados_shell.specs.Drafts.{Settles, course_of, next_line_place}
 use Rattle.ados_shell.proofs.RunLemmas.{front-is, joins-last, joins-waits}

@@ -1,8 +1,8 @@
 use Rattle.std.proofs.Common.{List, ℕ, false, refl, subst}
 use Rattle.std.proofs.lemmas.Result.{on_ok_weaker}
-use Rattle.ados_machine.specs.Deeds.{Answers}
+use Rattle.ados_machine.specs.Completions.{Answers}
 use Rattle.ados_shell.specs.Drafts.{Settles, course_of}
-use Rattle.ados_shell.proofs.DeedLemmas.{jump-goes}
+use Rattle.ados_shell.proofs.CompletionLemmas.{jump-goes}
 use Rattle.ados_shell.proofs.drafts.Draft.jump.Goals as goal
 
 pub returns : goal.returns

@@ -1,7 +1,7 @@
 use Rattle.std.proofs.Common.{List, ℕ, false, subst}
 use Rattle.std.proofs.lemmas.Result.{on_ok_weaker}
 use Rattle.ados_find.specs.declared.codes.Codes.{Codes}
-use Rattle.ados_machine.specs.Deeds.{Answers}
+use Rattle.ados_machine.specs.Completions.{Answers}
 use Rattle.ados_shell.specs.Drafts.{Settles, course_of}
 use Rattle.ados_shell.proofs.drafts.Draft.refuse.Goals as goal
 

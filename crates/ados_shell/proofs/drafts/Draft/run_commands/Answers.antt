@@ -2,7 +2,7 @@ use Rattle.std.proofs.Common.{◌≡◌, ◌∙◌, ◌-◌, Some, drop, subst, 
 use Rattle.std.proofs.lemmas.Result.{on_ok_weaker}
 use Rattle.std.specs.Option.{option_map}
 use Rattle.ados_flow.specs.Gathering.{run_gathering, run_limit}
-use Rattle.ados_machine.specs.Deeds.{FrameLines}
+use Rattle.ados_machine.specs.Completions.{FrameLines}
 use Rattle.ados_machine.specs.NewShells.{new_shell}
 use Rattle.ados_shell.specs.Drafts.{course_of, next_line_place}
 use Rattle.ados_shell.specs.Outputs.{IsPut}

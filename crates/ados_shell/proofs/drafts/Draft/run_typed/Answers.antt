@@ -4,7 +4,7 @@ use Rattle.std.specs.Option.{option_map}
 use Rattle.ados_text.specs.Text.{Text}
 use Rattle.ados_flow.specs.Gathering.{before_plus}
 use Rattle.ados_machine.specs.declared.phases.Wait.TheVariants.{ForLines}
-use Rattle.ados_machine.specs.Deeds.{Waits}
+use Rattle.ados_machine.specs.Completions.{Waits}
 use Rattle.ados_shell.specs.Drafts.{Settles, course_of, next_line_place}
 use Rattle.ados_shell.proofs.RunLemmas.{front-is, typed-waits}
 use Rattle.ados_shell.proofs.drafts.Draft.run_typed.Goals as goal

@@ -1,4 +1,4 @@
-use Rattle.ados_world.proofs.LawLemmas.{failed-start, step-gives, step-keeps-entries}
+use Rattle.ados_world.proofs.LawLemmas.{failed-start, step-gives, step-keeps-entries, step-keeps-outputs}
 use Rattle.ados_world.proofs.BindingLemmas.{step-binds}
 use Rattle.ados_world.proofs.BrokenLemmas.{step-told}
 use Rattle.ados_world.proofs.worlds.World.step.Goals as goal
@@ -14,6 +14,10 @@ returns-clause-request c =
 pub returns-clause-entries : goal.returns-clause-entries
 returns-clause-entries c =
     rw c.in_ok-step_into.ensures.world (step-keeps-entries c.args.self.now c.args.event.now _ c.in_ok-step_into.ensures.answer)
+
+pub returns-clause-outputs : goal.returns-clause-outputs
+returns-clause-outputs c =
+    rw c.in_ok-step_into.ensures.world (step-keeps-outputs c.args.self.now c.args.event.now _ c.in_ok-step_into.ensures.answer)
 
 pub returns-clause-breaks : goal.returns-clause-breaks
 returns-clause-breaks c =

@@ -5,7 +5,7 @@ use Rattle.ados_ram.specs.Files.{Files, AreFiles}
 use Rattle.ados_ram.specs.FileOperations.{write_as_of, write_fault}
 use Rattle.ados_ram.proofs.FilesLemmas.{written_files}
 use Rattle.ados_ram.proofs.InsideLemmas.{written-inside}
-use Rattle.ados_ram.proofs.puts.Ram.put.Goals as goal
+use Rattle.ados_ram.proofs.files.Ram.put.Goals as goal
 
 pub with_bytes-requires-clause-files : goal.with_bytes-requires-clause-files
 with_bytes-requires-clause-files c =

@@ -1,4 +1,4 @@
--- Deeds: what a line results in is what the code rule makes of it.
+-- Completions: what a line results in is what the code rule makes of it.
 use Rattle.std.proofs.Common.{◌≡◌, ◌∙◌, ◌++◌, ◌∷◌, [], List, ℕ, Bool, true, false, Option, None, length, nat_le, ap, sym, refl}
 use Rattle.std.proofs.lemmas.List.{append-nil}
 use Rattle.std.specs.Prelude.{if◌then◌else◌}
@@ -12,9 +12,9 @@ use Rattle.ados_flow.specs.Frames.{new_frame, frame_limit}
 use Rattle.ados_machine.specs.declared.phases.Phase.TheVariants.{Ready}
 use Rattle.ados_machine.specs.CodeRule.{fault_line}
 use Rattle.ados_machine.specs.Course.{Course}
-use Rattle.ados_machine.specs.Deeds.{Answers, Calls, Jumps, Passes, Ticks, line_fault, refusal_deed}
+use Rattle.ados_machine.specs.Completions.{Answers, Calls, Jumps, Passes, Ticks, line_fault, refusal_completion}
 use Rattle.ados_machine.specs.Settled.{finish, finish_with_fault, pass_line}
-use Rattle.ados_machine.specs.Settle.{enter_script, turn_by_rule, frames_at_line, said_of, turn_of_deed, enter_tick}
+use Rattle.ados_machine.specs.Settle.{enter_script, turn_by_rule, frames_at_line, said_of, turn_of_completion, enter_tick}
 use Rattle.ados_shell.specs.declared.scenes.Scene.{Scene}
 use Rattle.ados_shell.specs.declared.drafts.Draft.{Draft}
 use Rattle.ados_shell.specs.Drafts.{GoesOn, IsRuled, Settles, held_course, course_of, frames_of, held_state, next_line_place, drafted_phase}
@@ -67,7 +67,7 @@ call-begins scene before after word output script e g =
 -- and if there is none
 pub call-refused : (scene : Scene) (before after : Draft) (word : List ℕ) (output : Option Target) (script : Called)
     → nat_le frame_limit (length (frames_of scene before)) ≡ true
-    → Settles scene before after (refusal_deed word TOO_MANY_LEVELS (course_of scene before))
+    → Settles scene before after (refusal_completion word TOO_MANY_LEVELS (course_of scene before))
     → Settles scene before after (Calls word output script (course_of scene before))
 call-refused scene before after word output script e g =
     goes-same scene before before after _ _ refl (ap (turn_by_rule (course_of scene before)) (sym (then-is _ _ _ e))) g
@@ -90,7 +90,7 @@ pub tick-begins : (scene : Scene) (before after : Draft) (front command rear : T
     → IsRuled scene before after (enter_tick front command rear (frames_of scene before) (said_in scene before))
     → Settles scene before after (if (next_line_place scene before).is_full then line_fault TOO_MANY_LEVELS (course_of scene before) else Ticks front command rear (course_of scene before))
 tick-begins scene before after front command rear e g =
-    goes-same scene before before after _ _ refl (ap (λ deed. turn_of_deed deed (frames_of scene before)) (sym (else-is _ _ _ e))) g
+    goes-same scene before before after _ _ refl (ap (λ completion. turn_of_completion completion (frames_of scene before)) (sym (else-is _ _ _ e))) g
 
 -- and if there is none
 pub tick-refused : (scene : Scene) (before after : Draft) (front command rear : Text)
@@ -98,7 +98,7 @@ pub tick-refused : (scene : Scene) (before after : Draft) (front command rear : 
     → Settles scene before after (line_fault TOO_MANY_LEVELS (course_of scene before))
     → Settles scene before after (if (next_line_place scene before).is_full then line_fault TOO_MANY_LEVELS (course_of scene before) else Ticks front command rear (course_of scene before))
 tick-refused scene before after front command rear e g =
-    goes-same scene before before after _ _ refl (ap (λ deed. turn_of_deed deed (frames_of scene before)) (sym (then-is _ _ _ e))) g
+    goes-same scene before before after _ _ refl (ap (λ completion. turn_of_completion completion (frames_of scene before)) (sym (then-is _ _ _ e))) g
 
 -- a tick was pushed
 pub tick-goes : (scene : Scene) (before after : Draft) (front command rear : Text)
