@@ -1,21 +1,19 @@
 // A world driven by a reader's lines, a launcher's answers and a list of breaks.
-ghost use Rattle.std.specs.Prelude.{◌≡◌, ◌<◌, ◌^◌, ◌-◌, length, OnOk};
+ghost use Rattle.std.specs.Prelude.{◌≡◌, ◌<◌, ◌^◌, ◌-◌, [], length, OnOk};
 ghost use Rattle.ados_machine.specs.World.{codes_at};
 ghost use Rattle.ados_launch.specs.Agreement.{Agrees, AreWhole, IsOpenTable};
 ghost use Rattle.ados_launch.specs.Drives.{HasDriveResult, Drives};
 ghost use Rattle.ados_launch.specs.Session.{moment_of};
 
-use crate::children::{open_children, wait_for_open};
-use crate::events::take_next;
 use crate::faults::DriveFault;
-use crate::read_ahead::ReadAhead;
+use crate::intake::Intake;
 use crate::schedule::Schedule;
 use crate::written::write_whole;
 use crate::{Sink, Source};
 use ados_launcher::Launcher;
 use ados_machine::BreakAt;
 use ados_text::{Code, Result2};
-use ados_world::{Draft, World};
+use ados_world::World;
 use std::alloc::Global;
 
 /// How a run ended.
@@ -107,31 +105,32 @@ impl Drive<'_> {
         // If no event is allowed the reader and the writer are unchanged.
         ensures untouched { self.now.turns ≡ 0 → (reader.new ≡ reader.old) × (writer.new ≡ writer.old) }
     {
-        let mut children = open_children(world);
-        match self.run_schedule(world, launcher, &mut children, reader, writer) {
+        let mut intake = Intake::new(self.alloc, world);
+        match self.run_schedule(world, launcher, &mut intake, reader, writer) {
             Ok(end) => Ok(end),
             Err(fault) => {
-                wait_for_open(launcher, &children);
+                intake.wait_for_open(launcher);
                 Err(fault)
             }
         }
     }
 
-    // Runs the schedule. The table holds the open children by their numbers.
+    // Runs the schedule.
     fn run_schedule<L: Launcher, S: Source, K: Sink>(
         &self,
         world: &mut World,
         launcher: &mut L,
-        children: &mut [bool; 21],
+        intake: &mut Intake,
         reader: &mut S,
         writer: &mut K,
     ) -> Result<End, DriveFault>
         requires reader { S.faults reader.old < 2 ^ 64 - 1 }
         requires writer { K.faults writer.old < 2 ^ 64 - 1 }
         requires agrees { Agrees world.old (L.calls launcher.old) }
-        requires children { IsOpenTable children.old (L.calls launcher.old) }
-        // The table is that of the calls, none of which is out of place.
-        ensures children { IsOpenTable children.new (L.calls launcher.new) }
+        requires held { intake.old.held ≡ [] }
+        requires children { IsOpenTable intake.old.children (L.calls launcher.old) }
+        // The open children are those of the calls, none of which is out of place.
+        ensures children { IsOpenTable intake.new.children (L.calls launcher.new) }
         ensures whole { AreWhole (L.calls launcher.new) }
         ensures agrees { OnOk result (Agrees world.new (L.calls launcher.new)) }
         ensures comes_to { HasDriveResult self.now.turns self.now.breaks.now
@@ -140,19 +139,13 @@ impl Drive<'_> {
             result }
         ensures untouched { self.now.turns ≡ 0 → (reader.new ≡ reader.old) × (writer.new ≡ writer.old) }
     {
-        let alloc = self.alloc;
-        let mut held = ReadAhead::new();
-        let mut line = Vec::new(alloc);
-        let mut draft = Draft::new(alloc);
         let mut schedule = Schedule::new(self.breaks);
         for events in 0..self.turns {
             let Some(next) = schedule.next(world) else {
                 return Ok(End::of(world, events));
             };
-            take_next(
-                alloc, world, launcher, children, next, &mut held, reader, &mut line, &mut draft,
-            )?;
-            write_whole(writer, draft.printed.as_slice())?;
+            intake.take(world, launcher, reader, next)?;
+            write_whole(writer, intake.draft.printed.as_slice())?;
             schedule.pass(next);
         }
         if schedule.is_over(world) {

@@ -8,17 +8,17 @@ ghost use Rattle.ados_launch.specs.Rounds.{asks_read_or_wait, due_place};
 ghost use Rattle.ados_launch.specs.Schedule.{first_schedule_state, next_in};
 ghost use Rattle.ados_launch.specs.Steps.{TakesOne, next_request};
 
-use crate::children::{open_children, wait_for_open};
+use crate::children::open_children;
 use crate::driver::End;
-use crate::events::{shell_answered, take_next};
+use crate::events::shell_answered;
 use crate::faults::DriveFault;
-use crate::read_ahead::ReadAhead;
+use crate::intake::Intake;
 use crate::schedule::Schedule;
 use crate::written::write_whole;
 use crate::{Sink, Source};
 use ados_launcher::Launcher;
 use ados_machine::{BreakAt, Request};
-use ados_world::{Draft, World};
+use ados_world::World;
 use std::alloc::Global;
 use std::marker::Model;
 
@@ -28,13 +28,8 @@ use std::marker::Model;
 /// Between two events a caller may look at the world, and run lines alone in it ([`system`](crate::system)).
 #[derive(Drop)]
 pub struct Session<'a> {
-    alloc: Global,
     schedule: Schedule<'a>,
-    held: ReadAhead,
-    line: Vec<u8>,
-    draft: Draft,
-    // The open children by their numbers.
-    children: [bool; 21],
+    intake: Intake,
 }
 
 impl<'a> Model for Session<'a> {
@@ -43,9 +38,9 @@ impl<'a> Model for Session<'a> {
 
     ghost Value = { SessionState };
 
-    ghost view = { λ s. record { standing = s.schedule; held = s.held; children = s.children } };
+    ghost view = { λ s. record { standing = s.schedule; held = s.intake.held; children = s.intake.children } };
 
-    ghost invariant = { λ s. (s.schedule.round.place ≤ 61) × (length s.held < 4096) };
+    ghost invariant = { λ s. (s.schedule.round.place ≤ 61) × (length s.intake.held < 4096) };
 }
 
 impl<'a> Session<'a> {
@@ -56,12 +51,8 @@ impl<'a> Session<'a> {
         ensures children { (k : ℕ) → get_or result.children k false ≡ asks_read_or_wait (pending_of world.now k) }
     {
         Session {
-            alloc,
             schedule: Schedule::new(breaks),
-            held: ReadAhead::new(),
-            line: Vec::new(alloc),
-            draft: Draft::new(alloc),
-            children: open_children(world),
+            intake: Intake::new(alloc, world),
         }
     }
 
@@ -116,18 +107,8 @@ impl<'a> Session<'a> {
         let Some(next) = self.schedule.next(world) else {
             return Ok(false);
         };
-        take_next(
-            self.alloc,
-            world,
-            launcher,
-            &mut self.children,
-            next,
-            &mut self.held,
-            reader,
-            &mut self.line,
-            &mut self.draft,
-        )?;
-        write_whole(writer, self.draft.printed.as_slice())?;
+        self.intake.take(world, launcher, reader, next)?;
+        write_whole(writer, self.intake.draft.printed.as_slice())?;
         self.schedule.pass(next);
         Ok(true)
     }
@@ -138,7 +119,7 @@ impl<'a> Session<'a> {
         ensures standing { self.new.standing ≡ self.old.standing }
         ensures held { self.new.held ≡ self.old.held }
     {
-        self.children = open_children(world);
+        self.intake.children = open_children(world);
     }
 
     /// Nothing comes any longer.
@@ -166,6 +147,6 @@ impl<'a> Session<'a> {
         ensures waits { WaitsForOpen (L.calls launcher.old) (L.calls launcher.new) }
         ensures room { L.is_full launcher.new ≡ L.is_full launcher.old }
     {
-        wait_for_open(launcher, &self.children);
+        self.intake.wait_for_open(launcher);
     }
 }

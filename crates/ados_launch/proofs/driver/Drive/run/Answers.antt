@@ -4,14 +4,14 @@ use Rattle.ados_launch.proofs.Outcomes.{drives-end, drives-fault}
 use Rattle.ados_launch.proofs.driver.Drive.run.Goals as goal
 
 pub run_schedule-requires-clause-children : goal.run_schedule-requires-clause-children
-run_schedule-requires-clause-children g c = table-begins c.args.world.now (g.L.Launcher.calls c.args.launcher.now) _ c.requires.agrees c.open_children-children.ensures
+run_schedule-requires-clause-children g c = table-begins c.args.world.now (g.L.Launcher.calls c.args.launcher.now) _ c.requires.agrees c.new-intake.ensures.children
 
 pub returns-in-Ok-clause-drives : goal.returns-in-Ok-clause-drives
 returns-in-Ok-clause-drives g c =
     drives-end c.args.self.now.turns c.args.self.now.breaks.now _ _ c.in-Ok.end c.in-Ok.ensures.comes_to c.in-Ok.ensures.agrees
 
-pub returns-in-Err-clause-drives : goal.returns-in-Err-clause-drives
-returns-in-Err-clause-drives g c =
+pub returns-clause-drives : goal.returns-clause-drives
+returns-clause-drives g c =
     drives-fault c.args.self.now.turns c.args.self.now.breaks.now _
     (moment_of g.S.Source.left g.S.Source.faults g.K.Sink.contents g.K.Sink.faults g.K.Sink.stalls g.L.Launcher.calls g.L.Launcher.is_full
     c.run_schedule.new.world c.run_schedule.new.reader c.run_schedule.new.writer c.run_schedule.new.launcher)

@@ -20,12 +20,12 @@ loop-events-init g c = record {
   stalls = refl;
   in_round = rw c.new-schedule.ensures (omega arith);
   count = rw c.new-schedule.ensures refl;
-  few = rw c.new-held.ensures (omega arith);
+  few = rw c.requires.held (omega arith);
   fresh_reader = λ none. refl;
   fresh_writer = λ none. refl;
   agrees = c.requires.agrees;
   children = c.requires.children;
-  driven = driven-none _ c.args.self.now.breaks.now c.new-schedule.result _ (rw c.new-held.ensures (search rules)) c.new-schedule.ensures c.requires.agrees;
+  driven = driven-none _ c.args.self.now.breaks.now c.new-schedule.result _ (rw c.requires.held (search rules)) c.new-schedule.ensures c.requires.agrees;
 }
 
 pub loop-events-preserved : goal.loop-events-preserved
@@ -35,40 +35,40 @@ loop-events-preserved g c =
     let here : next_in c.loop-events.schedule c.loop-events.world ≡ Some (found_next c.in-Some.next) = sym c.in-Some.ensures.next in
     let behind : c.pass.new.self ≡ following_schedule_state c.loop-events.schedule c.loop-events.world (found_next c.in-Some.next) = c.pass.ensures ∙ c.in-Some.ensures.passed in
     record {
-      reader = c.in_ok-take_next.ensures.honest ∙ i.reader;
+      reader = c.in_ok-take.ensures.honest ∙ i.reader;
       writer = c.in_ok-write_whole.ensures.honest.0 ∙ i.writer;
       stalls = c.in_ok-write_whole.ensures.honest.1 ∙ i.stalls;
       in_round = rw behind (standing-in_round c.loop-events.schedule c.loop-events.world c.in-Some.next i.in_round (in-round c.loop-events.world c.in-Some.next may));
       count = rw c.pass.ensures (passed-taken c.next.new.self c.in-Some.next) ∙ ap (λ n. n + 1) (c.next.ensures.taken ∙ i.count);
-      few = c.take_next.ensures.few i.few;
+      few = c.take.ensures.few i.few;
       fresh_reader = λ none. absurd (omega (arith, none));
       fresh_writer = λ none. absurd (omega (arith, none));
-      agrees = c.in_ok-take_next.ensures.agrees;
-      children = c.take_next.ensures.children;
-      driven = driven-more _ _ _ c.args.self.now.breaks.now c.loop-events.events c.loop-events.schedule c.pass.new.self (bytes_ahead c.loop-events.held (g.S.Source.left c.loop-events.reader)) (bytes_ahead c.take_next.new.held (g.S.Source.left c.take_next.new.reader)) (found_next c.in-Some.next) c.take_next.new.draft.printed.items
-          i.driven here c.take_next.ensures.stays c.in_ok-take_next.ensures.took c.in_ok-take_next.ensures.agrees (rw c.as_slice.ensures.value at c.in_ok-write_whole.ensures.whole) behind;
+      agrees = c.in_ok-take.ensures.agrees;
+      children = c.take.ensures.children;
+      driven = driven-more _ _ _ c.args.self.now.breaks.now c.loop-events.events c.loop-events.schedule c.pass.new.self (bytes_ahead c.loop-events.intake.held (g.S.Source.left c.loop-events.reader)) (bytes_ahead c.take.new.self.held (g.S.Source.left c.take.new.reader)) (found_next c.in-Some.next) c.take.new.self.draft.printed.items
+          i.driven here c.take.ensures.stays c.in_ok-take.ensures.took c.in_ok-take.ensures.agrees (rw c.as_slice.ensures.value at c.in_ok-write_whole.ensures.whole) behind;
     }
 
-pub returns-in_err-take_next-clause-comes_to : goal.returns-in_err-take_next-clause-comes_to
-returns-in_err-take_next-clause-comes_to g c =
+pub returns-in_err-take-clause-comes_to : goal.returns-in_err-take-clause-comes_to
+returns-in_err-take-clause-comes_to g c =
     let i = c.loop-events.invariant in
     let here : next_in c.loop-events.schedule c.loop-events.world ≡ Some (found_next c.in-Some.next) = sym c.in-Some.ensures.next in
-    let dropped = c.in_err-take_next.ensures.dropped in
+    let dropped = c.in_err-take.ensures.dropped in
     comes-by c.args.self.now.turns c.args.self.now.breaks.now _ _ c.from_residual.result _ c.from_residual.ensures.1
     (λ is.
-    let failed : IsErrOf c.take_next.result Memory = search rules in
-    stops-memory c.args.self.now.turns c.loop-events.events c.args.self.now.breaks.now _ _ _ c.loop-events.schedule (bytes_ahead c.loop-events.held (g.S.Source.left c.loop-events.reader)) c.take_next.new.held (found_next c.in-Some.next) dropped.0 i.driven c.loop-events-test.true i.in_round here
-    c.take_next.ensures.stays c.in_err-take_next.ensures.err refl dropped.2 dropped.1 (c.take_next.ensures.few i.few) (c.take_next.ensures.memory_unread failed) (c.take_next.ensures.memory_honest failed ∙ i.reader) (i.writer, i.stalls))
+    let failed : IsErrOf c.take.result Memory = search rules in
+    stops-memory c.args.self.now.turns c.loop-events.events c.args.self.now.breaks.now _ _ _ c.loop-events.schedule (bytes_ahead c.loop-events.intake.held (g.S.Source.left c.loop-events.reader)) c.take.new.self.held (found_next c.in-Some.next) dropped.0 i.driven c.loop-events-test.true i.in_round here
+    c.take.ensures.stays c.in_err-take.ensures.err refl dropped.2 dropped.1 (c.take.ensures.few i.few) (c.take.ensures.memory_unread failed) (c.take.ensures.memory_honest failed ∙ i.reader) (i.writer, i.stalls))
     (λ is.
-    let failed : IsErrOf c.take_next.result Read = search rules in
-    stops-read c.args.self.now.turns c.loop-events.events c.args.self.now.breaks.now _ _ _ c.loop-events.schedule (bytes_ahead c.loop-events.held (g.S.Source.left c.loop-events.reader)) c.take_next.new.held i.driven c.loop-events-test.true (rw (c.take_next.ensures.reading failed) at here)
-    c.take_next.ensures.stays c.in_err-take_next.ensures.err refl (c.take_next.ensures.unasked failed) (c.take_next.ensures.few i.few) i.reader (c.take_next.ensures.read failed) (i.writer, i.stalls))
+    let failed : IsErrOf c.take.result Read = search rules in
+    stops-read c.args.self.now.turns c.loop-events.events c.args.self.now.breaks.now _ _ _ c.loop-events.schedule (bytes_ahead c.loop-events.intake.held (g.S.Source.left c.loop-events.reader)) c.take.new.self.held i.driven c.loop-events-test.true (rw (c.take.ensures.reading failed) at here)
+    c.take.ensures.stays c.in_err-take.ensures.err refl (c.take.ensures.unasked failed) (c.take.ensures.few i.few) i.reader (c.take.ensures.read failed) (i.writer, i.stalls))
     (λ is.
-    let failed : IsErrOf c.take_next.result Write = search rules in
-    absurd (c.take_next.ensures.no_write failed))
+    let failed : IsErrOf c.take.result Write = search rules in
+    absurd (c.take.ensures.no_write failed))
     (λ is.
-    let failed : IsErrOf c.take_next.result Turns = search rules in
-    absurd (c.take_next.ensures.no_turns failed))
+    let failed : IsErrOf c.take.result Turns = search rules in
+    absurd (c.take.ensures.no_turns failed))
 
 pub returns-in_err-write_whole-clause-comes_to : goal.returns-in_err-write_whole-clause-comes_to
 returns-in_err-write_whole-clause-comes_to g c =
@@ -79,8 +79,8 @@ returns-in_err-write_whole-clause-comes_to g c =
     (λ is. cc)
     (λ is. cc)
     (λ is.
-    stops-write c.args.self.now.turns c.loop-events.events front.0 c.args.self.now.breaks.now _ _ _ c.loop-events.schedule (bytes_ahead c.loop-events.held (g.S.Source.left c.loop-events.reader)) (bytes_ahead c.take_next.new.held (g.S.Source.left c.take_next.new.reader)) (found_next c.in-Some.next) c.take_next.new.draft.printed.items i.driven c.loop-events-test.true here
-    c.take_next.ensures.stays c.in_ok-take_next.ensures.took c.in_ok-take_next.ensures.agrees (rw c.as_slice.ensures.value at front.1) (rw c.as_slice.ensures.value at front.2) (c.in_ok-take_next.ensures.honest ∙ i.reader)
+    stops-write c.args.self.now.turns c.loop-events.events front.0 c.args.self.now.breaks.now _ _ _ c.loop-events.schedule (bytes_ahead c.loop-events.intake.held (g.S.Source.left c.loop-events.reader)) (bytes_ahead c.take.new.self.held (g.S.Source.left c.take.new.reader)) (found_next c.in-Some.next) c.take.new.self.draft.printed.items i.driven c.loop-events-test.true here
+    c.take.ensures.stays c.in_ok-take.ensures.took c.in_ok-take.ensures.agrees (rw c.as_slice.ensures.value at front.1) (rw c.as_slice.ensures.value at front.2) (c.in_ok-take.ensures.honest ∙ i.reader)
     (rw (i.writer, i.stalls) at c.in_err-write_whole.ensures.cause))
     (λ is. cc)
 
@@ -88,7 +88,7 @@ pub returns-in_default-clause-comes_to : goal.returns-in_default-clause-comes_to
 returns-in_default-clause-comes_to g c =
     let i = c.loop-events.invariant in
     let none : IsIdle c.loop-events.world = idle c.loop-events.schedule.round c.loop-events.world (next-none c.loop-events.schedule c.loop-events.world (sym c.in_default.ensures.next)) in
-    ends c.args.self.now.turns c.loop-events.events c.args.self.now.breaks.now _ _ c.loop-events.schedule c.loop-events.held c.of.result c.loop-events.invariant.driven (omega arith) c.of.ensures.events c.of.ensures.code c.of.ensures.result2 c.of.ensures.shells none i.reader (i.writer, i.stalls)
+    ends c.args.self.now.turns c.loop-events.events c.args.self.now.breaks.now _ _ c.loop-events.schedule c.loop-events.intake.held c.of.result c.loop-events.invariant.driven (omega arith) c.of.ensures.events c.of.ensures.code c.of.ensures.result2 c.of.ensures.shells none i.reader (i.writer, i.stalls)
 
 pub returns-in_default-clause-whole : goal.returns-in_default-clause-whole
 returns-in_default-clause-whole g c = agrees-whole c.loop-events.world (g.L.Launcher.calls c.loop-events.launcher) c.loop-events.invariant.agrees
@@ -97,17 +97,17 @@ pub returns-then-is_over-clause-comes_to : goal.returns-then-is_over-clause-come
 returns-then-is_over-clause-comes_to g c =
     let i = c.loop-events.invariant in
     let none : IsIdle c.loop-events.world = idle c.loop-events.schedule.round c.loop-events.world (due-none (due_place c.loop-events.schedule.round c.loop-events.world) c.is_over.result c.is_over.ensures c.if-is_over.true) in
-    ends c.args.self.now.turns c.loop-events.events c.args.self.now.breaks.now _ _ c.loop-events.schedule c.loop-events.held _ i.driven (omega arith) (search rules) (search rules) (search rules) (search rules) none i.reader (i.writer, i.stalls)
+    ends c.args.self.now.turns c.loop-events.events c.args.self.now.breaks.now _ _ c.loop-events.schedule c.loop-events.intake.held _ i.driven (omega arith) (search rules) (search rules) (search rules) (search rules) none i.reader (i.writer, i.stalls)
 
 pub returns-then-is_over-clause-whole : goal.returns-then-is_over-clause-whole
 returns-then-is_over-clause-whole g c = agrees-whole c.loop-events.world (g.L.Launcher.calls c.loop-events.launcher) c.loop-events.invariant.agrees
 
-pub returns-clause-comes_to : goal.returns-clause-comes_to
-returns-clause-comes_to g c =
+pub returns-else-is_over-clause-comes_to : goal.returns-else-is_over-clause-comes_to
+returns-else-is_over-clause-comes_to g c =
     let i = c.loop-events.invariant in
     let some = due-some (due_place c.loop-events.schedule.round c.loop-events.world) c.is_over.result c.is_over.ensures c.if-is_over.false in
-    stops-turns c.args.self.now.turns c.loop-events.events c.args.self.now.breaks.now _ _ c.loop-events.schedule c.loop-events.held i.driven (omega arith) i.few
+    stops-turns c.args.self.now.turns c.loop-events.events c.args.self.now.breaks.now _ _ c.loop-events.schedule c.loop-events.intake.held i.driven (omega arith) i.few
     (running c.loop-events.schedule.round some.0 c.loop-events.world i.in_round some.1) i.reader (i.writer, i.stalls)
 
-pub returns-clause-whole : goal.returns-clause-whole
-returns-clause-whole g c = agrees-whole c.loop-events.world (g.L.Launcher.calls c.loop-events.launcher) c.loop-events.invariant.agrees
+pub returns-else-is_over-clause-whole : goal.returns-else-is_over-clause-whole
+returns-else-is_over-clause-whole g c = agrees-whole c.loop-events.world (g.L.Launcher.calls c.loop-events.launcher) c.loop-events.invariant.agrees

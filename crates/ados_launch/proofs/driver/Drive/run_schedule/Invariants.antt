@@ -12,13 +12,13 @@ invariant-loop-events g l = record {
   stalls : g.K.Sink.stalls l.writer ≡ g.K.Sink.stalls l.fn.writer;
   in_round : l.schedule.round.place ≤ 61;
   count : l.schedule.taken ≡ l.events;
-  few : length l.held < 4096;
+  few : length l.intake.held < 4096;
   fresh_reader : l.events ≡ 0 → l.reader ≡ l.fn.reader;
   fresh_writer : l.events ≡ 0 → l.writer ≡ l.fn.writer;
   agrees : Agrees l.world (g.L.Launcher.calls l.launcher);
-  children : IsOpenTable l.children (g.L.Launcher.calls l.launcher);
+  children : IsOpenTable l.intake.children (g.L.Launcher.calls l.launcher);
   driven : Driven
       (moment_of g.S.Source.left g.S.Source.faults g.K.Sink.contents g.K.Sink.faults g.K.Sink.stalls g.L.Launcher.calls g.L.Launcher.is_full l.fn.world l.fn.reader l.fn.writer l.fn.launcher)
       (moment_of g.S.Source.left g.S.Source.faults g.K.Sink.contents g.K.Sink.faults g.K.Sink.stalls g.L.Launcher.calls g.L.Launcher.is_full l.world l.reader l.writer l.launcher)
-      l.self.breaks.now l.events l.schedule (bytes_ahead l.held (g.S.Source.left l.reader));
+      l.self.breaks.now l.events l.schedule (bytes_ahead l.intake.held (g.S.Source.left l.reader));
 }

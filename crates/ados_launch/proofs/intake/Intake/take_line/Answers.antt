@@ -11,7 +11,7 @@ use Rattle.ados_launch.proofs.Accepts.{end-accepted, line-accepted}
 use Rattle.ados_launch.specs.declared.lines.LineKind.TheVariants.{End, Long, Short}
 use Rattle.ados_launch.proofs.PartLines.{part-kind}
 use Rattle.ados_launch.proofs.Taking.{took-line, next-end, next-overlong, next-short}
-use Rattle.ados_launch.proofs.events.take_line.Goals as goal
+use Rattle.ados_launch.proofs.intake.Intake.take_line.Goals as goal
 
 pub give-requires : goal.give-requires
 give-requires g c = end-accepted c.args.world.now c.requires.due
@@ -26,7 +26,7 @@ returns-in-End-clause-took g c = took-line _ _ _ _ EndOfInput (out_of c.give.new
 
 pub returns-in_ok-text-in-Short-clause-took : goal.returns-in_ok-text-in-Short-clause-took
 returns-in_ok-text-in-Short-clause-took g c =
-    let P : List ℕ → Type 0 = λ b. OnOk c.give_line.result (TakesLineOrEnd c.args.world.now (bytes_ahead c.args.held.now (g.S.Source.left c.args.reader.now)) c.give_line.new.world (bytes_ahead c.next_line.new.held (g.S.Source.left c.next_line.new.source)) b) in
+    let P : List ℕ → Type 0 = λ b. OnOk c.give_line.result (TakesLineOrEnd c.args.world.now (bytes_ahead c.args.self.now.held (g.S.Source.left c.args.reader.now)) c.give_line.new.world (bytes_ahead c.next_line.new.held (g.S.Source.left c.next_line.new.source)) b) in
     subst P (sym (ap (λ o. o.bytes) c.give_nothing.ensures))
     (took-line _ _ _ _ (Typed c.in_ok-text-in-Short.text) (out_with [] None []) c.give_line.result c.give_line.ensures.answer c.give_line.ensures.world tt
     (λ bytes e. next-short bytes _ _ _ _ _ (c.in_ok-next_line.ensures.taken bytes (rw c.heed.ensures.left e)) c.in-Short.is c.in_ok-text-in-Short.ensures c.as_slice.ensures.value))

@@ -7,14 +7,14 @@ use Rattle.ados_launch.specs.Schedule.{next_at}
 use Rattle.ados_launch.proofs.PartLines.{part-at-line, part-at-none}
 use Rattle.ados_launch.proofs.Places.{comes-turn}
 use Rattle.ados_launch.proofs.Taking.{took-at-lines, took-at-turn, took-at-answer, dropped-at-answer}
-use Rattle.ados_launch.proofs.events.take_event.Goals as goal
+use Rattle.ados_launch.proofs.intake.Intake.take_due.Goals as goal
 
 pub give-requires : goal.give-requires
 give-requires g c = turn-accepted c.args.world.now c.args.place (sym (comes-turn c.args.world.now c.args.place (omega arith) (omega arith)) ∙ c.requires.due)
 
 pub returns-then-place-lt1-clause-took : goal.returns-then-place-lt1-clause-took
 returns-then-place-lt1-clause-took g c =
-    took-at-lines c.args.world.now _ _ _ (g.L.Launcher.is_full c.args.launcher.now) (g.L.Launcher.calls c.args.launcher.now) c.args.place c.take_line.new.draft.printed.items c.take_line.result (omega arith) c.take_line.ensures.took
+    took-at-lines c.args.world.now _ _ _ (g.L.Launcher.is_full c.args.launcher.now) (g.L.Launcher.calls c.args.launcher.now) c.args.place c.take_line.new.self.draft.printed.items c.take_line.result (omega arith) c.take_line.ensures.took
 
 pub returns-then-place-lt21-clause-took : goal.returns-then-place-lt21-clause-took
 returns-then-place-lt21-clause-took g c =

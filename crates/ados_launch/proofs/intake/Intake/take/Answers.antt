@@ -6,7 +6,7 @@ use Rattle.ados_launch.proofs.Accepts.{break-accepted}
 use Rattle.ados_launch.proofs.Agreeing.{given-agrees}
 use Rattle.ados_launch.proofs.PartLines.{part-at-none}
 use Rattle.ados_launch.proofs.Taking.{took-at-break}
-use Rattle.ados_launch.proofs.events.take_next.Goals as goal
+use Rattle.ados_launch.proofs.intake.Intake.take.Goals as goal
 
 pub give-requires : goal.give-requires
 give-requires g c = break-accepted c.args.world.now c.in-Break.at.shell c.in-Break.at.kind (subst (MayCome c.args.world.now) c.in-Break.is c.requires.may_come)
@@ -24,4 +24,4 @@ pub returns-in-Break-clause-memory_unread : goal.returns-in-Break-clause-memory_
 returns-in-Break-clause-memory_unread g c failed bytes e = part-at-none (found_next c.args.next) bytes _ e
 
 pub returns-in-Due-clause-memory_unread : goal.returns-in-Due-clause-memory_unread
-returns-in-Due-clause-memory_unread g c = rw c.in-Due.is c.take_event.ensures.memory_unread
+returns-in-Due-clause-memory_unread g c = rw c.in-Due.is c.take_due.ensures.memory_unread
