@@ -5,8 +5,8 @@ usage: share_random.py PROGRAM ROOM [CHANGES [SEED]]
 
 A script changes files and directories, starts a program, which changes some too, and asks, and meanwhile others are changed. The
 model says what must stand: what one side changed comes to the other; where both changed this machine's stands; what the Shell
-changed and this machine deleted is written again; and what is not as it was at the last time is never deleted. So nothing that was
-written on this machine is ever lost but by what was done on this machine, or by the Shell that had seen it.
+changed and this machine deleted is written again; what is not as it was at the last time is never deleted; and nothing is deleted
+while something that the Shell has is not written, or after it gave way. share_losses.py tries what the model leaves out.
 The last line is 'N changes, M starts: ok'.
 """
 import os, random, shutil, subprocess, sys
@@ -39,15 +39,24 @@ class Model:
             side[path] = value
 
     def write_out(self):
-        """What is there is written first, then what is gone is deleted, the deepest first."""
+        """What is new is written first, then what changed, unless it writes over what was moved to one that could not be written; then
+        what is gone is deleted, the deepest first, unless something could not be written."""
         paths = sorted(set(self.shell) | set(self.last))
-        for path in [p for p in paths if p in self.shell] + [p for p in reversed(paths) if p not in self.shell]:
+        new, owes, unwritten = set(self.shell) - set(self.last), False, []
+        for path in ([p for p in paths if p in new] + [p for p in paths if p in self.shell and p not in new]
+                     + [p for p in reversed(paths) if p not in self.shell]):
             shell, machine, last = self.of(path)
             if shell == last:
                 continue
-            if shell == GONE and machine == FOLDER and below(self.machine, path):
+            if shell == GONE and machine == last and owes:
+                # it comes in again: its bytes may be in what is not written
                 self.put(self.last, path, GONE)
-                self.told.add(path)
+            elif shell == GONE and machine == FOLDER and below(self.machine, path):
+                self.put(self.last, path, GONE)
+            elif machine == last and machine != FOLDER and machine not in shell and any(machine in text for text in unwritten):
+                # it comes in again too
+                self.put(self.last, path, GONE)
+                unwritten.append(shell)
             elif machine in (last, shell, GONE):
                 # a folder that was deleted on this machine is made again for what is in it
                 for one in (path.split('/')[0], path):
@@ -56,9 +65,13 @@ class Model:
                         self.put(self.last, one, self.shell.get(one, GONE))
             else:
                 self.told.add(path)
+                owes = owes or shell != GONE
+                unwritten.append(shell)
 
     def come_in(self):
         paths = sorted(set(self.machine) | set(self.last))
+        deleted = [path for path in self.last if path not in self.shell]
+        overrules = False
         for path in [p for p in reversed(paths) if p not in self.machine] + [p for p in paths if p in self.machine]:
             shell, machine, last = self.of(path)
             if machine == last:
@@ -68,11 +81,17 @@ class Model:
                 continue
             if machine != GONE and shell not in (last, machine):
                 self.told.add(path)
+                overrules = overrules or shell != GONE
             # so is a directory that was deleted in the Shell
             for one in (path.split('/')[0], path):
                 if machine != GONE or one == path:
                     self.put(self.shell, one, self.machine.get(one, GONE))
                     self.put(self.last, one, self.machine.get(one, GONE))
+        if overrules:
+            # what the Shell deleted may have been moved to what gave way: it comes in again
+            for path in deleted:
+                if path not in self.shell:
+                    self.put(self.last, path, GONE)
 
 
 def change(random_, side, number):

@@ -7,6 +7,8 @@ use Rattle.ados_transfer.specs.declared.decision.State.{State}
 use Rattle.ados_transfer.specs.declared.decision.State.TheVariants.{Absent, Directory, File, Large, Foreign}
 use Rattle.ados_transfer.specs.declared.decision.Deed.{Deed}
 use Rattle.ados_transfer.specs.declared.decision.Deed.TheVariants.{Keep, Bring, Write, Stand}
+use Rattle.ados_transfer.specs.declared.decision.Removal.{Removal}
+use Rattle.ados_transfer.specs.declared.decision.Removal.TheVariants.{Forget, Delete, Hold, Leave, Stand as Stays}
 
 -- the two are the same time
 abbrev pub is_same_time : Time → Time → Bool
@@ -52,3 +54,15 @@ decision last here there leave =
     if is_same here there then Keep else
     (if is_same there last then Bring else
     (if may_write last here there leave then Write else Stand))
+
+-- what becomes of this machine's object after what is done with it is known: it is deleted in place of being written over, unless
+-- it is gone, or something that the Shell holds is not written
+abbrev pub removal_of : Deed → Bool → Bool → Removal
+removal_of Keep gone owing = if gone then Forget else Leave
+removal_of Bring gone owing = Leave
+removal_of Write gone owing = if gone then Forget else (if owing then Hold else Delete)
+removal_of Stand gone owing = Stays
+
+-- what becomes of this machine's object if the Shell's is gone or of another kind
+abbrev pub removal : State → State → State → Bool → Bool → Removal
+removal last here there leave owing = removal_of (decision last here there leave) (is_absent here) owing

@@ -107,7 +107,11 @@ impl Mirror {
         rt: &R,
         files: &Ram,
     ) -> Result<Vec<Arrival>, TransferFault> {
+        self.begin_look();
         let look = Look::new(rt, self.folder.as_str(), self.options.all, &self.records)?;
+        for unread in &look.unread {
+            self.tell_unread(unread.key.as_str(), unread.path.as_str())?;
+        }
         for line in &look.lines {
             self.tell_line(String::from_str(self.alloc, line.as_str())?)?;
         }
@@ -122,6 +126,7 @@ impl Mirror {
         for change in &changes {
             self.plan_come(rt, &mut plan, change)?;
         }
+        self.hold_deletions(files)?;
         Ok(plan.into_arrivals())
     }
 
@@ -179,7 +184,7 @@ impl Mirror {
         Ok(changes)
     }
 
-    // Adds the objects of records that were not seen, except for those in a folder that could not be read.
+    // Adds the objects of records that were not seen, except for those that could not be looked at.
     fn add_gone_records(
         &self,
         look: &Look,

@@ -25,15 +25,13 @@ impl Mirror {
         let Some(record) = self.records.find(key) else {
             return Ok(());
         };
-        if let Some(seen) = change.seen {
-            if is_of_kind(record, seen.kind) {
-                return Ok(());
-            }
+        if change
+            .seen
+            .is_some_and(|seen| is_of_kind(record, seen.kind))
+        {
+            return Ok(());
         }
-        let here = match change.seen {
-            Some(seen) => Here::look(rt, self.folder.as_str(), seen.path.as_str())?,
-            None => Here::Absent,
-        };
+        let here = self.look_at(rt, change)?;
         let place = record.place.copy()?;
         let entry = plan.look(key, &place);
         let state = here.state(Some(record));
@@ -43,17 +41,34 @@ impl Mirror {
         let arrival = Arrival::new(self.alloc, gone, Coming::Nothing, Stamp::NONE)?;
         if deed == Deed::Stand {
             self.tell_standing(key, arrival.path.as_str(), false)?;
+            self.overrule(arrival.path.as_str(), entry.is_some() && !is_foreign)?;
         }
-        match (deed, entry) {
-            (Deed::Keep, _) if is_absent => {
-                self.forget(key);
-                Ok(())
-            }
-            (Deed::Stand, _) if is_foreign => Ok(()),
+        let is_forgotten = match (deed, entry) {
+            (Deed::Stand, _) if is_foreign => false,
             (Deed::Stand | Deed::Bring, Some(entry)) => {
-                plan.add_deletion(self, arrival, &place, entry)
+                plan.add_deletion(self, arrival, &place, entry)?;
+                !plan.deletes(key)
             }
-            _ => Ok(()),
+            (Deed::Keep, _) => true,
+            // What the Shell changed is new there: it is written again.
+            (Deed::Write, Some(_)) => !self.is_failing(key),
+            _ => false,
+        };
+        if is_absent && is_forgotten {
+            self.forget(key);
+        }
+        Ok(())
+    }
+
+    // What this machine has at the place of an object that may have changed.
+    fn look_at<R: AllocGlobal + Files>(
+        &self,
+        rt: &R,
+        change: &Change<'_>,
+    ) -> Result<Here, TransferFault> {
+        match change.seen {
+            Some(seen) => Here::look(rt, self.folder.as_str(), seen.path.as_str()),
+            None => Ok(Here::Absent),
         }
     }
 
@@ -73,6 +88,10 @@ impl Mirror {
         if entry.is_none() && plan.is_full() && self.records.find(key).is_none() {
             return self.tell_full(seen.path.as_str());
         }
+        let here = Here::look(rt, self.folder.as_str(), seen.path.as_str())?;
+        if here.is_unread() {
+            return self.tell_unread(key, seen.path.as_str());
+        }
         let record = match self.records.find(key) {
             Some(record) if !plan.deletes(key) => Some(record),
             _ => None,
@@ -80,21 +99,26 @@ impl Mirror {
         if entry.is_some() && record.is_some_and(|record| !is_of_kind(record, seen.kind)) {
             return Ok(());
         }
-        let here = Here::look(rt, self.folder.as_str(), seen.path.as_str())?;
         let is_stand_in = record.is_some_and(Record::is_stand_in);
         match here.deed(record, entry) {
             Deed::Keep => self.keep_alike(plan, seen, &here, entry),
             Deed::Write => {
-                if let Some(stamp) = here.stamp() {
-                    self.records.mark(key, stamp, stamp.is_fresh(plan.now()));
-                }
+                self.keep_marks(plan, key, &here);
                 Ok(())
             }
             Deed::Stand => {
                 self.tell_standing(key, seen.path.as_str(), is_stand_in)?;
+                self.overrule(seen.path.as_str(), entry.is_some())?;
                 plan.add_object(self, seen, here, &place)
             }
             Deed::Bring => plan.add_object(self, seen, here, &place),
+        }
+    }
+
+    // Keeps the marks of an object in whose place the Shell's is to be written.
+    fn keep_marks(&mut self, plan: &ArrivalPlan<'_>, key: &str, here: &Here) {
+        if let Some(stamp) = here.stamp() {
+            self.records.mark(key, stamp, stamp.is_fresh(plan.now()));
         }
     }
 

@@ -1,6 +1,6 @@
 //! What becomes of an object of a share.
-ghost use Rattle.std.specs.Prelude.{◌≡◌, ◌⊎◌, true, false};
-ghost use Rattle.ados_transfer.specs.Mirror.{decision, is_absent, is_same, is_large, may_write};
+ghost use Rattle.std.specs.Prelude.{◌≡◌, ◌⊎◌, true, false, if◌then◌else◌};
+ghost use Rattle.ados_transfer.specs.Mirror.{decision, is_absent, is_same, is_large, may_write, removal};
 
 use crate::stamps::Stamp;
 
@@ -30,6 +30,21 @@ pub enum Deed {
     Write,
     /// Both sides changed, or this machine's object is not to be touched: the one on this machine stays.
     Stand,
+}
+
+/// What becomes of this machine's object if the Shell no longer has it, or has another kind of object in its place.
+#[derive(Clone, Copy, PartialEq, Eq)]
+pub enum Removal {
+    /// It is gone: it is no longer kept in mind.
+    Forget,
+    /// It is deleted.
+    Delete,
+    /// It would be deleted, but something that the Shell holds is not written yet: its bytes may have been moved there.
+    Hold,
+    /// It changed, or is not to be touched: it stays.
+    Stand,
+    /// Nothing: the Shell has what it had.
+    Leave,
 }
 
 impl State<'_> {
@@ -81,6 +96,51 @@ pub fn decide(last: &State<'_>, here: &State<'_>, there: &State<'_>, may_delete:
         Deed::Write
     } else {
         Deed::Stand
+    }
+}
+
+/// What becomes of this machine's object if the Shell's is gone or of another kind; `is_owing` says that something which the Shell
+/// holds is not written.
+pub fn decide_removal(
+    last: &State<'_>,
+    here: &State<'_>,
+    there: &State<'_>,
+    may_delete: bool,
+    is_owing: bool,
+) -> Removal
+    // Nothing is deleted while anything that the Shell holds is unwritten.
+    ensures owed { result ≡ Removal.Delete → is_owing ≡ false }
+    // What is deleted is there, and is what was there at the last time.
+    ensures safe { result ≡ Removal.Delete → (is_absent here.now ≡ false) × (is_same here.now last.now ≡ true) }
+    // A file that the Shell can't hold is deleted only if the Shell's is gone, and if that is allowed.
+    ensures large { result ≡ Removal.Delete → is_large here.now ≡ true → (is_absent there.now ≡ true) × (may_delete ≡ true) }
+    ensures removal { result ≡ removal last.now here.now there.now may_delete is_owing }
+{
+    match decide(last, here, there, may_delete) {
+        Deed::Keep => forget_if(here.is_absent()),
+        Deed::Bring => Removal::Leave,
+        Deed::Stand => Removal::Stand,
+        Deed::Write => {
+            if here.is_absent() {
+                return Removal::Forget;
+            }
+            if is_owing {
+                Removal::Hold
+            } else {
+                Removal::Delete
+            }
+        }
+    }
+}
+
+// Both sides are alike: what is gone on both is forgotten.
+fn forget_if(is_gone: bool) -> Removal
+    ensures { result ≡ (if is_gone then Removal.Forget else Removal.Leave) }
+{
+    if is_gone {
+        Removal::Forget
+    } else {
+        Removal::Leave
     }
 }
 

@@ -4,12 +4,13 @@ use crate::faults::TransferFault;
 use crate::folders::{is_below, is_left_out};
 use crate::here::Here;
 use crate::paths::step_into;
+use crate::placing::{Draft, place_whole};
 use crate::records::{Last, Record};
 use crate::stamps::Stamp;
-use crate::writing::{Manner, checked, enter, joined, write_whole};
+use crate::writing::{checked, enter, joined, open_beside};
 use ados_ram::Entry;
 use std::alloc::Global;
-use std::io::ErrorKind;
+use std::os::unix::fs::PermissionsExt;
 use std::rt::Files;
 use std::{fs, io};
 
@@ -22,8 +23,12 @@ pub struct Departure<'a> {
     pub path: String,
     /// What is there; nothing if it is gone.
     pub entry: Option<&'a Entry>,
+    /// It was not there at the last time.
+    pub is_new: bool,
     /// It is a file and was a directory, or the other way round.
     pub is_turned: bool,
+    /// It is turned, or below an object that is.
+    pub is_at_turn: bool,
 }
 
 impl<'a> Departure<'a> {
@@ -34,20 +39,21 @@ impl<'a> Departure<'a> {
         entry: Option<&'a Entry>,
     ) -> Result<Departure<'a>, TransferFault> {
         let was_directory = matches!(record.last, Last::Directory);
+        let is_turned = entry.is_some_and(|entry| entry.is_directory() != was_directory);
         Ok(Departure {
             key: String::from_str(alloc, record.key.as_str())?,
             path: String::from_str(alloc, record.path.as_str())?,
             entry,
-            is_turned: entry.is_some_and(|entry| entry.is_directory() != was_directory),
+            is_new: false,
+            is_turned,
+            is_at_turn: is_turned,
         })
     }
 
-    /// It is to be deleted before anything is written: it is of another kind now, or gone with a directory that is.
-    pub fn is_early(&self, departures: &[Departure<'_>]) -> bool {
-        self.is_turned
-            || (self.entry.is_none()
-                && departures.iter().any(|other| other.is_turned
-                    && is_below(other.key.as_str(), self.key.as_str())))
+    /// It is below an object that is turned.
+    pub fn is_below_turn(&self, departures: &[Departure<'_>]) -> bool {
+        departures.iter().any(|other| other.is_turned
+            && is_below(other.key.as_str(), self.key.as_str()))
     }
 }
 
@@ -56,58 +62,88 @@ pub fn is_key_left_out(key: &str, all: bool) -> bool {
     key.split('/').any(|name| is_left_out(name, all))
 }
 
-/// Writes an object to this machine in place of what is there, and gives its new marks.
+/// Writes an object to this machine in place of what was looked at, and gives its new marks; nothing if something else came to be
+/// there since.
 pub fn write_entry<R: AllocGlobal + Files>(
     rt: &R,
     root: &str,
     path: &str,
-    entry: &Entry,
-    here: &Here,
-) -> io::Result<Stamp> {
+    draft: &Draft<'_>,
+) -> io::Result<Option<Stamp>> {
     let (folder, name) = way(rt, root, path)?;
-    if entry.is_directory() {
+    if draft.entry.is_directory() {
         let made = enter(rt, folder.as_str(), name)?;
-        return Ok(Stamp::of(&fs::symlink_metadata(rt, made.as_str())?));
+        return Ok(Some(Stamp::of(&fs::symlink_metadata(rt, made.as_str())?)));
     }
     checked(name)?;
-    write_whole(
-        rt,
-        folder.as_str(),
-        name,
-        entry.bytes(),
-        manner(entry, here)?,
-    )?;
-    let whole = joined(rt.alloc(), folder.as_str(), name)?;
-    Ok(Stamp::of(&fs::symlink_metadata(rt, whole.as_str())?))
-}
-
-// The permissions for a file: those it had before; a new script is executable. A file that may not be written is refused.
-fn manner(entry: &Entry, here: &Here) -> io::Result<Manner> {
-    match here {
-        Here::File { mode, .. } if mode & 0o222 == 0 => {
-            Err(io::Error::from(ErrorKind::PermissionDenied))
-        }
-        Here::File { mode, .. } => Ok(Manner::Mode(*mode)),
-        _ if entry.bits.script => Ok(Manner::Executable),
-        _ => Ok(Manner::Plain),
+    if !place_whole(rt, folder.as_str(), name, draft)? {
+        return Ok(None);
     }
+    let whole = joined(rt.alloc(), folder.as_str(), name)?;
+    Ok(Some(Stamp::of(&fs::symlink_metadata(rt, whole.as_str())?)))
 }
 
-/// Deletes a file or an empty folder.
+/// Deletes a file or an empty folder that was looked at; `false` if something else came to be there since.
 pub fn remove<R: AllocGlobal + Files>(
     rt: &R,
     root: &str,
     path: &str,
-    is_directory: bool,
-) -> io::Result<()> {
+    here: &Here,
+) -> io::Result<bool> {
+    let whole = own_path(rt, root, path)?;
+    if here.is_directory() {
+        fs::remove_dir(rt, whole.as_str())?;
+        return Ok(true);
+    }
+    if !is_still(rt, whole.as_str(), here)? {
+        return Ok(false);
+    }
+    fs::remove_file(rt, whole.as_str())?;
+    Ok(true)
+}
+
+/// Moves a file that was looked at to the name of a temporary file in the folder of the share, or deletes an empty folder. Gives the
+/// path where the file is then, and the mode; nothing if something else came to be there since.
+pub fn move_aside<R: AllocGlobal + Files>(
+    rt: &R,
+    root: &str,
+    path: &str,
+    here: &Here,
+) -> io::Result<Option<(Option<String>, u32)>> {
+    let whole = own_path(rt, root, path)?;
+    let mode = fs::symlink_metadata(rt, whole.as_str())?
+        .permissions()
+        .mode()
+        & 0o777;
+    if here.is_directory() {
+        fs::remove_dir(rt, whole.as_str())?;
+        return Ok(Some((None, mode)));
+    }
+    if !is_still(rt, whole.as_str(), here)? {
+        return Ok(None);
+    }
+    let (beside, file) = open_beside(rt, root, 0o600)?;
+    drop(file);
+    match fs::rename(rt, whole.as_str(), beside.as_str()) {
+        Ok(()) => Ok(Some((Some(beside), mode))),
+        Err(error) => {
+            let _ = fs::remove_file(rt, beside.as_str());
+            Err(error)
+        }
+    }
+}
+
+/// The whole path of an object below a folder. Folders on the way are made; one that is a link is refused.
+pub fn own_path<R: AllocGlobal + Files>(rt: &R, root: &str, path: &str) -> io::Result<String> {
     let (folder, name) = way(rt, root, path)?;
     checked(name)?;
-    let whole = joined(rt.alloc(), folder.as_str(), name)?;
-    if is_directory {
-        fs::remove_dir(rt, whole.as_str())
-    } else {
-        fs::remove_file(rt, whole.as_str())
-    }
+    joined(rt.alloc(), folder.as_str(), name)
+}
+
+// What is at a path has the marks of what was looked at.
+fn is_still<R: Files>(rt: &R, path: &str, here: &Here) -> io::Result<bool> {
+    let found = Stamp::of(&fs::symlink_metadata(rt, path)?);
+    Ok(here.stamp().is_some_and(|stamp| stamp.is_same(&found)))
 }
 
 // The folder of a path's last name, and that name. Folders on the way are made; one that is a link is refused.

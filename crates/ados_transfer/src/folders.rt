@@ -47,13 +47,22 @@ pub struct Seen {
     pub stamp: Stamp,
 }
 
+/// What could not be read.
+#[derive(Drop)]
+pub struct Unread {
+    /// Its path below the folder in lower case; empty for the folder itself.
+    pub key: String,
+    /// Its path below the folder.
+    pub path: String,
+}
+
 /// A look at the folder: what is in it, in the order of the keys.
 #[derive(Drop)]
 pub struct Look {
     /// What is there.
     pub seen: Vec<Seen>,
-    /// The keys of folders that could not be read.
-    pub unread: Vec<String>,
+    /// The folders that could not be read, and the objects that could not be looked at.
+    pub unread: Vec<Unread>,
     /// The lines that report what is left alone.
     pub lines: Vec<String>,
 }
@@ -87,11 +96,19 @@ impl Look {
         Err(named(alloc, folder, TransferFault::CannotRead))
     }
 
-    /// The object with this key is in a folder that could not be read.
+    /// The object with this key could not be looked at, or is in a folder that could not be read.
     pub fn is_hidden(&self, key: &str) -> bool {
-        self.unread
-            .iter()
-            .any(|unread| is_below(unread.as_str(), key))
+        self.unread.iter().any(|unread| unread.key.as_str() == key
+            || is_below(unread.key.as_str(), key))
+    }
+
+    // Notes that an object could not be read.
+    fn add_unread(&mut self, alloc: Global, path: &str) -> Result<(), TransferFault> {
+        self.unread.push(Unread {
+            key: lower(alloc, path)?,
+            path: String::from_str(alloc, path)?,
+        })?;
+        Ok(())
     }
 
     // Adds what is directly in a folder.
@@ -106,14 +123,13 @@ impl Look {
         let alloc = rt.alloc();
         let mut folders = Vec::new(alloc);
         let whole = step_into(alloc, folder, path)?;
-        let names = match self.read_names(rt, whole.as_str(), path, all) {
+        let names = match self.read_names(rt, whole.as_str(), all) {
             Ok(names) => names,
             Err(error) if error.kind() == ErrorKind::OutOfMemory => {
                 return Err(TransferFault::NoMemory);
             }
             Err(_) => {
-                self.tell(alloc, "cannot read", path)?;
-                self.unread.push(lower(alloc, path)?)?;
+                self.add_unread(alloc, path)?;
                 return Ok(folders);
             }
         };
@@ -141,7 +157,6 @@ impl Look {
         &mut self,
         rt: &R,
         whole: &str,
-        path: &str,
         all: bool,
     ) -> io::Result<Vec<String>> {
         let mut names = Vec::new(rt.alloc());
@@ -150,8 +165,9 @@ impl Look {
                 Ok(entry) if is_left_out(entry.file_name(), all) => {}
                 Ok(entry) => names.push(String::from_str(rt.alloc(), entry.file_name())?)?,
                 Err(error) if error.kind() == ErrorKind::InvalidFilename => {
+                    let folder = whole.trim_end_matches('/');
                     let line = format!(in rt.alloc();
-                        "bad name for the Shell, left alone: one in {path}/"
+                        "bad name for the Shell, left alone: one in {folder}"
                     )?;
                     self.lines.push(line)?;
                 }
@@ -194,8 +210,10 @@ impl Look {
     ) -> Result<(), TransferFault> {
         let alloc = rt.alloc();
         let whole = step_into(alloc, folder, named.path.as_str())?;
-        let Ok(found) = fs::symlink_metadata(rt, whole.as_str()) else {
-            return Ok(());
+        let found = match fs::symlink_metadata(rt, whole.as_str()) {
+            Ok(found) => found,
+            Err(error) if error.kind() == ErrorKind::NotFound => return Ok(()),
+            Err(_) => return self.add_unread(alloc, named.path.as_str()),
         };
         let kind = kind_of(&found);
         match kind {

@@ -31,8 +31,10 @@ pub enum Here {
     },
     /// A file of more bytes than the Shell's may have.
     Large(Stamp),
-    /// A link, a device, or a file that can't be read.
+    /// A link or a device.
     Foreign,
+    /// A file that can't be read, or what can't be looked at.
+    Unread,
 }
 
 impl Here {
@@ -45,8 +47,8 @@ impl Here {
         let whole = step_into(rt.alloc(), folder, path)?;
         let found = match fs::symlink_metadata(rt, whole.as_str()) {
             Ok(found) => found,
-            Err(error) if error.kind() == ErrorKind::NotFound => return Ok(Here::Absent),
-            Err(_) => return Ok(Here::Foreign),
+            Err(error) if is_nothing(error.kind()) => return Ok(Here::Absent),
+            Err(_) => return Ok(Here::Unread),
         };
         let stamp = Stamp::of(&found);
         if found.is_dir() {
@@ -66,7 +68,7 @@ impl Here {
             }),
             Ok(_) => Ok(Here::Large(stamp)),
             Err(error) if error.kind() == ErrorKind::OutOfMemory => Err(TransferFault::NoMemory),
-            Err(_) => Ok(Here::Foreign),
+            Err(_) => Ok(Here::Unread),
         }
     }
 
@@ -75,7 +77,7 @@ impl Here {
         match (self, record) {
             (Here::Absent, _) => State::Absent,
             (Here::Directory(_), _) => State::Directory,
-            (Here::Foreign, _) => State::Foreign,
+            (Here::Foreign | Here::Unread, _) => State::Foreign,
             (Here::Large(stamp), _) => State::Large(*stamp),
             (Here::File { stamp, .. }, Some(record))
                 if record.is_stand_in() && record.stamp.is_same(stamp) => { State::Large(*stamp) }
@@ -101,7 +103,8 @@ impl Here {
     pub fn into_bytes(self) -> Option<Vec<u8>> {
         match self {
             Here::File { bytes, .. } => Some(bytes),
-            Here::Absent | Here::Directory(_) | Here::Large(_) | Here::Foreign => None,
+            Here::Absent | Here::Directory(_) | Here::Large(_) | Here::Foreign | Here::Unread =>
+                None,
         }
     }
 
@@ -109,8 +112,14 @@ impl Here {
     pub fn size(&self) -> Option<usize> {
         match self {
             Here::File { bytes, .. } => Some(bytes.len()),
-            Here::Absent | Here::Directory(_) | Here::Large(_) | Here::Foreign => None,
+            Here::Absent | Here::Directory(_) | Here::Large(_) | Here::Foreign | Here::Unread =>
+                None,
         }
+    }
+
+    /// It can't be read or looked at: what it is is not known.
+    pub fn is_unread(&self) -> bool {
+        matches!(self, Here::Unread)
     }
 
     /// It is a folder.
@@ -121,8 +130,13 @@ impl Here {
     /// Its marks.
     pub fn stamp(&self) -> Option<Stamp> {
         match self {
-            Here::Absent | Here::Foreign => None,
+            Here::Absent | Here::Foreign | Here::Unread => None,
             Here::Directory(stamp) | Here::Large(stamp) | Here::File { stamp, .. } => Some(*stamp),
         }
     }
+}
+
+// Nothing is there, also since what would be above it is a file.
+fn is_nothing(kind: ErrorKind) -> bool {
+    matches!(kind, ErrorKind::NotFound | ErrorKind::NotADirectory)
 }

@@ -2,6 +2,7 @@
 //! Files of this machine in the Shell's files and back: the typed lines by which they come in, written so that each word is read
 //! as it was meant; what the files then hold; and how files are written out.
 
+mod account;
 mod arguments;
 mod arrival_plan;
 mod arrivals;
@@ -19,22 +20,26 @@ mod left_out;
 mod lines;
 mod mirror;
 mod paths;
+mod placing;
 mod plan;
 mod records;
 mod release_two;
+mod removals;
 mod room;
 mod script;
 mod share_lines;
 mod stamps;
 mod stand_ins;
+mod start_place;
 mod taking;
 mod told;
 mod words;
+mod writes;
 mod writing;
 
 pub use arrivals::Arrival;
 pub use bringing::{bring, bring_script, bytes_of};
-pub use decision::{Deed, State, decide};
+pub use decision::{Deed, Removal, State, decide, decide_removal};
 pub use faults::TransferFault;
 pub use left_out::{LeftOut, options_left_out};
 pub use lines::{BRING, Lines};
@@ -42,6 +47,7 @@ pub use mirror::{Mirror, MirrorOptions};
 pub use paths::{ascii, last_piece, step_into};
 pub use plan::Plan;
 pub use stamps::{Stamp, Time};
+pub use start_place::StartPlace;
 pub use taking::take;
 pub use told::{Content, Told, are_as_told};
 pub use words::push_word;

@@ -4,7 +4,7 @@ use crate::bringing::parted;
 use crate::faults::{TransferFault, named};
 use crate::folders::lower;
 use crate::keys::Keys;
-use crate::paths::{place_in, step_into};
+use crate::paths::{is_free, place_in, step_into};
 use crate::records::{Last, Record, Records};
 use crate::stamps::Stamp;
 use ados_ram::{Place, Ram};
@@ -43,18 +43,27 @@ pub struct Mirror {
     // The keys of those for which this machine's object stays, and of those that could not be written or brought in.
     standing: Keys,
     failing: Keys,
+    // The keys of those that could not be read at the last look, and at the one before.
+    unread: Keys,
+    unread_before: Keys,
     // The Shell's files had no place for an object.
     is_full: bool,
+    // At the last time something was not deleted, since not everything was written.
+    pub(crate) is_holding: bool,
+    // The first object of the Shell that gave way to this machine's at this look.
+    pub(crate) overruled: Option<String>,
 }
 
 impl Mirror {
     /// A share by the words `FOLDER` or `FOLDER=PATH`; PATH defaults to RAM:Work. Nothing of it is read yet.
     ///
-    /// `CannotRead` if FOLDER is not a folder; `BadName` if PATH does not name a directory, or names the root.
+    /// `CannotRead` if FOLDER is not a folder; `BadName` if PATH does not name a directory, or names the root; `NoPlace` if in
+    /// these files it is one of a file or of a directory that is not empty, or is that of the script.
     pub fn new<R: AllocGlobal + Files>(
         rt: &R,
         words: &str,
         options: MirrorOptions,
+        files: &Ram,
     ) -> Result<Mirror, TransferFault> {
         let alloc = rt.alloc();
         let (path, directory) = parted(rt, words);
@@ -69,6 +78,9 @@ impl Mirror {
         if place.names().is_empty() {
             return Err(named(alloc, directory, TransferFault::BadName));
         }
+        if !is_free(alloc, files, &place)? {
+            return Err(named(alloc, directory, TransferFault::NoPlace));
+        }
         Ok(Mirror {
             alloc,
             folder,
@@ -80,7 +92,11 @@ impl Mirror {
             told: Keys::new(alloc),
             standing: Keys::new(alloc),
             failing: Keys::new(alloc),
+            unread: Keys::new(alloc),
+            unread_before: Keys::new(alloc),
             is_full: false,
+            is_holding: false,
+            overruled: None,
         })
     }
 
@@ -89,26 +105,15 @@ impl Mirror {
         &self.place
     }
 
-    /// The folder of this machine that corresponds to a directory of the Shell; none outside the share.
-    pub fn folder_of(&self, alloc: Global, place: &Place) -> Result<Option<String>, TransferFault> {
-        let Some(key) = self.key_of(place)? else {
-            return Ok(None);
-        };
-        if let Some(record) = self.records.find(key.as_str()) {
-            return Ok(Some(step_into(alloc, self.folder.as_str(), record.path.as_str())?));
-        }
-        let path = self.spelled(place.names_behind(&self.place))?;
-        Ok(Some(step_into(alloc, self.folder.as_str(), path.as_str())?))
-    }
-
     /// The lines to report since the last call.
     pub fn take_lines(&mut self) -> Vec<String> {
         std::mem::replace(&mut self.lines, Vec::new(self.alloc))
     }
 
-    /// Something could not be written or brought in, and has not been since: the two sides are not alike.
+    /// Something could not be read, written or brought in, and has not been since, or something is not deleted because of that: the
+    /// two sides are not alike.
     pub fn has_failed(&self) -> bool {
-        !self.failing.is_empty()
+        self.is_holding || !self.failing.is_empty() || !self.unread.is_empty()
     }
 
     // The key of a place, the empty one for the directory itself; none outside it.
@@ -174,7 +179,7 @@ impl Mirror {
     // Neither side has an object with this key any longer.
     pub(crate) fn forget(&mut self, key: &str) {
         self.settled(key);
-        self.records.remove(key);
+        let _ = self.records.take(key);
     }
 
     // The two sides no longer differ at this key.
@@ -220,6 +225,22 @@ impl Mirror {
         }
     }
 
+    // Notes that an object gives way to this machine's, if the Shell has one.
+    pub(crate) fn overrule(&mut self, path: &str, is_there: bool) -> Result<(), TransferFault> {
+        if is_there && self.overruled.is_none() {
+            self.overruled = Some(String::from_str(self.alloc, path)?);
+        }
+        Ok(())
+    }
+
+    // Reports that a folder stays, since more is in it than the Shell knows, once until that is settled.
+    pub(crate) fn tell_not_empty(&mut self, key: &str, path: &str) -> Result<(), TransferFault> {
+        if self.standing.add(key)? {
+            self.tell("kept, since it is not empty", path)?;
+        }
+        Ok(())
+    }
+
     // Reports the first object for which the Shell's files have no place.
     pub(crate) fn tell_full(&mut self, path: &str) -> Result<(), TransferFault> {
         if self.is_full {
@@ -229,12 +250,36 @@ impl Mirror {
         self.tell("more than 1024 files and folders, left alone from", path)
     }
 
+    // An object could not be written or brought in, and has not been since.
+    pub(crate) fn is_failing(&self, key: &str) -> bool {
+        self.failing.has(key)
+    }
+
     // Reports that something failed, once until that is settled.
     pub(crate) fn fail(&mut self, key: &str, text: &str, path: &str) -> Result<(), TransferFault> {
         if !self.failing.add(key)? {
             return Ok(());
         }
         self.tell(text, path)
+    }
+
+    // Begins a look: nothing is known yet of what cannot be read.
+    pub(crate) fn begin_look(&mut self) {
+        let unread = std::mem::replace(&mut self.unread, Keys::new(self.alloc));
+        self.unread_before = unread;
+    }
+
+    // Reports that an object cannot be read, unless that was so at the look before.
+    pub(crate) fn tell_unread(&mut self, key: &str, path: &str) -> Result<(), TransferFault> {
+        if !self.unread.add(key)? || self.unread_before.has(key) {
+            return Ok(());
+        }
+        if path.is_empty() {
+            let line = format!(in self.alloc; "cannot read: {}", self.folder.as_str())?;
+            self.lines.push(line)?;
+            return Ok(());
+        }
+        self.tell("cannot read", path)
     }
 
     // The time; if the clock can't be read, one that is before all others.

@@ -2,7 +2,7 @@
 
 use crate::faults::{TransferFault, named};
 use ados_names::{NameFault, Path, Step, is_name};
-use ados_ram::Place;
+use ados_ram::{Place, Ram};
 use ados_text::{Name, Text, TextFault};
 use std::alloc::Global;
 use std::fs;
@@ -69,6 +69,27 @@ pub fn place_in(alloc: Global, path: &str) -> Result<Place, TransferFault> {
         }
     }
     Ok(place)
+}
+
+/// A directory of the Shell may be shared as this place: nothing is there, or an empty directory other than S:, where the script
+/// is put, and no file is above it.
+pub fn is_free(alloc: Global, files: &Ram, place: &Place) -> Result<bool, TransferFault> {
+    if *place == place_in(alloc, "S:")? {
+        return Ok(false);
+    }
+    for depth in 1..place.names().len() {
+        let above = Place::root(alloc).joined(&place.names()[..depth])?;
+        if files
+            .look(&above)
+            .is_some_and(|entry| !entry.is_directory())
+        {
+            return Ok(false);
+        }
+    }
+    match files.look(place) {
+        Some(entry) => Ok(entry.is_directory() && files.children(place)?.is_empty()),
+        None => Ok(true),
+    }
 }
 
 // The directory to which a device leads at the beginning.

@@ -75,6 +75,22 @@ impl Record {
         }
     }
 
+    /// What the Shell has in its place is nothing, or of another kind.
+    pub fn is_gone(&self, entry: Option<&Entry>) -> bool {
+        match entry {
+            Some(entry) => entry.is_directory() != matches!(self.last, Last::Directory),
+            None => true,
+        }
+    }
+
+    /// It was a file of these bytes.
+    pub fn is_file_of(&self, bytes: &[u8]) -> bool {
+        match &self.last {
+            Last::File(last) => last.as_bytes() == bytes,
+            Last::Directory | Last::StandIn => false,
+        }
+    }
+
     /// It is a file that the Shell can't hold.
     pub fn is_stand_in(&self) -> bool {
         matches!(self.last, Last::StandIn)
@@ -150,10 +166,11 @@ impl Records {
         Ok(())
     }
 
-    /// Removes the record of a key.
-    pub fn remove(&mut self, key: &str) {
-        if let Ok(place) = self.place(key) {
-            let _ = self.sorted.remove(place);
+    /// Removes the record of a key, and gives it.
+    pub fn take(&mut self, key: &str) -> Option<Record> {
+        match self.place(key) {
+            Ok(place) => Some(self.sorted.remove(place)),
+            Err(_) => None,
         }
     }
 

@@ -35,7 +35,7 @@ static COMMANDS: [Command; 15] = [
     Command {
         name: "Copy",
         kept: &["FROM", "TO"],
-        switches: &["CLONE", "DATES", "NOPRO", "COM", "NOREQ"],
+        switches: &["CLONE", "DATES", "NOPRO", "COM", "NOREQ", "NEWER"],
         values: &["BUF", "BUFFER"],
         idle: &["CLONE", "DATES", "NOREQ", "BUF", "BUFFER"],
     },

@@ -9,8 +9,9 @@ use ados_text::{LINE_BYTES, Text};
 use std::alloc::Global;
 
 // The commands by the names that the resident list has for the share, which nothing can shadow, and the files in C: from which
-// they come.
-const COMMANDS: [(&[u8], &[u8]); 5] = [
+// they come. By the first the script is called.
+const COMMANDS: [(&[u8], &[u8]); 6] = [
+    (b"Execute", b"C:Execute"),
     (b"amishell-bring", b"C:amishell-bring"),
     (b"amishell-makedir", b"C:MakeDir"),
     (b"amishell-delete", b"C:Delete"),

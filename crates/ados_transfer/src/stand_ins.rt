@@ -24,7 +24,8 @@ pub fn comment_of(alloc: Global, size: u64) -> Result<String, NoMemory> {
 }
 
 impl Mirror {
-    /// Notes which stand-ins have bit d: if such a stand-in is then deleted, its file is deleted on this machine too.
+    /// Notes which stand-ins have bit d and not bit r: if such a stand-in is then deleted, its file is deleted on this machine too.
+    /// One with bit r may have been copied as the empty file that it is.
     pub fn watch(&mut self, files: &Ram) -> Result<(), TransferFault> {
         if !self.has_stand_ins {
             return Ok(());
@@ -35,7 +36,7 @@ impl Mirror {
                 if let Some(entry) = files.look(&record.place) {
                     seen.push((
                         String::from_str(self.alloc, record.key.as_str())?,
-                        entry.bits.delete,
+                        entry.bits.delete && !entry.bits.read,
                     ))?;
                 }
             }

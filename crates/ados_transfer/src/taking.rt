@@ -2,6 +2,7 @@
 
 use crate::faults::{TransferFault, named};
 use crate::paths::{ascii, last_piece};
+use crate::stand_ins::is_stand_in;
 use crate::writing::{Manner, checked, enter, no_memory, spelled, write_whole};
 use ados_assign::Assigns;
 use ados_names::Path;
@@ -14,7 +15,9 @@ use std::{fs, io};
 
 /// Writes what words of `--take` name, as `NAME` or `NAME=PATH`.
 ///
-/// A file is written whole or not at all. Nothing is written outside the folder that is given.
+/// A file is written whole or not at all. Nothing is written outside the folder that is given. `StandIn` if an object is the
+/// stand-in of a file that the Shell can't hold, which is never written; `CannotTake` if one could not be written. All others
+/// are.
 pub fn take<R: AllocGlobal + Files>(
     rt: &R,
     files: &Ram,
@@ -37,6 +40,9 @@ pub fn take<R: AllocGlobal + Files>(
     match taken {
         Ok(()) => Ok(()),
         Err(error) if error.kind() == ErrorKind::OutOfMemory => Err(TransferFault::NoMemory),
+        Err(error) if error.kind() == ErrorKind::InvalidData => {
+            Err(named(rt.alloc(), words, TransferFault::StandIn))
+        }
         Err(_) => Err(not_taken(rt.alloc(), words)),
     }
 }
@@ -98,12 +104,12 @@ fn take_file<R: AllocGlobal + Files>(
 ) -> io::Result<()> {
     let Some(path) = path else {
         checked(own)?;
-        return write_whole(rt, ".", own, entry.bytes(), Manner::Plain);
+        return write(rt, ".", own, entry);
     };
     if path.ends_with('/') || is_folder(rt, path) {
         checked(own)?;
         fs::create_dir_all(rt, path)?;
-        return write_whole(rt, path, own, entry.bytes(), Manner::Plain);
+        return write(rt, path, own, entry);
     }
     let name = last_piece(path);
     checked(name)?;
@@ -112,6 +118,19 @@ fn take_file<R: AllocGlobal + Files>(
         Some(folder) => folder,
     };
     fs::create_dir_all(rt, folder)?;
+    write(rt, folder, name, entry)
+}
+
+// Writes a file; `InvalidData` if it is a stand-in, which holds nothing of its file.
+fn write<R: AllocGlobal + Files>(
+    rt: &R,
+    folder: &str,
+    name: &str,
+    entry: &Entry,
+) -> io::Result<()> {
+    if is_stand_in(entry) {
+        return Err(io::Error::from(ErrorKind::InvalidData));
+    }
     write_whole(rt, folder, name, entry.bytes(), Manner::Plain)
 }
 
@@ -180,5 +199,5 @@ fn take_below<R: AllocGlobal + Files>(
     }
     let name = spelled(last)?;
     checked(name)?;
-    write_whole(rt, path.as_str(), name, entry.bytes(), Manner::Plain)
+    write(rt, path.as_str(), name, entry)
 }

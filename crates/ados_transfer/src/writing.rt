@@ -4,9 +4,9 @@
 use crate::paths::step_into;
 use ados_text::Name;
 use std::alloc::Global;
-use std::fs::{File, OpenFile, Permissions};
+use std::fs::{OpenFile, OpenOptions, Permissions};
 use std::io::{ErrorKind, Write};
-use std::os::unix::fs::PermissionsExt;
+use std::os::unix::fs::{OpenOptionsExt, PermissionsExt};
 use std::rt::Files;
 use std::{fs, io};
 
@@ -25,6 +25,16 @@ pub enum Manner {
     Executable,
     /// Those of this mode.
     Mode(u32),
+}
+
+impl Manner {
+    // The permissions that the file has until all of it is written: a file that others may not read must not be open to them.
+    fn first_mode(self) -> u32 {
+        match self {
+            Manner::Plain | Manner::Executable => 0o666,
+            Manner::Mode(_) => 0o600,
+        }
+    }
 }
 
 /// The path of a folder in a folder; it is made if it is not there. One that is a link is refused.
@@ -80,17 +90,31 @@ pub fn write_whole<R: AllocGlobal + Files>(
     manner: Manner,
 ) -> io::Result<()> {
     let target = joined(rt.alloc(), folder, name)?;
-    let (beside, mut file) = open_beside(rt, folder)?;
-    let written = fill(&mut file, bytes, manner);
-    drop(file);
-    let moved = match written {
-        Ok(()) => fs::rename(rt, beside.as_str(), target.as_str()),
-        Err(error) => Err(error),
-    };
+    let beside = write_beside(rt, folder, bytes, manner)?;
+    let moved = fs::rename(rt, beside.as_str(), target.as_str());
     if moved.is_err() {
         let _ = fs::remove_file(rt, beside.as_str());
     }
     moved
+}
+
+/// Writes a temporary file in a folder, with these permissions, and gives its path.
+pub fn write_beside<R: AllocGlobal + Files>(
+    rt: &R,
+    folder: &str,
+    bytes: &[u8],
+    manner: Manner,
+) -> io::Result<String> {
+    let (beside, mut file) = open_beside(rt, folder, manner.first_mode())?;
+    let written = fill(&mut file, bytes, manner);
+    drop(file);
+    match written {
+        Ok(()) => Ok(beside),
+        Err(error) => {
+            let _ = fs::remove_file(rt, beside.as_str());
+            Err(error)
+        }
+    }
 }
 
 // Writes the bytes, and sets the permissions.
@@ -107,16 +131,46 @@ fn fill<F: Write + OpenFile>(file: &mut F, bytes: &[u8], manner: Manner) -> io::
     file.set_permissions(Permissions::from_mode(mode))
 }
 
-// A new temporary file in a folder, with its path.
-fn open_beside<R: AllocGlobal + Files>(rt: &R, folder: &str) -> io::Result<(String, R::File)> {
+/// A new temporary file in a folder, with its path.
+pub fn open_beside<R: AllocGlobal + Files>(
+    rt: &R,
+    folder: &str,
+    mode: u32,
+) -> io::Result<(String, R::File)> {
+    let mut options = OpenOptions::new();
+    options.write(true);
+    options.create_new(true);
+    options.mode(mode);
     for number in 0..TRIES {
-        let name = format!(in rt.alloc(); "{BESIDE}{number}")?;
-        let path = joined(rt.alloc(), folder, name.as_str())?;
-        match File::create_new(rt, path.as_str()) {
+        let path = name_beside(rt.alloc(), folder, number)?;
+        match options.open(rt, path.as_str()) {
             Ok(file) => return Ok((path, file)),
             Err(error) if error.kind() == ErrorKind::AlreadyExists => {}
             Err(error) => return Err(error),
         }
     }
     Err(io::Error::from(ErrorKind::AlreadyExists))
+}
+
+/// Gives a file the name of a temporary file in a folder as a second one; nothing if it can have none.
+pub fn link_beside<R: AllocGlobal + Files>(
+    rt: &R,
+    folder: &str,
+    path: &str,
+) -> io::Result<Option<String>> {
+    for number in 0..TRIES {
+        let beside = name_beside(rt.alloc(), folder, number)?;
+        match fs::hard_link(rt, path, beside.as_str()) {
+            Ok(()) => return Ok(Some(beside)),
+            Err(error) if error.kind() == ErrorKind::AlreadyExists => {}
+            Err(_) => return Ok(None),
+        }
+    }
+    Ok(None)
+}
+
+// The path of a temporary file in a folder.
+fn name_beside(alloc: Global, folder: &str, number: u32) -> io::Result<String> {
+    let name = format!(in alloc; "{BESIDE}{number}")?;
+    joined(alloc, folder, name.as_str())
 }

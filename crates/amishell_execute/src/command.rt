@@ -44,10 +44,11 @@ const SHARE: &str =
 each program starts what changed there is written to the folder, and what the program changes in the
 folder comes in when it ends";
 
-const ALL: &str = "Shares also .git and what else has a name that begins with a dot";
+const ALL: &str = "Shares also what has a name that begins with a dot";
 
 const DRY: &str =
-    "Tells what would be written to the shared folder and deleted there, and writes nothing";
+    "Tells what would be written to the shared folder and deleted there, and writes nothing itself; programs
+and --take write as ever";
 
 const QUOTE: &str = "Quotes each of ARGS, so that none is the name of an option of .KEY";
 

@@ -80,7 +80,27 @@ pub fn bad_host(alloc: Global, words: &str) -> Fault {
     }
 }
 
-/// Writes a line on standard error. If even this line cannot be written, the exit status reports it.
-pub fn tell<R: Eprint, T: Display>(rt: &R, line: &T) {
-    let _ = rt.eprintln(format_args!("amishell-execute: {line}"));
+/// Writes a line on standard error, in which control characters of names are escaped: a newline would begin another line, and a
+/// terminal obeys others. If even this line cannot be written, the exit status reports it.
+pub fn tell<R: AllocGlobal + Eprint, T: Display>(rt: &R, line: &T) {
+    let _ = match escaped(rt.alloc(), line) {
+        Ok(shown) => rt.eprintln(format_args!("amishell-execute: {shown}")),
+        Err(_) => rt.eprintln(format_args!("amishell-execute: out of memory")),
+    };
+}
+
+// A line as text in which each control character is written by its number, as `\x1b`.
+fn escaped<T: Display>(alloc: Global, line: &T) -> Result<String, AllocError> {
+    let line = format!(in alloc; "{line}")?;
+    let mut shown = String::with_capacity(alloc, line.len())?;
+    for sign in line.as_str().chars() {
+        if sign.is_control() {
+            let number = u32::from(sign);
+            let code = format!(in alloc; "\\x{number:02x}")?;
+            shown.push_str(code.as_str())?;
+        } else {
+            shown.push(sign)?;
+        }
+    }
+    Ok(shown)
 }

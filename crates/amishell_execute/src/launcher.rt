@@ -36,6 +36,19 @@ struct Children<'a, R: Processes> {
     // How the program with this number ended, for the wait that follows.
     ended: Option<(u8, Answer)>,
     programs: Programs<'a, R>,
+    // No program starts.
+    is_barred: bool,
+}
+
+/// Where programs start.
+#[derive(Drop)]
+pub enum Start {
+    /// In this process's current directory.
+    Home,
+    /// In this folder.
+    Folder(StartFolder),
+    /// Nowhere: a start fails as if there were no such program.
+    Nowhere,
 }
 
 // A file that was offered and is being put out.
@@ -75,6 +88,7 @@ impl<'a, R: Processes> Bringer<'a, R> {
                 delivery: None,
                 ended: None,
                 programs: Programs::new(alloc, processes)?,
+                is_barred: false,
             },
             log: Log::new(),
         })
@@ -87,10 +101,15 @@ impl<'a, R: Processes> Bringer<'a, R> {
         self.children.offered = bytes;
     }
 
-    /// From now on programs start in this folder; with `None` in this process's current directory.
-    pub fn set_folder(&mut self, folder: Option<StartFolder>)
+    /// From now on programs start there.
+    pub fn set_start(&mut self, start: Start)
         ensures { self.new ≡ self.old }
     {
+        self.children.is_barred = matches!(&start, Start::Nowhere);
+        let folder = match start {
+            Start::Folder(folder) => Some(folder),
+            Start::Home | Start::Nowhere => None,
+        };
         self.children.programs.set_folder(folder);
     }
 
@@ -122,6 +141,16 @@ impl<R: Processes> Children<'_, R> {
                 self.open = Some((job.shell, bytes));
                 return Answer::Started;
             }
+        }
+        self.start_program(job)
+    }
+
+    // Starts the program of a job, unless none starts.
+    fn start_program(&mut self, job: &Job) -> Answer
+        ensures { answers_start result ≡ true }
+    {
+        if self.is_barred {
+            return Answer::NotFound;
         }
         self.programs.start(job)
     }

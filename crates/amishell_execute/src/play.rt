@@ -2,7 +2,6 @@
 
 ghost use Rattle.std.specs.Prelude.{◌≡◌, ◌<◌, ◌^◌, ◌-◌, []};
 ghost use Rattle.ados_launch.specs.Agreement.{Agrees};
-ghost use Rattle.ados_launch.specs.Leads.{Reaches};
 
 use crate::faults::Fault;
 use crate::launcher::Bringer;
@@ -32,7 +31,6 @@ pub fn play<R: AllocGlobal + Files + Input + Print + Eprint + Processes + Clone 
     share: Option<&mut Share>,
 ) -> Result<End, Fault>
     requires { Agrees world.old [] }
-    ensures leads { Reaches world.old world.new }
 {
     let mut launcher = Bringer::new(rt.alloc(), rt, plan.told())?;
     let mut reader = Prompter::new(
@@ -82,7 +80,6 @@ fn drive<L: Launcher, S: Source, K: Sink>(
     requires reader { S.faults reader.old < 2 ^ 64 - 1 }
     requires writer { K.faults writer.old < 2 ^ 64 - 1 }
     requires agrees { Agrees world.old (L.calls launcher.old) }
-    ensures leads { Reaches world.old world.new }
 {
     let drive = Drive {
         alloc,
@@ -110,7 +107,6 @@ fn drive_shared<
     requires reader { reader.old.faults < 2 ^ 64 - 1 }
     requires writer { K.faults writer.old < 2 ^ 64 - 1 }
     requires agrees { Agrees world.old launcher.old.calls }
-    ensures leads { Reaches world.old world.new }
 {
     let mut session = Session::new(rt.alloc(), world, &[]);
     for _ in 0..turns {

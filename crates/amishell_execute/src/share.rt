@@ -1,15 +1,14 @@
 //! A folder of this machine that is shared with the Shell.
 ghost use Rattle.std.specs.Prelude.{◌≡◌, ◌<◌, ◌^◌, ◌-◌, [], IsOk, OnOk};
 ghost use Rattle.ados_launch.specs.Agreement.{Agrees, IsOpenTable};
-ghost use Rattle.ados_launch.specs.Leads.{Reaches};
 
 use crate::faults::{Fault, cannot_read, tell};
-use crate::launcher::Bringer;
+use crate::launcher::{Bringer, Start};
 use ados_launch::{Launcher, Listed, Session, SystemEnd, SystemFault, system};
 use ados_launcher::StartFolder;
 use ados_machine::Request;
 use ados_text::Text;
-use ados_transfer::{Arrival, Mirror, MirrorOptions, push_word};
+use ados_transfer::{Arrival, Mirror, MirrorOptions, StartPlace, push_word};
 use ados_world::World;
 use std::alloc::Global;
 use std::env;
@@ -64,14 +63,13 @@ impl Share {
     ) -> Result<Share, Fault>
         requires agrees { Agrees world.old [] }
         ensures agrees { OnOk result (Agrees world.new []) }
-        ensures leads { Reaches world.old world.new }
     {
         let alloc = rt.alloc();
         let Ok(home) = env::current_dir(rt) else {
             return Err(cannot_read(alloc, "."));
         };
         let home = String::from_str(alloc, home.as_path().as_str())?;
-        let mirror = Mirror::new(rt, words, options)?;
+        let mirror = Mirror::new(rt, words, options, world.files())?;
         // These lines start no program.
         let mut launcher = Listed::new(Vec::new(alloc));
         let lines = mirror.first_lines(alloc, world.files())?;
@@ -109,7 +107,6 @@ impl Share {
         ensures agrees { OnOk result (Agrees world.new launcher.new.calls) }
         ensures children { OnOk result (IsOpenTable session.new.children launcher.new.calls) }
         ensures standing { session.new.standing ≡ session.old.standing }
-        ensures leads { Reaches world.old world.new }
     {
         self.mirror.watch(world.files())?;
         if !self.is_filled {
@@ -123,7 +120,7 @@ impl Share {
         match Due::next(session, world) {
             Due::Start(number) => {
                 self.write_out(rt, world)?;
-                launcher.set_folder(self.folder_of(rt.alloc(), world, number)?);
+                launcher.set_start(self.start(rt, world, number)?);
             }
             Due::Wait(number) => {
                 launcher.await_end(number);
@@ -156,7 +153,6 @@ impl Share {
     ) -> Result<(), Fault>
         requires agrees { Agrees world.old launcher.old.calls }
         ensures agrees { OnOk result (Agrees world.new launcher.new.calls) }
-        ensures leads { Reaches world.old world.new }
     {
         for arrival in self.mirror.arrivals(rt, world.files())? {
             let arrival = take_in(rt.alloc(), world, launcher, arrival)?;
@@ -177,27 +173,31 @@ impl Share {
         Ok(())
     }
 
-    // The folder that corresponds to the current directory of a shell.
-    fn folder_of(
-        &self,
-        alloc: Global,
+    // Where a program of a shell starts, by the shell's current directory.
+    fn start<R: AllocGlobal + Files + Eprint>(
+        &mut self,
+        rt: &R,
         world: &World,
         number: u8,
-    ) -> Result<Option<StartFolder>, Fault> {
+    ) -> Result<Start, Fault> {
         let Some(shell) = world.shell(number) else {
-            return Ok(None);
+            return Ok(Start::Home);
         };
-        let Some(path) = self.mirror.folder_of(alloc, shell.directory())? else {
-            return Ok(None);
-        };
-        Ok(Some(StartFolder {
-            path,
-            home: String::from_str(alloc, self.home.as_str())?,
-        }))
+        match self.mirror.start_place(rt, shell.directory())? {
+            StartPlace::Home => Ok(Start::Home),
+            StartPlace::Folder(path) => Ok(Start::Folder(StartFolder {
+                path,
+                home: String::from_str(rt.alloc(), self.home.as_str())?,
+            })),
+            StartPlace::Nowhere => {
+                self.tell_lines(rt);
+                Ok(Start::Nowhere)
+            }
+        }
     }
 
     // Writes to standard error the lines that the mirror has to report.
-    fn tell_lines<R: Eprint>(&mut self, rt: &R) {
+    fn tell_lines<R: AllocGlobal + Eprint>(&mut self, rt: &R) {
         for line in &self.mirror.take_lines() {
             tell(rt, line);
         }
@@ -213,7 +213,6 @@ fn take_in<R: Processes>(
 ) -> Result<Arrival, Fault>
     requires agrees { Agrees world.old launcher.old.calls }
     ensures agrees { OnOk result (Agrees world.new launcher.new.calls) }
-    ensures leads { Reaches world.old world.new }
 {
     launcher.offer(arrival.bytes.take());
     run_lines(alloc, world, arrival.lines.as_slice(), launcher)?;
@@ -230,7 +229,6 @@ fn run_lines<L: Launcher>(
 ) -> Result<(), Fault>
     requires agrees { Agrees world.old (L.calls launcher.old) }
     ensures agrees { OnOk result (Agrees world.new (L.calls launcher.new)) }
-    ensures leads { Reaches world.old world.new }
 {
     for line in lines {
         run_alone(alloc, world, line, launcher)?;
@@ -247,7 +245,6 @@ fn run_alone<L: Launcher>(
 ) -> Result<(), Fault>
     requires agrees { Agrees world.old (L.calls launcher.old) }
     ensures agrees { OnOk result (Agrees world.new (L.calls launcher.new)) }
-    ensures leads { Reaches world.old world.new }
 {
     let mut printed = Vec::new(alloc);
     let ran = system(alloc, world, line, launcher, EVENTS, &mut printed);

@@ -1,6 +1,6 @@
 //! The lines that report which options of the script the Shell leaves out.
 
-use crate::faults::Fault;
+use crate::faults::{Fault, tell};
 use ados_transfer::options_left_out;
 use std::io::Eprint;
 
@@ -10,7 +10,8 @@ use std::io::Eprint;
 pub fn warn<R: AllocGlobal + Eprint>(rt: &R, script: &str, bytes: &[u8]) -> Result<bool, Fault> {
     let found = options_left_out(rt.alloc(), bytes)?;
     for one in &found {
-        let _ = rt.eprintln(format_args!("amishell-execute: {script}: {one}"));
+        let line = format!(in rt.alloc(); "{script}: {one}")?;
+        tell(rt, &line);
     }
     Ok(!found.is_empty())
 }

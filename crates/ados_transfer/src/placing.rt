@@ -1,0 +1,157 @@
+//! How a file of the folder of a share takes its place: only if what is there is still what was looked at.
+//!
+//! No call of this machine changes a name only if its file is unchanged. So the old file keeps a second name until the new one is
+//! in its place: what was written to it meanwhile is found there, and it gets its place back.
+
+use crate::bringing::bytes_of;
+use crate::here::Here;
+use crate::writing::{Manner, joined, link_beside, write_beside};
+use ados_ram::Entry;
+use std::io::ErrorKind;
+use std::os::unix::fs::MetadataExt;
+use std::rt::Files;
+use std::{fs, io};
+
+/// What an object of the folder is to become.
+#[derive(Clone, Copy)]
+pub struct Draft<'a> {
+    /// What the Shell has.
+    pub entry: &'a Entry,
+    /// What this machine had when it was looked at.
+    pub here: &'a Here,
+    /// The mode of the file of which it is a copy.
+    pub mode: Option<u32>,
+}
+
+impl<'a> Draft<'a> {
+    /// What the Shell has in place of what this machine had, with the mode of the file of which it is a copy.
+    pub fn new(entry: &'a Entry, here: &'a Here, mode: Option<u32>) -> Draft<'a> {
+        Draft { entry, here, mode }
+    }
+}
+
+/// Writes a file with this name in a folder, in place of what was looked at; `false` if something else came to be there since.
+pub fn place_whole<R: AllocGlobal + Files>(
+    rt: &R,
+    folder: &str,
+    name: &str,
+    draft: &Draft<'_>,
+) -> io::Result<bool> {
+    let target = joined(rt.alloc(), folder, name)?;
+    let beside = write_beside(rt, folder, draft.entry.bytes(), manner(draft)?)?;
+    let placed = match draft.here {
+        Here::File { bytes, .. } => {
+            place_over(
+                rt,
+                folder,
+                beside.as_str(),
+                target.as_str(),
+                bytes.as_slice(),
+            )
+        }
+        _ => place_new(rt, beside.as_str(), target.as_str()),
+    };
+    if !matches!(placed, Ok(true)) {
+        let _ = fs::remove_file(rt, beside.as_str());
+    }
+    placed
+}
+
+// The permissions for a file: those it had before, or those of the file of which it is a copy; a new script is executable. A file
+// that may not be written is refused.
+fn manner(draft: &Draft<'_>) -> io::Result<Manner> {
+    match (draft.here, draft.mode) {
+        (Here::File { mode, .. }, _) if mode & 0o222 == 0 => {
+            Err(io::Error::from(ErrorKind::PermissionDenied))
+        }
+        (Here::File { mode, .. }, _) => Ok(Manner::Mode(*mode)),
+        (_, Some(mode)) => Ok(Manner::Mode(mode)),
+        _ if draft.entry.bits.script => Ok(Manner::Executable),
+        _ => Ok(Manner::Plain),
+    }
+}
+
+/// Gives a file a name that nothing has; `false` if something has it.
+pub fn place_new<R: AllocGlobal + Files>(rt: &R, beside: &str, target: &str) -> io::Result<bool> {
+    match fs::hard_link(rt, beside, target) {
+        Ok(()) => {
+            fs::remove_file(rt, beside)?;
+            return Ok(true);
+        }
+        Err(error) if error.kind() == ErrorKind::AlreadyExists => return Ok(false),
+        // Not every file system has second names.
+        Err(_) => {}
+    }
+    match fs::symlink_metadata(rt, target) {
+        Ok(_) => Ok(false),
+        Err(error) if error.kind() == ErrorKind::NotFound => {
+            fs::rename(rt, beside, target)?;
+            Ok(true)
+        }
+        Err(error) => Err(error),
+    }
+}
+
+// Gives a file the name of another one that holds these bytes; `false` if that holds others by now.
+fn place_over<R: AllocGlobal + Files>(
+    rt: &R,
+    folder: &str,
+    beside: &str,
+    target: &str,
+    bytes: &[u8],
+) -> io::Result<bool> {
+    let Some(kept) = link_beside(rt, folder, target)? else {
+        if !holds(rt, target, bytes) {
+            return Ok(false);
+        }
+        fs::rename(rt, beside, target)?;
+        return Ok(true);
+    };
+    if !holds(rt, kept.as_str(), bytes) || !is_one_file(rt, kept.as_str(), target) {
+        let _ = fs::remove_file(rt, kept.as_str());
+        return Ok(false);
+    }
+    exchange(rt, kept.as_str(), (beside, target), bytes)
+}
+
+// Gives the first file the name of the second, whose other name is `kept`; if that was changed before, it gets its name back.
+fn exchange<R: AllocGlobal + Files>(
+    rt: &R,
+    kept: &str,
+    names: (&str, &str),
+    bytes: &[u8],
+) -> io::Result<bool> {
+    let (beside, target) = names;
+    if let Err(error) = fs::rename(rt, beside, target) {
+        let _ = fs::remove_file(rt, kept);
+        return Err(error);
+    }
+    if holds(rt, kept, bytes) {
+        let _ = fs::remove_file(rt, kept);
+        return Ok(true);
+    }
+    fs::rename(rt, kept, target)?;
+    Ok(false)
+}
+
+// A file holds these bytes.
+fn holds<R: AllocGlobal + Files>(rt: &R, path: &str, bytes: &[u8]) -> bool {
+    if !fs::symlink_metadata(rt, path).is_ok_and(|found| found.is_file()) {
+        return false;
+    }
+    match bytes_of(rt, path, bytes.len()) {
+        Ok(found) => found.as_slice() == bytes,
+        Err(_) => false,
+    }
+}
+
+// Two names are those of one file.
+fn is_one_file<R: Files>(rt: &R, path: &str, other: &str) -> bool {
+    match (
+        fs::symlink_metadata(rt, path),
+        fs::symlink_metadata(rt, other),
+    ) {
+        (Ok(one), Ok(two)) => one.ino() == two.ino() && one.dev() == two.dev(),
+        _ => false,
+    }
+}

@@ -1,0 +1,243 @@
+//! How an object of the folder of a share that is gone in the Shell's files, or of another kind there, is deleted.
+
+use crate::account::{Account, Aside};
+use crate::decision::{Removal, decide_removal};
+use crate::departure::{Departure, move_aside, own_path, remove};
+use crate::faults::TransferFault;
+use crate::here::Here;
+use crate::mirror::Mirror;
+use crate::placing::place_new;
+use crate::records::Record;
+use crate::stamps::Stamp;
+use ados_ram::Ram;
+use std::fs::Permissions;
+use std::io::ErrorKind;
+use std::os::unix::fs::PermissionsExt;
+use std::rt::Files;
+use std::{fs, io};
+
+impl Mirror {
+    // Deletes an object on this machine that is gone in the Shell's files, or of another kind there, if it has not changed since and
+    // if everything is written.
+    pub(crate) fn delete_here<R: AllocGlobal + Files>(
+        &mut self,
+        rt: &R,
+        files: &Ram,
+        departure: &Departure<'_>,
+        account: &mut Account,
+    ) -> Result<(), TransferFault> {
+        let (key, path) = (departure.key.as_str(), departure.path.as_str());
+        let may_delete = self.may_delete(files, key)?;
+        let Some(record) = self.records.find(key) else {
+            return Ok(());
+        };
+        let here = Here::look(rt, self.folder.as_str(), path)?;
+        let is_large = record.is_stand_in();
+        let removal = decide_removal(
+            &record.state(),
+            &here.state(Some(record)),
+            &record.state_there(departure.entry),
+            may_delete,
+            account.is_owing(),
+        );
+        match removal {
+            Removal::Forget => {
+                self.forget(key);
+                Ok(())
+            }
+            Removal::Delete => self.delete(rt, departure, &here, account),
+            Removal::Hold => {
+                // It comes in again: later its bytes may be nowhere else.
+                self.forget(key);
+                account.hold(path)
+            }
+            Removal::Stand => {
+                owe_at_turn(departure, account)?;
+                self.not_touched(departure, &here, "cannot delete", is_large)
+            }
+            Removal::Leave => Ok(()),
+        }
+    }
+
+    // Deletes an object on this machine; one that is in the way of another one is moved aside.
+    fn delete<R: AllocGlobal + Files>(
+        &mut self,
+        rt: &R,
+        departure: &Departure<'_>,
+        here: &Here,
+        account: &mut Account,
+    ) -> Result<(), TransferFault> {
+        let (key, path) = (departure.key.as_str(), departure.path.as_str());
+        if self.options.dry {
+            return self.tell_once("would delete", path);
+        }
+        let is_done = if departure.is_at_turn {
+            self.set_aside(rt, departure, here, account)
+        } else {
+            remove(rt, self.folder.as_str(), path, here)
+        };
+        match is_done {
+            Ok(true) => {
+                self.forget(key);
+                Ok(())
+            }
+            Ok(false) => {
+                owe_at_turn(departure, account)?;
+                self.tell_standing(key, path, false)
+            }
+            Err(error) if error.kind() == ErrorKind::DirectoryNotEmpty => {
+                owe_at_turn(departure, account)?;
+                self.forget(key);
+                self.tell_not_empty(key, path)
+            }
+            Err(error) => {
+                owe_at_turn(departure, account)?;
+                self.not_done(&error, "cannot delete", departure)
+            }
+        }
+    }
+
+    // The Shell's object gave way to this machine's: what the Shell deleted may have been moved there, so that it is not deleted here,
+    // but comes in again.
+    pub(crate) fn hold_deletions(&mut self, files: &Ram) -> Result<(), TransferFault> {
+        let Some(path) = self.overruled.take() else {
+            return Ok(());
+        };
+        let mut account = Account::new(self.alloc);
+        account.owe(path.as_str())?;
+        let mut keys = Vec::new(self.alloc);
+        for record in self.records.all() {
+            if record.is_gone(files.look(&record.place)) {
+                account.hold(record.path.as_str())?;
+                keys.push(String::from_str(self.alloc, record.key.as_str())?)?;
+            }
+        }
+        for key in &keys {
+            self.forget(key.as_str());
+        }
+        self.tell_account(&account)
+    }
+
+    // Moves an object aside; `false` if something else came to be there since it was looked at.
+    fn set_aside<R: AllocGlobal + Files>(
+        &mut self,
+        rt: &R,
+        departure: &Departure<'_>,
+        here: &Here,
+        account: &mut Account,
+    ) -> io::Result<bool> {
+        let path = departure.path.as_str();
+        let Some((beside, mode)) = move_aside(rt, self.folder.as_str(), path, here)? else {
+            return Ok(false);
+        };
+        let Some(record) = self.records.take(departure.key.as_str()) else {
+            return Ok(true);
+        };
+        let aside = Aside {
+            record,
+            beside,
+            mode,
+        };
+        match account.set_aside(aside) {
+            Ok(()) => Ok(true),
+            Err(_) => Err(io::Error::from(ErrorKind::OutOfMemory)),
+        }
+    }
+
+    // Deletes what was moved aside; if anything is not written it gets its place back.
+    pub(crate) fn end_turn<R: AllocGlobal + Files>(
+        &mut self,
+        rt: &R,
+        account: &mut Account,
+    ) -> Result<(), TransferFault> {
+        let aside = account.take_aside();
+        if account.is_owing() {
+            return self.put_all_back(rt, aside);
+        }
+        for one in &aside {
+            if let Some(beside) = &one.beside {
+                let _ = fs::remove_file(rt, beside.as_str());
+            }
+        }
+        Ok(())
+    }
+
+    // Gives each object that was moved aside its place back, the last one first.
+    fn put_all_back<R: AllocGlobal + Files>(
+        &mut self,
+        rt: &R,
+        aside: Vec<Aside>,
+    ) -> Result<(), TransferFault> {
+        let mut left = aside;
+        for _ in 0..left.len() {
+            let Some(one) = left.pop() else {
+                return Ok(());
+            };
+            self.put_back(rt, one)?;
+        }
+        Ok(())
+    }
+
+    // Gives an object its place back. If something else is there by now it stays where it is, and a line says so.
+    fn put_back<R: AllocGlobal + Files>(
+        &mut self,
+        rt: &R,
+        aside: Aside,
+    ) -> Result<(), TransferFault> {
+        let Aside {
+            record,
+            beside,
+            mode,
+        } = aside;
+        match placed_back(rt, self.folder.as_str(), &record, beside.as_ref(), mode) {
+            Ok(Some(stamp)) => {
+                let mut record = record;
+                record.stamp = stamp;
+                record.is_fresh = true;
+                self.records.put(record)?;
+                Ok(())
+            }
+            _ => match beside {
+                Some(beside) => {
+                    let text = format!(in self.alloc; "kept as {beside}")?;
+                    self.tell(text.as_str(), record.path.as_str())
+                }
+                None => Ok(()),
+            },
+        }
+    }
+}
+
+// What needs the place of an object that stays cannot be written.
+fn owe_at_turn(departure: &Departure<'_>, account: &mut Account) -> Result<(), TransferFault> {
+    if departure.is_at_turn {
+        account.owe(departure.path.as_str())
+    } else {
+        Ok(())
+    }
+}
+
+// Gives an object its place back, and gives its marks; nothing if something else is there. A folder that was made there is deleted
+// if it is empty.
+fn placed_back<R: AllocGlobal + Files>(
+    rt: &R,
+    root: &str,
+    record: &Record,
+    beside: Option<&String>,
+    mode: u32,
+) -> io::Result<Option<Stamp>> {
+    let whole = own_path(rt, root, record.path.as_str())?;
+    match beside {
+        Some(beside) => {
+            let _ = fs::remove_dir(rt, whole.as_str());
+            if !place_new(rt, beside.as_str(), whole.as_str())? {
+                return Ok(None);
+            }
+        }
+        None => {
+            fs::create_dir(rt, whole.as_str())?;
+            fs::set_permissions(rt, whole.as_str(), Permissions::from_mode(mode))?;
+        }
+    }
+    Ok(Some(Stamp::of(&fs::symlink_metadata(rt, whole.as_str())?)))
+}

@@ -1,0 +1,190 @@
+//! How an object of the Shell's files is written to the folder of a share.
+
+use crate::account::{Account, is_within};
+use crate::decision::Deed;
+use crate::departure::{Departure, write_entry};
+use crate::faults::TransferFault;
+use crate::here::Here;
+use crate::mirror::Mirror;
+use crate::paths::step_into;
+use crate::placing::Draft;
+use crate::records::{Last, Record};
+use crate::stamps::Stamp;
+use ados_ram::{Entry, Ram};
+use std::os::unix::fs::PermissionsExt;
+use std::rt::Files;
+use std::time::Clock;
+use std::{fs, io};
+
+impl Mirror {
+    // Writes an object to this machine if it may be. What is not written is noted; once that is so, nothing takes the place of an
+    // object of another kind.
+    pub(crate) fn write_here<R: AllocGlobal + Files + Clock>(
+        &mut self,
+        rt: &R,
+        files: &Ram,
+        departure: &Departure<'_>,
+        account: &mut Account,
+    ) -> Result<(), TransferFault> {
+        let path = departure.path.as_str();
+        let Some(entry) = departure.entry else {
+            return Ok(());
+        };
+        if departure.is_at_turn && account.is_owing() {
+            return Ok(());
+        }
+        if departure.is_at_turn && self.options.dry {
+            return self.tell_once("would write", path);
+        }
+        let here = Here::look(rt, self.folder.as_str(), path)?;
+        let record = self.records.find(departure.key.as_str());
+        let is_large = record.is_some_and(Record::is_stand_in);
+        match here.deed(record, Some(entry)) {
+            Deed::Keep => match here.stamp() {
+                Some(stamp) => self.keep_written(rt, departure, entry, stamp),
+                None => Ok(()),
+            },
+            Deed::Bring => Ok(()),
+            Deed::Stand => {
+                account.owe_entry(path, entry)?;
+                self.not_touched(departure, &here, "cannot write", is_large)
+            }
+            Deed::Write if self.options.dry => self.tell_once("would write", path),
+            Deed::Write => {
+                let mode = self.mode_of(rt, files, entry, account)?;
+                self.write(rt, departure, &Draft::new(entry, &here, mode), account)
+            }
+        }
+    }
+
+    // Writes an object to this machine; not in place of a file whose bytes were moved to one that is not written.
+    fn write<R: AllocGlobal + Files + Clock>(
+        &mut self,
+        rt: &R,
+        departure: &Departure<'_>,
+        draft: &Draft<'_>,
+        account: &mut Account,
+    ) -> Result<(), TransferFault> {
+        let path = departure.path.as_str();
+        if is_moved_away(draft, account) {
+            // It comes in again.
+            self.forget(departure.key.as_str());
+            account.owe_entry(path, draft.entry)?;
+            return account.hold(path);
+        }
+        match write_entry(rt, self.folder.as_str(), path, draft) {
+            Ok(Some(stamp)) => self.keep_written(rt, departure, draft.entry, stamp),
+            Ok(None) => {
+                account.owe_entry(path, draft.entry)?;
+                self.tell_standing(departure.key.as_str(), path, false)
+            }
+            Err(error) => {
+                account.owe_entry(path, draft.entry)?;
+                self.not_done(&error, "cannot write", departure)
+            }
+        }
+    }
+
+    // The mode of the file of the folder that has the bytes of an entry: one that the Shell no longer has, since the entry may be its
+    // new place, or else one of which the entry may be a copy, without the rights of others to write.
+    fn mode_of<R: AllocGlobal + Files>(
+        &self,
+        rt: &R,
+        files: &Ram,
+        entry: &Entry,
+        account: &Account,
+    ) -> Result<Option<u32>, TransferFault> {
+        if entry.is_directory() {
+            return Ok(None);
+        }
+        let mut original = None;
+        for record in self.records.all() {
+            if record.is_file_of(entry.bytes()) {
+                if !record.is_kept(files.look(&record.place)) {
+                    return self.mode_here(rt, record);
+                }
+                original = Some(record);
+            }
+        }
+        match (account.mode_of(entry.bytes()), original) {
+            (Some(mode), _) => Ok(Some(mode)),
+            (None, Some(record)) if !entry.bytes().is_empty() => {
+                let mode = self.mode_here(rt, record)?;
+                Ok(mode.map(|mode| mode & 0o755))
+            }
+            _ => Ok(None),
+        }
+    }
+
+    // The mode of a file of the folder.
+    fn mode_here<R: AllocGlobal + Files>(
+        &self,
+        rt: &R,
+        record: &Record,
+    ) -> Result<Option<u32>, TransferFault> {
+        let whole = step_into(self.alloc, self.folder.as_str(), record.path.as_str())?;
+        match fs::symlink_metadata(rt, whole.as_str()) {
+            Ok(found) if found.is_file() => Ok(Some(found.permissions().mode())),
+            _ => Ok(None),
+        }
+    }
+
+    // Reports that this machine's object stays, or with this text that it can't be looked at.
+    pub(crate) fn not_touched(
+        &mut self,
+        departure: &Departure<'_>,
+        here: &Here,
+        text: &str,
+        is_large: bool,
+    ) -> Result<(), TransferFault> {
+        let (key, path) = (departure.key.as_str(), departure.path.as_str());
+        if here.is_unread() {
+            self.fail(key, text, path)
+        } else {
+            self.tell_standing(key, path, is_large)
+        }
+    }
+
+    // Reports that something could not be done.
+    pub(crate) fn not_done(
+        &mut self,
+        error: &io::Error,
+        text: &str,
+        departure: &Departure<'_>,
+    ) -> Result<(), TransferFault> {
+        if error.kind() == io::ErrorKind::OutOfMemory {
+            return Err(TransferFault::NoMemory);
+        }
+        self.fail(departure.key.as_str(), text, departure.path.as_str())
+    }
+
+    // Keeps an object as it is on both sides.
+    fn keep_written<R: Clock>(
+        &mut self,
+        rt: &R,
+        departure: &Departure<'_>,
+        entry: &Entry,
+        stamp: Stamp,
+    ) -> Result<(), TransferFault> {
+        let now = self.now(rt);
+        let last = Last::of(entry)?;
+        self.keep_as(
+            departure.key.as_str(),
+            departure.path.as_str(),
+            last,
+            stamp,
+            &now,
+        )
+    }
+}
+
+// What a file of this machine holds is in a file of the Shell that is not written, and not in the one that takes its place.
+fn is_moved_away(draft: &Draft<'_>, account: &Account) -> bool {
+    match draft.here {
+        Here::File { bytes, .. } => {
+            !is_within(bytes.as_slice(), draft.entry.bytes())
+                && account.is_in_unwritten(bytes.as_slice())
+        }
+        _ => false,
+    }
+}
