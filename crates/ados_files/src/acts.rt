@@ -2,7 +2,7 @@
 ghost use Rattle.std.specs.Prelude.{◌≡◌, Option, Err, IfOk, OnOk};
 ghost use Rattle.ados_text.specs.declared.codes.Result2.{Result2};
 ghost use Rattle.ados_ram.specs.Files.{Files};
-ghost use Rattle.ados_ram.specs.FileOperations.{Answers};
+ghost use Rattle.ados_text.specs.Stop.{Answers};
 ghost use Rattle.ados_find.specs.Done.{Done, done_of, fresh_work, refused_or, act_on_each, end_effect};
 ghost use Rattle.ados_find.specs.Shared.{SharedState};
 ghost use Rattle.ados_find.specs.Effects.{effect_of};
@@ -11,8 +11,8 @@ ghost use Rattle.ados_files.specs.Acts.{at_path, at_names, in_files, in_files_sa
 use crate::lines::say_path;
 use crate::names::named;
 use ados_find::{Act, Codes, Outcome, Shared, ShellView, Work, current, each, place_of};
-use ados_ram::{FsFault, Place, Ram};
-use ados_text::{NoMemory, Text};
+use ados_ram::{Place, Ram};
+use ados_text::{NoMemory, Stop, Text};
 use std::alloc::Global;
 
 /// The outcome of a command that does an act with each item of a list.
@@ -44,7 +44,7 @@ pub fn done_with_named<A: Act<Place>>(
 }
 
 /// Continues with the changed files, or stops if the change is refused.
-pub fn go_on(shared: &Shared, work: &mut Work, change: Result<Ram, FsFault>) -> Result<(), NoMemory>
+pub fn go_on(shared: &Shared, work: &mut Work, change: Result<Ram, Stop>) -> Result<(), NoMemory>
     ensures { (fault : Option Result2) → (files : Files) → Answers change fault → IfOk change (λ new. new ≡ files) →
         OnOk result (done_of shared.now work.new ≡ in_files fault files (done_of shared.now work.old)) }
 {
@@ -61,7 +61,7 @@ pub fn go_on(shared: &Shared, work: &mut Work, change: Result<Ram, FsFault>) -> 
 pub fn go_on_saying(
     shared: &Shared,
     work: &mut Work,
-    change: Result<Ram, FsFault>,
+    change: Result<Ram, Stop>,
     quiet: bool,
     place: &Place,
     words: &[u8],
@@ -81,13 +81,13 @@ pub fn go_on_saying(
 }
 
 // Stops because a change is refused.
-fn stop(work: &mut Work, refusal: FsFault) -> Result<(), NoMemory>
+fn stop(work: &mut Work, refusal: Stop) -> Result<(), NoMemory>
     ensures { (shared : SharedState) → (fault : Option Result2) → (done : Done) → Answers {X = Files} (Err refusal) fault →
         OnOk result (done_of shared work.new ≡ refused_or fault (done_of shared work.old) done) }
 {
     match refusal {
-        FsFault::NoMemory => Err(NoMemory),
-        FsFault::Refused(fault) => {
+        Stop::NoMemory => Err(NoMemory),
+        Stop::Refused(fault) => {
             work.stopped = Some(Codes::erred(fault));
             Ok(())
         }

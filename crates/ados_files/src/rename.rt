@@ -10,9 +10,9 @@ ghost use Rattle.ados_find.specs.Paths.{place_of};
 ghost use Rattle.ados_files.specs.Rename.{target_of, rename_to_place, rename_entry, rename_places, rename_row};
 
 use ados_find::{Codes, Outcome, Renamed, Shared, ShellView, place_of};
-use ados_ram::{Entry, FsFault, Place, Ram};
+use ados_ram::{Entry, Place, Ram};
 use ados_readargs::Args;
-use ados_text::{NoMemory, Result2, Text};
+use ados_text::{NoMemory, Result2, Stop, Text};
 use std::alloc::Global;
 use std::slice;
 
@@ -107,8 +107,8 @@ fn renamed_to(
     ensures { IfOk result (λ outcome. effect_of shared.now outcome ≡ rename_to_place shared.now view.now renamed.from renamed.to) }
 {
     match shared.renamed(&view.busy, &renamed.from, &renamed.to) {
-        Err(FsFault::NoMemory) => Err(NoMemory),
-        Err(FsFault::Refused(fault)) => { Ok(Outcome::answering(alloc, Codes::erred(fault))) }
+        Err(Stop::NoMemory) => Err(NoMemory),
+        Err(Stop::Refused(fault)) => { Ok(Outcome::answering(alloc, Codes::erred(fault))) }
         Ok(new) => Outcome::answering(alloc, Codes::NONE)
             .with_shared(new)
             .with_renamed(alloc, renamed),

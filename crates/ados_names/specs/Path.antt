@@ -1,11 +1,9 @@
 -- Paths: a device, if one is named, and steps.
-use Rattle.std.specs.Prelude.{◌≡◌, ◌≤◌, ℕ, ◌+◌, ◌-◌, Bool, true, not, ◌&&◌, ◌||◌, nat_le, List, [], ◌∷◌, ◌++◌, length, take, drop, Option, Some, None, Result, Ok, Err, IsOk, IsTrue, position, if◌then◌else◌}
+use Rattle.std.specs.Prelude.{◌≡◌, ◌≤◌, ℕ, ◌+◌, ◌-◌, Bool, true, not, ◌&&◌, ◌||◌, nat_le, List, [], ◌∷◌, ◌++◌, length, take, drop, Option, Some, None, Result, Ok, Err, IsTrue, position, if◌then◌else◌}
 use Rattle.std.specs.List.{list_all, slice_split, suffix_len}
 use Rattle.ados_text.specs.declared.codes.Result2.{Result2}
 use Rattle.ados_text.specs.declared.codes.TheConstants.Result2.{INVALID_NAME}
 use Rattle.ados_names.specs.Names.{is_colon, is_slash, is_name}
-use Rattle.ados_names.specs.declared.faults.NameFault.{NameFault}
-use Rattle.ados_names.specs.declared.faults.NameFault.TheVariants.{Invalid, NoMemory}
 use Rattle.ados_names.specs.declared.steps.Step.{Step}
 use Rattle.ados_names.specs.declared.steps.Step.TheVariants.{Up, Name}
 
@@ -93,13 +91,6 @@ path_with_name path name = record path { steps = path.steps ++ Name name ∷ [] 
 
 abbrev pub joined_path : PathParts → List ℕ → Result PathParts Result2
 joined_path path name = if is_name name && nat_le (length (text_of (path_with_name path name))) path_limit then Ok (path_with_name path name) else Err INVALID_NAME
-
--- what a call returns, by a definition in which allocations never fail: that path, or its fault. A call runs out of
--- memory only if there is a path
-abbrev pub Gives : Result PathParts NameFault → Result PathParts Result2 → Type 0
-Gives (Ok path) given = given ≡ Ok path
-Gives (Err Invalid) given = given ≡ Err INVALID_NAME
-Gives (Err NoMemory) given = IsOk given
 
 -- the place in a path's text at which its last piece begins: after the last colon or slash
 abbrev pub is_piece_byte : ℕ → Bool

@@ -1,13 +1,11 @@
 #![tactic(auto)]
 //! Names, and the paths that are made of them.
 
-mod faults;
 mod names;
 mod paths;
 mod pieces;
 mod steps;
 
-pub use faults::NameFault;
 pub use names::is_name;
 pub use paths::Path;
 pub use pieces::last_piece;

@@ -1,14 +1,15 @@
-ghost use Rattle.std.specs.Prelude.{◌≡◌, ◌≤◌, ◌+◌, ◌&&◌, true, nat_le, Ok, IfOk, length};
+ghost use Rattle.std.specs.Prelude.{◌≡◌, ◌≤◌, ◌+◌, ◌&&◌, true, nat_le, Ok, Err, IsOk, IfOk, length};
 ghost use Rattle.std.specs.Option.{option_copied};
 ghost use Rattle.ados_names.specs.Names.{is_name};
-ghost use Rattle.ados_names.specs.Path.{parts_of, are_parts, path_limit, path_of, device_text, text_of, path_with_name, joined_path, Gives};
+ghost use Rattle.ados_names.specs.Path.{parts_of, are_parts, path_limit, path_of, device_text, text_of, path_with_name, joined_path};
+ghost use Rattle.ados_text.specs.Stop.{Gives};
+ghost use Rattle.ados_text.specs.declared.stops.Stop.TheVariants.{NoMemory as OutOfMemory};
 ghost use Rattle.ados_names.specs.Lengths.{pieces_len};
 
-use crate::faults::NameFault;
 use crate::names::is_name;
 use crate::pieces::{are_pieces, colon, is_piece, steps};
 use crate::steps::Step;
-use ados_text::{NoMemory, Text};
+use ados_text::{NoMemory, Result2, Stop, Text};
 use smallvec::SmallVec;
 use std::alloc::Global;
 use std::marker::Model;
@@ -38,26 +39,28 @@ impl Path {
     /// pieces. An empty piece that is not the last goes up one directory, an empty last piece is ignored, and each
     /// other piece is the name of a step.
     ///
-    /// `Invalid` for a text of more than 255 bytes, and if a device text that is not empty, or a piece, is not a name;
+    /// 210 for a text of more than 255 bytes, and if a device text that is not empty, or a piece, is not a name;
     /// `NoMemory` only if there is a path.
-    pub fn parse(alloc: Global, text: &Text) -> Result<Path, NameFault>
-        ensures { Gives result (path_of text.now) }
+    pub fn parse(alloc: Global, text: &Text) -> Result<Path, Stop>
+        ensures value { Gives result (path_of text.now) }
+        ensures memory { result ≡ Err OutOfMemory → IsOk (path_of text.now) }
     {
         if !names_a_path(text.as_bytes()) {
-            return Err(NameFault::Invalid);
+            return Err(Stop::Refused(Result2::INVALID_NAME));
         }
         Ok(read(alloc, text)?)
     }
 
     /// The path with one more step, into a name.
     ///
-    /// `Invalid` if the text is not a name, or the path's text would have more than 255 bytes; `NoMemory` only
+    /// 210 if the text is not a name, or the path's text would have more than 255 bytes; `NoMemory` only
     /// if there is a path.
-    pub fn join(&self, name: &Text) -> Result<Path, NameFault>
-        ensures { Gives result (joined_path self.now name.now) }
+    pub fn join(&self, name: &Text) -> Result<Path, Stop>
+        ensures value { Gives result (joined_path self.now name.now) }
+        ensures memory { result ≡ Err OutOfMemory → IsOk (joined_path self.now name.now) }
     {
         if !is_name(name) || self.joined_len(name) > PATH_LIMIT {
-            return Err(NameFault::Invalid);
+            return Err(Stop::Refused(Result2::INVALID_NAME));
         }
         Ok(self.longer(name)?)
     }

@@ -13,23 +13,6 @@ use Rattle.ados_ram.specs.Files.{Files, Rows, is_some_file, bytes_at, total_of, 
 use Rattle.ados_ram.specs.InUse.{InUse, is_in_use, holds_output}
 use Rattle.ados_ram.specs.declared.entries.Bits.{Bits}
 use Rattle.ados_ram.specs.declared.entries.Entry.{Entry}
-use Rattle.ados_ram.specs.declared.faults.FsFault.{FsFault}
-use Rattle.ados_ram.specs.declared.faults.FsFault.TheVariants.{Refused, NoMemory}
-
--- a call succeeds if there is no fault, and otherwise it is refused with the fault. Without a fault an allocation can
--- still fail
-abbrev pub Answers : {X : Type 0} → Result X FsFault → Option Result2 → Type 0
-Answers (Ok x) fault = fault ≡ None
-Answers (Err NoMemory) fault = fault ≡ None
-Answers (Err (Refused number)) fault = fault ≡ Some number
-
--- what a call gives, by a definition in which no allocation fails: the same value, or the same fault
-abbrev pub Gives : {X : Type 0} → Result X FsFault → Result X Result2 → Type 0
-Gives (Ok x) (Ok y) = x ≡ y
-Gives (Ok x) (Err fault) = ⊥
-Gives (Err (Refused fault)) (Err other) = fault ≡ other
-Gives (Err (Refused fault)) (Ok y) = ⊥
-Gives (Err NoMemory) given = Unit {0}
 
 -- the fault of a directory above: it does not exist, or is a file; otherwise what follows
 abbrev pub fault_above : Option Entry → Option Result2 → Option Result2

@@ -5,7 +5,8 @@ ghost use Rattle.std.specs.FinMap as map;
 ghost use Rattle.ados_ram.specs.Place.{key_of, last_name};
 ghost use Rattle.ados_ram.specs.Files.{AreFiles, bytes_at, first_files};
 ghost use Rattle.ados_ram.specs.InUse.{is_output};
-ghost use Rattle.ados_ram.specs.FileOperations.{Answers, read_fault, list_fault, names_in, write_of, write_fault, write_as_of, append_of, append_fault, put_open_of, put_open_fault};
+ghost use Rattle.ados_ram.specs.FileOperations.{read_fault, list_fault, names_in, write_of, write_fault, write_as_of, append_of, append_fault, put_open_of, put_open_fault};
+ghost use Rattle.ados_text.specs.Stop.{Answers};
 ghost use Rattle.ados_ram.specs.FileOperations.{make_dir_of, make_dir_fault, delete_fault, rename_of, rename_fault, protect_of, protect_fault, comment_of, comment_fault};
 ghost use Rattle.ados_ram.specs.Contents.{children, contents, files_below};
 ghost use Rattle.ados_ram.specs.Tree.{subtree_rows};
@@ -14,7 +15,6 @@ ghost use Rattle.ados_ram.specs.Written.{written_place, full_path};
 use crate::contents::{children, files_below, names_in};
 use crate::cursors::Cursor;
 use crate::entries::{Bits, COMMENT_LIMIT, Entry};
-use crate::faults::FsFault;
 use crate::in_use::Busy;
 use crate::places::Place;
 use crate::refusals::{
@@ -22,7 +22,7 @@ use crate::refusals::{
     rename_refusal,
 };
 use crate::table::{Table, bytes_at};
-use ados_text::{Name, NoMemory, Result2, Text};
+use ados_text::{Name, NoMemory, Result2, Stop, Text};
 use std::alloc::Global;
 use std::marker::Model;
 
@@ -90,12 +90,12 @@ impl Ram {
     /// The names directly in a directory, as they are written, in the order of the names in lower case.
     ///
     /// 205 (object not found) if there is nothing, 212 (wrong type of object) for a file.
-    pub fn list(&self, place: &Place) -> Result<Vec<Name>, FsFault>
+    pub fn list(&self, place: &Place) -> Result<Vec<Name>, Stop>
         ensures ok { IfOk result (λ names. names.items ≡ names_in (key_of place.now) (map.entries self.now)) }
         ensures fault { Answers result (list_fault (map.get self.now (key_of place.now))) }
     {
         match list_refusal(self.table.find(place.names())) {
-            Some(fault) => Err(FsFault::Refused(fault)),
+            Some(fault) => Err(Stop::Refused(fault)),
             None => {
                 let rows = self.table.rows_below(place, false)?;
                 Ok(names_in(self.alloc, &rows, place.names())?)
@@ -110,7 +110,7 @@ impl Ram {
     /// place; 212 (wrong type of object) for a directory, 202 (object in use) for an open output, 223 (write protected)
     /// without bit w; 221 (disk full) for a file of more than 65,536 bytes, for more than 1,048,576 bytes in all, or for
     /// more than 1,024 objects.
-    pub fn write(&self, busy: &Busy, place: &Place, bytes: &[u8]) -> Result<Ram, FsFault>
+    pub fn write(&self, busy: &Busy, place: &Place, bytes: &[u8]) -> Result<Ram, Stop>
         ensures ok { IfOk result (λ new. new ≡ write_of self.now (key_of place.now) (last_name place.now) bytes.now) }
         ensures fault { Answers result (write_fault (is_output busy.now (key_of place.now)) self.now (key_of place.now) (last_name place.now) bytes.now) }
     {
@@ -127,7 +127,7 @@ impl Ram {
         place: &Place,
         bytes: &[u8],
         bits: Bits,
-    ) -> Result<Ram, FsFault>
+    ) -> Result<Ram, Stop>
         ensures ok { IfOk result (λ new. new ≡ write_as_of self.now (key_of place.now) (last_name place.now) bytes.now bits) }
         ensures fault { Answers result (write_fault (is_output busy.now (key_of place.now)) self.now (key_of place.now) (last_name place.now) bytes.now) }
     {
@@ -138,7 +138,7 @@ impl Ram {
     ///
     /// 204 (directory not found), 212 (wrong type of object), 202 (object in use) and 223 (write protected), each when
     /// `write` gives it; 221 (disk full) when `write` gives it for the bytes that the file would then hold.
-    pub fn append(&self, busy: &Busy, place: &Place, bytes: &[u8]) -> Result<Ram, FsFault>
+    pub fn append(&self, busy: &Busy, place: &Place, bytes: &[u8]) -> Result<Ram, Stop>
         ensures ok { IfOk result (λ new. new ≡ append_of self.now (key_of place.now) (last_name place.now) bytes.now) }
         ensures fault { Answers result (append_fault (is_output busy.now (key_of place.now)) self.now (key_of place.now) (last_name place.now) bytes.now) }
     {
@@ -156,12 +156,12 @@ impl Ram {
     ///
     /// 221 (disk full) when `write` gives it for the bytes that the file would then hold, and only if there is a file
     /// and a byte to append.
-    pub fn put_open(&self, place: &Place, bytes: &[u8]) -> Result<Ram, FsFault>
+    pub fn put_open(&self, place: &Place, bytes: &[u8]) -> Result<Ram, Stop>
         ensures ok { IfOk result (λ new. new ≡ put_open_of self.now (key_of place.now) (last_name place.now) bytes.now) }
         ensures fault { Answers result (put_open_fault self.now (key_of place.now) (last_name place.now) bytes.now) }
     {
         match put_refusal(&self.table, place.names(), bytes) {
-            Some(fault) => Err(FsFault::Refused(fault)),
+            Some(fault) => Err(Stop::Refused(fault)),
             None => Ok(self.with_put(place, bytes)?),
         }
     }
@@ -170,12 +170,12 @@ impl Ram {
     ///
     /// 204 (directory not found) if a directory above does not exist, 212 (wrong type of object) if a file is in its
     /// place; 203 (object exists) if there is an object already; 221 (disk full) for more than 1,024 objects.
-    pub fn make_dir(&self, place: &Place) -> Result<Ram, FsFault>
+    pub fn make_dir(&self, place: &Place) -> Result<Ram, Stop>
         ensures ok { IfOk result (λ new. new ≡ make_dir_of self.now (key_of place.now) (last_name place.now)) }
         ensures fault { Answers result (make_dir_fault self.now (key_of place.now) (last_name place.now)) }
     {
         match make_dir_refusal(&self.table, place.names()) {
-            Some(fault) => Err(FsFault::Refused(fault)),
+            Some(fault) => Err(Stop::Refused(fault)),
             None => {
                 let entry = Entry::directory(self.alloc, place.last_name()?)?;
                 Ok(self.with(place, entry)?)
@@ -187,12 +187,12 @@ impl Ram {
     ///
     /// 205 (object not found) if there is nothing, 202 (object in use) for what is in use and for the root, 222 (delete
     /// protected) without bit d, 216 (directory not empty) for a directory with something in it.
-    pub fn delete(&self, busy: &Busy, place: &Place) -> Result<Ram, FsFault>
+    pub fn delete(&self, busy: &Busy, place: &Place) -> Result<Ram, Stop>
         ensures ok { IfOk result (λ new. new ≡ map.remove self.now (key_of place.now)) }
         ensures fault { Answers result (delete_fault busy.now self.now (key_of place.now)) }
     {
         match delete_refusal(busy, &self.table, place.names()) {
-            Some(fault) => Err(FsFault::Refused(fault)),
+            Some(fault) => Err(Stop::Refused(fault)),
             None => Ok(Ram {
                 table: self.table.without(place.names())?,
                 alloc: self.alloc,
@@ -207,12 +207,12 @@ impl Ram {
     /// is in its place; 205 (object not found) if there is nothing to be moved; 202 (object in use) for an open output,
     /// a directory above one, the root, and a new place below the old one; 203 (object exists) if another object is at
     /// the new place.
-    pub fn rename(&self, busy: &Busy, from: &Place, to: &Place) -> Result<Ram, FsFault>
+    pub fn rename(&self, busy: &Busy, from: &Place, to: &Place) -> Result<Ram, Stop>
         ensures ok { IfOk result (λ new. new ≡ rename_of self.now (key_of from.now) (key_of to.now) (last_name to.now)) }
         ensures fault { Answers result (rename_fault busy.now self.now (key_of from.now) (key_of to.now)) }
     {
         match rename_refusal(busy, &self.table, from.names(), to.names()) {
-            Some(fault) => Err(FsFault::Refused(fault)),
+            Some(fault) => Err(Stop::Refused(fault)),
             None => Ok(Ram {
                 table: self.table.moved(from.names(), to)?,
                 alloc: self.alloc,
@@ -223,12 +223,12 @@ impl Ram {
     /// Gives an object other bits.
     ///
     /// 205 (object not found) if there is nothing, 212 (wrong type of object) for the root.
-    pub fn protect(&self, place: &Place, bits: Bits) -> Result<Ram, FsFault>
+    pub fn protect(&self, place: &Place, bits: Bits) -> Result<Ram, Stop>
         ensures ok { IfOk result (λ new. new ≡ protect_of self.now (key_of place.now) bits) }
         ensures fault { Answers result (protect_fault self.now (key_of place.now)) }
     {
         match changeable(&self.table, place.names()) {
-            Err(fault) => Err(FsFault::Refused(fault)),
+            Err(fault) => Err(Stop::Refused(fault)),
             Ok(entry) => Ok(self.with(place, entry.with_bits(bits)?)?),
         }
     }
@@ -237,13 +237,13 @@ impl Ram {
     ///
     /// 205 (object not found) if there is nothing, 212 (wrong type of object) for the root, 220 (comment too long) for a
     /// comment of more than 79 bytes.
-    pub fn comment(&self, place: &Place, comment: &Text) -> Result<Ram, FsFault>
+    pub fn comment(&self, place: &Place, comment: &Text) -> Result<Ram, Stop>
         ensures ok { IfOk result (λ new. new ≡ comment_of self.now (key_of place.now) comment.now) }
         ensures fault { Answers result (comment_fault self.now (key_of place.now) comment.now) }
     {
         match changeable(&self.table, place.names()) {
-            Err(fault) => Err(FsFault::Refused(fault)),
-            Ok(_) if comment.as_bytes().len() > COMMENT_LIMIT => Err(FsFault::Refused(
+            Err(fault) => Err(Stop::Refused(fault)),
+            Ok(_) if comment.as_bytes().len() > COMMENT_LIMIT => Err(Stop::Refused(
                 Result2::COMMENT_TOO_LONG,
             )),
             Ok(entry) => Ok(self.with(place, entry.with_comment(comment)?)?),

@@ -6,7 +6,6 @@ mod children;
 mod contents;
 mod cursors;
 mod entries;
-mod faults;
 mod file_bytes;
 mod files;
 mod in_use;
@@ -21,7 +20,6 @@ mod written;
 
 pub use cursors::Cursor;
 pub use entries::{Bits, Body, Entry};
-pub use faults::FsFault;
 pub use file_bytes::FileBytes;
 pub use files::Ram;
 pub use in_use::Busy;

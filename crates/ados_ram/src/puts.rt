@@ -5,17 +5,17 @@ ghost use Rattle.std.specs.FinMap as map;
 ghost use Rattle.ados_ram.specs.Place.{key_of, is_root, last_name};
 ghost use Rattle.ados_ram.specs.Files.{AreFiles, bytes_at};
 ghost use Rattle.ados_ram.specs.InUse.{is_output};
-ghost use Rattle.ados_ram.specs.FileOperations.{Answers, write_fault, write_as_of, put_open_of};
+ghost use Rattle.ados_ram.specs.FileOperations.{write_fault, write_as_of, put_open_of};
+ghost use Rattle.ados_text.specs.Stop.{Answers};
 
 use crate::entries::{Bits, Entry};
-use crate::faults::FsFault;
 use crate::file_bytes::FileBytes;
 use crate::files::Ram;
 use crate::in_use::Busy;
 use crate::places::Place;
 use crate::refusals::{is_put, write_refusal};
 use crate::table::bytes_at;
-use ados_text::NoMemory;
+use ados_text::{NoMemory, Stop};
 
 impl Ram {
     // The files with a file of the bytes that are kept followed by more; a new one takes the bits.
@@ -26,14 +26,14 @@ impl Ram {
         kept: &[u8],
         more: &[u8],
         bits: Bits,
-    ) -> Result<Ram, FsFault>
+    ) -> Result<Ram, Stop>
         ensures ok { IfOk result (λ new. new ≡ write_as_of self.now (key_of place.now) (last_name place.now) (kept.now ++ more.now) bits) }
         ensures fault { Answers result (write_fault (is_output busy.now (key_of place.now)) self.now (key_of place.now) (last_name place.now) (kept.now ++ more.now)) }
     {
         let old = self.table.find(place.names());
         let open = busy.is_output(place.names());
         match write_refusal(open, &self.table, place.names(), kept.len(), more.len()) {
-            Some(fault) => Err(FsFault::Refused(fault)),
+            Some(fault) => Err(Stop::Refused(fault)),
             None => Ok(self.with_bytes(place, old, kept, more, bits)?),
         }
     }

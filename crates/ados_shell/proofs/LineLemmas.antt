@@ -3,7 +3,7 @@ use Rattle.std.proofs.Common.{◌≡◌, ◌∙◌, List, Option, Some, None, Re
 use Rattle.ados_text.specs.Text.{Text}
 use Rattle.ados_text.specs.declared.codes.Result2.{Result2}
 use Rattle.ados_line.specs.declared.lines.Line.{Line}
-use Rattle.ados_ram.specs.declared.faults.FsFault.TheVariants.{Refused}
+use Rattle.ados_text.specs.declared.stops.Stop.TheVariants.{Refused}
 use Rattle.ados_find.specs.declared.targets.Target.{Target}
 use Rattle.ados_machine.specs.declared.builtins.Builtin.{Builtin}
 use Rattle.ados_flow.specs.Frames.{FrameState}

@@ -1,8 +1,8 @@
 -- Outputs that are opened, and what is put there.
 use Rattle.std.specs.Prelude.{◌≡◌, Option, Some, None, Result, Ok, Err}
 use Rattle.ados_text.specs.declared.codes.Result2.{Result2}
-use Rattle.ados_ram.specs.declared.faults.FsFault.{FsFault}
-use Rattle.ados_ram.specs.declared.faults.FsFault.TheVariants.{Refused, NoMemory}
+use Rattle.ados_text.specs.declared.stops.Stop.{Stop}
+use Rattle.ados_text.specs.declared.stops.Stop.TheVariants.{Refused, NoMemory}
 use Rattle.ados_line.specs.declared.lines.Redirection.{Redirection}
 use Rattle.ados_find.specs.declared.codes.Codes.{Codes}
 use Rattle.ados_find.specs.Shared.{SharedState, with_files}
@@ -19,7 +19,7 @@ use Rattle.ados_shell.specs.declared.drafts.Draft.{Draft}
 use Rattle.ados_shell.specs.Drafts.{course_of}
 
 -- an output was opened: a file, with the shared parts after its opening, or another output, for which nothing changes
-abbrev pub IsOpened : SharedState → Result Opened FsFault → Result line.OpenedOutput Result2 → Type 0
+abbrev pub IsOpened : SharedState → Result Opened Stop → Result line.OpenedOutput Result2 → Type 0
 IsOpened shared (Ok Nothing) (Ok opened) = opened ≡ record { shared = shared; target = None }
 IsOpened shared (Ok Nil) (Ok opened) = opened ≡ record { shared = shared; target = Some Null }
 IsOpened shared (Ok (File new place)) (Ok opened) = opened ≡ record { shared = new; target = Some (At place) }
@@ -40,14 +40,14 @@ pub record LeadsTo (scene : Scene) (before after : Draft) (target : Option Targe
 abbrev pub opened_course : Course → line.OpenedOutput → Course
 opened_course course opened = record course { shared = opened.shared }
 
-abbrev pub HasHeld : Scene → Draft → Draft → Result (Option Target) FsFault → Result line.OpenedOutput Result2 → Type 0
+abbrev pub HasHeld : Scene → Draft → Draft → Result (Option Target) Stop → Result line.OpenedOutput Result2 → Type 0
 HasHeld scene before after (Ok target) (Ok opened) = LeadsTo scene before after target opened (opened_course (course_of scene before) opened)
 HasHeld scene before after (Err (Refused fault)) (Err other) = (fault ≡ other) × (after ≡ before)
 HasHeld scene before after (Err NoMemory) opened = Unit {0}
 HasHeld scene before after _ _ = ⊥
 
 -- and its device is used
-abbrev pub HasOpened : Scene → Draft → Draft → Option Redirection → Result (Option Target) FsFault → Result line.OpenedOutput Result2 → Type 0
+abbrev pub HasOpened : Scene → Draft → Draft → Option Redirection → Result (Option Target) Stop → Result line.OpenedOutput Result2 → Type 0
 HasOpened scene before after output (Ok target) (Ok opened) =
     LeadsTo scene before after target opened (with_devices_used (line.output_devices output) (opened_course (course_of scene before) opened))
 HasOpened scene before after output (Err (Refused fault)) (Err other) = (fault ≡ other) × (after ≡ before)

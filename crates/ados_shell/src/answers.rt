@@ -11,8 +11,7 @@ use crate::drafts::Draft;
 use crate::scenes::Scene;
 use ados_find::Codes;
 use ados_machine::{Answer, Child, Phase, Starting, Wait};
-use ados_ram::FsFault;
-use ados_text::{Code, NoMemory, Octets, Result2, Text};
+use ados_text::{Code, NoMemory, Octets, Result2, Stop, Text};
 
 /// What an answer for a shell results in.
 #[derive(Clone, Copy)]
@@ -121,8 +120,8 @@ impl Draft {
             (started_completion starting.now (course_of scene.now self.old) (line_output (course_of scene.now self.old) starting.now.output))) }
     {
         match self.open_own(scene, starting.output.as_ref()) {
-            Err(FsFault::NoMemory) => Err(NoMemory),
-            Err(FsFault::Refused(fault)) => {
+            Err(Stop::NoMemory) => Err(NoMemory),
+            Err(Stop::Refused(fault)) => {
                 let child = starting.child(None, Some(fault))?;
                 self.wait(scene, child.next())
             }

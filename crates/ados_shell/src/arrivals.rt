@@ -9,8 +9,8 @@ use crate::scenes::Scene;
 use ados_find::{Change, Codes, Outcome, Target};
 use ados_items::next_item;
 use ados_line::Line;
-use ados_ram::{FsFault, Place};
-use ados_text::{NoMemory, Result2, Text};
+use ados_ram::Place;
+use ados_text::{NoMemory, Result2, Stop, Text};
 use std::alloc::Global;
 
 impl Draft {
@@ -23,8 +23,8 @@ impl Draft {
             (directory_completion place line.now (next_line_place scene.now self.old) (course_of scene.now self.old))) }
     {
         match self.read_own(scene, line.input.as_ref()) {
-            Err(FsFault::NoMemory) => Err(NoMemory),
-            Err(FsFault::Refused(fault)) => self.refuse(scene, &line.command, fault),
+            Err(Stop::NoMemory) => Err(NoMemory),
+            Err(Stop::Refused(fault)) => self.refuse(scene, &line.command, fault),
             Ok(_) => self.change_to(scene, place, line),
         }
     }
@@ -36,8 +36,8 @@ impl Draft {
             (arriving_completion place line.now (next_line_place scene.now self.old) (course_of scene.now self.old))) }
     {
         match self.open_own(scene, line.output.as_ref()) {
-            Err(FsFault::NoMemory) => Err(NoMemory),
-            Err(FsFault::Refused(fault)) => self.refuse(scene, &line.command, fault),
+            Err(Stop::NoMemory) => Err(NoMemory),
+            Err(Stop::Refused(fault)) => self.refuse(scene, &line.command, fault),
             Ok(target) => self.be_at(scene, place, line, target),
         }
     }

@@ -8,8 +8,8 @@ use crate::seen::Others;
 use ados_find::{ShellNames, Target};
 use ados_flow::{Action, call_script};
 use ados_line::Line;
-use ados_ram::{FsFault, Place};
-use ados_text::{NoMemory, Texts};
+use ados_ram::Place;
+use ados_text::{NoMemory, Stop, Texts};
 
 impl Draft {
     ghost use Rattle.std.specs.Prelude.{IfOk};
@@ -26,8 +26,8 @@ impl Draft {
             (script_completion place line.now (next_line_place scene.now self.old) (course_of scene.now self.old))) }
     {
         match self.read_own(scene, line.input.as_ref()) {
-            Err(FsFault::NoMemory) => Err(NoMemory),
-            Err(FsFault::Refused(fault)) => self.refuse(scene, &line.command, fault),
+            Err(Stop::NoMemory) => Err(NoMemory),
+            Err(Stop::Refused(fault)) => self.refuse(scene, &line.command, fault),
             Ok(_) => self.call_into(scene, &place, line),
         }
     }
@@ -39,8 +39,8 @@ impl Draft {
             (calling_completion place.now line.now (next_line_place scene.now self.old) (course_of scene.now self.old))) }
     {
         match self.open_own(scene, line.output.as_ref()) {
-            Err(FsFault::NoMemory) => Err(NoMemory),
-            Err(FsFault::Refused(fault)) => self.refuse(scene, &line.command, fault),
+            Err(Stop::NoMemory) => Err(NoMemory),
+            Err(Stop::Refused(fault)) => self.refuse(scene, &line.command, fault),
             Ok(target) => self.call_at(scene, place, line, target),
         }
     }

@@ -11,9 +11,8 @@ use crate::scenes::Scene;
 use ados_items::{ItemFault, words};
 use ados_line::{Line, Redirection};
 use ados_machine::{Builtin, Starting, Wait};
-use ados_ram::FsFault;
 use ados_resident::Program;
-use ados_text::{NoMemory, Result2, Text, Texts};
+use ados_text::{NoMemory, Result2, Stop, Text, Texts};
 
 impl Draft {
     ghost use Rattle.ados_shell.specs.Drafts.{IsUnset, Settles, course_of, next_line_place};
@@ -64,8 +63,8 @@ impl Draft {
             (tested_completion entry program line.now (course_of scene.now self.old) (line_output (course_of scene.now self.old) line.now.output))) }
     {
         match self.open(scene, line.output.as_ref()) {
-            Err(FsFault::NoMemory) => Err(NoMemory),
-            Err(FsFault::Refused(fault)) => self.refuse(scene, &line.command, fault),
+            Err(Stop::NoMemory) => Err(NoMemory),
+            Err(Stop::Refused(fault)) => self.refuse(scene, &line.command, fault),
             Ok(_) => self.ask_to_start(scene, entry, program, line),
         }
     }

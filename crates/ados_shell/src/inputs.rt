@@ -3,12 +3,13 @@ ghost use Rattle.std.specs.Prelude.{◌≡◌};
 ghost use Rattle.ados_items.specs.Items.{IsWithin};
 ghost use Rattle.ados_machine.specs.Prompts.{asks, is_question, is_end, lines_in};
 ghost use Rattle.ados_find.specs.Targets.{read_by, target_of};
-ghost use Rattle.ados_ram.specs.FileOperations.{Gives, read_at};
+ghost use Rattle.ados_ram.specs.FileOperations.{read_at};
+ghost use Rattle.ados_text.specs.Stop.{Gives};
 
 use ados_find::{Shared, Target, target_of};
 use ados_items::{Item, next_item};
-use ados_ram::{Busy, FsFault, Place};
-use ados_text::{Text, Texts, lines_of};
+use ados_ram::{Busy, Place};
+use ados_text::{Stop, Text, Texts, lines_of};
 use std::alloc::Global;
 
 /// The lines of an input, from a current directory, where these outputs are open; NIL: has none.
@@ -21,7 +22,7 @@ pub fn input_lines(
     busy: &Busy,
     directory: &Place,
     name: &Text,
-) -> Result<Option<Texts>, FsFault>
+) -> Result<Option<Texts>, Stop>
     ensures { Gives result (lines_in (read_by shared.now.files busy.now.outputs (target_of shared.now directory.now name.now))) }
 {
     match target_of(alloc, shared, directory, name) {
@@ -37,11 +38,11 @@ fn lines_at(
     shared: &Shared,
     busy: &Busy,
     place: &Place,
-) -> Result<Option<Texts>, FsFault>
+) -> Result<Option<Texts>, Stop>
     ensures { Gives result (lines_in (read_at shared.now.files busy.now.outputs place.now)) }
 {
     match shared.ram.read(busy, place) {
-        Err(fault) => Err(FsFault::Refused(fault)),
+        Err(fault) => Err(Stop::Refused(fault)),
         Ok(bytes) => Ok(Some(lines_of(alloc, bytes)?)),
     }
 }

@@ -5,7 +5,8 @@ ghost use Rattle.ados_machine.specs.Opening.{output_at_target, line_output, outp
 ghost use Rattle.ados_machine.specs.Course.{put};
 ghost use Rattle.ados_machine.specs.Sinks.{To, sink_or};
 ghost use Rattle.ados_find.specs.declared.targets.Target.TheVariants.{At};
-ghost use Rattle.ados_ram.specs.FileOperations.{Answers, put_open_fault, put_open_of};
+ghost use Rattle.ados_ram.specs.FileOperations.{put_open_fault, put_open_of};
+ghost use Rattle.ados_text.specs.Stop.{Answers};
 ghost use Rattle.ados_ram.specs.Place.{key_of, last_name};
 
 use crate::console::push_output;
@@ -15,8 +16,8 @@ use crate::seen::open_outputs;
 use crate::stacks::Sink;
 use ados_find::{Codes, Shared, Target, target_of};
 use ados_line::Redirection;
-use ados_ram::{Busy, FsFault, Place, Ram};
-use ados_text::{NoMemory, Octets};
+use ados_ram::{Busy, Place, Ram};
+use ados_text::{NoMemory, Octets, Stop};
 use std::alloc::Global;
 
 /// An output that was opened.
@@ -44,7 +45,7 @@ impl Opened {
         busy: &Busy,
         directory: &Place,
         output: &Redirection,
-    ) -> Result<Opened, FsFault>
+    ) -> Result<Opened, Stop>
         ensures { IsOpened shared.now result (output_of_redirection shared.now busy.now.outputs directory.now (Some output.now)) }
     {
         match target_of(alloc, shared, directory, &output.name) {
@@ -54,7 +55,7 @@ impl Opened {
         }
     }
 
-    fn at(shared: &Shared, busy: &Busy, append: bool, place: Place) -> Result<Opened, FsFault>
+    fn at(shared: &Shared, busy: &Busy, append: bool, place: Place) -> Result<Opened, Stop>
         ensures { IsOpened shared.now result (output_at_target shared.now busy.now.outputs append (Ok (At place))) }
     {
         match shared.open(busy, append, &place) {
@@ -69,7 +70,7 @@ impl Draft {
     ghost use Rattle.ados_shell.specs.Drafts.{course_of, next_line_place};
 
     /// Opens what a redirection names, with the shell and the shared parts as they are now.
-    pub fn open(&self, scene: &Scene, output: Option<&Redirection>) -> Result<Opened, FsFault>
+    pub fn open(&self, scene: &Scene, output: Option<&Redirection>) -> Result<Opened, Stop>
         ensures { IsOpened (course_of scene.now self.now).shared result (line_output (course_of scene.now self.now) (option_copied output.entry)) }
     {
         match output {
@@ -96,7 +97,7 @@ impl Draft {
         &mut self,
         scene: &Scene,
         output: Option<&Redirection>,
-    ) -> Result<Option<Target>, FsFault>
+    ) -> Result<Option<Target>, Stop>
         ensures { HasOpened scene.now self.old self.new (option_copied output.entry) result (line_output (course_of scene.now self.old) (option_copied output.entry)) }
     {
         let target = self.hold_opened(scene, output)?;
@@ -111,7 +112,7 @@ impl Draft {
         &mut self,
         scene: &Scene,
         output: Option<&Redirection>,
-    ) -> Result<Option<Target>, FsFault>
+    ) -> Result<Option<Target>, Stop>
         ensures { HasHeld scene.now self.old self.new result (line_output (course_of scene.now self.old) (option_copied output.entry)) }
     {
         match self.open(scene, output)? {
@@ -179,8 +180,8 @@ impl Draft {
             return Ok(codes);
         }
         match self.files_with(scene, place, output) {
-            Err(FsFault::NoMemory) => Err(NoMemory),
-            Err(FsFault::Refused(fault)) => Ok(Codes::failed(fault)),
+            Err(Stop::NoMemory) => Err(NoMemory),
+            Err(Stop::Refused(fault)) => Ok(Codes::failed(fault)),
             Ok(files) => {
                 self.hold_files(scene, files)?;
                 Ok(codes)
@@ -191,7 +192,7 @@ impl Draft {
     /// The files after bytes were put at a place, where an output is open.
     ///
     /// 221 if they do not fit.
-    fn files_with(&self, scene: &Scene, place: &Place, output: &[u8]) -> Result<Ram, FsFault>
+    fn files_with(&self, scene: &Scene, place: &Place, output: &[u8]) -> Result<Ram, Stop>
         ensures ok { IfOk result (λ files. files ≡ put_open_of (course_of scene.now self.now).shared.files (key_of place.now) (last_name place.now) output.now) }
         ensures fault { Answers result (put_open_fault (course_of scene.now self.now).shared.files (key_of place.now) (last_name place.now) output.now) }
     {

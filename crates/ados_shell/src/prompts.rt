@@ -4,7 +4,7 @@ ghost use Rattle.std.specs.Option.{option_copied, option_map};
 ghost use Rattle.ados_machine.specs.Completions.{Waits};
 ghost use Rattle.ados_machine.specs.Lines.{answer_completion, asked_completion, builtin_completion, command_completion, prompt_completion};
 ghost use Rattle.ados_machine.specs.Prompts.{first_of, input_lines, prompt, with_args};
-ghost use Rattle.ados_ram.specs.FileOperations.{Gives};
+ghost use Rattle.ados_text.specs.Stop.{Gives};
 
 use crate::drafts::Draft;
 use crate::inputs::{asks, input_lines};
@@ -12,8 +12,7 @@ use crate::scenes::Scene;
 use crate::seen::open_outputs;
 use ados_line::Line;
 use ados_machine::{Asking, Builtin, Phase, Wait};
-use ados_ram::FsFault;
-use ados_text::{NoMemory, Text, Texts};
+use ados_text::{NoMemory, Stop, Text, Texts};
 use std::alloc::Global;
 
 impl Draft {
@@ -27,15 +26,15 @@ impl Draft {
             (builtin_completion builtin line.now (next_line_place scene.now self.old) (course_of scene.now self.old))) }
     {
         match self.read_own(scene, line.input.as_ref()) {
-            Err(FsFault::NoMemory) => Err(NoMemory),
-            Err(FsFault::Refused(fault)) => self.refuse(scene, &line.command, fault),
+            Err(Stop::NoMemory) => Err(NoMemory),
+            Err(Stop::Refused(fault)) => self.refuse(scene, &line.command, fault),
             Ok(None) => self.proceed(scene, builtin, line, None),
             Ok(Some(lines)) => self.proceed(scene, builtin, line, Some(lines.as_slice())),
         }
     }
 
     /// The lines of an input, if there is one, with the shell and the shared parts as they are now.
-    fn input(&self, scene: &Scene, name: Option<&Text>) -> Result<Option<Texts>, FsFault>
+    fn input(&self, scene: &Scene, name: Option<&Text>) -> Result<Option<Texts>, Stop>
         ensures { Gives result (input_lines (course_of scene.now self.now) (option_copied name.entry)) }
     {
         match name {
@@ -49,7 +48,7 @@ impl Draft {
     }
 
     /// Reads an input, if there is one, and uses its device. If it is refused nothing is changed.
-    pub fn read_own(&mut self, scene: &Scene, name: Option<&Text>) -> Result<Option<Texts>, FsFault>
+    pub fn read_own(&mut self, scene: &Scene, name: Option<&Text>) -> Result<Option<Texts>, Stop>
         ensures { HasRead scene.now self.old self.new (option_copied name.entry) result (input_lines (course_of scene.now self.old) (option_copied name.entry)) }
     {
         let lines = self.input(scene, name)?;

@@ -12,9 +12,9 @@ use ados_find::{Outcome, Shared, ShellNames, Target};
 use ados_flow::Action;
 use ados_line::Line;
 use ados_machine::{Builtin, Question};
-use ados_ram::{Busy, FsFault};
+use ados_ram::Busy;
 use ados_readargs::Args;
-use ados_text::{Name, NoMemory, Text, Texts};
+use ados_text::{Name, NoMemory, Stop, Text, Texts};
 
 impl Draft {
     ghost use Rattle.ados_shell.specs.Drafts.{IsUnset, Settles, course_of, next_line_place, parts_of};
@@ -35,8 +35,8 @@ impl Draft {
             (command_completion builtin line.now (option_map (λ l. l.now) input.entry) (next_line_place scene.now self.old) (course_of scene.now self.old))) }
     {
         match self.open_own(scene, line.output.as_ref()) {
-            Err(FsFault::NoMemory) => Err(NoMemory),
-            Err(FsFault::Refused(fault)) => self.refuse(scene, &line.command, fault),
+            Err(Stop::NoMemory) => Err(NoMemory),
+            Err(Stop::Refused(fault)) => self.refuse(scene, &line.command, fault),
             Ok(target) => self.work(scene, builtin, line, target, input),
         }
     }

@@ -14,9 +14,8 @@ use ados_find::{Codes, Target};
 use ados_flow::{Gathered, RUN_LIMIT, asks_nothing, before_plus, gather, number_line};
 use ados_line::Line;
 use ados_machine::{Gathering, Wait};
-use ados_ram::FsFault;
 use ados_script::Script;
-use ados_text::{NoMemory, Result2, Text, Texts};
+use ados_text::{NoMemory, Result2, Stop, Text, Texts};
 use std::alloc::Global;
 
 impl Draft {
@@ -30,8 +29,8 @@ impl Draft {
             (run_completion line.now (next_line_place scene.now self.old) (course_of scene.now self.old))) }
     {
         match self.read_own(scene, line.input.as_ref()) {
-            Err(FsFault::NoMemory) => Err(NoMemory),
-            Err(FsFault::Refused(fault)) => self.refuse(scene, &line.command, fault),
+            Err(Stop::NoMemory) => Err(NoMemory),
+            Err(Stop::Refused(fault)) => self.refuse(scene, &line.command, fault),
             Ok(_) => self.run_into(scene, line),
         }
     }
@@ -43,8 +42,8 @@ impl Draft {
             (running_completion line.now (next_line_place scene.now self.old) (course_of scene.now self.old))) }
     {
         match self.open_own(scene, line.output.as_ref()) {
-            Err(FsFault::NoMemory) => Err(NoMemory),
-            Err(FsFault::Refused(fault)) => self.refuse(scene, &line.command, fault),
+            Err(Stop::NoMemory) => Err(NoMemory),
+            Err(Stop::Refused(fault)) => self.refuse(scene, &line.command, fault),
             Ok(target) => self.run_text(scene, line, target),
         }
     }

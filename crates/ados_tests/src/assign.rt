@@ -1,9 +1,9 @@
 use crate::places::{are_names, at, name};
 use crate::wrong::{Wrong, expect};
-use ados_assign::{Assigns, Binding, Places, ResolveFault};
+use ados_assign::{Assigns, Binding, Places};
 use ados_names::Path;
-use ados_ram::{Busy, FsFault, Place, Ram};
-use ados_text::{NoMemory, Text};
+use ados_ram::{Busy, Place, Ram};
+use ados_text::{NoMemory, Stop, Text};
 use std::alloc::Global;
 
 // The first assigns with `Libs` bound to S too.
@@ -43,7 +43,7 @@ fn assigns_hold_five_directories(rt: HostRuntime) -> Result<(), Wrong> {
 }
 
 // The files at first and the file `T/x`.
-fn files(alloc: Global) -> Result<Ram, FsFault> {
+fn files(alloc: Global) -> Result<Ram, Stop> {
     Ram::new(alloc)?.write(&Busy::none(alloc), &at(alloc, "T/x")?, b"1")
 }
 
@@ -67,7 +67,7 @@ fn with_texts(alloc: Global) -> Result<Assigns, NoMemory> {
         .set(name(alloc, "Q")?, Binding::Path(text(alloc, "Q:x")?))
 }
 
-fn resolve(alloc: Global, path: &str) -> Result<Result<Place, ResolveFault>, Wrong> {
+fn resolve(alloc: Global, path: &str) -> Result<Result<Place, Stop>, Wrong> {
     let path = Path::parse(alloc, &text(alloc, path)?)?;
     Ok(with_texts(alloc)?.resolve(&path, &Place::root(alloc), &files(alloc)?))
 }
@@ -83,7 +83,7 @@ fn lead(alloc: Global, path: &'static str, want: &str) -> Result<(), Wrong> {
 // A path is refused with a number.
 fn refuse(alloc: Global, path: &'static str, want: u16) -> Result<(), Wrong> {
     match resolve(alloc, path)? {
-        Err(ResolveFault::Refused(number)) => expect(number.0 == want, path),
+        Err(Stop::Refused(number)) => expect(number.0 == want, path),
         _ => Err(Wrong::At(path)),
     }
 }

@@ -3,9 +3,9 @@ use crate::places::{at, name};
 use crate::wrong::{Wrong, expect};
 use ados_assign::{Assigns, Binding, Places};
 use ados_find::{Refusal, Shared, place_of};
-use ados_ram::{Busy, FsFault, Place};
+use ados_ram::{Busy, Place};
 use ados_resident::Hosts;
-use ados_text::{NoMemory, Text};
+use ados_text::{NoMemory, Stop, Text};
 use std::alloc::Global;
 
 fn text(alloc: Global, written: &str) -> Result<Text, NoMemory> {
@@ -17,7 +17,7 @@ fn first(alloc: Global) -> Result<Shared, NoMemory> {
 }
 
 // The same with the directory `T/d`.
-fn with_place(alloc: Global, shared: &Shared) -> Result<Shared, FsFault> {
+fn with_place(alloc: Global, shared: &Shared) -> Result<Shared, Stop> {
     let files = shared.ram.make_dir(&at(alloc, "T/d")?)?;
     Ok(shared.with_files(files)?)
 }
@@ -27,14 +27,14 @@ fn with_bound(alloc: Global, shared: &Shared, directory: &str) -> Result<Shared,
     shared.with_assigns(bound(alloc, directory)?)
 }
 
-fn with_place_at_first(alloc: Global) -> Result<Shared, FsFault> {
+fn with_place_at_first(alloc: Global) -> Result<Shared, Stop> {
     let first = first(alloc)?;
     with_place(alloc, &first)
 }
 
 // What is shared at first, with the directory `T/d`, and `X` bound to `S`. One function owns what is shared, and others
 // borrow it: to drop it at many exits is expensive to prove.
-pub fn with_directory(alloc: Global) -> Result<Shared, FsFault> {
+pub fn with_directory(alloc: Global) -> Result<Shared, Stop> {
     let shared = with_place_at_first(alloc)?;
     Ok(with_bound(alloc, &shared, "S")?)
 }
@@ -110,7 +110,7 @@ fn is_gone(alloc: Global, new: &Shared, old: &Shared) -> Result<bool, Wrong> {
     Ok(is_anew(alloc, new, "T/d/x", "")? && leads(alloc, old, "T/d/x", "T/d/x")?)
 }
 
-fn renamed(alloc: Global, old: &Shared) -> Result<Shared, FsFault> {
+fn renamed(alloc: Global, old: &Shared) -> Result<Shared, Stop> {
     old.renamed(&Busy::none(alloc), &at(alloc, "T/d")?, &at(alloc, "T/e")?)
 }
 
@@ -129,7 +129,7 @@ fn a_rename_begins_anew(rt: HostRuntime) -> Result<(), Wrong> {
     expect(is_renamed(rt.alloc())?, "T/d/x once T/d is T/e")
 }
 
-fn deleted(alloc: Global, old: &Shared) -> Result<Shared, FsFault> {
+fn deleted(alloc: Global, old: &Shared) -> Result<Shared, Stop> {
     let files = old.ram.delete(&Busy::none(alloc), &at(alloc, "T/d")?)?;
     Ok(old.with_files(files)?)
 }

@@ -1,17 +1,17 @@
 use crate::wrong::{Wrong, expect, expect_row};
-use ados_names::{NameFault, Path, Step};
-use ados_text::{NoMemory, Text};
+use ados_names::{Path, Step};
+use ados_text::{NoMemory, Result2, Stop, Text};
 use std::alloc::Global;
 
 fn text(alloc: Global, written: &str) -> Result<Text, NoMemory> {
     Text::from_bytes(alloc, written.as_bytes())
 }
 
-fn path(alloc: Global, written: &str) -> Result<Path, NameFault> {
+fn path(alloc: Global, written: &str) -> Result<Path, Stop> {
     Path::parse(alloc, &text(alloc, written)?)
 }
 
-fn joined(alloc: Global, path: &Path, name: &str) -> Result<Path, NameFault> {
+fn joined(alloc: Global, path: &Path, name: &str) -> Result<Path, Stop> {
     path.join(&text(alloc, name)?)
 }
 
@@ -45,15 +45,15 @@ fn shown(alloc: Global, path: &Path) -> Result<Vec<u8>, NoMemory> {
 }
 
 // A path shows this, or `210` stands for one that is refused. `NoMemory` is handed on.
-fn shows(alloc: Global, found: Result<Path, NameFault>, want: &str) -> Result<bool, NoMemory> {
+fn shows(alloc: Global, found: Result<Path, Stop>, want: &str) -> Result<bool, NoMemory> {
     match found {
         Ok(path) => Ok(shown(alloc, &path)?.as_slice() == want.as_bytes()),
-        Err(NameFault::Invalid) => Ok(want == "210"),
-        Err(NameFault::NoMemory) => Err(NoMemory),
+        Err(Stop::Refused(fault)) => Ok(fault == Result2::INVALID_NAME && want == "210"),
+        Err(Stop::NoMemory) => Err(NoMemory),
     }
 }
 
-fn copied(alloc: Global, written: &str) -> Result<Path, NameFault> {
+fn copied(alloc: Global, written: &str) -> Result<Path, Stop> {
     Ok(path(alloc, written)?.copy()?)
 }
 
@@ -63,7 +63,7 @@ fn a_copy_of_a_path_is_equal(rt: HostRuntime) -> Result<(), Wrong> {
     expect(shows(rt.alloc(), copy, "Ram Disk:[/][x]")?, "a copy")
 }
 
-fn joined_text(alloc: Global, written: &str, name: &str) -> Result<Path, NameFault> {
+fn joined_text(alloc: Global, written: &str, name: &str) -> Result<Path, Stop> {
     joined(alloc, &path(alloc, written)?, name)
 }
 
@@ -93,16 +93,16 @@ fn long(alloc: Global, length: usize) -> Result<Text, NoMemory> {
 }
 
 // The path of a text of this many bytes, with a name joined to it.
-fn long_path(alloc: Global, length: usize, name: &str) -> Result<Path, NameFault> {
+fn long_path(alloc: Global, length: usize, name: &str) -> Result<Path, Stop> {
     joined(alloc, &Path::parse(alloc, &long(alloc, length)?)?, name)
 }
 
 // How many steps a path has, none if it is refused. `NoMemory` is handed on.
-fn steps(found: Result<Path, NameFault>) -> Result<usize, NoMemory> {
+fn steps(found: Result<Path, Stop>) -> Result<usize, NoMemory> {
     match found {
         Ok(path) => Ok(path.steps().len()),
-        Err(NameFault::Invalid) => Ok(0),
-        Err(NameFault::NoMemory) => Err(NoMemory),
+        Err(Stop::Refused(_)) => Ok(0),
+        Err(Stop::NoMemory) => Err(NoMemory),
     }
 }
 

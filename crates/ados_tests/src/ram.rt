@@ -1,20 +1,20 @@
 use crate::places::at;
 use crate::wrong::{Wrong, expect};
-use ados_ram::{Busy, FsFault, Ram};
-use ados_text::NoMemory;
+use ados_ram::{Busy, Ram};
+use ados_text::{NoMemory, Stop};
 use std::alloc::Global;
 
 // The number of the fault, 0 if there is none. `NoMemory` is handed on.
-fn fault(answer: Result<Ram, FsFault>) -> Result<u16, NoMemory> {
+fn fault(answer: Result<Ram, Stop>) -> Result<u16, NoMemory> {
     match answer {
         Ok(_) => Ok(0),
-        Err(FsFault::Refused(number)) => Ok(number.0),
-        Err(FsFault::NoMemory) => Err(NoMemory),
+        Err(Stop::Refused(number)) => Ok(number.0),
+        Err(Stop::NoMemory) => Err(NoMemory),
     }
 }
 
 // The files at first and the file `S/q`, which holds `Quit`.
-fn with_script(alloc: Global) -> Result<Ram, FsFault> {
+fn with_script(alloc: Global) -> Result<Ram, Stop> {
     Ram::new(alloc)?.write(&Busy::none(alloc), &at(alloc, "s/q")?, b"Quit")
 }
 
@@ -25,11 +25,11 @@ fn in_use(alloc: Global) -> Result<Busy, NoMemory> {
     Ok(busy)
 }
 
-fn deleted(alloc: Global, ram: &Ram, busy: &Busy, name: &str) -> Result<Ram, FsFault> {
+fn deleted(alloc: Global, ram: &Ram, busy: &Busy, name: &str) -> Result<Ram, Stop> {
     ram.delete(busy, &at(alloc, name)?)
 }
 
-fn renamed(alloc: Global, ram: &Ram, busy: &Busy, from: &str, to: &str) -> Result<Ram, FsFault> {
+fn renamed(alloc: Global, ram: &Ram, busy: &Busy, from: &str, to: &str) -> Result<Ram, Stop> {
     ram.rename(busy, &at(alloc, from)?, &at(alloc, to)?)
 }
 
@@ -72,7 +72,7 @@ fn files_below(alloc: Global, ram: &Ram) -> Result<usize, NoMemory> {
 }
 
 // The files after a rename of S to `T/n`.
-fn moved(alloc: Global, old: &Ram) -> Result<Ram, FsFault> {
+fn moved(alloc: Global, old: &Ram) -> Result<Ram, Stop> {
     renamed(alloc, &old.copy()?, &Busy::none(alloc), "S", "T/n")
 }
 

@@ -1,6 +1,6 @@
 // Versions that are kept, and the files at their limit: wide and deep.
-use ados_ram::{Bits, Busy, FsFault, Place, Ram};
-use ados_text::{Name, NoMemory, Text};
+use ados_ram::{Bits, Busy, Place, Ram};
+use ados_text::{Name, NoMemory, Stop, Text};
 use std::alloc::Global;
 
 // The place of the names, one of each text.
@@ -12,11 +12,11 @@ fn at(alloc: Global, names: &[&[u8]]) -> Result<Place, NoMemory> {
     Ok(place)
 }
 
-fn written(alloc: Global, ram: &Ram, names: &[&[u8]], bytes: &[u8]) -> Result<Ram, FsFault> {
+fn written(alloc: Global, ram: &Ram, names: &[&[u8]], bytes: &[u8]) -> Result<Ram, Stop> {
     ram.write(&Busy::none(alloc), &at(alloc, names)?, bytes)
 }
 
-fn renamed(alloc: Global, ram: &Ram, from: &[&[u8]], to: &[&[u8]]) -> Result<Ram, FsFault> {
+fn renamed(alloc: Global, ram: &Ram, from: &[&[u8]], to: &[&[u8]]) -> Result<Ram, Stop> {
     ram.rename(&Busy::none(alloc), &at(alloc, from)?, &at(alloc, to)?)
 }
 
@@ -27,7 +27,7 @@ fn holds(alloc: Global, ram: &Ram, bytes: &[u8]) -> Result<bool, NoMemory> {
 }
 
 // A hundred changes: files of the directory S, a new one each time, and one that is written again.
-fn changed(alloc: Global, old: &Ram) -> Result<Ram, FsFault> {
+fn changed(alloc: Global, old: &Ram) -> Result<Ram, Stop> {
     let mut ram = old.copy()?;
     for first in 0..5_u8 {
         for second in 0..10_u8 {
@@ -40,14 +40,14 @@ fn changed(alloc: Global, old: &Ram) -> Result<Ram, FsFault> {
 }
 
 // The files with as many objects as there may be, all but four in the root.
-fn wide(alloc: Global) -> Result<Ram, FsFault> {
+fn wide(alloc: Global) -> Result<Ram, Stop> {
     let mut ram = Ram::new(alloc)?;
     for first in 0..32_u8 {
         for second in 0..32_u8 {
             match written(alloc, &ram, &[&[b'A' + first, b'A' + second]], b"x") {
                 Ok(more) => ram = more,
-                Err(FsFault::Refused(_)) => {}
-                Err(FsFault::NoMemory) => return Err(FsFault::NoMemory),
+                Err(Stop::Refused(_)) => {}
+                Err(Stop::NoMemory) => return Err(Stop::NoMemory),
             }
         }
     }
@@ -55,15 +55,15 @@ fn wide(alloc: Global) -> Result<Ram, FsFault> {
 }
 
 // The same files without every second object of those.
-fn thinned(alloc: Global, wide: &Ram) -> Result<Ram, FsFault> {
+fn thinned(alloc: Global, wide: &Ram) -> Result<Ram, Stop> {
     let mut ram = wide.copy()?;
     for first in 0..32_u8 {
         for second in 0..16_u8 {
             let place = at(alloc, &[&[b'A' + first, b'A' + 2 * second]])?;
             match ram.delete(&Busy::none(alloc), &place) {
                 Ok(less) => ram = less,
-                Err(FsFault::Refused(_)) => {}
-                Err(FsFault::NoMemory) => return Err(FsFault::NoMemory),
+                Err(Stop::Refused(_)) => {}
+                Err(Stop::NoMemory) => return Err(Stop::NoMemory),
             }
         }
     }
@@ -81,14 +81,14 @@ fn is_reached(alloc: Global, ram: &Ram) -> Result<bool, NoMemory> {
 }
 
 // The same files with what is at A one directory deeper.
-fn deeper(alloc: Global, ram: &Ram) -> Result<Ram, FsFault> {
+fn deeper(alloc: Global, ram: &Ram) -> Result<Ram, Stop> {
     let with = ram.make_dir(&at(alloc, &[b"P"])?)?;
     let inside = renamed(alloc, &with, &[b"A"], &[b"P", b"D"])?;
     renamed(alloc, &inside, &[b"P"], &[b"A"])
 }
 
 // The files with a thousand directories, each in the one before.
-fn deep(alloc: Global) -> Result<Ram, FsFault> {
+fn deep(alloc: Global) -> Result<Ram, Stop> {
     let mut ram = Ram::new(alloc)?.make_dir(&at(alloc, &[b"A"])?)?;
     for _ in 0..999 {
         ram = deeper(alloc, &ram)?;
@@ -106,7 +106,7 @@ fn bottom(alloc: Global) -> Result<Place, NoMemory> {
 }
 
 #[test]
-fn a_version_stands_through_a_hundred_changes(rt: HostRuntime) -> Result<(), FsFault> {
+fn a_version_stands_through_a_hundred_changes(rt: HostRuntime) -> Result<(), Stop> {
     let old = written(rt.alloc(), &Ram::new(rt.alloc())?, &[b"S", b"Kept"], b"old")?;
     let new = changed(rt.alloc(), &old)?;
     let names = old.list(&at(rt.alloc(), &[b"S"])?)?.len();
@@ -117,7 +117,7 @@ fn a_version_stands_through_a_hundred_changes(rt: HostRuntime) -> Result<(), FsF
 }
 
 #[test]
-fn a_directory_holds_all_objects(rt: HostRuntime) -> Result<(), FsFault> {
+fn a_directory_holds_all_objects(rt: HostRuntime) -> Result<(), Stop> {
     let ram = wide(rt.alloc())?;
     let count = ram.children(&Place::root(rt.alloc()))?.len();
     assert!(rt; count == 1_024);
@@ -125,7 +125,7 @@ fn a_directory_holds_all_objects(rt: HostRuntime) -> Result<(), FsFault> {
 }
 
 #[test]
-fn blocks_of_a_directory_grow_and_shrink(rt: HostRuntime) -> Result<(), FsFault> {
+fn blocks_of_a_directory_grow_and_shrink(rt: HostRuntime) -> Result<(), Stop> {
     let old = wide(rt.alloc())?;
     let new = thinned(rt.alloc(), &old)?;
     let even = at(rt.alloc(), &[b"aa"])?;
@@ -138,7 +138,7 @@ fn blocks_of_a_directory_grow_and_shrink(rt: HostRuntime) -> Result<(), FsFault>
 }
 
 #[test]
-fn contents_end_with_what_holds_them(rt: HostRuntime) -> Result<(), FsFault> {
+fn contents_end_with_what_holds_them(rt: HostRuntime) -> Result<(), Stop> {
     let ram = deep(rt.alloc())?;
     let places = ram.contents(&Place::root(rt.alloc()))?;
     assert!(rt; places.len() == 1_004);
@@ -148,7 +148,7 @@ fn contents_end_with_what_holds_them(rt: HostRuntime) -> Result<(), FsFault> {
 }
 
 #[test]
-fn directories_stand_a_thousand_deep(rt: HostRuntime) -> Result<(), FsFault> {
+fn directories_stand_a_thousand_deep(rt: HostRuntime) -> Result<(), Stop> {
     let ram = deep(rt.alloc())?;
     let place = bottom(rt.alloc())?;
     assert!(rt; ram.look(&place).is_some());

@@ -1,8 +1,6 @@
 // Why a test fails. A test that gives this back needs no assertion: it is a few calls, which cost the prover
 // next to nothing, over rows that a helper walks.
-use ados_names::NameFault;
-use ados_ram::FsFault;
-use ados_text::NoMemory;
+use ados_text::{NoMemory, Stop};
 
 /// Why a test fails.
 #[derive(Clone, Copy, Debug)]
@@ -21,20 +19,11 @@ impl From<NoMemory> for Wrong {
     }
 }
 
-impl From<NameFault> for Wrong {
-    fn from(fault: NameFault) -> Wrong {
+impl From<Stop> for Wrong {
+    fn from(fault: Stop) -> Wrong {
         match fault {
-            NameFault::NoMemory => Wrong::NoMemory,
-            NameFault::Invalid => Wrong::At("a path"),
-        }
-    }
-}
-
-impl From<FsFault> for Wrong {
-    fn from(fault: FsFault) -> Wrong {
-        match fault {
-            FsFault::NoMemory => Wrong::NoMemory,
-            FsFault::Refused(_) => Wrong::At("a change that the files refuse"),
+            Stop::NoMemory => Wrong::NoMemory,
+            Stop::Refused(_) => Wrong::At("a call that is refused"),
         }
     }
 }

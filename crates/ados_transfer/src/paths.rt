@@ -1,9 +1,9 @@
 //! Paths of this machine, and places of the Shell's files.
 
 use crate::faults::{TransferFault, named};
-use ados_names::{NameFault, Path, Step, is_name};
+use ados_names::{Path, Step, is_name};
 use ados_ram::{Place, Ram};
-use ados_text::{Name, Text, TextFault};
+use ados_text::{Name, Stop, Text, TextFault};
 use std::alloc::Global;
 use std::fs;
 use std::rt::Files;
@@ -55,8 +55,8 @@ pub fn place_in(alloc: Global, path: &str) -> Result<Place, TransferFault> {
     let text = ascii(alloc, path)?;
     let parsed = match Path::parse(alloc, &text) {
         Ok(parsed) => parsed,
-        Err(NameFault::NoMemory) => return Err(TransferFault::NoMemory),
-        Err(NameFault::Invalid) => return Err(named(alloc, path, TransferFault::BadName)),
+        Err(Stop::NoMemory) => return Err(TransferFault::NoMemory),
+        Err(Stop::Refused(_)) => return Err(named(alloc, path, TransferFault::BadName)),
     };
     let mut place = match first_directory(alloc, parsed.device())? {
         Some(place) => place,

@@ -3,10 +3,10 @@ ghost use Rattle.std.specs.Prelude.{◌≡◌, IfOk};
 ghost use Rattle.std.specs.Option.{option_copied};
 ghost use Rattle.ados_vars.specs.Global.{value_of, global_of};
 
-use ados_assign::{Assigns, ResolveFault};
-use ados_names::{NameFault, Path};
+use ados_assign::Assigns;
+use ados_names::Path;
 use ados_ram::{Entry, Place, Ram};
-use ados_text::{NoMemory, Text, first_line};
+use ados_text::{NoMemory, Stop, Text, first_line};
 use std::alloc::Global;
 
 /// The value of a global variable: the first line of the file of its name in `ENV:`, if bit r of that is set. The file
@@ -26,11 +26,11 @@ pub fn global(
     text.push_bytes(b"ENV:")?;
     text.push_bytes(name.as_bytes())?;
     match Path::parse(alloc, &text) {
-        Err(NameFault::NoMemory) => Err(NoMemory),
-        Err(NameFault::Invalid) => Ok(None),
+        Err(Stop::NoMemory) => Err(NoMemory),
+        Err(Stop::Refused(_)) => Ok(None),
         Ok(path) => match assigns.resolve(&path, &Place::root(alloc), ram) {
-            Err(ResolveFault::NoMemory) => Err(NoMemory),
-            Err(ResolveFault::Refused(_)) => Ok(None),
+            Err(Stop::NoMemory) => Err(NoMemory),
+            Err(Stop::Refused(_)) => Ok(None),
             Ok(place) => value(alloc, ram.look(&place)),
         },
     }
