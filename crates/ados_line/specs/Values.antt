@@ -3,6 +3,7 @@
 use Rattle.std.specs.Prelude.{◌≡◌, ◌⊎◌, ℕ, zero, suc, ◌+◌, ◌-◌, List, [], ◌∷◌, ◌++◌, length, take, drop, slice_get, Bool, false, ◌==◌, ◌&&◌, ◌||◌, nat_lt, nat_le, Option, Some, None, if◌then◌else◌}
 use Rattle.std.specs.List.{flat_map, prefix_len}
 use Rattle.std.specs.Option.{option_or}
+use Rattle.ados_text.specs.Text.{Text}
 use Rattle.ados_ram.specs.Files.{Files}
 use Rattle.ados_assign.specs.Assigns.{AssignMap}
 use Rattle.ados_vars.specs.Vars.{Pairs, value_in}
@@ -16,7 +17,7 @@ use Rattle.ados_line.specs.Letters.{plain_letters, letter_text, starless_text, l
 
 -- the values of variables, by their names
 abbrev pub Variables : Type 0
-Variables = List ℕ → Option (List ℕ)
+Variables = Text → Option Text
 
 -- the value of a local variable, of which these are visible, or else of a global one
 abbrev pub variables_of : Pairs → AssignMap → Files → Variables
@@ -55,13 +56,13 @@ reference rest =
     if is_this 123 (slice_get rest 0) then braced_reference rest (1 + prefix_len is_of_name (drop 1 rest)) else bare_reference (prefix_len is_of_name rest)
 
 -- the name of a reference
-abbrev pub name_of : List Letter → Reference → List ℕ
+abbrev pub name_of : List Letter → Reference → Text
 name_of rest r = flat_map letter_text (take (r.to - r.from) (drop r.from rest))
 
 -- a segment: a character for itself, or a `$` and the characters of its reference for a value
 pub data Segment : Type 0 where
   Literal : Letter → Segment
-  Value : List Letter → List ℕ → Segment
+  Value : List Letter → Text → Segment
 
 -- the characters that a segment covers
 abbrev pub segment_letters : Segment → List Letter
@@ -74,12 +75,12 @@ later_letter_count (Literal letter) = 0
 later_letter_count (Value letters value) = length letters
 
 -- the text that it stands for: the star before a `$` is removed
-abbrev pub text_of_segment : Segment → List ℕ
+abbrev pub text_of_segment : Segment → Text
 text_of_segment (Literal letter) = starless_text 36 letter
 text_of_segment (Value letters value) = value
 
 -- an unknown variable stays as it is written
-abbrev pub by_value : Letter → List Letter → Option (List ℕ) → Segment
+abbrev pub by_value : Letter → List Letter → Option Text → Segment
 by_value letter letters None = Literal letter
 by_value letter letters (Some value) = Value letters value
 
@@ -99,28 +100,28 @@ segments variables zero (l ∷ ls) =
     (let segment = first_segment variables l ls in segment ∷ segments variables (later_letter_count segment) ls)
 
 -- what the characters stand for, after the `taken` ones of the segment before
-abbrev pub values : Variables → ℕ → List Letter → List ℕ
+abbrev pub values : Variables → ℕ → List Letter → Text
 values variables taken letters = flat_map text_of_segment (segments variables taken letters)
 
 -- the characters after the `$` of a reference to a name: the name, or the name in braces
-abbrev pub IsReference : List Letter → List ℕ → Type 0
+abbrev pub IsReference : List Letter → Text → Type 0
 IsReference letters name = (letters ≡ plain_letters name) ⊎ (letters ≡ Plain 123 ∷ (plain_letters name ++ Plain 125 ∷ []))
 
 -- a segment is a character for itself, or a reference for the value of its name
 abbrev pub IsSegment : Variables → Segment → Type 0
 IsSegment variables (Literal letter) = Unit {0}
-IsSegment variables (Value letters value) = (name : List ℕ) × IsReference letters name × (variables name ≡ Some value)
+IsSegment variables (Value letters value) = (name : Text) × IsReference letters name × (variables name ≡ Some value)
 
 abbrev pub AreSegments : Variables → List Segment → Type 0
 AreSegments variables [] = Unit {0}
 AreSegments variables (segment ∷ row) = IsSegment variables segment × AreSegments variables row
 
 -- a list of segments is a line's characters, in order, and stands for a text
-pub record Stands (variables : Variables) (line text : List ℕ) (row : List Segment) : Type 0 where
+pub record Stands (variables : Variables) (line text : Text) (row : List Segment) : Type 0 where
   pub covers : flat_map segment_letters row ≡ letters_of line
   pub known : AreSegments variables row
   pub means : flat_map text_of_segment row ≡ text
 
 -- a text is a line with its variables expanded: its segments joined, each a character of the line or one value
-abbrev pub IsInSegments : Variables → List ℕ → List ℕ → Type 0
+abbrev pub IsInSegments : Variables → Text → Text → Type 0
 IsInSegments variables line text = (row : List Segment) × Stands variables line text row

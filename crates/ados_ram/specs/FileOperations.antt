@@ -7,7 +7,7 @@ use Rattle.ados_text.specs.declared.codes.Result2.{Result2}
 use Rattle.ados_text.specs.declared.codes.TheConstants.Result2.{OBJECT_IN_USE, OBJECT_EXISTS, DIRECTORY_NOT_FOUND, OBJECT_NOT_FOUND, WRONG_TYPE, DIRECTORY_NOT_EMPTY, COMMENT_TOO_LONG, DISK_FULL, DELETE_PROTECTED, WRITE_PROTECTED, READ_PROTECTED}
 use Rattle.ados_text.specs.Text.{Text, Bytes}
 use Rattle.ados_text.specs.Name.{Name}
-use Rattle.ados_ram.specs.Place.{Key, key_of, any_same, is_root, is_same_key, path_below, is_below, is_child}
+use Rattle.ados_ram.specs.Place.{Place, Key, key_of, any_same, is_root, is_same_key, path_below, is_below, is_child}
 use Rattle.ados_ram.specs.Entry.{is_directory, new_directory, file_entry, file_entry_with_bits, with_bits, with_comment, renamed_entry}
 use Rattle.ados_ram.specs.Files.{Files, Rows, is_some_file, bytes_at, total_of, file_limit, bytes_limit, objects_limit}
 use Rattle.ados_ram.specs.InUse.{InUse, is_in_use, holds_output}
@@ -38,12 +38,12 @@ read_fault is_open None = Some OBJECT_NOT_FOUND
 read_fault is_open (Some e) =
     cond (is_directory e) (Some WRONG_TYPE) (cond is_open (Some OBJECT_IN_USE) (cond e.bits.read None (Some READ_PROTECTED)))
 
-abbrev pub bytes_unless : Option Result2 → List ℕ → Result (List ℕ) Result2
+abbrev pub bytes_unless : Option Result2 → Bytes → Result Bytes Result2
 bytes_unless None bytes = Ok bytes
 bytes_unless (Some fault) bytes = Err fault
 
 -- the bytes of the file at a place, or why they can't be read, with these outputs open
-abbrev pub read_at : Files → List (List (List ℕ)) → List (List ℕ) → Result (List ℕ) Result2
+abbrev pub read_at : Files → List Place → Place → Result Bytes Result2
 read_at m outputs place =
     (let entry = map.get m (key_of place) in bytes_unless (read_fault (any_same outputs (key_of place)) entry) (bytes_at entry))
 

@@ -1,5 +1,6 @@
 -- What a launcher's answer to a shell results in.
-use Rattle.std.specs.Prelude.{◌≡◌, ℕ, List, Option, Some, None}
+use Rattle.std.specs.Prelude.{◌≡◌, List, Option, Some, None}
+use Rattle.ados_text.specs.Text.{Text}
 use Rattle.ados_machine.specs.declared.answers.Answer.{Answer}
 use Rattle.ados_machine.specs.declared.refusals.Refusal.TheVariants as refusal
 use Rattle.ados_machine.specs.Completions.{Completion}
@@ -16,7 +17,7 @@ abbrev pub scene_answering : Scene → machine.Input → Answer → machine.Turn
 scene_answering scene input answer = machine.turning_of_answer input scene.shell.now.frames (start_of scene) scene.shell.now.phase answer
 
 -- an answering is that of the machine: the shell does not wait for the answer, or goes on by it; its lines wait on
-abbrev pub IsAnswering : Scene → List (List ℕ) → Answering → Draft → machine.Turning → Type 0
+abbrev pub IsAnswering : Scene → List Text → Answering → Draft → machine.Turning → Type 0
 IsAnswering scene queue WrongAnswer draft (machine.Refuses why) = why ≡ refusal.WrongAnswer
 IsAnswering scene queue Goes draft (machine.Takes rest turned) = (rest ≡ queue) × IsDrafted scene draft turned
 IsAnswering scene queue _ draft _ = ⊥

@@ -2,6 +2,7 @@
 use Rattle.std.specs.Prelude.{◌≡◌, ℕ, [], ◌∷◌, ◌++◌, List, drop, reverse, Bool, ◌||◌, Option, Some, None, option_map, unwrap_or}
 use Rattle.ados_text.specs.Text.{Bytes, Text}
 use Rattle.ados_text.specs.declared.codes.Code.{Code}
+use Rattle.ados_ram.specs.Place.{Place}
 use Rattle.ados_find.specs.declared.changes.Change.{Change}
 use Rattle.ados_find.specs.declared.codes.Codes.{Codes}
 use Rattle.ados_find.specs.declared.settings.Setting.{Setting}
@@ -98,7 +99,7 @@ turn_start scene = course_without_flag (start_of scene)
 
 -- what a turn holds that no answer changes
 pub record HeldState : Type 0 where
-  pub directory : Option (List (List ℕ))
+  pub directory : Option Place
   pub setting : Option Setting
   pub kept : Option (List Bytes)
   pub shared : Option SharedState
@@ -121,7 +122,7 @@ held_state draft = record {
   flagged = draft.shell.flagged;
 }
 
-abbrev pub held_course : Scene → HeldState → Code → Codes → List ℕ → Course
+abbrev pub held_course : Scene → HeldState → Code → Codes → Bytes → Course
 held_course scene held limit codes printed = record {
   parts = record {
     number = scene.shell.now.parts.number;

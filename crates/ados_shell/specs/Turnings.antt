@@ -1,6 +1,7 @@
 -- What a turn of a shell results in.
-use Rattle.std.specs.Prelude.{◌≡◌, ℕ, List, [], ◌∷◌, Option, Some, None, drop, slice_get}
+use Rattle.std.specs.Prelude.{◌≡◌, List, [], ◌∷◌, Option, Some, None, drop, slice_get}
 use Rattle.std.specs.Option.{option_copied}
+use Rattle.ados_text.specs.Text.{Text}
 use Rattle.ados_machine.specs.declared.refusals.Refusal.TheVariants as refusal
 use Rattle.ados_machine.specs.declared.phases.Asking.{Asking}
 use Rattle.ados_machine.specs.declared.phases.Gathering.{Gathering}
@@ -17,68 +18,68 @@ use Rattle.ados_shell.specs.declared.turnings.Turning.TheVariants.{NotReady, End
 use Rattle.ados_shell.specs.Drafts.{IsDrafted, turn_start}
 
 -- the first of the lines that wait, or none if no line waits
-abbrev pub IsFirst : Option (List ℕ) → List (List ℕ) → Type 0
+abbrev pub IsFirst : Option Text → List Text → Type 0
 IsFirst None queue = queue ≡ []
 IsFirst (Some line) queue = queue ≡ line ∷ drop 1 queue
 
 -- the input, when these lines wait
-abbrev pub waiting_input : Input → List (List ℕ) → machine.Input
+abbrev pub waiting_input : Input → List Text → machine.Input
 waiting_input input queue = record { queue = queue; is_ended = input.is_ended }
 
 -- the machine's turn of the scene's shell, when these lines wait: a flag that it finds ends its scripts
-abbrev pub scene_turning : Scene → Input → List (List ℕ) → machine.Turning
+abbrev pub scene_turning : Scene → Input → List Text → machine.Turning
 scene_turning scene input queue =
     machine.flagged_turning scene.shell.now.flagged (waiting_input input queue) scene.shell.now.frames (turn_start scene) scene.shell.now.phase
 
 -- the same in a phase, if it finds no flag
-abbrev pub plain_turning : Scene → Input → Phase → List (List ℕ) → machine.Turning
+abbrev pub plain_turning : Scene → Input → Phase → List Text → machine.Turning
 plain_turning scene input phase queue = machine.turning_in_phase (waiting_input input queue) scene.shell.now.frames (turn_start scene) phase
 
 -- a turn is that of the machine: it leaves these lines waiting, or takes the first of them
-abbrev pub IsTurning : Scene → List (List ℕ) → Turning → Draft → machine.Turning → Type 0
+abbrev pub IsTurning : Scene → List Text → Turning → Draft → machine.Turning → Type 0
 IsTurning scene queue NotReady draft (machine.Refuses why) = why ≡ refusal.NotReady
 IsTurning scene queue Ends draft machine.Ends = Unit {0}
 IsTurning scene queue Goes draft (machine.Takes rest turned) = (rest ≡ queue) × IsDrafted scene draft turned
-IsTurning scene queue Takes draft (machine.Takes rest turned) = (line : List ℕ) × (queue ≡ line ∷ rest) × IsDrafted scene draft turned
+IsTurning scene queue Takes draft (machine.Takes rest turned) = (line : Text) × (queue ≡ line ∷ rest) × IsDrafted scene draft turned
 IsTurning scene queue _ draft _ = ⊥
 
 -- the turn of the scene's shell that reads this input, whatever lines wait after the first
 abbrev pub GivesTurning : Scene → Input → Turning → Draft → Type 0
 GivesTurning scene input turn draft =
-    (queue : List (List ℕ)) → IsFirst (option_copied input.line) queue →
+    (queue : List Text) → IsFirst (option_copied input.line) queue →
     IsTurning scene queue turn draft (scene_turning scene input queue)
 
 -- the same if it finds no flag
 abbrev pub GivesPlain : Scene → Input → Turning → Draft → Type 0
 GivesPlain scene input turn draft =
-    (queue : List (List ℕ)) → IsFirst (option_copied input.line) queue →
+    (queue : List Text) → IsFirst (option_copied input.line) queue →
     IsTurning scene queue turn draft (plain_turning scene input scene.shell.now.phase queue)
 
 -- the same of a shell that waits for the answer to a prompt
 abbrev pub GivesAnswer : Scene → Asking → Input → Turning → Draft → Type 0
 GivesAnswer scene asking input turn draft =
-    (queue : List (List ℕ)) → IsFirst (option_copied input.line) queue →
+    (queue : List Text) → IsFirst (option_copied input.line) queue →
     IsTurning scene queue turn draft (plain_turning scene input (Waiting (ForAnswer asking)) queue)
 
 -- the same of a shell whose Run gathers
 abbrev pub GivesGathering : Scene → Gathering → Input → Turning → Draft → Type 0
 GivesGathering scene gathering input turn draft =
-    (queue : List (List ℕ)) → IsFirst (option_copied input.line) queue →
+    (queue : List Text) → IsFirst (option_copied input.line) queue →
     IsTurning scene queue turn draft (plain_turning scene input (Waiting (ForLines gathering)) queue)
 
 -- the same of a shell that is ready
 abbrev pub GivesReady : Scene → Input → Turning → Draft → Type 0
 GivesReady scene input turn draft =
-    (queue : List (List ℕ)) → IsFirst (option_copied input.line) queue → IsTurning scene queue turn draft (plain_turning scene input Ready queue)
+    (queue : List Text) → IsFirst (option_copied input.line) queue → IsTurning scene queue turn draft (plain_turning scene input Ready queue)
 
 -- the same of a shell that is ready and runs no frame
 abbrev pub GivesConsole : Scene → Input → Turning → Draft → Type 0
 GivesConsole scene input turn draft =
-    (queue : List (List ℕ)) → IsFirst (option_copied input.line) queue →
+    (queue : List Text) → IsFirst (option_copied input.line) queue →
     IsTurning scene queue turn draft (machine.console_turning queue input.is_ended (turn_start scene))
 
 -- the next line of the newest frame
-abbrev pub next_of : List FrameState → Option (List ℕ)
+abbrev pub next_of : List FrameState → Option Text
 next_of [] = None
 next_of (frame ∷ frames) = slice_get frame.lines frame.position
 
@@ -97,30 +98,30 @@ MayWantMemory (machine.Takes rest turned) = Unit {0}
 -- the machine goes on at a turn of the scene's shell with this input, whatever lines wait after the first
 abbrev pub TakesTurn : Scene → Input → Type 0
 TakesTurn scene input =
-    (queue : List (List ℕ)) → IsFirst (option_copied input.line) queue → MayWantMemory (scene_turning scene input queue)
+    (queue : List Text) → IsFirst (option_copied input.line) queue → MayWantMemory (scene_turning scene input queue)
 
 -- the same if it finds no flag
 abbrev pub TakesPlain : Scene → Input → Type 0
 TakesPlain scene input =
-    (queue : List (List ℕ)) → IsFirst (option_copied input.line) queue → MayWantMemory (plain_turning scene input scene.shell.now.phase queue)
+    (queue : List Text) → IsFirst (option_copied input.line) queue → MayWantMemory (plain_turning scene input scene.shell.now.phase queue)
 
 -- the same of a shell that waits for the answer to a prompt
 abbrev pub TakesAnswer : Scene → Asking → Input → Type 0
 TakesAnswer scene asking input =
-    (queue : List (List ℕ)) → IsFirst (option_copied input.line) queue → MayWantMemory (plain_turning scene input (Waiting (ForAnswer asking)) queue)
+    (queue : List Text) → IsFirst (option_copied input.line) queue → MayWantMemory (plain_turning scene input (Waiting (ForAnswer asking)) queue)
 
 -- the same of a shell whose Run gathers
 abbrev pub TakesGathering : Scene → Gathering → Input → Type 0
 TakesGathering scene gathering input =
-    (queue : List (List ℕ)) → IsFirst (option_copied input.line) queue → MayWantMemory (plain_turning scene input (Waiting (ForLines gathering)) queue)
+    (queue : List Text) → IsFirst (option_copied input.line) queue → MayWantMemory (plain_turning scene input (Waiting (ForLines gathering)) queue)
 
 -- the same of a shell that is ready
 abbrev pub TakesReady : Scene → Input → Type 0
 TakesReady scene input =
-    (queue : List (List ℕ)) → IsFirst (option_copied input.line) queue → MayWantMemory (plain_turning scene input Ready queue)
+    (queue : List Text) → IsFirst (option_copied input.line) queue → MayWantMemory (plain_turning scene input Ready queue)
 
 -- the same of a shell that is ready and runs no frame
 abbrev pub TakesConsole : Scene → Input → Type 0
 TakesConsole scene input =
-    (queue : List (List ℕ)) → IsFirst (option_copied input.line) queue →
+    (queue : List Text) → IsFirst (option_copied input.line) queue →
     MayWantMemory (machine.console_turning queue input.is_ended (turn_start scene))

@@ -1,5 +1,5 @@
 -- What a command needs to see.
-use Rattle.std.specs.Prelude.{◌≡◌, ℕ, List, Option}
+use Rattle.std.specs.Prelude.{◌≡◌, List, Option}
 use Rattle.ados_text.specs.Text.{Text}
 use Rattle.ados_ram.specs.InUse.{InUse}
 use Rattle.ados_find.specs.Shared.{SharedState}
@@ -12,19 +12,19 @@ use Rattle.ados_find.specs.Parts.{Parts}
 -- to a command it makes no difference which of these two is what is in use
 abbrev pub ServesInUse : Builtin → InUse → InUse → Type 0
 ServesInUse builtin busy other =
-    (shared : SharedState) (script_line : Option ScriptLine) (args : List ℕ) (view : View) →
+    (shared : SharedState) (script_line : Option ScriptLine) (args : Text) (view : View) →
     action_of builtin shared script_line (record view { busy = busy }) args ≡ action_of builtin shared script_line (record view { busy = other }) args
 
 -- and which of these are the names of the shells that run
 abbrev pub ServesNames : Builtin → List (Option Text) → List (Option Text) → Type 0
 ServesNames builtin names other =
-    (shared : SharedState) (script_line : Option ScriptLine) (args : List ℕ) (view : View) →
+    (shared : SharedState) (script_line : Option ScriptLine) (args : Text) (view : View) →
     action_of builtin shared script_line (record view { names = names }) args ≡ action_of builtin shared script_line (record view { names = other }) args
 
 -- and which of these are the entries from which they run
 abbrev pub ServesUses : Builtin → List Text → List Text → Type 0
 ServesUses builtin uses other =
-    (shared : SharedState) (script_line : Option ScriptLine) (args : List ℕ) (view : View) →
+    (shared : SharedState) (script_line : Option ScriptLine) (args : Text) (view : View) →
     action_of builtin shared script_line (record view { uses = uses }) args ≡ action_of builtin shared script_line (record view { uses = other }) args
 
 -- what commands read of a shell with these parts, when this is in use, and the shells that run have these names and run
@@ -35,5 +35,5 @@ shell_view parts busy names uses = record { parts = parts; busy = busy; names = 
 -- to a command one view is as good as the other
 abbrev pub Serves : Builtin → View → View → Type 0
 Serves builtin view other =
-    (shared : SharedState) (script_line : Option ScriptLine) (args : List ℕ) →
+    (shared : SharedState) (script_line : Option ScriptLine) (args : Text) →
     action_of builtin shared script_line view args ≡ action_of builtin shared script_line other args

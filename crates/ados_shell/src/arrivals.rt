@@ -17,7 +17,12 @@ impl Draft {
     ghost use Rattle.ados_shell.specs.Drafts.{IsUnset, Settles, course_of, next_line_place};
 
     /// Reads the input of a line whose word leads to a directory, if it has one, and changes to the directory.
-    pub fn arrive(&mut self, scene: &Scene, place: Place, line: &Line) -> Result<(), NoMemory>
+    pub(crate) fn arrive(
+        &mut self,
+        scene: &Scene,
+        place: Place,
+        line: &Line,
+    ) -> Result<(), NoMemory>
         requires { IsUnset self.old }
         ensures { OnOk result (Settles scene.now self.old self.new
             (directory_completion place line.now (next_line_place scene.now self.old) (course_of scene.now self.old))) }

@@ -31,7 +31,7 @@ impl Shell {
     }
 
     /// A script runs in it.
-    pub fn has_script(&self) -> bool
+    pub(crate) fn has_script(&self) -> bool
         ensures { result ≡ has_script self.now.frames }
     {
         has_script(self.frames.as_slice())
@@ -44,7 +44,7 @@ impl Draft {
 
     /// A turn of a shell that is flagged, in which a script runs: if it can take one, its scripts end instead of
     /// what it would have done, and its input stays.
-    pub fn broken_turn(&mut self, scene: &Scene, input: &Input) -> Result<Turning, NoMemory>
+    pub(crate) fn broken_turn(&mut self, scene: &Scene, input: &Input) -> Result<Turning, NoMemory>
         requires { has_script scene.now.shell.now.frames ≡ true }
         ensures turn { IfOk result (λ turn. GivesBroken scene.now input.now turn self.new) }
         ensures memory { OnErr result (TakesBroken scene.now input.now) }

@@ -20,7 +20,12 @@ impl Draft {
     ghost use Rattle.ados_shell.specs.Drafts.{IsUnset, Settles, course_of, next_line_place};
 
     /// Reads the input of a line whose word is a script, if it has one, and calls the script.
-    pub fn run_script(&mut self, scene: &Scene, place: Place, line: &Line) -> Result<(), NoMemory>
+    pub(crate) fn run_script(
+        &mut self,
+        scene: &Scene,
+        place: Place,
+        line: &Line,
+    ) -> Result<(), NoMemory>
         requires { IsUnset self.old }
         ensures { OnOk result (Settles scene.now self.old self.new
             (script_completion place line.now (next_line_place scene.now self.old) (course_of scene.now self.old))) }

@@ -19,7 +19,7 @@ impl Draft {
     ghost use Rattle.ados_shell.specs.Drafts.{IsReported, IsRuled, Settles, course_of, frames_of};
 
     /// No command was there to answer: the newest frame ends if no line is left.
-    pub fn pass(&mut self, scene: &Scene) -> Result<(), NoMemory>
+    pub(crate) fn pass(&mut self, scene: &Scene) -> Result<(), NoMemory>
         ensures { OnOk result (Settles scene.now self.old self.new (Passes (course_of scene.now self.old))) }
     {
         self.shell.phase = None;
@@ -40,7 +40,7 @@ impl Draft {
     }
 
     /// A command answered: the text of its fault is printed, and the code rule follows.
-    pub fn answer(
+    pub(crate) fn answer(
         &mut self,
         scene: &Scene,
         word: &[u8],
@@ -54,14 +54,19 @@ impl Draft {
     }
 
     /// A command is refused with 20.
-    pub fn refuse(&mut self, scene: &Scene, word: &Text, fault: Result2) -> Result<(), NoMemory>
+    pub(crate) fn refuse(
+        &mut self,
+        scene: &Scene,
+        word: &Text,
+        fault: Result2,
+    ) -> Result<(), NoMemory>
         ensures { OnOk result (Settles scene.now self.old self.new (refusal_completion word.now fault (course_of scene.now self.old))) }
     {
         self.answer(scene, word.as_bytes(), Codes::failed(fault), false)
     }
 
     /// A command answered, and the newest frame goes on at a line.
-    pub fn jump(
+    pub(crate) fn jump(
         &mut self,
         scene: &Scene,
         word: &Text,
@@ -75,7 +80,7 @@ impl Draft {
     }
 
     /// A command answered that took this many more lines of the newest frame, if there is one.
-    pub fn skip(
+    pub(crate) fn skip(
         &mut self,
         scene: &Scene,
         word: &Text,
@@ -91,7 +96,7 @@ impl Draft {
     }
 
     /// A script is called: if there are as many frames as a shell may have, that is the command's fault.
-    pub fn call(
+    pub(crate) fn call(
         &mut self,
         scene: &Scene,
         word: &Text,
@@ -129,7 +134,7 @@ impl Draft {
 
     /// The code rule: the newest frame ends if it quits, at the limit, or if no line is left,
     /// and its end is the answer of the command that made it, and so on down.
-    pub fn finish(
+    pub(crate) fn finish(
         &mut self,
         scene: &Scene,
         word: &[u8],

@@ -131,7 +131,7 @@ impl Draft {
     }
 
     /// A turn of a shell begins: nothing is changed yet, except that its flag is cleared.
-    pub fn begin_turn(&mut self, shell: &Shell)
+    pub(crate) fn begin_turn(&mut self, shell: &Shell)
         ensures { IsFresh shell.now false self.new }
     {
         self.shell.begin_turn(shell);
@@ -145,7 +145,7 @@ impl Draft {
     }
 
     /// A launcher's answer for a shell is taken: nothing is changed yet, and its flag stays.
-    pub fn begin_answer(&mut self, shell: &Shell)
+    pub(crate) fn begin_answer(&mut self, shell: &Shell)
         ensures { IsFresh shell.now shell.now.flagged self.new }
     {
         self.begin_turn(shell);
@@ -190,14 +190,14 @@ impl Draft {
     }
 
     /// The current directory as it is now.
-    pub fn directory<'b>(&'b self, scene: &'b Scene) -> &'b Place
+    pub(crate) fn directory<'b>(&'b self, scene: &'b Scene) -> &'b Place
         ensures { result.now ≡ (parts_of scene.now self.now).directory }
     {
         self.shell.directory(scene.shell)
     }
 
     /// The shared parts as they are now.
-    pub fn current<'b>(&'b self, scene: &'b Scene) -> &'b Shared
+    pub(crate) fn current<'b>(&'b self, scene: &'b Scene) -> &'b Shared
         ensures { result.now ≡ version scene.now.shared.now self.now.shared }
     {
         match &self.shared {
@@ -208,7 +208,7 @@ impl Draft {
 
     /// What a command of the shell with this number made is moved in: what it changed of the shell's parts, new shared parts,
     /// if there are any, what was renamed, and which shell was broken. A shell that breaks itself is flagged at once.
-    pub fn affect(
+    pub(crate) fn affect(
         &mut self,
         number: u8,
         change: Option<Box<Change>>,

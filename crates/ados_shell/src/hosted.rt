@@ -18,7 +18,7 @@ impl Draft {
     ghost use Rattle.ados_shell.specs.Drafts.{IsUnset, Settles, course_of, next_line_place};
 
     /// Runs a line whose command is a program, which runs from an entry of the resident list, or from a file.
-    pub fn run_program(
+    pub(crate) fn run_program(
         &mut self,
         scene: &Scene,
         entry: Option<Text>,

@@ -25,7 +25,7 @@ impl Draft {
     ghost use Rattle.ados_vars.specs.Locals.{shown_pairs};
 
     /// Takes a raw line.
-    pub fn obey(&mut self, scene: &Scene, raw: &Text) -> Result<(), NoMemory>
+    pub(crate) fn obey(&mut self, scene: &Scene, raw: &Text) -> Result<(), NoMemory>
         requires { IsUnset self.old }
         ensures { OnOk result (Settles scene.now self.old self.new
             (line_completion raw.now (next_line_place scene.now self.old) (course_of scene.now self.old))) }
@@ -36,7 +36,7 @@ impl Draft {
     }
 
     /// Runs a line after its expansion.
-    pub fn work_line(
+    pub(crate) fn work_line(
         &mut self,
         scene: &Scene,
         expanded: Result<Expanded, LineFault>,
@@ -55,7 +55,7 @@ impl Draft {
     }
 
     /// The line is invalid: it uses nothing.
-    pub fn fault_line(&mut self, scene: &Scene, fault: Result2) -> Result<(), NoMemory>
+    pub(crate) fn fault_line(&mut self, scene: &Scene, fault: Result2) -> Result<(), NoMemory>
         ensures { OnOk result (Settles scene.now self.old self.new (line_fault fault (course_of scene.now self.old))) }
     {
         self.use_nothing(scene);
@@ -72,7 +72,7 @@ impl Draft {
     }
 
     /// Where the words of a line have their meanings, with the shell and the shared parts as they are now.
-    pub fn scope<'b>(&'b self, scene: &'b Scene) -> Scope<'b>
+    pub(crate) fn scope<'b>(&'b self, scene: &'b Scene) -> Scope<'b>
         requires { IsUnset self.now }
         ensures aliases { result.aliases.now ≡ (course_of scene.now self.now).parts.settings.aliases }
         ensures variables { variables_by result ≡ variables_in (course_of scene.now self.now) }

@@ -20,7 +20,12 @@ impl Draft {
     ghost use Rattle.ados_shell.specs.Inputs.{HasRead};
 
     /// Reads the input of a command, if it has one, and asks for its arguments if they are `?`.
-    pub fn prepare(&mut self, scene: &Scene, builtin: Builtin, line: &Line) -> Result<(), NoMemory>
+    pub(crate) fn prepare(
+        &mut self,
+        scene: &Scene,
+        builtin: Builtin,
+        line: &Line,
+    ) -> Result<(), NoMemory>
         requires { IsUnset self.old }
         ensures { OnOk result (Settles scene.now self.old self.new
             (builtin_completion builtin line.now (next_line_place scene.now self.old) (course_of scene.now self.old))) }
@@ -48,7 +53,11 @@ impl Draft {
     }
 
     /// Reads an input, if there is one, and uses its device. If it is refused nothing is changed.
-    pub fn read_own(&mut self, scene: &Scene, name: Option<&Text>) -> Result<Option<Texts>, Stop>
+    pub(crate) fn read_own(
+        &mut self,
+        scene: &Scene,
+        name: Option<&Text>,
+    ) -> Result<Option<Texts>, Stop>
         ensures { HasRead scene.now self.old self.new (option_copied name.entry) result (input_lines (course_of scene.now self.old) (option_copied name.entry)) }
     {
         let lines = self.input(scene, name)?;
@@ -103,7 +112,7 @@ impl Draft {
     }
 
     /// The shell waits.
-    pub fn wait(&mut self, scene: &Scene, wait: Wait) -> Result<(), NoMemory>
+    pub(crate) fn wait(&mut self, scene: &Scene, wait: Wait) -> Result<(), NoMemory>
         ensures { OnOk result (Settles scene.now self.old self.new (Waits wait (course_of scene.now self.old))) }
     {
         self.shell.phase = Some(Box::new(scene.alloc, Phase::Waiting(wait))?);
@@ -127,7 +136,12 @@ impl Draft {
     }
 
     /// Takes the answer to a prompt: it stands for the arguments as it is, or replies to a question.
-    pub fn resume(&mut self, scene: &Scene, asking: &Asking, answer: &Text) -> Result<(), NoMemory>
+    pub(crate) fn resume(
+        &mut self,
+        scene: &Scene,
+        asking: &Asking,
+        answer: &Text,
+    ) -> Result<(), NoMemory>
         requires { IsUnset self.old }
         ensures { OnOk result (Settles scene.now self.old self.new
             (answer_completion answer.now asking.now (next_line_place scene.now self.old) (course_of scene.now self.old))) }

@@ -15,7 +15,7 @@ impl Draft {
     ghost use Rattle.ados_shell.specs.Drafts.{Settles, course_of};
 
     /// Ask asks its input, and if it has none its shell waits.
-    pub fn inquire(
+    pub(crate) fn inquire(
         &mut self,
         scene: &Scene,
         question: Question,
@@ -42,7 +42,12 @@ impl Draft {
     }
 
     /// Takes a reply to a question that waited; if it is not a reply, the question is asked again.
-    pub fn reply(&mut self, scene: &Scene, question: &Question, line: &Text) -> Result<(), NoMemory>
+    pub(crate) fn reply(
+        &mut self,
+        scene: &Scene,
+        question: &Question,
+        line: &Text,
+    ) -> Result<(), NoMemory>
         ensures { OnOk result (Settles scene.now self.old self.new (reply_completion line.now question.now (course_of scene.now self.old))) }
     {
         match reply_of(line) {

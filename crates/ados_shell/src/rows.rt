@@ -23,7 +23,7 @@ impl Draft {
     ghost use Rattle.ados_shell.specs.Uses.{HasUsed};
 
     /// Opens a command's output, and lets it do its work; its input has these lines, if there is one.
-    pub fn begin(
+    pub(crate) fn begin(
         &mut self,
         scene: &Scene,
         builtin: Builtin,
@@ -59,7 +59,7 @@ impl Draft {
     }
 
     /// Moves in what is done by a command whose output leads there, and whose input has these lines.
-    pub fn act(
+    pub(crate) fn act(
         &mut self,
         scene: &Scene,
         word: &Text,
@@ -175,7 +175,7 @@ impl Draft {
     }
 
     /// What is in use while a command runs whose output leads there.
-    pub fn in_use(&self, scene: &Scene, target: Option<&Target>) -> Result<Busy, NoMemory>
+    pub(crate) fn in_use(&self, scene: &Scene, target: Option<&Target>) -> Result<Busy, NoMemory>
         ensures { IfOk result (λ busy. busy ≡ busy_in (option_copied target.entry) (course_of scene.now self.now)) }
     {
         in_use(
@@ -187,7 +187,7 @@ impl Draft {
     }
 
     /// What a command made is moved in, its output is put, and it answers.
-    pub fn apply(
+    pub(crate) fn apply(
         &mut self,
         scene: &Scene,
         word: &Text,

@@ -23,7 +23,7 @@ impl Draft {
     ghost use Rattle.ados_shell.specs.Outputs.{IsPut};
 
     /// Reads the input of a Run, if it has one, which is ignored, and runs its text.
-    pub fn run(&mut self, scene: &Scene, line: &Line) -> Result<(), NoMemory>
+    pub(crate) fn run(&mut self, scene: &Scene, line: &Line) -> Result<(), NoMemory>
         requires { IsUnset self.old }
         ensures { OnOk result (Settles scene.now self.old self.new
             (run_completion line.now (next_line_place scene.now self.old) (course_of scene.now self.old))) }
@@ -129,7 +129,7 @@ impl Draft {
 
     /// Takes another line for a Run that gathers. If that goes on the shell waits again, up to the last command that
     /// a new shell is given.
-    pub fn join(
+    pub(crate) fn join(
         &mut self,
         scene: &Scene,
         gathering: &Gathering,
@@ -164,7 +164,11 @@ impl Draft {
     }
 
     /// Makes the shell of a Run that gathers, for which no more lines come.
-    pub fn gather_no_more(&mut self, scene: &Scene, gathering: &Gathering) -> Result<(), NoMemory>
+    pub(crate) fn gather_no_more(
+        &mut self,
+        scene: &Scene,
+        gathering: &Gathering,
+    ) -> Result<(), NoMemory>
         requires { IsUnset self.old }
         ensures { OnOk result (Settles scene.now self.old self.new
             (gathered_completion gathering.now (next_line_place scene.now self.old).sink (course_of scene.now self.old))) }

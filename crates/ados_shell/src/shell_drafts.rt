@@ -33,7 +33,7 @@ impl ShellDraft {
     }
 
     /// What the shell with this number asks a launcher for after its turn.
-    pub fn request(&self, number: u8) -> Result<Option<Request>, NoMemory>
+    pub(crate) fn request(&self, number: u8) -> Result<Option<Request>, NoMemory>
         ensures { IfOk result (λ request. request ≡ request_of number (drafted_phase self.now)) }
     {
         match self.phase.as_deref() {
@@ -43,7 +43,7 @@ impl ShellDraft {
     }
 
     /// What commands read of the shell as it is now, and of the shells that run.
-    pub fn view<'b>(&'b self, shell: &'b Shell, others: Others) -> ShellView<'b>
+    pub(crate) fn view<'b>(&'b self, shell: &'b Shell, others: Others) -> ShellView<'b>
         requires { self.now.setting ≡ None }
         ensures { result ≡ shell_view (drafted_shell self.now shell.now).parts others.busy others.names others.uses }
     {
@@ -61,7 +61,7 @@ impl ShellDraft {
     }
 
     /// The current directory as it is now.
-    pub fn directory<'b>(&'b self, shell: &'b Shell) -> &'b Place
+    pub(crate) fn directory<'b>(&'b self, shell: &'b Shell) -> &'b Place
         ensures { result.now ≡ (drafted_shell self.now shell.now).parts.directory }
     {
         match &self.directory {

@@ -150,7 +150,7 @@ impl Shell {
     }
 
     /// What its ticks put out so far; that of the newest is the last.
-    pub fn kept(&self) -> &[Octets]
+    pub(crate) fn kept(&self) -> &[Octets]
         ensures { reverse result.now ≡ self.now.kept }
     {
         self.kept.as_slice()

@@ -26,7 +26,7 @@ impl Draft {
     ghost use Rattle.ados_shell.specs.Outputs.{IsPut};
 
     /// A tick of a line begins: if there are as many frames as a shell may have, that is the line's fault.
-    pub fn tick(&mut self, scene: &Scene, tick: Tick) -> Result<(), NoMemory>
+    pub(crate) fn tick(&mut self, scene: &Scene, tick: Tick) -> Result<(), NoMemory>
         ensures { OnOk result (Settles scene.now self.old self.new
             (if (next_line_place scene.now self.old).is_full then line_fault TOO_MANY_LEVELS (course_of scene.now self.old)
             else Ticks tick.before tick.command tick.after (course_of scene.now self.old))) }
@@ -59,7 +59,12 @@ impl Draft {
     }
 
     /// The newest tick has ended and was popped: its line goes on with what the tick put out, between these texts.
-    pub fn end_tick(&mut self, scene: &Scene, before: &Text, after: &Text) -> Result<(), NoMemory>
+    pub(crate) fn end_tick(
+        &mut self,
+        scene: &Scene,
+        before: &Text,
+        after: &Text,
+    ) -> Result<(), NoMemory>
         ensures { OnOk result (IsTicked scene.now self.old self.new before.now after.now) }
     {
         let mut kept = self.shell.kept_copy(scene)?;
@@ -78,7 +83,12 @@ impl Draft {
     }
 
     /// The newest tick keeps what a command puts out.
-    pub fn keep(&mut self, scene: &Scene, output: &[u8], codes: Codes) -> Result<Codes, NoMemory>
+    pub(crate) fn keep(
+        &mut self,
+        scene: &Scene,
+        output: &[u8],
+        codes: Codes,
+    ) -> Result<Codes, NoMemory>
         ensures { IfOk result (λ answered. IsPut scene.now self.old self.new answered (put Kept output.now codes (course_of scene.now self.old))) }
     {
         let mut kept = self.shell.kept_copy(scene)?;
@@ -90,7 +100,7 @@ impl Draft {
     }
 
     /// Goes on with a line whose tick has ended.
-    pub fn go_on(&mut self, scene: &Scene, parted: &Parted) -> Result<(), NoMemory>
+    pub(crate) fn go_on(&mut self, scene: &Scene, parted: &Parted) -> Result<(), NoMemory>
         requires { IsUnset self.old }
         ensures { OnOk result (Settles scene.now self.old self.new
             (parted_completion parted.now (next_line_place scene.now self.old) (course_of scene.now self.old))) }
@@ -105,7 +115,7 @@ impl ShellDraft {
     ghost use Rattle.ados_shell.specs.Drafts.{drafted_shell};
 
     /// A copy of what the ticks put out so far; that of the newest is the last.
-    pub fn kept_copy(&self, scene: &Scene) -> Result<Vec<Octets>, NoMemory>
+    pub(crate) fn kept_copy(&self, scene: &Scene) -> Result<Vec<Octets>, NoMemory>
         ensures { IfOk result (λ kept. reverse kept.items ≡ (drafted_shell self.now scene.now.shell.now).kept) }
     {
         match &self.kept {

@@ -20,7 +20,7 @@ impl Draft {
 
     /// The device of a path's text is used.
     #[tactic(auto, unfolding(ados_machine::specs::Uses::devices_reached))]
-    pub fn use_path(&mut self, scene: &Scene, text: &Text) -> Result<(), NoMemory>
+    pub(crate) fn use_path(&mut self, scene: &Scene, text: &Text) -> Result<(), NoMemory>
         ensures { OnOk result (HasUsed scene.now self.old self.new (with_devices_used (device_named text.now) (course_of scene.now self.old))) }
     {
         let shared = match &self.shared {
@@ -59,7 +59,12 @@ impl Draft {
     }
 
     /// The device to which the search of a word led is used.
-    pub fn use_route(&mut self, scene: &Scene, route: Route, word: &Text) -> Result<(), NoMemory>
+    pub(crate) fn use_route(
+        &mut self,
+        scene: &Scene,
+        route: Route,
+        word: &Text,
+    ) -> Result<(), NoMemory>
         ensures { OnOk result (HasUsed scene.now self.old self.new (with_devices_used (route_devices route word.now) (course_of scene.now self.old))) }
     {
         match route {
@@ -86,7 +91,7 @@ impl Draft {
     }
 
     /// ENV: is used if a line asks for a variable that is not one of the shell's own.
-    pub fn use_variables(&mut self, scene: &Scene, raw: &Text) -> Result<(), NoMemory>
+    pub(crate) fn use_variables(&mut self, scene: &Scene, raw: &Text) -> Result<(), NoMemory>
         requires { IsUnset self.old }
         ensures { OnOk result (HasUsed scene.now self.old self.new (with_variables raw.now (course_of scene.now self.old))) }
     {
@@ -106,7 +111,7 @@ impl Draft {
     }
 
     /// No device counts as used any longer.
-    pub fn use_nothing(&mut self, scene: &Scene)
+    pub(crate) fn use_nothing(&mut self, scene: &Scene)
         ensures { HasUsed scene.now self.old self.new (with_no_device_used (course_of scene.now self.old)) }
     {
         let _ = scene;
@@ -114,7 +119,7 @@ impl Draft {
     }
 
     /// The event ends: each assign of Defer that it used, whose text leads to a directory, is bound to that.
-    pub fn bind(&mut self, scene: &Scene) -> Result<(), NoMemory>
+    pub(crate) fn bind(&mut self, scene: &Scene) -> Result<(), NoMemory>
         ensures { OnOk result (HasBound scene.now self.old self.new) }
     {
         if self.used.is_empty() {
