@@ -15,8 +15,7 @@ use Rattle.ados_names.specs.declared.steps.Step.TheVariants as step
 use Rattle.ados_names.proofs.PathLemmas.{path-text}
 use Rattle.ados_ram.specs.declared.entries.Entry.{Entry}
 use Rattle.ados_ram.specs.Place.{Key, Place, key_of, last_name}
-use Rattle.ados_ram.specs.Files.{AreFiles, Files, is_some_directory}
-use Rattle.ados_ram.specs.Named.{AreNamed}
+use Rattle.ados_ram.specs.Files.{AreNamed, Files, IsTree, is_some_directory}
 use Rattle.ados_ram.specs.Written.{slash_before, slash_joined, spelled_name, spelled_path, written_names, written_place}
 use Rattle.ados_ram.proofs.ChangeLemmas.{last-deeper}
 use Rattle.ados_assign.specs.Resolve.{Resolved, by_path, on_entry, resolve_path, walk_steps}
@@ -58,7 +57,7 @@ goes-on : (o : Option Entry) (next : Resolved) → IsTrue (is_some_directory o) 
 goes-on None next h = cc
 goes-on (Some e) next h = ap (λ b. if b then next else Err WRONG_TYPE) h
 
-walks : (files : Files) (from rest : Place) → AreFiles files → IsSome (files_map.get files (key_of (from ++ rest))) → walk_steps files from (steps_into rest) ≡ Ok (from ++ rest)
+walks : (files : Files) (from rest : Place) → IsTree files → IsSome (files_map.get files (key_of (from ++ rest))) → walk_steps files from (steps_into rest) ≡ Ok (from ++ rest)
 walks files from [] are there = ap Ok (sym (append-nil from))
 walks files from (name ∷ []) are there = refl
 walks files from (name ∷ next ∷ more) are there =
@@ -123,4 +122,4 @@ written-there files place are is =
     }
 
 pub full-back : FullPathsLeadBack
-full-back files place are named is fits = spelled-back files (written_place files place) are (written-there files place named is) fits
+full-back files place are is fits = spelled-back files (written_place files place) are.tree (written-there files place are.named is) fits

@@ -6,8 +6,7 @@ use Rattle.ados_text.specs.Text.{Text}
 use Rattle.ados_names.specs.Names.{is_name}
 use Rattle.ados_names.specs.Path.{path_limit, path_of}
 use Rattle.ados_ram.specs.Place.{Place, key_of}
-use Rattle.ados_ram.specs.Files.{Files, AreFiles}
-use Rattle.ados_ram.specs.Named.{AreNamed}
+use Rattle.ados_ram.specs.Files.{AreFiles, AreNamed, Files, IsTree}
 use Rattle.ados_ram.specs.Written.{full_path, spelled_path, written_place}
 use Rattle.ados_assign.specs.Assigns.{AssignMap}
 use Rattle.ados_assign.specs.Resolve.{by_path, resolve_path}
@@ -23,7 +22,7 @@ pub record IsThere (files : Files) (place : Place) : Type 0 where
 
 -- the path of a place, with its names as they are given, leads to it
 abbrev pub SpelledPathsLeadBack : Type 0
-SpelledPathsLeadBack = (files : Files) (place : Place) → AreFiles files → IsThere files place →
+SpelledPathsLeadBack = (files : Files) (place : Place) → IsTree files → IsThere files place →
     length (spelled_path place) ≤ path_limit → LeadsTo files (spelled_path place) place
 
 -- a place as it is written in the files is the same place
@@ -32,5 +31,5 @@ WrittenPlacesAreTheirs = (files : Files) (place : Place) → AreNamed files → 
 
 -- the full path of a place leads to it, as it is written in the files
 abbrev pub FullPathsLeadBack : Type 0
-FullPathsLeadBack = (files : Files) (place : Place) → AreFiles files → AreNamed files → IsThere files place →
+FullPathsLeadBack = (files : Files) (place : Place) → AreFiles files → IsThere files place →
     length (full_path files place) ≤ path_limit → LeadsTo files (full_path files place) (written_place files place)

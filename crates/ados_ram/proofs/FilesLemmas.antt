@@ -15,7 +15,7 @@ use Rattle.ados_text.specs.Name.{name_cmp_total}
 use Rattle.ados_ram.specs.declared.entries.Entry.{Entry}
 use Rattle.ados_ram.specs.Place.{place_cmp, place_cmp_total, place_cmp_exact, is_same_key, is_root, path_below, has_names, is_below}
 use Rattle.ados_ram.specs.Entry.{is_directory, is_directory_body, bytes_of_body, fresh_bits, size_of, file_entry, file_entry_with_bits, new_directory}
-use Rattle.ados_ram.specs.Files.{Files, Rows, AreFiles, is_some_directory, is_some_file, bytes_at, total_of, file_limit, bytes_limit, objects_limit}
+use Rattle.ados_ram.specs.Files.{Files, Rows, IsTree, is_some_directory, is_some_file, bytes_at, total_of, file_limit, bytes_limit, objects_limit}
 use Rattle.ados_ram.specs.FileOperations.{fault_above, way_fault, write_target_fault, full_fault, limit_fault, write_of, write_fault, write_as_of, append_of, is_put, put_open_of, put_open_fault, free_fault, make_dir_of, make_dir_fault, any_below, delete_target_fault, delete_fault}
 use Rattle.ados_ram.specs.InUse.{InUse, is_in_use}
 use Rattle.ados_ram.specs.declared.entries.Bits.{Bits}
@@ -71,11 +71,11 @@ kept m key new k keeps d =
     ] refl)
 
 -- an entry put at a place with a directory at each place above, in place of nothing or of one of its kind, within the limits
-pub put_files : {m : Files} (key : List (List ℕ)) (new : Entry) → AreFiles m
+pub put_files : {m : Files} (key : List (List ℕ)) (new : Entry) → IsTree m
     → ((place : List (List ℕ)) (name : List ℕ) (rest : List (List ℕ)) → place ++ name ∷ rest ≡ key → IsTrue (is_some_directory (map.get m place)))
     → (IsTrue (is_some_directory (map.get m key)) → IsTrue (is_directory new))
     → size_of new ≤ file_limit → total_of (map.entries (map.insert m key new)) ≤ bytes_limit → map.len (map.insert m key new) ≤ objects_limit
-    → AreFiles (map.insert m key new)
+    → IsTree (map.insert m key new)
 put_files {m} key new files clear keeps size total count = record {
   root = kept m key new [] keeps files.root;
   above = λ place name rest h. kept m key new place keeps (
@@ -141,7 +141,7 @@ same_total m key name bytes bits =
     ∙ sym (total-insert m key _)
 
 -- after a write that is not refused
-pub written_files : {m : Files} (is_open : Bool) (key : List (List ℕ)) (name bytes : List ℕ) (bits : Bits) → AreFiles m → write_fault is_open m key name bytes ≡ None → AreFiles (write_as_of m key name bytes bits)
+pub written_files : {m : Files} (is_open : Bool) (key : List (List ℕ)) (name bytes : List ℕ) (bits : Bits) → IsTree m → write_fault is_open m key name bytes ≡ None → IsTree (write_as_of m key name bytes bits)
 written_files {m} is_open key name bytes bits files e =
     let new = file_entry_with_bits bits (map.get m key) name bytes in
     let way = or_first (way_fault m [] key) _ e in
@@ -171,9 +171,9 @@ there None more h = clash h
 there (Some e) more h = refl
 
 -- after bytes were appended to an open output, if that is not refused
-pub put_open_files : {m : Files} (key : List (List ℕ)) (name bytes : List ℕ) → AreFiles m → put_open_fault m key name bytes ≡ None → AreFiles (put_open_of m key name bytes)
+pub put_open_files : {m : Files} (key : List (List ℕ)) (name bytes : List ℕ) → IsTree m → put_open_fault m key name bytes ≡ None → IsTree (put_open_of m key name bytes)
 put_open_files {m} key name bytes files e =
-    elim (is_put (map.get m key) bytes) as (λ b. is_put (map.get m key) bytes ≡ b → cond b (full_fault (length (bytes_at (map.get m key) ++ bytes)) (append_of m key name bytes)) None ≡ None → AreFiles (cond b (append_of m key name bytes) m)) [
+    elim (is_put (map.get m key) bytes) as (λ b. is_put (map.get m key) bytes ≡ b → cond b (full_fault (length (bytes_at (map.get m key) ++ bytes)) (append_of m key name bytes)) None ≡ None → IsTree (cond b (append_of m key name bytes) m)) [
       | true ↦ λ t g.
           let within = no_limit_fault _ _ _ g in
           put_files key (file_entry (map.get m key) name (bytes_at (map.get m key) ++ bytes)) files
@@ -185,7 +185,7 @@ put_open_files {m} key name bytes files e =
     ] refl e
 
 -- after a directory was created, if that is not refused
-pub made_files : {m : Files} (key : List (List ℕ)) (name : List ℕ) → AreFiles m → make_dir_fault m key name ≡ None → AreFiles (make_dir_of m key name)
+pub made_files : {m : Files} (key : List (List ℕ)) (name : List ℕ) → IsTree m → make_dir_fault m key name ≡ None → IsTree (make_dir_of m key name)
 made_files {m} key name files e =
     let way = or_first (way_fault m [] key) _ e in
     let rest = or_second (way_fault m [] key) _ e in
@@ -195,7 +195,7 @@ made_files {m} key name files e =
     (λ d. refl) (omega arith) within.total within.count
 
 -- after an entry was changed, but not its bytes
-pub changed_files : {m : Files} (key : List (List ℕ)) (change : Entry → Entry) (e : Entry) → AreFiles m → map.get m key ≡ Some e → (change e).body ≡ e.body → AreFiles (map.insert m key (change e))
+pub changed_files : {m : Files} (key : List (List ℕ)) (change : Entry → Entry) (e : Entry) → IsTree m → map.get m key ≡ Some e → (change e).body ≡ e.body → IsTree (map.insert m key (change e))
 changed_files {m} key change e files found body =
     let r = own_rows m in
     let there : find place_cmp key (map.entries m) ≡ Some e = sym (get-entries m key) ∙ found in
@@ -239,7 +239,7 @@ nothing_in m key place name rest empty t g =
     let below : is_below key (place ++ name ∷ rest) ≡ true = subst (λ (k : List (List ℕ)). is_below k (place ++ name ∷ rest) ≡ true) t way in
     clash (subst (λ (o : Option Entry). IsSome o) (get-entries m (place ++ name ∷ rest) ∙ any_below-there key (place ++ name ∷ rest) (map.entries m) empty below) g)
 
-above_left : {m : Files} (key place : List (List ℕ)) (name : List ℕ) (rest : List (List ℕ)) → AreFiles m → any_below key (map.entries m) ≡ false → IsSome (cond (is_same_key (place ++ name ∷ rest) key) nothing (map.get m (place ++ name ∷ rest))) → IsTrue (is_some_directory (cond (is_same_key place key) nothing (map.get m place)))
+above_left : {m : Files} (key place : List (List ℕ)) (name : List ℕ) (rest : List (List ℕ)) → IsTree m → any_below key (map.entries m) ≡ false → IsSome (cond (is_same_key (place ++ name ∷ rest) key) nothing (map.get m (place ++ name ∷ rest))) → IsTrue (is_some_directory (cond (is_same_key place key) nothing (map.get m place)))
 above_left {m} key place name rest files empty =
     elim (is_same_key (place ++ name ∷ rest) key) as (λ b. IsSome (cond b nothing (map.get m (place ++ name ∷ rest))) → IsTrue (is_some_directory (cond (is_same_key place key) nothing (map.get m place)))) [
       | true ↦ λ g. clash g
@@ -250,7 +250,7 @@ above_left {m} key place name rest files empty =
     ]
 
 -- after an object with nothing below it was removed
-pub removed_files : {m : Files} (key : List (List ℕ)) → AreFiles m → is_root key ≡ false → any_below key (map.entries m) ≡ false → AreFiles (map.remove m key)
+pub removed_files : {m : Files} (key : List (List ℕ)) → IsTree m → is_root key ≡ false → any_below key (map.entries m) ≡ false → IsTree (map.remove m key)
 removed_files {m} key files not_root empty =
     let r : AreRowsOf (other_rows key (map.entries m)) (map.remove m key) = deleted_rows key (own_rows m) refl in
     let left : map.entries (map.remove m key) ≡ other_rows key (map.entries m) = entries_rows (other_rows key (map.entries m)) r in
@@ -283,7 +283,7 @@ can_delete busy key es (Some e) h = by_tests (is_in_use busy key) (is_root key) 
     by_tests false false false below h a b = cc
 
 -- after a delete that is not refused
-pub deleted_files : {m : Files} (busy : InUse) (key : List (List ℕ)) → AreFiles m → delete_fault busy m key ≡ None → AreFiles (map.remove m key)
+pub deleted_files : {m : Files} (busy : InUse) (key : List (List ℕ)) → IsTree m → delete_fault busy m key ≡ None → IsTree (map.remove m key)
 deleted_files {m} busy key files e =
     let can = can_delete busy key (map.entries m) (map.get m key) e in
     removed_files key files can.not_root can.empty

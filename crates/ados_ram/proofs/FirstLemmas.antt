@@ -5,7 +5,7 @@ use Rattle.std.specs.FinMap.{get-insert, get-from_entries, len-entries}
 use Rattle.ados_ram.specs.declared.entries.Entry.{Entry}
 use Rattle.ados_ram.specs.Place.{key_of, place_cmp, place_cmp_total, is_same_key}
 use Rattle.ados_ram.specs.Entry.{new_directory}
-use Rattle.ados_ram.specs.Files.{Files, Rows, AreFiles, is_some_directory, bytes_at, total_of, directory_row, first_files, file_limit, bytes_limit, objects_limit}
+use Rattle.ados_ram.specs.Files.{Files, Rows, IsTree, is_some_directory, bytes_at, total_of, directory_row, first_files, file_limit, bytes_limit, objects_limit}
 use Rattle.ados_ram.specs.Rows.{first_rows}
 use Rattle.ados_ram.specs.Tree.{rows_of, first_kids}
 use Rattle.ados_ram.proofs.RowsLemmas.{sorted_of, sorted_of_rows, entries_rows}
@@ -30,7 +30,7 @@ total_rows es h = subst (λ (r : Rows). total_of r ≤ bytes_limit) (sym (entrie
 count_rows : (es : Rows) → length (sorted_of es) ≤ objects_limit → map.len (map.from_entries {R = place_cmp} es) ≤ objects_limit
 count_rows es h = subst (λ (n : ℕ). n ≤ objects_limit) (sym (len-entries _ ∙ ap length (entries_rows (sorted_of es) (sorted_of_rows es)))) h
 
-root_files : AreFiles (map.from_entries root_rows)
+root_files : IsTree (map.from_entries root_rows)
 root_files = record {
   root = subst (λ (o : Option Entry). IsTrue (is_some_directory o)) (sym (at_root [])) refl;
   above = λ place name rest h.
@@ -42,19 +42,19 @@ root_files = record {
 }
 
 -- what is above a place directly in the root is the root
-top_clear : (m : Files) → AreFiles m → (k : List ℕ) (place : List (List ℕ)) (name : List ℕ) (rest : List (List ℕ)) → place ++ name ∷ rest ≡ k ∷ [] → IsTrue (is_some_directory (map.get m place))
+top_clear : (m : Files) → IsTree m → (k : List ℕ) (place : List (List ℕ)) (name : List ℕ) (rest : List (List ℕ)) → place ++ name ∷ rest ≡ k ∷ [] → IsTrue (is_some_directory (map.get m place))
 top_clear m files k [] name rest e = files.root
 top_clear m files k (x ∷ xs) name rest e =
     let one : length (x ∷ (xs ++ name ∷ rest)) ≡ 1 = ap length e in
     absurd (omega (arith, one, length-append xs (name ∷ rest)))
 
 -- one more directory in the root
-with_directory : (es : Rows) (name : List ℕ) → AreFiles (map.from_entries es) → total_of (sorted_of (directory_row name ∷ es)) ≤ bytes_limit → length (sorted_of (directory_row name ∷ es)) ≤ objects_limit → AreFiles (map.from_entries (directory_row name ∷ es))
+with_directory : (es : Rows) (name : List ℕ) → IsTree (map.from_entries es) → total_of (sorted_of (directory_row name ∷ es)) ≤ bytes_limit → length (sorted_of (directory_row name ∷ es)) ≤ objects_limit → IsTree (map.from_entries (directory_row name ∷ es))
 with_directory es name files total count =
     put_files (key_of (name ∷ [])) (new_directory name) files (top_clear _ files _) (λ d. refl) (omega arith)
     (total_rows (directory_row name ∷ es) total) (count_rows (directory_row name ∷ es) count)
 
-pub all_files : AreFiles first_files
+pub all_files : IsTree first_files
 all_files =
     let r1 = directory_row (codes "Env") ∷ root_rows in
     let r2 = directory_row (codes "T") ∷ r1 in

@@ -6,7 +6,7 @@ use Rattle.std.specs.FinMap.{get-insert}
 use Rattle.ados_ram.specs.declared.entries.Entry.{Entry}
 use Rattle.ados_ram.specs.Place.{Key, place_cmp_total, is_same_key, is_root, path_below, has_names, is_below, is_at_or_below}
 use Rattle.ados_ram.specs.InUse.{InUse}
-use Rattle.ados_ram.specs.Files.{Files, AreFiles, is_some_directory}
+use Rattle.ados_ram.specs.Files.{Files, IsTree, is_some_directory}
 use Rattle.ados_ram.specs.FileOperations.{way_fault, write_target_fault, write_fault, free_fault, make_dir_fault, any_below, delete_target_fault, delete_fault, rename_target_fault, rename_fault}
 use Rattle.ados_ram.specs.Tree.{key_above, MayMove}
 use Rattle.ados_ram.proofs.FilesLemmas.{same, clash, or_first, or_second, way_clear, behind-append, no_directory, CanDelete, can_delete}
@@ -19,7 +19,7 @@ above_of (x ∷ []) h = record { name = x; rest = []; is = refl }
 above_of (x ∷ y ∷ ys) h = let a = above_of (y ∷ ys) refl in record { name = a.name; rest = a.rest; is = ap (λ (k : Key). x ∷ k) a.is }
 
 -- an object is in a directory that exists
-pub above_there : (m : Files) (key : Key) → AreFiles m → is_root key ≡ false → IsSome (map.get m key) → IsSome (map.get m (key_above key))
+pub above_there : (m : Files) (key : Key) → IsTree m → is_root key ≡ false → IsSome (map.get m key) → IsSome (map.get m (key_above key))
 above_there m key files root there =
     let a = above_of key root in
     some_of (map.get m (key_above key)) (files.above (key_above key) a.name a.rest (subst (λ (k : Key). IsSome (map.get m k)) a.is there))
@@ -30,7 +30,7 @@ longer place n rest e =
     omega (arith, lengths, length-append place (n ∷ rest))
 
 -- if an object may be put at a place, the directory above exists
-pub inside : (m : Files) (key : Key) (new : Entry) → is_root key ≡ false → AreFiles (map.insert m key new) → IsSome (map.get m (key_above key))
+pub inside : (m : Files) (key : Key) (new : Entry) → is_root key ≡ false → IsTree (map.insert m key new) → IsSome (map.get m (key_above key))
 inside m key new root files =
     let a = above_of key root in
     let self : is_same_key key key ≡ true = (eq_by_cmp_equiv place_cmp_total).refl key in
@@ -43,14 +43,14 @@ by_root : (key : Key) → (key ≡ [] → ⊥) → is_root key ≡ false
 by_root [] h = absurd (h refl)
 by_root (n ∷ ns) h = refl
 
-root_is : (m : Files) (key : Key) → AreFiles m → key ≡ [] → IsTrue (is_some_directory (map.get m key))
+root_is : (m : Files) (key : Key) → IsTree m → key ≡ [] → IsTrue (is_some_directory (map.get m key))
 root_is m key files e = subst (λ (k : Key). IsTrue (is_some_directory (map.get m k))) (sym e) files.root
 
-pub written-inside : (m : Files) (is_open : Bool) (key : Key) (name bytes : List ℕ) → AreFiles m → write_fault is_open m key name bytes ≡ None → is_root key ≡ false
+pub written-inside : (m : Files) (is_open : Bool) (key : Key) (name bytes : List ℕ) → IsTree m → write_fault is_open m key name bytes ≡ None → is_root key ≡ false
 written-inside m is_open key name bytes files e =
     by_root key (λ t. no_directory is_open (map.get m key) (or_first (write_target_fault is_open (map.get m key)) _ (or_second (way_fault m [] key) _ e)) (root_is m key files t))
 
-pub made-inside : (m : Files) (key : Key) (name : List ℕ) → AreFiles m → make_dir_fault m key name ≡ None → is_root key ≡ false
+pub made-inside : (m : Files) (key : Key) (name : List ℕ) → IsTree m → make_dir_fault m key name ≡ None → is_root key ≡ false
 made-inside m key name files e =
     by_root key (λ t. taken (map.get m key) (or_first (free_fault (map.get m key)) _ (or_second (way_fault m [] key) _ e)) (root_is m key files t))
   where
@@ -64,7 +64,7 @@ pub record MayGo (m : Files) (key : Key) : Type 0 where
   pub inside : IsSome (map.get m (key_above key))
   pub empty : any_below key (map.entries m) ≡ false
 
-pub may_go : (busy : InUse) (m : Files) (key : Key) → AreFiles m → delete_fault busy m key ≡ None → MayGo m key
+pub may_go : (busy : InUse) (m : Files) (key : Key) → IsTree m → delete_fault busy m key ≡ None → MayGo m key
 may_go busy m key files e =
     let can : CanDelete key (map.entries m) = can_delete busy key (map.entries m) (map.get m key) e in
     record { root = can.not_root; inside = above_there m key files can.not_root (there (map.get m key) e); empty = can.empty }
@@ -74,7 +74,7 @@ may_go busy m key files e =
     there (Some e) h = refl
 
 -- a rename that is not refused
-pub may_move : (busy : InUse) (m : Files) (from to : Key) → AreFiles m → rename_fault busy m from to ≡ None → MayMove from to m
+pub may_move : (busy : InUse) (m : Files) (from to : Key) → IsTree m → rename_fault busy m from to ≡ None → MayMove from to m
 may_move busy m from to files e =
     let clear : way_fault m [] to ≡ None = or_first (way_fault m [] to) _ e in
     let target : rename_target_fault busy from to (map.get m from) (map.get m to) ≡ None = or_second (way_fault m [] to) _ e in

@@ -12,10 +12,9 @@ use Rattle.ados_ram.specs.declared.entries.Bits.{Bits}
 use Rattle.ados_ram.specs.declared.entries.Entry.{Entry}
 use Rattle.ados_ram.specs.Place.{Key, Place, path_below, is_at_or_below, is_same_key, key_of, last_name, place_cmp, place_cmp_total}
 use Rattle.ados_ram.specs.Entry.{new_directory, file_entry_with_bits, with_bits, with_comment}
-use Rattle.ados_ram.specs.Files.{Files, Rows, AreFiles, bytes_at, directory_row, first_files}
+use Rattle.ados_ram.specs.Files.{AreNamed, Files, IsNamedBy, IsTree, Rows, bytes_at, directory_row, first_files}
 use Rattle.ados_ram.specs.FileOperations.{append_of, with_entry_changed, comment_of, is_put, make_dir_of, protect_of, put_open_of, rename_fault, rename_of, write_as_of, write_of}
 use Rattle.ados_ram.specs.InUse.{InUse}
-use Rattle.ados_ram.specs.Named.{AreNamed, IsNamedBy}
 use Rattle.ados_ram.specs.Renames.{HasMoved, entry_with_name}
 use Rattle.ados_ram.proofs.ChangeLemmas.{last-deeper}
 use Rattle.ados_ram.proofs.ContentsLaws.{key-twice}
@@ -78,12 +77,16 @@ delete-named files key are other e h =
     cond_both (is_same_key other key) nothing (map.get files other) P (λ here g. cc) (λ elsewhere g. are other e g))
     (sym (get-remove place_cmp_total files key other) ∙ h)
 
+pub change-named : (files : Files) (key : Key) (change : Entry → Entry) (e : Entry) → ((e : Entry) → (change e).name ≡ e.name) → map.get files key ≡ Some e →
+    AreNamed files → AreNamed (map.insert files key (change e))
+change-named files key change e keeps h are =
+    let it = are key e h in
+    insert-named files key (change e) are (record { folded_key = it.folded_key; own = ap folded_text (keeps e) ∙ it.own })
+
 changed-named : (files : Files) (key : Key) (change : Entry → Entry) (there : Option Entry) → ((e : Entry) → (change e).name ≡ e.name) → map.get files key ≡ there →
     AreNamed files → AreNamed (with_entry_changed files key change there)
 changed-named files key change None keeps h are = are
-changed-named files key change (Some e) keeps h are =
-    let it = are key e h in
-    insert-named files key (change e) are (record { folded_key = it.folded_key; own = ap folded_text (keeps e) ∙ it.own })
+changed-named files key change (Some e) keeps h are = change-named files key change e keeps h are
 
 pub protect-named : (files : Files) (key : Key) (bits : Bits) → AreNamed files → AreNamed (protect_of files key bits)
 protect-named files key bits are = changed-named files key (with_bits bits) (map.get files key) (λ e. refl) refl are
@@ -128,7 +131,7 @@ moved-out : (files : Files) (from to : Place) (new : Files) → AreNamed files �
 moved-out files from to new are moves key e true was out h = let none : nothing ≡ Some e = sym (moves.gone key was out) ∙ h in cc
 moved-out files from to new are moves key e false was out h = are key e (sym (moves.others key (rw (was, out) refl)) ∙ h)
 
-pub rename-named : (busy : InUse) (files : Files) (from to : Place) → AreFiles files → rename_fault busy files (key_of from) (key_of to) ≡ None → AreNamed files →
+pub rename-named : (busy : InUse) (files : Files) (from to : Place) → IsTree files → rename_fault busy files (key_of from) (key_of to) ≡ None → AreNamed files →
     AreNamed (rename_of files (key_of from) (key_of to) (last_name to))
 rename-named busy files from to tree clear are key e h =
     let new = rename_of files (key_of from) (key_of to) (last_name to) in

@@ -10,7 +10,7 @@ use Rattle.ados_text.specs.Name.{name_cmp, name_cmp_total}
 use Rattle.ados_ram.specs.declared.entries.Entry.{Entry}
 use Rattle.ados_ram.specs.Place.{is_same_key, is_root, path_below, has_names, is_below, is_at_or_below}
 use Rattle.ados_ram.specs.InUse.{InUse, holds_output}
-use Rattle.ados_ram.specs.Files.{Files, Rows, AreFiles, is_some_directory, bytes_at, total_of, file_limit, bytes_limit, objects_limit}
+use Rattle.ados_ram.specs.Files.{Files, Rows, IsTree, is_some_directory, bytes_at, total_of, file_limit, bytes_limit, objects_limit}
 use Rattle.ados_ram.specs.FileOperations.{way_fault, moved_rows, rename_of, rename_target_fault, rename_fault}
 use Rattle.ados_ram.proofs.RowsLemmas.{sorted_of, AreRowsOf, own_rows, entries_rows, renamed_rows, total-sorted_of, length-sorted_of}
 use Rattle.ados_ram.proofs.FilesLemmas.{same, way_clear, or_first, or_second, clash, nothing, behind-append}
@@ -35,7 +35,7 @@ some_of None h = clash h
 some_of (Some e) h = refl
 
 -- nothing is at the new place or below it except what moves itself
-pub within_from : (m : Files) (from to : List (List ℕ)) → AreFiles m → (is_some (map.get m to) ≡ true → is_same_key from to ≡ true) → Within to from (map.entries m)
+pub within_from : (m : Files) (from to : List (List ℕ)) → IsTree m → (is_some (map.get m to) ≡ true → is_same_key from to ≡ true) → Within to from (map.entries m)
 within_from m from to files free k there at =
     elim (is_same_key from to) as (λ b. is_same_key from to ≡ b → is_at_or_below from k ≡ true) [
       | true ↦ λ t. subst (λ (d : List (List ℕ)). is_at_or_below d k ≡ true) (sym (same from to t)) at
@@ -81,7 +81,7 @@ dir_out m from to name place out stays d =
     subst (λ (o : Option Entry). IsTrue (is_some_directory o)) (sym (get-moved_out m from to name place out ∙ ap (λ b. cond b nothing (map.get m place)) stays)) d
 
 -- a directory above what moved: it moved too, or is above the new place
-above_in : (m : Files) (from to : List (List ℕ)) (name : List ℕ) (place : List (List ℕ)) (n : List ℕ) (rest way : List (List ℕ)) → AreFiles m → Within to from (map.entries m) → way_fault m [] to ≡ None → is_below from to ≡ false
+above_in : (m : Files) (from to : List (List ℕ)) (name : List ℕ) (place : List (List ℕ)) (n : List ℕ) (rest way : List (List ℕ)) → IsTree m → Within to from (map.entries m) → way_fault m [] to ≡ None → is_below from to ≡ false
     → place ++ n ∷ rest ≡ to ++ way → IsSome (map.get m (from ++ way)) → IsTrue (is_some_directory (map.get (rename_of m from to name) place))
 above_in m from to name place n rest way files within clear not_below e there =
     elim (path_below to place) as (λ o. path_below to place ≡ o → IsTrue (is_some_directory (map.get (rename_of m from to name) place))) [
@@ -122,7 +122,7 @@ none_of None h = refl
 none_of (Some w) h = clash (sym h)
 
 -- a directory above what did not move
-above_out : (m : Files) (from to : List (List ℕ)) (name : List ℕ) (place : List (List ℕ)) (n : List ℕ) (rest : List (List ℕ)) → AreFiles m → path_below to (place ++ n ∷ rest) ≡ None
+above_out : (m : Files) (from to : List (List ℕ)) (name : List ℕ) (place : List (List ℕ)) (n : List ℕ) (rest : List (List ℕ)) → IsTree m → path_below to (place ++ n ∷ rest) ≡ None
     → IsSome (cond (is_at_or_below from (place ++ n ∷ rest)) nothing (map.get m (place ++ n ∷ rest))) → IsTrue (is_some_directory (map.get (rename_of m from to name) place))
 above_out m from to name place n rest files out =
     elim (is_at_or_below from (place ++ n ∷ rest)) as (λ b. is_at_or_below from (place ++ n ∷ rest) ≡ b → IsSome (cond b nothing (map.get m (place ++ n ∷ rest))) → IsTrue (is_some_directory (map.get (rename_of m from to name) place))) [
@@ -132,12 +132,12 @@ above_out m from to name place n rest files out =
           dir_out m from to name place no_to (none_above from place n rest t) (files.above place n rest h)
     ] refl
 
-root_stays : (m : Files) (from to : List (List ℕ)) (name : List ℕ) → AreFiles m → CanMove from to (map.get m to) → IsTrue (is_some_directory (map.get (rename_of m from to name) []))
+root_stays : (m : Files) (from to : List (List ℕ)) (name : List ℕ) → IsTree m → CanMove from to (map.get m to) → IsTrue (is_some_directory (map.get (rename_of m from to name) []))
 root_stays m [] to name files can = clash (sym can.not_root)
 root_stays m (x ∷ xs) [] name files can = clash (can.free (some_of (map.get m []) files.root))
 root_stays m (x ∷ xs) (n ∷ ns) name files can = dir_out m (x ∷ xs) (n ∷ ns) name [] refl refl files.root
 
-sizes_stay : (m : Files) (from to : List (List ℕ)) (name : List ℕ) (place : List (List ℕ)) → AreFiles m → Within to from (map.entries m) → length (bytes_at (map.get (rename_of m from to name) place)) ≤ file_limit
+sizes_stay : (m : Files) (from to : List (List ℕ)) (name : List ℕ) (place : List (List ℕ)) → IsTree m → Within to from (map.entries m) → length (bytes_at (map.get (rename_of m from to name) place)) ≤ file_limit
 sizes_stay m from to name place files within =
     elim (path_below to place) as (λ o. path_below to place ≡ o → length (bytes_at (map.get (rename_of m from to name) place)) ≤ file_limit) [
       | Some w ↦ λ p.
@@ -150,7 +150,7 @@ sizes_stay m from to name place files within =
     ] refl
 
 -- after a rename that is not refused
-pub renamed_files : {m : Files} (busy : InUse) (from to : List (List ℕ)) (name : List ℕ) → AreFiles m → rename_fault busy m from to ≡ None → AreFiles (rename_of m from to name)
+pub renamed_files : {m : Files} (busy : InUse) (from to : List (List ℕ)) (name : List ℕ) → IsTree m → rename_fault busy m from to ≡ None → IsTree (rename_of m from to name)
 renamed_files {m} busy from to name files e =
     let clear : way_fault m [] to ≡ None = or_first (way_fault m [] to) _ e in
     let can : CanMove from to (map.get m to) = can_move busy from to (map.get m from) (map.get m to) (or_second (way_fault m [] to) _ e) in

@@ -1,11 +1,11 @@
 -- Files: a finite map from places to entries. The root exists and is a directory, each place above an existing one is a
--- directory, and the limits hold.
+-- directory, the limits hold, and each object is at the key of its names.
 use Rattle.std.specs.Prelude.{◌≡◌, ◌+◌, ◌≤◌, ℕ, Bool, false, not, List, [], ◌∷◌, ◌++◌, Option, Some, None, IsSome, IsTrue, codes, length}
 use Rattle.std.specs.Coded.{Coded, coded_list, coded_ℕ}
 use Rattle.std.specs.FinMap as map
-use Rattle.ados_text.specs.Text.{Bytes}
+use Rattle.ados_text.specs.Text.{Bytes, folded_text}
 use Rattle.ados_text.specs.Name.{Name}
-use Rattle.ados_ram.specs.Place.{Key, key_of, place_cmp}
+use Rattle.ados_ram.specs.Place.{Key, key_of, last_name, place_cmp}
 use Rattle.ados_ram.specs.Entry.{is_directory, bytes_of, size_of, new_directory, coded_entry}
 use Rattle.ados_ram.specs.declared.entries.Entry.{Entry}
 
@@ -54,13 +54,27 @@ bytes_limit = 1048576
 abbrev pub objects_limit : ℕ
 objects_limit = 1025
 
--- what all files are: a tree of directories within the limits
-pub record AreFiles (m : Files) : Type 0 where
+-- a tree of directories within the limits
+pub record IsTree (m : Files) : Type 0 where
   pub root : IsTrue (is_some_directory (map.get m []))
   pub above : (place : Key) (name : Name) (rest : Key) → IsSome (map.get m (place ++ name ∷ rest)) → IsTrue (is_some_directory (map.get m place))
   pub each_file : (place : Key) → length (bytes_at (map.get m place)) ≤ file_limit
   pub all_bytes : total_of (map.entries m) ≤ bytes_limit
   pub objects : map.len m ≤ objects_limit
+
+-- an object is named by its key: the key's names are in lower case, and its last is the object's own, in lower case
+pub record IsNamedBy (key : Key) (e : Entry) : Type 0 where
+  pub folded_key : key_of key ≡ key
+  pub own : folded_text e.name ≡ last_name key
+
+-- each object of the files is
+abbrev pub AreNamed : Files → Type 0
+AreNamed m = (key : Key) (e : Entry) → map.get m key ≡ Some e → IsNamedBy key e
+
+-- what all files are: a tree of directories within the limits, in which each object is at the key of its names
+pub record AreFiles (m : Files) : Type 0 where
+  pub tree : IsTree m
+  pub named : AreNamed m
 
 -- a directory in the root
 abbrev pub directory_row : Name → Key × Entry

@@ -10,4 +10,3 @@ pub mod Tree
 pub mod Blocks
 pub mod Falls
 pub mod Renames
-pub mod Named

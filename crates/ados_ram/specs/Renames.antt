@@ -5,7 +5,7 @@ use Rattle.std.specs.FinMap as map
 use Rattle.ados_text.specs.Name.{Name}
 use Rattle.ados_ram.specs.declared.entries.Entry.{Entry}
 use Rattle.ados_ram.specs.Place.{Key, is_at_or_below}
-use Rattle.ados_ram.specs.Files.{Files, AreFiles, OthersStay}
+use Rattle.ados_ram.specs.Files.{Files, IsTree, OthersStay}
 use Rattle.ados_ram.specs.FileOperations.{rename_of, rename_fault}
 use Rattle.ados_ram.specs.InUse.{InUse}
 
@@ -25,4 +25,4 @@ pub record HasMoved (from to : Key) (name : Name) (old new : Files) : Type 0 whe
 -- each rename that is not refused does so
 abbrev pub RenamesMove : Type 0
 RenamesMove = (busy : InUse) (files : Files) (from to : Key) (name : Name) →
-    AreFiles files → rename_fault busy files from to ≡ None → HasMoved from to name files (rename_of files from to name)
+    IsTree files → rename_fault busy files from to ≡ None → HasMoved from to name files (rename_of files from to name)

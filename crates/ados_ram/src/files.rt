@@ -57,7 +57,8 @@ impl Ram {
         })
     }
 
-    /// The entry at a place. Nothing is allocated. Whatever has an entry is in a directory, and the limits hold.
+    /// The entry at a place. Nothing is allocated. Whatever has an entry is in a directory and at the key of its names, and
+    /// the limits hold.
     pub fn look(&self, place: &Place) -> Option<&Entry>
         ensures entry { option_copied result ≡ map.get self.now (key_of place.now) }
         ensures files { AreFiles self.now }

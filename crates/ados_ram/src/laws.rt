@@ -6,9 +6,8 @@ ghost use Rattle.ados_text.specs.Text.{Bytes, Text};
 ghost use Rattle.ados_text.specs.Name.{Name, name_cmp};
 ghost use Rattle.ados_ram.specs.declared.entries.Bits.{Bits};
 ghost use Rattle.ados_ram.specs.InUse.{InUse};
-ghost use Rattle.ados_ram.specs.Named.{AreNamed};
 ghost use Rattle.ados_ram.specs.Place.{Key, Place, key_of, last_name, place_cmp, is_same_key, is_child, is_below, is_at_or_below};
-ghost use Rattle.ados_ram.specs.Files.{AreFiles, Files, first_files, is_some_file, OthersStay};
+ghost use Rattle.ados_ram.specs.Files.{AreNamed, Files, IsTree, first_files, is_some_file, OthersStay};
 ghost use Rattle.ados_ram.specs.FileOperations.{write_of, write_as_of, append_of, put_open_of, make_dir_of, rename_fault, rename_of, protect_of, comment_of};
 ghost use Rattle.ados_ram.specs.Renames.{RenamesMove};
 ghost use Rattle.ados_ram.specs.Contents.{children, contents, is_within, files_below, contents_cmp, ListsJust};
@@ -55,7 +54,7 @@ pub fn objects_keep_their_names()
     ensures put_open { (files : Files) (place : Place) (bytes : Bytes) → AreNamed files → AreNamed (put_open_of files (key_of place) (last_name place) bytes) }
     ensures make_dir { (files : Files) (place : Place) → AreNamed files → AreNamed (make_dir_of files (key_of place) (last_name place)) }
     ensures delete { (files : Files) (key : Key) → AreNamed files → AreNamed (map.remove files key) }
-    ensures rename { (busy : InUse) (files : Files) (from to : Place) → AreFiles files → rename_fault busy files (key_of from) (key_of to) ≡ None →
+    ensures rename { (busy : InUse) (files : Files) (from to : Place) → IsTree files → rename_fault busy files (key_of from) (key_of to) ≡ None →
         AreNamed files → AreNamed (rename_of files (key_of from) (key_of to) (last_name to)) }
     ensures protect { (files : Files) (key : Key) (bits : Bits) → AreNamed files → AreNamed (protect_of files key bits) }
     ensures comment { (files : Files) (key : Key) (comment : Text) → AreNamed files → AreNamed (comment_of files key comment) }

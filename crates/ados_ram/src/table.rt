@@ -6,7 +6,7 @@ ghost use Rattle.ados_text.specs.Text.{to_ascii};
 ghost use Rattle.ados_ram.specs.declared.entries.Entry.{Entry};
 ghost use Rattle.ados_ram.specs.Place.{key_of, place_cmp, is_root, last_name};
 ghost use Rattle.ados_ram.specs.Entry.{size_of};
-ghost use Rattle.ados_ram.specs.Files.{AreFiles, bytes_at, total_of, bytes_limit, first_files};
+ghost use Rattle.ados_ram.specs.Files.{IsTree, bytes_at, total_of, bytes_limit, first_files};
 ghost use Rattle.ados_ram.specs.FileOperations.{any_below, rename_of, way_fault};
 ghost use Rattle.ados_ram.specs.Contents.{contents};
 ghost use Rattle.ados_ram.specs.Rows.{inner_rows};
@@ -146,7 +146,7 @@ impl Table {
     /// The table with an entry at a place, which is not the root.
     pub fn with(&self, place: &Place, entry: Entry) -> Result<Table, NoMemory>
         requires root { is_root (key_of place.now) ≡ false }
-        requires files { AreFiles (map.insert self.now (key_of place.now) entry) }
+        requires files { IsTree (map.insert self.now (key_of place.now) entry) }
         ensures { IfOk result (λ new. new ≡ map.insert self.now (key_of place.now) entry) }
     {
         let there = self.root.at(place.names());

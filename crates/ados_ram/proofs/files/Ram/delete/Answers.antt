@@ -6,6 +6,7 @@ use Rattle.ados_ram.specs.FileOperations.{any_below, delete_fault}
 use Rattle.ados_ram.specs.Tree.{key_above}
 use Rattle.ados_ram.proofs.FilesLemmas.{deleted_files}
 use Rattle.ados_ram.proofs.InsideLemmas.{may_go}
+use Rattle.ados_ram.proofs.NamedLemmas.{delete-named}
 use Rattle.ados_ram.proofs.files.Ram.delete.Goals as goal
 
 pub invariant_of-result : goal.invariant_of-result
@@ -13,22 +14,26 @@ invariant_of-result c =
     let m = c.self.inside.table in
     let free : delete_fault c.args.busy.now m (key_of c.args.place.now) ≡ None = ap (λ (k : List (List ℕ)). delete_fault c.args.busy.now m (key_of k)) (sym c.names.ensures) ∙ sym c.delete_refusal.ensures ∙ c.in-None.is in
     let left : c.in_ok-without-in-None.field-0 ≡ map.remove m (key_of c.args.place.now) = c.in_ok-without-in-None.ensures ∙ ap (λ (k : List (List ℕ)). map.remove m (key_of k)) c.names-in-None.ensures in
-    subst AreFiles (sym left) (deleted_files c.args.busy.now (key_of c.args.place.now) c.self.invariant free)
+    let files : AreFiles (map.remove m (key_of c.args.place.now)) = record {
+      tree = deleted_files c.args.busy.now (key_of c.args.place.now) c.self.invariant.tree free;
+      named = delete-named m (key_of c.args.place.now) c.self.invariant.named;
+    } in
+    subst AreFiles (sym left) files
 
 pub without-requires-clause-inside : goal.without-requires-clause-inside
 without-requires-clause-inside c =
     let m = c.self.inside.table in
     let free : delete_fault c.args.busy.now m (key_of c.args.place.now) ≡ None = ap (λ (k : List (List ℕ)). delete_fault c.args.busy.now m (key_of k)) (sym c.names.ensures) ∙ sym c.delete_refusal.ensures ∙ c.in-None.is in
-    subst (λ (k : List (List ℕ)). IsSome (map.get m (key_above (key_of k)))) (sym c.names-in-None.ensures) (may_go c.args.busy.now m (key_of c.args.place.now) c.self.invariant free).inside
+    subst (λ (k : List (List ℕ)). IsSome (map.get m (key_above (key_of k)))) (sym c.names-in-None.ensures) (may_go c.args.busy.now m (key_of c.args.place.now) c.self.invariant.tree free).inside
 
 pub without-requires-clause-root : goal.without-requires-clause-root
 without-requires-clause-root c =
     let m = c.self.inside.table in
     let free : delete_fault c.args.busy.now m (key_of c.args.place.now) ≡ None = ap (λ (k : List (List ℕ)). delete_fault c.args.busy.now m (key_of k)) (sym c.names.ensures) ∙ sym c.delete_refusal.ensures ∙ c.in-None.is in
-    subst (λ (k : List (List ℕ)). is_root (key_of k) ≡ false) (sym c.names-in-None.ensures) (may_go c.args.busy.now m (key_of c.args.place.now) c.self.invariant free).root
+    subst (λ (k : List (List ℕ)). is_root (key_of k) ≡ false) (sym c.names-in-None.ensures) (may_go c.args.busy.now m (key_of c.args.place.now) c.self.invariant.tree free).root
 
 pub without-requires-clause-empty : goal.without-requires-clause-empty
 without-requires-clause-empty c =
     let m = c.self.inside.table in
     let free : delete_fault c.args.busy.now m (key_of c.args.place.now) ≡ None = ap (λ (k : List (List ℕ)). delete_fault c.args.busy.now m (key_of k)) (sym c.names.ensures) ∙ sym c.delete_refusal.ensures ∙ c.in-None.is in
-    subst (λ (k : List (List ℕ)). any_below (key_of k) (map.entries m) ≡ false) (sym c.names-in-None.ensures) (may_go c.args.busy.now m (key_of c.args.place.now) c.self.invariant free).empty
+    subst (λ (k : List (List ℕ)). any_below (key_of k) (map.entries m) ≡ false) (sym c.names-in-None.ensures) (may_go c.args.busy.now m (key_of c.args.place.now) c.self.invariant.tree free).empty

@@ -4,6 +4,7 @@ use Rattle.ados_ram.specs.Files.{AreFiles}
 use Rattle.ados_ram.specs.FileOperations.{rename_of, rename_fault}
 use Rattle.ados_ram.proofs.RenamedFiles.{renamed_files}
 use Rattle.ados_ram.proofs.InsideLemmas.{may_move}
+use Rattle.ados_ram.proofs.NamedLemmas.{rename-named}
 use Rattle.ados_ram.specs.Tree.{MayMove}
 use Rattle.ados_ram.proofs.files.Ram.rename.Goals as goal
 
@@ -15,7 +16,11 @@ invariant_of-result c =
     ∙ ap (λ (k : List (List ℕ)). rename_fault c.args.busy.now m (key_of c.names.result.now) (key_of k)) (sym c.names-2.ensures) ∙ sym c.rename_refusal.ensures ∙ c.in-None.is in
     let moved : c.in_ok-moved-in-None.field-0 ≡ rename_of m (key_of c.args.from.now) (key_of c.args.to.now) (last_name c.args.to.now) =
     c.in_ok-moved-in-None.ensures ∙ ap (λ (k : List (List ℕ)). rename_of m (key_of k) (key_of c.args.to.now) (last_name c.args.to.now)) c.names-in-None.ensures in
-    subst AreFiles (sym moved) (renamed_files c.args.busy.now (key_of c.args.from.now) (key_of c.args.to.now) (last_name c.args.to.now) c.self.invariant free)
+    let files : AreFiles (rename_of m (key_of c.args.from.now) (key_of c.args.to.now) (last_name c.args.to.now)) = record {
+      tree = renamed_files c.args.busy.now (key_of c.args.from.now) (key_of c.args.to.now) (last_name c.args.to.now) c.self.invariant.tree free;
+      named = rename-named c.args.busy.now m c.args.from.now c.args.to.now c.self.invariant.tree free c.self.invariant.named;
+    } in
+    subst AreFiles (sym moved) files
 
 pub moved-requires : goal.moved-requires
 moved-requires c =
@@ -23,4 +28,4 @@ moved-requires c =
     let free : rename_fault c.args.busy.now m (key_of c.args.from.now) (key_of c.args.to.now) ≡ None =
     ap (λ (k : List (List ℕ)). rename_fault c.args.busy.now m (key_of k) (key_of c.args.to.now)) (sym c.names.ensures)
     ∙ ap (λ (k : List (List ℕ)). rename_fault c.args.busy.now m (key_of c.names.result.now) (key_of k)) (sym c.names-2.ensures) ∙ sym c.rename_refusal.ensures ∙ c.in-None.is in
-    subst (λ (k : List (List ℕ)). MayMove (key_of k) (key_of c.args.to.now) m) (sym c.names-in-None.ensures) (may_move c.args.busy.now m (key_of c.args.from.now) (key_of c.args.to.now) c.self.invariant free)
+    subst (λ (k : List (List ℕ)). MayMove (key_of k) (key_of c.args.to.now) m) (sym c.names-in-None.ensures) (may_move c.args.busy.now m (key_of c.args.from.now) (key_of c.args.to.now) c.self.invariant.tree free)
