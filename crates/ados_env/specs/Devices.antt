@@ -7,8 +7,8 @@ use Rattle.ados_readargs.specs.Args.{is_on, text_at, texts_at}
 use Rattle.ados_find.specs.Parts.{Parts}
 use Rattle.ados_find.specs.Search.{device_named, searched_devices}
 use Rattle.ados_find.specs.Shared.{SharedState}
-use Rattle.ados_env.specs.declared.commands.Command.{Command}
-use Rattle.ados_env.specs.declared.commands.Command.TheVariants.{Assign, Cd, GetEnv, Path, Resident, SetEnv, UnsetEnv, Which}
+use Rattle.ados_resident.specs.declared.commands.EnvCommand.{EnvCommand}
+use Rattle.ados_resident.specs.declared.commands.EnvCommand.TheVariants.{Assign, Cd, GetEnv, Path, Resident, SetEnv, UnsetEnv, Which}
 
 -- FILE of Resident, or else NAME, unless NAME is what is to be removed
 abbrev pub program_paths : Bool → Option Text → List Text → List Text
@@ -16,7 +16,7 @@ program_paths removes (Some file) name = file ∷ []
 program_paths removes None name = if removes then [] else name
 
 -- the texts of its arguments that are paths: TARGET of Assign, unless it is kept as a text, and never its NAME
-abbrev pub paths_in : Command → List Arg → List Text
+abbrev pub paths_in : EnvCommand → List Arg → List Text
 paths_in Assign args = if is_on args 3 || is_on args 4 then [] else texts_at args 1
 paths_in Cd args = texts_at args 0
 paths_in Path args = texts_at args 0
@@ -29,7 +29,7 @@ search_devices shared parts None = []
 search_devices shared parts (Some word) = searched_devices shared parts.directory parts.settings.path word
 
 -- the devices that it uses: those of its paths; ENV: for global variables; and those that the search of Which reaches
-abbrev pub devices_of : Command → SharedState → Parts → List Arg → List Text
+abbrev pub devices_of : EnvCommand → SharedState → Parts → List Arg → List Text
 devices_of SetEnv shared parts args = codes "ENV" ∷ []
 devices_of GetEnv shared parts args = codes "ENV" ∷ []
 devices_of UnsetEnv shared parts args = codes "ENV" ∷ []

@@ -1,4 +1,3 @@
-pub mod Commands
 pub mod Directories
 pub mod AssignNames
 pub mod AssignLines
@@ -22,4 +21,5 @@ pub mod Status
 pub mod Resident
 pub mod Breaks
 pub mod Rows
+pub mod Reads
 pub mod Devices

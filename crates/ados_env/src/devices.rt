@@ -4,12 +4,12 @@ ghost use Rattle.std.specs.List.{flat_map};
 ghost use Rattle.ados_assign.specs.Uses.{reached_devices};
 ghost use Rattle.ados_readargs.specs.Args.{is_on, text_at, texts_at};
 ghost use Rattle.ados_find.specs.Search.{device_named};
-ghost use Rattle.ados_env.specs.declared.commands.Command.TheVariants.{Assign};
+ghost use Rattle.ados_resident.specs.declared.commands.EnvCommand.TheVariants.{Assign};
 ghost use Rattle.ados_env.specs.Devices.{devices_of, paths_in, program_paths, search_devices};
 
-use crate::commands::Command;
 use ados_find::{Shared, ShellView, find};
 use ados_readargs::Args;
+use ados_resident::EnvCommand;
 use ados_text::{Name, NoMemory};
 use std::alloc::Global;
 
@@ -17,7 +17,7 @@ use std::alloc::Global;
 /// texts of assigns lead on from it.
 pub fn push_devices(
     alloc: Global,
-    command: Command,
+    command: EnvCommand,
     shared: &Shared,
     view: &ShellView,
     args: &Args,
@@ -26,13 +26,13 @@ pub fn push_devices(
     ensures { OnOk result (used.new.items ≡ used.old.items ++ flat_map (reached_devices shared.now.assigns) (devices_of command shared.now view.now.parts args.now)) }
 {
     match command {
-        Command::SetEnv | Command::GetEnv | Command::UnsetEnv => {
+        EnvCommand::SetEnv | EnvCommand::GetEnv | EnvCommand::UnsetEnv => {
             shared.push_device(alloc, used, b"ENV")
         }
-        Command::Which => push_sought(alloc, shared, view, args, used),
-        Command::Assign => push_targets(alloc, shared, args, used),
-        Command::Cd | Command::Path => push_of(alloc, shared, args, 0, used),
-        Command::Resident => push_program(alloc, shared, args, used),
+        EnvCommand::Which => push_sought(alloc, shared, view, args, used),
+        EnvCommand::Assign => push_targets(alloc, shared, args, used),
+        EnvCommand::Cd | EnvCommand::Path => push_of(alloc, shared, args, 0, used),
+        EnvCommand::Resident => push_program(alloc, shared, args, used),
         _ => Ok(()),
     }
 }

@@ -15,6 +15,5 @@ pub mod MayChange
 pub mod Join
 pub mod Jobs
 pub mod Copy
-pub mod Commands
 pub mod Rows
 pub mod Devices

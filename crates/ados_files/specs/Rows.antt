@@ -1,11 +1,12 @@
 -- The outcome of each command, given the shared parts, its shell's view and its arguments.
-use Rattle.std.specs.Prelude.{List}
+use Rattle.std.specs.Prelude.{List, codes}
+use Rattle.ados_text.specs.Text.{Text}
 use Rattle.ados_readargs.specs.declared.args.Arg.{Arg}
 use Rattle.ados_find.specs.Shared.{SharedState}
 use Rattle.ados_find.specs.Views.{View}
 use Rattle.ados_find.specs.Effects.{Effect}
-use Rattle.ados_files.specs.declared.commands.Command.{Command}
-use Rattle.ados_files.specs.declared.commands.Command.TheVariants.{Copy, Delete, Dir, Filenote, Join, List as Listed, MakeDir, Protect, Rename, «Type»}
+use Rattle.ados_resident.specs.declared.commands.FilesCommand.{FilesCommand}
+use Rattle.ados_resident.specs.declared.commands.FilesCommand.TheVariants as files
 use Rattle.ados_files.specs.MakeDir.{make_dir_row}
 use Rattle.ados_files.specs.Delete.{delete_row}
 use Rattle.ados_files.specs.TypeFiles.{type_row}
@@ -17,15 +18,28 @@ use Rattle.ados_files.specs.Rename.{rename_row}
 use Rattle.ados_files.specs.Join.{join_row}
 use Rattle.ados_files.specs.Copy.{copy_row}
 
+-- the text of a command's template
+abbrev pub template_of : FilesCommand → Text
+template_of files.Copy = codes "FROM/M,TO/A,ALL/S,QUIET/S"
+template_of files.Delete = codes "FILE/M/A,ALL/S,QUIET/S"
+template_of files.Dir = codes "DIR,DIRS/S,FILES/S"
+template_of files.Filenote = codes "FILE/A,COMMENT"
+template_of files.Join = codes "FILE/M/A,AS=TO/K/A"
+template_of files.List = codes "DIR/M,P=PAT/K,QUICK/S,FILES/S,DIRS/S"
+template_of files.MakeDir = codes "NAME/M"
+template_of files.Protect = codes "FILE/A,FLAGS,ADD/S,SUB/S"
+template_of files.Rename = codes "FROM/A,TO=AS/A"
+template_of files.«Type» = codes "FROM/A/M"
+
 -- the definition of a command
-abbrev pub row_of : Command → SharedState → View → List Arg → Effect
-row_of Copy shared view args = copy_row shared view args
-row_of Delete shared view args = delete_row shared view args
-row_of Dir shared view args = dir_row shared view args
-row_of Filenote shared view args = filenote_row shared view args
-row_of Join shared view args = join_row shared view args
-row_of Listed shared view args = list_row shared view args
-row_of MakeDir shared view args = make_dir_row shared view args
-row_of Protect shared view args = protect_row shared view args
-row_of Rename shared view args = rename_row shared view args
-row_of «Type» shared view args = type_row shared view args
+abbrev pub row_of : FilesCommand → SharedState → View → List Arg → Effect
+row_of files.Copy shared view args = copy_row shared view args
+row_of files.Delete shared view args = delete_row shared view args
+row_of files.Dir shared view args = dir_row shared view args
+row_of files.Filenote shared view args = filenote_row shared view args
+row_of files.Join shared view args = join_row shared view args
+row_of files.List shared view args = list_row shared view args
+row_of files.MakeDir shared view args = make_dir_row shared view args
+row_of files.Protect shared view args = protect_row shared view args
+row_of files.Rename shared view args = rename_row shared view args
+row_of files.«Type» shared view args = type_row shared view args

@@ -6,9 +6,9 @@ ghost use Rattle.ados_readargs.specs.Args.{texts_at};
 ghost use Rattle.ados_find.specs.Search.{device_named};
 ghost use Rattle.ados_files.specs.Devices.{devices_of};
 
-use crate::commands::Command;
 use ados_find::Shared;
 use ados_readargs::Args;
+use ados_resident::FilesCommand;
 use ados_text::{Name, NoMemory};
 use std::alloc::Global;
 
@@ -17,7 +17,7 @@ use std::alloc::Global;
 #[tactic(auto, using(crate::proofs::DeviceLemmas::both_texts))]
 pub fn push_devices(
     alloc: Global,
-    command: Command,
+    command: FilesCommand,
     shared: &Shared,
     args: &Args,
     used: &mut Vec<Name>,
@@ -26,7 +26,9 @@ pub fn push_devices(
 {
     push_of(alloc, shared, args, 0, used)?;
     match command {
-        Command::Copy | Command::Join | Command::Rename => push_of(alloc, shared, args, 1, used),
+        FilesCommand::Copy | FilesCommand::Join | FilesCommand::Rename => push_of(
+            alloc, shared, args, 1, used,
+        ),
         _ => Ok(()),
     }
 }

@@ -3,7 +3,6 @@
 
 mod acts;
 mod bases;
-mod commands;
 mod copy;
 mod copy_one;
 mod delete;
@@ -22,7 +21,6 @@ mod rename;
 mod rows;
 mod type_files;
 
-pub use commands::Command;
 pub use devices::push_devices;
 pub use laws::others_stay;
-pub use rows::run;
+pub use rows::{COMMANDS, run, template};

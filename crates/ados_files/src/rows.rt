@@ -1,9 +1,8 @@
 // The outcome of each command.
 ghost use Rattle.std.specs.Prelude.{◌≡◌, IfOk};
 ghost use Rattle.ados_find.specs.Effects.{effect_of};
-ghost use Rattle.ados_files.specs.Rows.{row_of};
+ghost use Rattle.ados_files.specs.Rows.{row_of, template_of};
 
-use crate::commands::Command;
 use crate::copy::copy_files;
 use crate::delete::delete;
 use crate::dir::show_directory;
@@ -16,13 +15,46 @@ use crate::rename::rename_object;
 use crate::type_files::type_files;
 use ados_find::{Outcome, Shared, ShellView};
 use ados_readargs::Args;
+use ados_resident::{Builtin, FilesCommand};
 use ados_text::NoMemory;
 use std::alloc::Global;
+
+/// The commands of this crate, in the order in which they are declared.
+pub const COMMANDS: [Builtin; 10] = [
+    Builtin::Files(FilesCommand::Copy),
+    Builtin::Files(FilesCommand::Delete),
+    Builtin::Files(FilesCommand::Dir),
+    Builtin::Files(FilesCommand::Filenote),
+    Builtin::Files(FilesCommand::Join),
+    Builtin::Files(FilesCommand::List),
+    Builtin::Files(FilesCommand::MakeDir),
+    Builtin::Files(FilesCommand::Protect),
+    Builtin::Files(FilesCommand::Rename),
+    Builtin::Files(FilesCommand::Type),
+];
+
+/// The text of a command's template.
+pub fn template(command: FilesCommand) -> &'static str
+    ensures { result.now ≡ template_of command }
+{
+    match command {
+        FilesCommand::Copy => "FROM/M,TO/A,ALL/S,QUIET/S",
+        FilesCommand::Delete => "FILE/M/A,ALL/S,QUIET/S",
+        FilesCommand::Dir => "DIR,DIRS/S,FILES/S",
+        FilesCommand::Filenote => "FILE/A,COMMENT",
+        FilesCommand::Join => "FILE/M/A,AS=TO/K/A",
+        FilesCommand::List => "DIR/M,P=PAT/K,QUICK/S,FILES/S,DIRS/S",
+        FilesCommand::MakeDir => "NAME/M",
+        FilesCommand::Protect => "FILE/A,FLAGS,ADD/S,SUB/S",
+        FilesCommand::Rename => "FROM/A,TO=AS/A",
+        FilesCommand::Type => "FROM/A/M",
+    }
+}
 
 /// The outcome of a command, given the shared parts, its shell's view, and the arguments by its template.
 pub fn run(
     alloc: Global,
-    command: Command,
+    command: FilesCommand,
     shared: &Shared,
     view: &ShellView,
     args: &Args,
@@ -30,15 +62,15 @@ pub fn run(
     ensures { IfOk result (λ outcome. effect_of shared.now outcome ≡ row_of command shared.now view.now args.now) }
 {
     match command {
-        Command::Copy => copy_files(alloc, shared, view, args),
-        Command::Delete => delete(alloc, shared, view, args),
-        Command::Dir => show_directory(alloc, shared, view, args),
-        Command::Filenote => filenote(alloc, shared, view, args),
-        Command::Join => join_files(alloc, shared, view, args),
-        Command::List => list(alloc, shared, view, args),
-        Command::MakeDir => make_dir(alloc, shared, view, args),
-        Command::Protect => protect(alloc, shared, view, args),
-        Command::Rename => rename_object(alloc, shared, view, args),
-        Command::Type => type_files(alloc, shared, view, args),
+        FilesCommand::Copy => copy_files(alloc, shared, view, args),
+        FilesCommand::Delete => delete(alloc, shared, view, args),
+        FilesCommand::Dir => show_directory(alloc, shared, view, args),
+        FilesCommand::Filenote => filenote(alloc, shared, view, args),
+        FilesCommand::Join => join_files(alloc, shared, view, args),
+        FilesCommand::List => list(alloc, shared, view, args),
+        FilesCommand::MakeDir => make_dir(alloc, shared, view, args),
+        FilesCommand::Protect => protect(alloc, shared, view, args),
+        FilesCommand::Rename => rename_object(alloc, shared, view, args),
+        FilesCommand::Type => type_files(alloc, shared, view, args),
     }
 }

@@ -21,7 +21,6 @@ mod targets;
 mod views;
 mod work;
 
-pub use ados_resident::{DiskCommand, InternalCommand};
 pub use changes::Change;
 pub use codes::Codes;
 pub use outcomes::{Breaking, Breaks, Outcome, Renamed};

@@ -3,12 +3,12 @@ use Rattle.std.proofs.Common.{◌≡◌, ℕ, List, Option, Some, None, Result, 
 use Rattle.ados_readargs.specs.declared.args.Arg.{Arg}
 use Rattle.ados_find.specs.Shared.{SharedState}
 use Rattle.ados_find.specs.Views.{IgnoresInUse}
-use Rattle.ados_flow.specs.declared.commands.Command.{Command}
-use Rattle.ados_flow.specs.declared.commands.Command.TheVariants.{Ask, Else, EndIf, EndSkip, Execute, If, Lab, Quit, Skip}
+use Rattle.ados_resident.specs.declared.commands.FlowCommand.{FlowCommand}
+use Rattle.ados_resident.specs.declared.commands.FlowCommand.TheVariants.{Execute, If}
 use Rattle.ados_flow.specs.declared.tests.Test.{Test}
 use Rattle.ados_flow.specs.declared.tests.Test.TheVariants.{Warn, Error, Fail, Equal, Greater, GreaterOrEqual, Exists}
 use Rattle.ados_flow.specs.Branches.{if_action, if_row}
-use Rattle.ados_flow.specs.Commands.{reads_in_use}
+use Rattle.ados_flow.specs.Reads.{reads_in_use}
 use Rattle.ados_flow.specs.Frames.{ScriptLine}
 use Rattle.ados_flow.specs.Rows.{row_of}
 use Rattle.ados_flow.specs.Tests.{exists, holds, test_result, test_of}
@@ -38,14 +38,9 @@ if-ignores shared None args = λ view busy. refl
 if-ignores shared (Some here) args = λ view busy.
     ap (if_action shared (is_on args 0) here) (tested-ignores shared args (test_of args) view busy)
 
-pub ignores : (command : Command) (shared : SharedState) (script_line : Option ScriptLine) (args : List Arg) → reads_in_use command ≡ false
+-- the last clause is checked at each other command
+pub ignores : (command : FlowCommand) (shared : SharedState) (script_line : Option ScriptLine) (args : List Arg) → reads_in_use command ≡ false
     → IgnoresInUse (λ view. row_of command shared script_line view args)
-ignores Ask shared script_line args e = λ view busy. refl
-ignores Else shared script_line args e = λ view busy. refl
-ignores EndIf shared script_line args e = λ view busy. refl
-ignores EndSkip shared script_line args e = λ view busy. refl
 ignores Execute shared script_line args e = cc
 ignores If shared script_line args e = if-ignores shared script_line args
-ignores Lab shared script_line args e = λ view busy. refl
-ignores Quit shared script_line args e = λ view busy. refl
-ignores Skip shared script_line args e = λ view busy. refl
+ignores command shared script_line args e = λ view busy. refl

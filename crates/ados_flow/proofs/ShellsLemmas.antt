@@ -11,8 +11,8 @@ use Rattle.ados_find.specs.declared.codes.Codes.{Codes}
 use Rattle.ados_find.specs.Paths.{place_of}
 use Rattle.ados_find.specs.Shared.{SharedState}
 use Rattle.ados_find.specs.Views.{IgnoresShells}
-use Rattle.ados_flow.specs.declared.commands.Command.{Command}
-use Rattle.ados_flow.specs.declared.commands.Command.TheVariants.{Ask, Else, EndIf, EndSkip, Execute, If, Lab, Quit, Skip}
+use Rattle.ados_resident.specs.declared.commands.FlowCommand.{FlowCommand}
+use Rattle.ados_resident.specs.declared.commands.FlowCommand.TheVariants.{Execute, If}
 use Rattle.ados_flow.specs.declared.tests.Test.{Test}
 use Rattle.ados_flow.specs.declared.tests.Test.TheVariants.{Warn, Error, Fail, Equal, Greater, GreaterOrEqual, Exists}
 use Rattle.ados_flow.specs.Branches.{if_action, if_row}
@@ -63,13 +63,8 @@ file-ignores : (shared : SharedState) (word : Option Text) (args : Text) → Ign
 file-ignores shared None args = λ view names uses. refl
 file-ignores shared (Some word) args = λ view names uses. word-ignores shared word args (place_of shared view.parts.directory word) view names uses
 
-pub ignores_shells : (command : Command) (shared : SharedState) (script_line : Option ScriptLine) (args : List Arg) → IgnoresShells (λ view. row_of command shared script_line view args)
-ignores_shells Ask shared script_line args = λ view names uses. refl
-ignores_shells Else shared script_line args = λ view names uses. refl
-ignores_shells EndIf shared script_line args = λ view names uses. refl
-ignores_shells EndSkip shared script_line args = λ view names uses. refl
+-- the last clause is checked at each other command
+pub ignores_shells : (command : FlowCommand) (shared : SharedState) (script_line : Option ScriptLine) (args : List Arg) → IgnoresShells (λ view. row_of command shared script_line view args)
 ignores_shells Execute shared script_line args = file-ignores shared (text_at args 0) (unwrap_or (text_at args 1) [])
 ignores_shells If shared script_line args = if-ignores shared script_line args
-ignores_shells Lab shared script_line args = λ view names uses. refl
-ignores_shells Quit shared script_line args = λ view names uses. refl
-ignores_shells Skip shared script_line args = λ view names uses. refl
+ignores_shells command shared script_line args = λ view names uses. refl

@@ -7,11 +7,11 @@ ghost use Rattle.ados_find.specs.Paths.{place_of};
 ghost use Rattle.ados_find.specs.Search.{device_named};
 ghost use Rattle.ados_flow.specs.Devices.{devices_of, is_absent, script_devices};
 
-use crate::commands::Command;
 use crate::execute::is_plain;
 use ados_find::{Refusal, Shared, ShellView, place_of};
 use ados_ram::Place;
 use ados_readargs::Args;
+use ados_resident::FlowCommand;
 use ados_text::{Name, NoMemory, Text};
 use std::alloc::Global;
 
@@ -19,7 +19,7 @@ use std::alloc::Global;
 /// texts of assigns lead on from it.
 pub fn push_devices(
     alloc: Global,
-    command: Command,
+    command: FlowCommand,
     shared: &Shared,
     view: &ShellView,
     args: &Args,
@@ -28,8 +28,8 @@ pub fn push_devices(
     ensures { OnOk result (used.new.items ≡ used.old.items ++ flat_map (reached_devices shared.now.assigns) (devices_of command shared.now view.now.parts args.now)) }
 {
     match command {
-        Command::Execute => push_of_script(alloc, shared, view, args, used),
-        Command::If => {
+        FlowCommand::Execute => push_of_script(alloc, shared, view, args, used),
+        FlowCommand::If => {
             let texts = args.made_texts(alloc, 9)?;
             shared.push_devices_of(used, texts.as_slice())
         }

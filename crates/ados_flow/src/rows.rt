@@ -4,26 +4,54 @@ ghost use Rattle.std.specs.Option.{option_copied};
 ghost use Rattle.ados_find.specs.Views.{IgnoresShells};
 ghost use Rattle.ados_flow.specs.Actions.{action_effect};
 ghost use Rattle.ados_flow.specs.Frames.{script_line_of};
-ghost use Rattle.ados_flow.specs.Rows.{row_of};
+ghost use Rattle.ados_flow.specs.Rows.{row_of, template_of};
 
 use crate::actions::Action;
 use crate::ask::ask;
 use crate::branches::{branch, pass_block, skip};
-use crate::commands::Command;
 use crate::execute::execute;
 use crate::frames::Frame;
 use crate::quit::quit;
 use ados_find::{Codes, Shared, ShellView};
 use ados_readargs::Args;
+use ados_resident::{Builtin, FlowCommand};
 use ados_text::NoMemory;
 use std::alloc::Global;
+
+/// The commands of this crate, in the order in which they are declared.
+pub const COMMANDS: [Builtin; 9] = [
+    Builtin::Flow(FlowCommand::Ask),
+    Builtin::Flow(FlowCommand::Else),
+    Builtin::Flow(FlowCommand::EndIf),
+    Builtin::Flow(FlowCommand::EndSkip),
+    Builtin::Flow(FlowCommand::Execute),
+    Builtin::Flow(FlowCommand::If),
+    Builtin::Flow(FlowCommand::Lab),
+    Builtin::Flow(FlowCommand::Quit),
+    Builtin::Flow(FlowCommand::Skip),
+];
+
+/// The text of a command's template.
+pub fn template(command: FlowCommand) -> &'static str
+    ensures { result.now ≡ template_of command }
+{
+    match command {
+        FlowCommand::Ask => "PROMPT/A",
+        FlowCommand::Else | FlowCommand::EndIf | FlowCommand::EndSkip => "",
+        FlowCommand::Execute => "FILE/A,ARGS/F",
+        FlowCommand::If => "NOT/S,WARN/S,ERROR/S,FAIL/S,,EQ/K,GT/K,GE/K,VAL/S,EXISTS/K",
+        FlowCommand::Lab => "LABEL/F",
+        FlowCommand::Quit => "RC/N",
+        FlowCommand::Skip => "LABEL,BACK/S",
+    }
+}
 
 /// What a command does, by the shared parts, the newest frame, its shell's view, and the arguments that its template
 /// gave. It reads neither what the shells are called nor what they run from.
 #[tactic(auto, using(crate::proofs::ShellsLemmas::ignores_shells))]
 pub fn run(
     alloc: Global,
-    command: Command,
+    command: FlowCommand,
     shared: &Shared,
     frame: Option<&Frame>,
     view: &ShellView,
@@ -33,14 +61,14 @@ pub fn run(
     ensures names { IgnoresShells (λ v. row_of command shared.now (script_line_of (option_copied frame.entry)) v args.now) }
 {
     match command {
-        Command::Ask => ask(alloc, shared, args),
-        Command::Else => Ok(pass_block(alloc, frame)),
-        Command::EndIf | Command::EndSkip | Command::Lab => {
+        FlowCommand::Ask => ask(alloc, shared, args),
+        FlowCommand::Else => Ok(pass_block(alloc, frame)),
+        FlowCommand::EndIf | FlowCommand::EndSkip | FlowCommand::Lab => {
             Ok(Action::answering(alloc, Codes::NONE))
         }
-        Command::Execute => execute(alloc, shared, view, args),
-        Command::If => branch(alloc, shared, frame, view, args),
-        Command::Quit => Ok(quit(args)),
-        Command::Skip => Ok(skip(alloc, frame, args)),
+        FlowCommand::Execute => execute(alloc, shared, view, args),
+        FlowCommand::If => branch(alloc, shared, frame, view, args),
+        FlowCommand::Quit => Ok(quit(args)),
+        FlowCommand::Skip => Ok(skip(alloc, frame, args)),
     }
 }

@@ -17,8 +17,9 @@ mod requests;
 
 pub use ados_find::{Codes, Target};
 pub use ados_flow::{Called, Record};
+pub use ados_resident::Builtin;
 pub use answers::Answer;
-pub use builtins::Builtin;
+pub use builtins::{reads_in_use, reads_shells, template};
 pub use children::ChildState;
 pub use events::{BreakAt, Event, Kind};
 pub use laws::{

@@ -2,11 +2,11 @@
 ghost use Rattle.std.specs.Prelude.{◌≡◌, ◌++◌, IfOk, OnOk, map, false};
 ghost use Rattle.std.specs.Option.{option_copied};
 ghost use Rattle.ados_text.specs.Text.{is_same};
-ghost use Rattle.ados_resident.specs.Commands.{first_with_name};
-ghost use Rattle.ados_resident.specs.InternalCommands.{name_of};
+ghost use Rattle.ados_resident.specs.Commands.{internal_name};
+ghost use Rattle.ados_resident.specs.Names.{first_with_name};
 ghost use Rattle.ados_resident.specs.Residents.{count_of, enabled_internal, switched_internal, put_entry};
 
-use crate::internal_commands::InternalCommand;
+use crate::commands::InternalCommand;
 use crate::residents::{Internal, Resident};
 use ados_text::{NoMemory, Text};
 use std::alloc::Global;
@@ -73,7 +73,7 @@ impl Internal {
 
 // The internal command with a name.
 pub fn internal_in(internals: &[Internal], name: &Text) -> Option<Internal>
-    ensures { result ≡ first_with_name (λ internal. name_of internal.command) name.now internals.now }
+    ensures { result ≡ first_with_name (λ internal. internal_name internal.command) name.now internals.now }
 {
     for internal in internals {
         if name.is(internal.command.name()) {

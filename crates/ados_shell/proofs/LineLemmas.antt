@@ -5,7 +5,7 @@ use Rattle.ados_text.specs.declared.codes.Result2.{Result2}
 use Rattle.ados_line.specs.declared.lines.Line.{Line}
 use Rattle.ados_text.specs.declared.stops.Stop.TheVariants.{Refused}
 use Rattle.ados_find.specs.declared.targets.Target.{Target}
-use Rattle.ados_machine.specs.declared.builtins.Builtin.{Builtin}
+use Rattle.ados_resident.specs.declared.commands.Builtin.{Builtin}
 use Rattle.ados_flow.specs.Frames.{FrameState}
 use Rattle.ados_line.specs.declared.lines.Redirection.{Redirection}
 use Rattle.ados_machine.specs.Course.{Course, with_bytes_printed, with_devices_used}

@@ -10,7 +10,7 @@ use Rattle.ados_find.specs.declared.targets.Target.{Target}
 use Rattle.ados_find.specs.Search.{device_named}
 use Rattle.ados_line.specs.declared.lines.Line.{Line}
 use Rattle.ados_line.specs.declared.lines.Redirection.{Redirection}
-use Rattle.ados_machine.specs.declared.builtins.Builtin.{Builtin}
+use Rattle.ados_resident.specs.declared.commands.Builtin.{Builtin}
 use Rattle.ados_machine.specs.Course.{Course, with_devices_used}
 use Rattle.ados_machine.specs.Completions.{Completion, Here}
 use Rattle.ados_machine.specs.Lines.{action_completion, action_in, with_arguments, work_completion}

@@ -5,7 +5,7 @@ use Rattle.ados_ram.specs.InUse.{InUse}
 use Rattle.ados_find.specs.Shared.{SharedState}
 use Rattle.ados_find.specs.Views.{View}
 use Rattle.ados_flow.specs.Frames.{ScriptLine}
-use Rattle.ados_machine.specs.declared.builtins.Builtin.{Builtin}
+use Rattle.ados_resident.specs.declared.commands.Builtin.{Builtin}
 use Rattle.ados_machine.specs.Commands.{action_of}
 use Rattle.ados_find.specs.Parts.{Parts}
 

@@ -11,7 +11,7 @@ ghost use Rattle.ados_flow.specs.Frames.{script_line_of};
 
 use ados_find::{Codes, Shared, ShellView};
 use ados_flow::{Action, Frame};
-use ados_machine::Builtin;
+use ados_machine::{Builtin, template};
 use ados_readargs::{Args, Template};
 use ados_text::{Name, NoMemory, Text};
 use std::alloc::Global;
@@ -20,27 +20,34 @@ use std::marker::Model;
 /// The templates of the commands, each parsed once.
 #[derive(Drop)]
 pub struct Commands {
-    // In the order of `Builtin::ALL`.
-    templates: Vec<Template>,
+    // Each list is in the order of the crate's `COMMANDS`.
+    env: Vec<Template>,
+    files: Vec<Template>,
+    flow: Vec<Template>,
 }
 
 impl Model for Commands {
     ghost use Rattle.std.specs.Prelude.{◌≡◌, map};
     ghost use Rattle.ados_machine.specs.Commands.{template_of};
-    ghost use Rattle.ados_machine.specs.declared.builtins.TheConstants.Builtin.{ALL};
+    ghost use Rattle.ados_env.specs.declared.rows.TheConstants.{COMMANDS as ENV};
+    ghost use Rattle.ados_files.specs.declared.rows.TheConstants.{COMMANDS as FILES};
+    ghost use Rattle.ados_flow.specs.declared.rows.TheConstants.{COMMANDS as FLOW};
 
     ghost Value = { Unit {0} };
 
     ghost view = { λ _. tt };
 
-    ghost invariant = { λ c. c.templates.items ≡ map template_of ALL };
+    ghost invariant = { λ c. (c.env.items ≡ map template_of ENV)
+        × (c.files.items ≡ map template_of FILES) × (c.flow.items ≡ map template_of FLOW) };
 }
 
 impl Commands {
     /// Parses the templates.
     pub fn new(alloc: Global) -> Result<Commands, NoMemory> {
         Ok(Commands {
-            templates: templates_of(alloc, &Builtin::ALL)?,
+            env: templates_of(alloc, &ados_env::COMMANDS)?,
+            files: templates_of(alloc, &ados_files::COMMANDS)?,
+            flow: templates_of(alloc, &ados_flow::COMMANDS)?,
         })
     }
 
@@ -48,7 +55,11 @@ impl Commands {
     pub fn template(&self, builtin: Builtin) -> &Template
         ensures { result.now ≡ template_of builtin }
     {
-        &self.templates[builtin.place()]
+        match builtin {
+            Builtin::Env(command) => &self.env[command as usize],
+            Builtin::Files(command) => &self.files[command as usize],
+            Builtin::Flow(command) => &self.flow[command as usize],
+        }
     }
 
     /// What a command of the newest frame does with the text of its arguments, which are filled into the arguments that are
@@ -83,15 +94,15 @@ fn templates_of(alloc: Global, builtins: &[Builtin]) -> Result<Vec<Template>, No
 {
     let mut templates = Vec::with_capacity(alloc, builtins.len())?;
     for builtin in builtins {
-        templates.push(template(alloc, *builtin)?)?;
+        templates.push(template_of(alloc, *builtin)?)?;
     }
     Ok(templates)
 }
 
-fn template(alloc: Global, builtin: Builtin) -> Result<Template, NoMemory>
+fn template_of(alloc: Global, builtin: Builtin) -> Result<Template, NoMemory>
     ensures { IfOk result (λ template. template ≡ template_of builtin) }
 {
-    Template::known(alloc, builtin.template())
+    Template::known(alloc, template(builtin))
 }
 
 fn row(

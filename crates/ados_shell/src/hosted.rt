@@ -10,7 +10,7 @@ use crate::drafts::Draft;
 use crate::scenes::Scene;
 use ados_items::{ItemFault, words};
 use ados_line::{Line, Redirection};
-use ados_machine::{Builtin, Starting, Wait};
+use ados_machine::{Starting, Wait};
 use ados_resident::Program;
 use ados_text::{NoMemory, Result2, Stop, Text, Texts};
 
@@ -30,7 +30,7 @@ impl Draft {
             (program_completion entry program line.now (next_line_place scene.now self.old) (course_of scene.now self.old))) }
     {
         match program {
-            Program::Disk(command) => self.prepare(scene, Builtin::from(command), line),
+            Program::Disk(command) => self.prepare(scene, command.builtin(), line),
             Program::Host(program) => self.host(scene, entry, program, line),
         }
     }

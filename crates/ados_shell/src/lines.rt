@@ -9,7 +9,6 @@ use crate::drafts::Draft;
 use crate::scenes::Scene;
 use ados_find::{Codes, Found, Search, find};
 use ados_line::{Expanded, Line, LineFault, Scope, expand};
-use ados_machine::Builtin;
 use ados_text::{NoMemory, Result2, Text};
 
 impl Draft {
@@ -111,7 +110,7 @@ impl Draft {
     {
         let word = line.command.as_bytes();
         match found {
-            Found::Internal(command) => match Builtin::of_internal(command) {
+            Found::Internal(command) => match command.builtin() {
                 Some(builtin) => self.prepare(scene, builtin, line),
                 None => self.run(scene, line),
             },

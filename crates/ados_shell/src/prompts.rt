@@ -11,7 +11,7 @@ use crate::inputs::{asks, input_lines};
 use crate::scenes::Scene;
 use crate::seen::open_outputs;
 use ados_line::Line;
-use ados_machine::{Asking, Builtin, Phase, Wait};
+use ados_machine::{Asking, Builtin, Phase, Wait, template};
 use ados_text::{NoMemory, Stop, Text, Texts};
 use std::alloc::Global;
 
@@ -180,7 +180,7 @@ fn first_of(alloc: Global, lines: &[Text]) -> Result<Text, NoMemory>
 fn push_prompt(out: &mut Vec<u8>, builtin: Builtin) -> Result<(), NoMemory>
     ensures { OnOk result (out.new.items ≡ out.old.items ++ prompt builtin) }
 {
-    out.extend_from_slice(builtin.template().as_bytes())?;
+    out.extend_from_slice(template(builtin).as_bytes())?;
     out.extend_from_slice(b": ")?;
     Ok(())
 }

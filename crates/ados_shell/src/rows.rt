@@ -11,7 +11,7 @@ use crate::seen::{Others, in_use, names_while, uses};
 use ados_find::{Outcome, Shared, ShellNames, Target};
 use ados_flow::Action;
 use ados_line::Line;
-use ados_machine::{Builtin, Question};
+use ados_machine::{Builtin, Question, reads_in_use, reads_shells};
 use ados_ram::Busy;
 use ados_readargs::Args;
 use ados_text::{Name, NoMemory, Stop, Text, Texts};
@@ -140,7 +140,7 @@ impl Draft {
     ) -> Result<Busy, NoMemory>
         ensures { IfOk result (λ busy. ServesInUse builtin busy (busy_in (option_copied target.entry) (course_of scene.now self.now))) }
     {
-        if builtin.reads_in_use() {
+        if reads_in_use(builtin) {
             self.in_use(scene, target)
         } else {
             Ok(Busy::none(scene.alloc))
@@ -156,7 +156,7 @@ impl Draft {
     ) -> Result<ShellNames, NoMemory>
         ensures { IfOk result (λ names. ServesNames builtin names (names_in word.now (course_of scene.now self.now))) }
     {
-        if builtin.reads_shells() {
+        if reads_shells(builtin) {
             names_while(scene.alloc, scene.shells, scene.shell.number(), word)
         } else {
             Ok(ShellNames::new(scene.alloc))
@@ -167,7 +167,7 @@ impl Draft {
     fn uses_for(&self, scene: &Scene, builtin: Builtin) -> Result<Texts, NoMemory>
         ensures { IfOk result (λ uses. ServesUses builtin uses (uses_of (course_of scene.now self.now).seen)) }
     {
-        if builtin.reads_shells() {
+        if reads_shells(builtin) {
             uses(scene.alloc, scene.shells)
         } else {
             Ok(Texts::new(scene.alloc))

@@ -5,8 +5,7 @@ use Rattle.std.specs.List.{list_any}
 use Rattle.ados_text.specs.Text.{Text, is_same}
 use Rattle.ados_names.specs.Names.{is_name}
 use Rattle.ados_resident.specs.declared.hosts.HostEntry.{HostEntry}
-use Rattle.ados_resident.specs.InternalCommands.{internal_named}
-use Rattle.ados_resident.specs.DiskCommands.{disk_named}
+use Rattle.ados_resident.specs.Names.{disk_named, internal_named}
 use Rattle.ados_world.specs.declared.hosts.NewFault.{NewFault}
 use Rattle.ados_world.specs.declared.hosts.NewFault.TheVariants.{TooMany, BadName, Double, NoMemory}
 

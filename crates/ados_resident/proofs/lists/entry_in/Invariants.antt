@@ -1,5 +1,5 @@
 use Rattle.std.proofs.Common.{◌≡◌, drop}
-use Rattle.ados_resident.specs.Commands.{first_with_name}
+use Rattle.ados_resident.specs.Names.{first_with_name}
 use Rattle.ados_resident.proofs.lists.entry_in.Given as goal
 
 abbrev pub invariant-loop-entry : goal.invariant-loop-entry

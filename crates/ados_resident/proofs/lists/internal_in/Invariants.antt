@@ -1,8 +1,8 @@
 use Rattle.std.proofs.Common.{◌≡◌, drop}
-use Rattle.ados_resident.specs.Commands.{first_with_name}
-use Rattle.ados_resident.specs.InternalCommands.{name_of}
+use Rattle.ados_resident.specs.Commands.{internal_name}
+use Rattle.ados_resident.specs.Names.{first_with_name}
 use Rattle.ados_resident.proofs.lists.internal_in.Given as goal
 
 abbrev pub invariant-loop-internal : goal.invariant-loop-internal
-invariant-loop-internal l = first_with_name (λ internal. name_of internal.command) l.name l.internals
-    ≡ first_with_name (λ internal. name_of internal.command) l.name (drop l.internal-index l.internals)
+invariant-loop-internal l = first_with_name (λ internal. internal_name internal.command) l.name l.internals
+    ≡ first_with_name (λ internal. internal_name internal.command) l.name (drop l.internal-index l.internals)

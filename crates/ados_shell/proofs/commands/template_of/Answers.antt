@@ -1,6 +1,6 @@
 use Rattle.std.proofs.Common.{◌≡◌, ℕ, List, IfOk, subst}
 use Rattle.ados_shell.proofs.CommandLemmas.{ascii, are_templates}
-use Rattle.ados_shell.proofs.commands.template.Goals as goal
+use Rattle.ados_shell.proofs.commands.template_of.Goals as goal
 
 pub known-requires-clause-ascii : goal.known-requires-clause-ascii
 known-requires-clause-ascii c = rw c.template.ensures (ascii c.args.builtin)

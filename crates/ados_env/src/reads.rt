@@ -1,0 +1,33 @@
+// What the commands read of the shells that run.
+ghost use Rattle.std.specs.Prelude.{◌≡◌, List, false};
+ghost use Rattle.ados_readargs.specs.declared.args.Arg.{Arg};
+ghost use Rattle.ados_find.specs.Shared.{SharedState};
+ghost use Rattle.ados_find.specs.Views.{IgnoresInUse, IgnoresShells};
+ghost use Rattle.ados_env.specs.Reads.{reads_in_use, reads_shells};
+ghost use Rattle.ados_env.specs.Rows.{row_of};
+
+use ados_resident::EnvCommand;
+
+/// Whether a command reads what is in use.
+#[tactic(auto, using(crate::proofs::InUseLemmas::ignores))]
+pub fn reads_in_use(command: EnvCommand) -> bool
+    ensures value { result ≡ reads_in_use command }
+    ensures ignores { result ≡ false → (shared : SharedState) (args : List Arg) → IgnoresInUse (λ view. row_of command shared view args) }
+{
+    matches!(
+        command,
+        EnvCommand::Resident | EnvCommand::SetEnv | EnvCommand::UnsetEnv
+    )
+}
+
+/// Whether a command reads what the shells are called and run from.
+#[tactic(auto, using(crate::proofs::ShellsLemmas::ignores))]
+pub fn reads_shells(command: EnvCommand) -> bool
+    ensures value { result ≡ reads_shells command }
+    ensures ignores { result ≡ false → (shared : SharedState) (args : List Arg) → IgnoresShells (λ view. row_of command shared view args) }
+{
+    matches!(
+        command,
+        EnvCommand::Break | EnvCommand::Resident | EnvCommand::Status
+    )
+}

@@ -1,0 +1,9 @@
+-- What the commands read of the shells that run.
+use Rattle.std.specs.Prelude.{Bool, true, false}
+use Rattle.ados_resident.specs.declared.commands.FlowCommand.{FlowCommand}
+use Rattle.ados_resident.specs.declared.commands.FlowCommand.TheVariants.{Execute}
+
+-- whether a command reads what is in use: a script that is an open output is not read
+abbrev pub reads_in_use : FlowCommand → Bool
+reads_in_use Execute = true
+reads_in_use command = false

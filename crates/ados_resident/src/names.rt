@@ -1,0 +1,59 @@
+// The commands by their names.
+ghost use Rattle.std.specs.Prelude.{◌≡◌};
+ghost use Rattle.ados_text.specs.Text.{is_same};
+ghost use Rattle.ados_resident.specs.Commands.{disk_name, internal_name};
+ghost use Rattle.ados_resident.specs.Names.{disk_named, first_with_name, internal_named};
+
+use crate::commands::{DiskCommand, InternalCommand};
+use ados_text::Text;
+
+impl InternalCommand {
+    /// The internal command with this name; case is ignored.
+    #[tactic(auto, unfolding(crate::specs::Names::internal_named))]
+    pub fn named(word: &Text) -> Option<InternalCommand>
+        ensures { result ≡ internal_named word.now }
+    {
+        first_internal(word, &InternalCommand::ALL)
+    }
+}
+
+// The first of these that has this name.
+fn first_internal(word: &Text, commands: &[InternalCommand]) -> Option<InternalCommand>
+    ensures { result ≡ first_with_name internal_name word.now commands.now }
+{
+    for command in commands {
+        if word.is(command.name()) {
+            return Some(*command);
+        }
+    }
+    None
+}
+
+impl DiskCommand {
+    /// The disk command with this name; case is ignored.
+    #[tactic(auto, unfolding(crate::specs::Names::disk_named))]
+    pub fn named(name: &[u8]) -> Option<DiskCommand>
+        ensures { result ≡ disk_named name.now }
+    {
+        first_disk(name, &DiskCommand::ALL)
+    }
+
+    // This is its name; case is ignored.
+    fn is_called(self, name: &[u8]) -> bool
+        ensures { result ≡ is_same name.now (disk_name self) }
+    {
+        name.eq_ignore_ascii_case(self.name().as_bytes())
+    }
+}
+
+// The first of these that has this name.
+fn first_disk(name: &[u8], commands: &[DiskCommand]) -> Option<DiskCommand>
+    ensures { result ≡ first_with_name disk_name name.now commands.now }
+{
+    for command in commands {
+        if command.is_called(name) {
+            return Some(*command);
+        }
+    }
+    None
+}
