@@ -6,6 +6,7 @@ use Rattle.ados_text.specs.declared.codes.TheConstants.Result2.{OBJECT_NOT_FOUND
 use Rattle.ados_ram.specs.Place.{Place, is_same_place}
 use Rattle.ados_find.specs.declared.codes.Codes.{Codes}
 use Rattle.ados_find.specs.Codes.{error_codes}
+use Rattle.ados_find.specs.Effects.{if_found}
 use Rattle.ados_find.specs.SearchPath.{with_entry, without_entry}
 use Rattle.ados_find.specs.Shared.{SharedState}
 use Rattle.ados_find.specs.Views.{View}
@@ -27,16 +28,8 @@ list_work_on_place work place =
     else Err (error_codes OBJECT_NOT_FOUND))
     else Ok (record work { list = with_entry work.list place })
 
-abbrev pub list_work_on_result : ListWork → Result Place Codes → Result ListWork Codes
-list_work_on_result work (Err codes) = Err codes
-list_work_on_result work (Ok place) = list_work_on_place work place
-
 -- the work after the texts of TARGET in order, unless one of them is refused
-abbrev pub and_then : Result ListWork Codes → (ListWork → Result ListWork Codes) → Result ListWork Codes
-and_then (Err codes) further = Err codes
-and_then (Ok work) further = further work
-
 abbrev pub list_work_on_all : SharedState → View → ListWork → List Text → Result ListWork Codes
 list_work_on_all shared view work [] = Ok work
 list_work_on_all shared view work (text ∷ texts) =
-    and_then (list_work_on_result work (directory_of shared view text)) (λ next. list_work_on_all shared view next texts)
+    if_found Err (if_found Err (directory_of shared view text) (list_work_on_place work)) (λ next. list_work_on_all shared view next texts)

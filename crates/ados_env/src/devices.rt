@@ -31,24 +31,12 @@ pub fn push_devices(
         }
         EnvCommand::Which => push_sought(alloc, shared, view, args, used),
         EnvCommand::Assign => push_targets(alloc, shared, args, used),
-        EnvCommand::Cd | EnvCommand::Path => push_of(alloc, shared, args, 0, used),
+        EnvCommand::Cd | EnvCommand::Path => {
+            shared.push_devices_of(used, args.made_texts(alloc, 0)?.as_slice())
+        }
         EnvCommand::Resident => push_program(alloc, shared, args, used),
         _ => Ok(()),
     }
-}
-
-// Those of the texts of an option.
-fn push_of(
-    alloc: Global,
-    shared: &Shared,
-    args: &Args,
-    place: usize,
-    used: &mut Vec<Name>,
-) -> Result<(), NoMemory>
-    ensures { OnOk result (used.new.items ≡ used.old.items ++ flat_map (reached_devices shared.now.assigns) (flat_map device_named (texts_at args.now place))) }
-{
-    let texts = args.made_texts(alloc, place)?;
-    shared.push_devices_of(used, texts.as_slice())
 }
 
 // Those of TARGET of Assign, unless it is kept as a text.
@@ -63,7 +51,7 @@ fn push_targets(
     if args.is_on(3) || args.is_on(4) {
         Ok(())
     } else {
-        push_of(alloc, shared, args, 1, used)
+        shared.push_devices_of(used, args.made_texts(alloc, 1)?.as_slice())
     }
 }
 
@@ -80,7 +68,7 @@ fn push_program(
     match args.made_text(alloc, 1)? {
         Some(file) => shared.push_device_of(used, &file),
         None if args.is_on(2) => Ok(()),
-        None => push_of(alloc, shared, args, 0, used),
+        None => shared.push_devices_of(used, args.made_texts(alloc, 0)?.as_slice()),
     }
 }
 

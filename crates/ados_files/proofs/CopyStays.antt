@@ -17,9 +17,10 @@ use Rattle.ados_find.specs.declared.codes.Codes.{Codes}
 use Rattle.ados_find.specs.Done.{Done, fresh_work, refused_or, act_on_each}
 use Rattle.ados_find.specs.Shared.{SharedState}
 use Rattle.ados_find.specs.Views.{View}
+use Rattle.ados_find.specs.Effects.{codes_effect, if_found, if_given}
 use Rattle.ados_find.specs.Paths.{place_of}
 use Rattle.ados_files.specs.declared.jobs.Job.{Job}
-use Rattle.ados_files.specs.Copy.{middle_directories, ensure_directory, make_missing, copy_fault, copy_written, copy_unless, copy_entry, copy_one, one_entry, directory_for, copy_into, is_onto, copy_found, copy_into_target, copy_of_sources, copy_by_texts, copy_row}
+use Rattle.ados_files.specs.Copy.{middle_directories, ensure_directory, make_missing, copy_fault, copy_written, copy_unless, copy_entry, copy_one, one_entry, directory_for, copy_into, is_onto, copy_found, copy_to_place, copy_into_target, copy_by_texts, copy_row}
 use Rattle.ados_files.specs.Jobs.{all_jobs, target_jobs, sources_of}
 use Rattle.ados_files.specs.MakeDir.{make_one}
 use Rattle.ados_files.specs.Names.{FoundPlaces}
@@ -104,15 +105,18 @@ found-stays view all quiet found done to =
       | false ↦ into-stays view all quiet found done to
     ]
 
-to-stays : (shared : SharedState) (view : View) (all quiet : Bool) (found : FoundPlaces) (to : Result Place Codes) → OthersStay (is_under to) shared.files (copy_into_target shared view all quiet found to).shared.files
+to-stays : (shared : SharedState) (view : View) (all quiet : Bool) (found : FoundPlaces) (to : Result Place Codes) →
+    OthersStay (is_under to) shared.files (if_found (codes_effect shared) to (copy_to_place shared view all quiet found)).shared.files
 to-stays shared view all quiet found (Err codes) = λ key out. refl
 to-stays shared view all quiet found (Ok to) = found-stays view all quiet found (fresh_work shared) to
 
-from-stays : (shared : SharedState) (view : View) (all quiet : Bool) (found : Result FoundPlaces Codes) (to : List ℕ) → OthersStay (is_under_path shared view (Some to)) shared.files (copy_of_sources shared view all quiet found to).shared.files
+from-stays : (shared : SharedState) (view : View) (all quiet : Bool) (found : Result FoundPlaces Codes) (to : List ℕ) →
+    OthersStay (is_under_path shared view (Some to)) shared.files (if_found (codes_effect shared) found (copy_into_target shared view all quiet to)).shared.files
 from-stays shared view all quiet (Err codes) to = λ key out. refl
 from-stays shared view all quiet (Ok found) to = to-stays shared view all quiet found (place_of shared view.parts.directory to)
 
-texts-stay : (shared : SharedState) (view : View) (all quiet : Bool) (texts : List (List ℕ)) (to : Option (List ℕ)) → OthersStay (is_under_path shared view to) shared.files (copy_by_texts shared view all quiet texts to).shared.files
+texts-stay : (shared : SharedState) (view : View) (all quiet : Bool) (texts : List (List ℕ)) (to : Option (List ℕ)) →
+    OthersStay (is_under_path shared view to) shared.files (if_given (codes_effect shared) to (copy_by_texts shared view all quiet texts)).shared.files
 texts-stay shared view all quiet texts None = λ key out. refl
 texts-stay shared view all quiet [] (Some to) = λ key out. refl
 texts-stay shared view all quiet (text ∷ texts) (Some to) = from-stays shared view all quiet (sources_of shared view.parts.directory (text ∷ texts)) to

@@ -12,14 +12,15 @@ use Rattle.ados_ram.proofs.StayLemmas.{neither, none-below, rename-stays}
 use Rattle.ados_find.specs.declared.codes.Codes.{Codes}
 use Rattle.ados_find.specs.Shared.{SharedState}
 use Rattle.ados_find.specs.Views.{View}
+use Rattle.ados_find.specs.Effects.{codes_effect, if_found, if_given, unless_refused}
 use Rattle.ados_find.specs.Paths.{place_of}
-use Rattle.ados_files.specs.Rename.{target_of, rename_unless, rename_entry, rename_places, rename_by_texts, rename_row}
+use Rattle.ados_files.specs.Rename.{target_of, rename_effect, rename_entry, rename_from_place, rename_given, rename_places, rename_row}
 use Rattle.ados_files.specs.MayChange.{is_under, is_under_path, rename_may_change}
 
 abbrev Both : Place → Place → Key → Bool
 Both from to key = is_at_or_below (key_of from) key || is_at_or_below (key_of to) key
 
-unless-stays : (fault : Option Result2) (shared : SharedState) (from to : Place) → OthersStay (Both from to) shared.files (rename_unless fault shared from to).shared.files
+unless-stays : (fault : Option Result2) (shared : SharedState) (from to : Place) → OthersStay (Both from to) shared.files (unless_refused (codes_effect shared) fault (rename_effect shared from to)).shared.files
 unless-stays None shared from to = rename-stays shared.files (key_of from) (key_of to) (last_name to)
 unless-stays (Some fault) shared from to = λ key out. refl
 
@@ -42,15 +43,21 @@ from-stays shared view from (Some e) to key out =
     unless-stays (rename_fault view.busy shared.files (key_of from) (key_of target)) shared from target key
     (or-neither (is_at_or_below (key_of from) key) (is_at_or_below (key_of target) key) apart.0 (target-outside shared.files from e to key apart.1))
 
-at-stays : (shared : SharedState) (view : View) (from to : Result Place Codes) → OthersStay (λ key. is_under from key || is_under to key) shared.files (rename_places shared view from to).shared.files
-at-stays shared view (Err codes) to = λ key out. refl
-at-stays shared view (Ok from) (Err codes) = λ key out. refl
-at-stays shared view (Ok from) (Ok to) = from-stays shared view from (map.get shared.files (key_of from)) to
+to-stays : (shared : SharedState) (view : View) (from : Place) (to : Result Place Codes) →
+    OthersStay (λ key. is_at_or_below (key_of from) key || is_under to key) shared.files (if_found (codes_effect shared) to (rename_places shared view from)).shared.files
+to-stays shared view from (Err codes) = λ key out. refl
+to-stays shared view from (Ok to) = from-stays shared view from (map.get shared.files (key_of from)) to
 
-texts-stay : (shared : SharedState) (view : View) (from to : Option (List ℕ)) → OthersStay (λ key. is_under_path shared view from key || is_under_path shared view to key) shared.files (rename_by_texts shared view from to).shared.files
+at-stays : (shared : SharedState) (view : View) (from : Result Place Codes) (to : List ℕ) →
+    OthersStay (λ key. is_under from key || is_under_path shared view (Some to) key) shared.files (if_found (codes_effect shared) from (rename_from_place shared view to)).shared.files
+at-stays shared view (Err codes) to = λ key out. refl
+at-stays shared view (Ok from) to = to-stays shared view from (place_of shared view.parts.directory to)
+
+texts-stay : (shared : SharedState) (view : View) (from to : Option (List ℕ)) →
+    OthersStay (λ key. is_under_path shared view from key || is_under_path shared view to key) shared.files (if_given (codes_effect shared) from (rename_given shared view to)).shared.files
 texts-stay shared view None to = λ key out. refl
 texts-stay shared view (Some from) None = λ key out. refl
-texts-stay shared view (Some from) (Some to) = at-stays shared view (place_of shared view.parts.directory from) (place_of shared view.parts.directory to)
+texts-stay shared view (Some from) (Some to) = at-stays shared view (place_of shared view.parts.directory from) to
 
 pub rename-row-stays : (shared : SharedState) (view : View) (args : List Arg) → OthersStay (rename_may_change shared view args) shared.files (rename_row shared view args).shared.files
 rename-row-stays shared view args = texts-stay shared view (text_at args 0) (text_at args 1)

@@ -1,23 +1,23 @@
 -- Copy: files to a file or into a directory.
-use Rattle.std.specs.Prelude.{ℕ, Bool, true, false, not, cond, ◌&&◌, List, [], ◌∷◌, ◌++◌, codes, Option, Some, None, Result, Ok, Err, if◌then◌else◌}
+use Rattle.std.specs.Prelude.{Bool, true, false, not, cond, ◌&&◌, List, [], ◌∷◌, ◌++◌, codes, Option, Some, None, if◌then◌else◌}
 use Rattle.std.specs.Option.{option_or}
 use Rattle.std.specs.FinMap as map
+use Rattle.ados_text.specs.Text.{Bytes, Text}
 use Rattle.ados_text.specs.declared.codes.Result2.{Result2}
 use Rattle.ados_text.specs.declared.codes.TheConstants.Result2.{ARGUMENT_MISSING, OBJECT_IN_USE, DIRECTORY_NOT_FOUND, WRONG_TYPE}
 use Rattle.ados_readargs.specs.declared.args.Arg.{Arg}
 use Rattle.ados_readargs.specs.Args.{texts_at, text_at, is_on}
-use Rattle.ados_ram.specs.Place.{key_of, last_name, is_same_key}
+use Rattle.ados_ram.specs.Place.{Place, key_of, last_name, is_same_key}
 use Rattle.ados_ram.specs.Entry.{is_directory, bytes_of}
 use Rattle.ados_ram.specs.Files.{Files, is_some_file, is_some_directory}
 use Rattle.ados_ram.specs.InUse.{InUse, is_output}
 use Rattle.ados_ram.specs.FileOperations.{read_fault, write_as_of, write_fault}
 use Rattle.ados_ram.specs.Written.{full_path}
 use Rattle.ados_ram.specs.declared.entries.Entry.{Entry}
-use Rattle.ados_find.specs.declared.codes.Codes.{Codes}
 use Rattle.ados_find.specs.Codes.{fail_codes}
 use Rattle.ados_find.specs.Shared.{SharedState, with_files}
 use Rattle.ados_find.specs.Views.{View}
-use Rattle.ados_find.specs.Effects.{Effect, codes_effect}
+use Rattle.ados_find.specs.Effects.{Effect, codes_effect, if_found, if_given}
 use Rattle.ados_find.specs.Done.{Done, fresh_work, refused_or, unless_stopped, act_on_each, end_effect}
 use Rattle.ados_find.specs.Paths.{place_of}
 use Rattle.ados_files.specs.Names.{FoundPlaces}
@@ -27,33 +27,33 @@ use Rattle.ados_files.specs.Jobs.{sources_of, all_jobs, target_jobs}
 use Rattle.ados_files.specs.declared.jobs.Job.{Job}
 
 -- the directories between a place and one below it, from the top down
-abbrev pub middle_directories : List (List ℕ) → List (List ℕ) → List (List (List ℕ))
+abbrev pub middle_directories : Place → Place → List Place
 middle_directories above [] = []
 middle_directories above (name ∷ []) = []
 middle_directories above (name ∷ next ∷ rest) = (above ++ name ∷ []) ∷ middle_directories (above ++ name ∷ []) (next ∷ rest)
 
 -- a directory is created if there is nothing; a file in its place is refused
-abbrev pub ensure_directory : Done → List (List ℕ) → Option Entry → Done
+abbrev pub ensure_directory : Done → Place → Option Entry → Done
 ensure_directory done place None = make_one done place
 ensure_directory done place (Some e) = cond (is_directory e) done (refused_or (Some WRONG_TYPE) done done)
 
-abbrev pub make_missing : Done → List (List ℕ) → Done
+abbrev pub make_missing : Done → Place → Done
 make_missing done place = ensure_directory done place (map.get done.shared.files (key_of place))
 
 -- a file copied onto itself is refused
-abbrev pub itself_fault : List (List ℕ) → List (List ℕ) → Option Result2
+abbrev pub itself_fault : Place → Place → Option Result2
 itself_fault source target = if is_same_key (key_of source) (key_of target) then Some OBJECT_IN_USE else None
 
 -- and then one that cannot be read
-abbrev pub copy_fault : InUse → Files → List (List ℕ) → List (List ℕ) → Option Result2
+abbrev pub copy_fault : InUse → Files → Place → Place → Option Result2
 copy_fault busy files source target =
     option_or (itself_fault source target) (read_fault (is_output busy (key_of source)) (map.get files (key_of source)))
 
-abbrev pub copied_line : Files → List (List ℕ) → List ℕ
+abbrev pub copied_line : Files → Place → Bytes
 copied_line files source = full_path files source ++ codes "..copied\n"
 
 -- the bytes are written; a new file takes the source's bits and no comment
-abbrev pub copy_written : View → Bool → List (List ℕ) → List (List ℕ) → Entry → Done → Done
+abbrev pub copy_written : View → Bool → Place → Place → Entry → Done → Done
 copy_written view quiet source target e done =
     refused_or (write_fault (is_output view.busy (key_of target)) done.shared.files (key_of target) (last_name target) (bytes_of e)) done
     (record done {
@@ -61,23 +61,23 @@ copy_written view quiet source target e done =
       output = say quiet done.output (copied_line done.shared.files source);
     })
 
-abbrev pub copy_unless : View → Bool → List (List ℕ) → List (List ℕ) → Entry → Done → Done
+abbrev pub copy_unless : View → Bool → Place → Place → Entry → Done → Done
 copy_unless view quiet source target e done = unless_stopped done.stopped done (copy_written view quiet source target e done)
 
 -- the source, if it exists, is copied to a place below TO: missing directories are created, and it is written
-abbrev pub copy_entry : View → Bool → List (List ℕ) → Done → Job → Option Entry → Done
+abbrev pub copy_entry : View → Bool → Place → Done → Job → Option Entry → Done
 copy_entry view quiet to done job None = done
 copy_entry view quiet to done job (Some e) =
     copy_unless view quiet job.source (to ++ job.names) e (act_on_each make_missing done (middle_directories to job.names))
 
 -- one file is copied, unless it is refused
-abbrev pub copy_one : View → Bool → List (List ℕ) → Done → Job → Done
+abbrev pub copy_one : View → Bool → Place → Done → Job → Done
 copy_one view quiet to done job =
     refused_or (copy_fault view.busy done.shared.files job.source (to ++ job.names)) done
     (copy_entry view quiet to done job (map.get done.shared.files (key_of job.source)))
 
 -- the entry at the source, if there is just one that is named by its path
-abbrev pub first_entry : Files → List (List (List ℕ)) → Option Entry
+abbrev pub first_entry : Files → List Place → Option Entry
 first_entry files [] = None
 first_entry files (place ∷ places) = map.get files (key_of place)
 
@@ -85,39 +85,39 @@ abbrev pub one_entry : Files → FoundPlaces → Option Entry
 one_entry files found = if found.literal then first_entry files found.places else None
 
 -- TO has to be a directory: a missing one is created only for a single directory, and otherwise refused, as is a file
-abbrev pub directory_for : Bool → List (List ℕ) → Done → Option Entry → Done
+abbrev pub directory_for : Bool → Place → Done → Option Entry → Done
 directory_for true to done there = ensure_directory done to there
 directory_for false to done None = refused_or (Some DIRECTORY_NOT_FOUND) done done
 directory_for false to done (Some e) = ensure_directory done to (Some e)
 
 -- files are copied into a directory; the list of them is made before the first write
-abbrev pub copy_into : View → Bool → Bool → FoundPlaces → Done → List (List ℕ) → Done
+abbrev pub copy_into : View → Bool → Bool → FoundPlaces → Done → Place → Done
 copy_into view all quiet found done to = (let files = done.shared.files in
     act_on_each (copy_one view quiet to) (directory_for (is_some_directory (one_entry files found)) to done (map.get files (key_of to))) (all_jobs all files found.places))
 
 -- just one file, and a TO that is not a directory: TO itself is written
-abbrev pub is_onto : Files → FoundPlaces → List (List ℕ) → Bool
+abbrev pub is_onto : Files → FoundPlaces → Place → Bool
 is_onto files found to = is_some_file (one_entry files found) && not (is_some_directory (map.get files (key_of to)))
 
-abbrev pub copy_found : View → Bool → Bool → FoundPlaces → Done → List (List ℕ) → Done
+abbrev pub copy_found : View → Bool → Bool → FoundPlaces → Done → Place → Done
 copy_found view all quiet found done to =
     if is_onto done.shared.files found to then act_on_each (copy_one view quiet to) done (target_jobs found.places)
     else copy_into view all quiet found done to
 
--- first the sources are looked up, then TO
-abbrev pub copy_into_target : SharedState → View → Bool → Bool → FoundPlaces → Result (List (List ℕ)) Codes → Effect
-copy_into_target shared view all quiet found (Err codes) = codes_effect shared codes
-copy_into_target shared view all quiet found (Ok to) = end_effect (copy_found view all quiet found (fresh_work shared) to)
+abbrev pub copy_to_place : SharedState → View → Bool → Bool → FoundPlaces → Place → Effect
+copy_to_place shared view all quiet found to = end_effect (copy_found view all quiet found (fresh_work shared) to)
 
-abbrev pub copy_of_sources : SharedState → View → Bool → Bool → Result FoundPlaces Codes → List ℕ → Effect
-copy_of_sources shared view all quiet (Err codes) to = codes_effect shared codes
-copy_of_sources shared view all quiet (Ok found) to = copy_into_target shared view all quiet found (place_of shared view.parts.directory to)
+-- first the sources are looked up, then TO
+abbrev pub copy_into_target : SharedState → View → Bool → Bool → Text → FoundPlaces → Effect
+copy_into_target shared view all quiet to found =
+    if_found (codes_effect shared) (place_of shared view.parts.directory to) (copy_to_place shared view all quiet found)
 
 -- without FROM an argument is missing; the template ensures that TO is not
-abbrev pub copy_by_texts : SharedState → View → Bool → Bool → List (List ℕ) → Option (List ℕ) → Effect
-copy_by_texts shared view all quiet texts None = codes_effect shared (fail_codes ARGUMENT_MISSING)
-copy_by_texts shared view all quiet [] (Some to) = codes_effect shared (fail_codes ARGUMENT_MISSING)
-copy_by_texts shared view all quiet (text ∷ texts) (Some to) = copy_of_sources shared view all quiet (sources_of shared view.parts.directory (text ∷ texts)) to
+abbrev pub copy_by_texts : SharedState → View → Bool → Bool → List Text → Text → Effect
+copy_by_texts shared view all quiet [] to = codes_effect shared (fail_codes ARGUMENT_MISSING)
+copy_by_texts shared view all quiet (text ∷ texts) to =
+    if_found (codes_effect shared) (sources_of shared view.parts.directory (text ∷ texts)) (copy_into_target shared view all quiet to)
 
 abbrev pub copy_row : SharedState → View → List Arg → Effect
-copy_row shared view args = copy_by_texts shared view (is_on args 2) (is_on args 3) (texts_at args 0) (text_at args 1)
+copy_row shared view args =
+    if_given (codes_effect shared) (text_at args 1) (copy_by_texts shared view (is_on args 2) (is_on args 3) (texts_at args 0))

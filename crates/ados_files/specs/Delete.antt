@@ -1,9 +1,10 @@
 -- Delete: objects are deleted, with ALL after all that is below them.
-use Rattle.std.specs.Prelude.{ℕ, Bool, true, false, List, [], ◌∷◌, ◌++◌, codes}
+use Rattle.std.specs.Prelude.{Bool, true, false, List, [], ◌∷◌, ◌++◌, codes}
 use Rattle.std.specs.FinMap as map
+use Rattle.ados_text.specs.Text.{Bytes}
 use Rattle.ados_readargs.specs.declared.args.Arg.{Arg}
 use Rattle.ados_readargs.specs.Args.{texts_at, is_on}
-use Rattle.ados_ram.specs.Place.{key_of}
+use Rattle.ados_ram.specs.Place.{Place, key_of}
 use Rattle.ados_ram.specs.Files.{Files}
 use Rattle.ados_ram.specs.FileOperations.{delete_fault}
 use Rattle.ados_ram.specs.Contents.{contents}
@@ -15,11 +16,11 @@ use Rattle.ados_find.specs.Done.{Done, fresh_work, refused_or, act_on_each, end_
 use Rattle.ados_files.specs.Lines.{say}
 use Rattle.ados_files.specs.Acts.{at_names}
 
-abbrev pub deleted_line : Files → List (List ℕ) → List ℕ
+abbrev pub deleted_line : Files → Place → Bytes
 deleted_line files place = full_path files place ++ codes "  Deleted\n"
 
 -- one object is deleted, and its path is reported as it was
-abbrev pub delete_one : View → Bool → Done → List (List ℕ) → Done
+abbrev pub delete_one : View → Bool → Done → Place → Done
 delete_one view quiet done place =
     refused_or (delete_fault view.busy done.shared.files (key_of place)) done
     (record done {
@@ -28,11 +29,11 @@ delete_one view quiet done place =
     })
 
 -- the places that are deleted with a place: with ALL those below it first
-abbrev pub targets : Bool → Files → List (List ℕ) → List (List (List ℕ))
+abbrev pub targets : Bool → Files → Place → List Place
 targets true files place = contents (key_of place) (map.entries files) ++ place ∷ []
 targets false files place = place ∷ []
 
-abbrev pub delete_place : View → Bool → Bool → Done → List (List ℕ) → Done
+abbrev pub delete_place : View → Bool → Bool → Done → Place → Done
 delete_place view all quiet done place = act_on_each (delete_one view quiet) done (targets all done.shared.files place)
 
 abbrev pub delete_row : SharedState → View → List Arg → Effect

@@ -1,7 +1,7 @@
 -- Dir: what is in a directory, with its directories first.
-use Rattle.std.specs.Prelude.{ℕ, Bool, cond, List, [], ◌∷◌, ◌++◌, codes, Option, Some, None, Result, Ok, Err, if◌then◌else◌}
+use Rattle.std.specs.Prelude.{Bool, cond, List, [], ◌∷◌, ◌++◌, codes, Option, Some, None, Result, Ok, if◌then◌else◌}
 use Rattle.std.specs.FinMap as map
-use Rattle.ados_text.specs.declared.codes.Result2.{Result2}
+use Rattle.ados_text.specs.Text.{Bytes, Text}
 use Rattle.ados_readargs.specs.declared.args.Arg.{Arg}
 use Rattle.ados_readargs.specs.Args.{text_at, is_on}
 use Rattle.ados_ram.specs.Place.{Place, key_of}
@@ -10,49 +10,45 @@ use Rattle.ados_ram.specs.Files.{Files}
 use Rattle.ados_ram.specs.FileOperations.{list_fault}
 use Rattle.ados_ram.specs.declared.entries.Entry.{Entry}
 use Rattle.ados_find.specs.declared.codes.Codes.{Codes}
-use Rattle.ados_find.specs.Codes.{error_codes}
 use Rattle.ados_find.specs.Shared.{SharedState}
 use Rattle.ados_find.specs.Views.{View}
-use Rattle.ados_find.specs.Effects.{Effect, codes_effect, output_effect}
+use Rattle.ados_find.specs.Effects.{Effect, codes_effect, if_found, output_effect, unless_refused}
 use Rattle.ados_find.specs.Paths.{bases_of}
 use Rattle.ados_files.specs.Bases.{all_children, entry_at}
 use Rattle.ados_files.specs.Lines.{keeps, lines_by}
 
 -- a directory has a line of its own among directories, and a file among files
-abbrev pub directory_line : Option Entry → List ℕ
+abbrev pub directory_line : Option Entry → Bytes
 directory_line None = []
 directory_line (Some e) = cond (is_directory e) (codes "     " ++ e.name ++ codes " (dir)\n") []
 
-abbrev pub file_line : Option Entry → List ℕ
+abbrev pub file_line : Option Entry → Bytes
 file_line None = []
 file_line (Some e) = cond (is_directory e) [] (codes "  " ++ e.name ++ 10 ∷ [])
 
 -- the lines of the directories
-abbrev pub directories_text : Bool → Files → List (List (List ℕ)) → List ℕ
+abbrev pub directories_text : Bool → Files → List Place → Bytes
 directories_text kept files places = if kept then lines_by directory_line files places else []
 
 -- the lines of the files
-abbrev pub files_text : Bool → Files → List (List (List ℕ)) → List ℕ
+abbrev pub files_text : Bool → Files → List Place → Bytes
 files_text kept files places = if kept then lines_by file_line files places else []
 
 -- DIRS shows directories alone, FILES files alone; both or neither show both
-abbrev pub dir_text : Bool → Bool → Files → List (List (List ℕ)) → List ℕ
+abbrev pub dir_text : Bool → Bool → Files → List Place → Bytes
 dir_text dirs files ram places = directories_text (keeps dirs files) ram places ++ files_text (keeps files dirs) ram places
 
-abbrev pub dir_unless : Option Result2 → SharedState → List ℕ → Effect
-dir_unless None shared text = output_effect shared text
-dir_unless (Some fault) shared text = codes_effect shared (error_codes fault)
-
 -- the directories for which a path stands
-abbrev pub dir_at : SharedState → Bool → Bool → Result (List Place) Codes → Effect
-dir_at shared dirs files (Err codes) = codes_effect shared codes
-dir_at shared dirs files (Ok bases) =
-    dir_unless (list_fault (entry_at shared.files bases)) shared (dir_text dirs files shared.files (all_children shared.files bases))
+abbrev pub dir_at : SharedState → Bool → Bool → List Place → Effect
+dir_at shared dirs files bases =
+    unless_refused (codes_effect shared) (list_fault (entry_at shared.files bases))
+    (output_effect shared (dir_text dirs files shared.files (all_children shared.files bases)))
 
 -- the directories of DIR, or without it the current directory
-abbrev pub directories_given : SharedState → View → Option (List ℕ) → Result (List Place) Codes
+abbrev pub directories_given : SharedState → View → Option Text → Result (List Place) Codes
 directories_given shared view None = Ok (view.parts.directory ∷ [])
 directories_given shared view (Some text) = bases_of shared view.parts.directory text
 
 abbrev pub dir_row : SharedState → View → List Arg → Effect
-dir_row shared view args = dir_at shared (is_on args 1) (is_on args 2) (directories_given shared view (text_at args 0))
+dir_row shared view args =
+    if_found (codes_effect shared) (directories_given shared view (text_at args 0)) (dir_at shared (is_on args 1) (is_on args 2))

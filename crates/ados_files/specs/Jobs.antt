@@ -1,7 +1,8 @@
 -- The files that Copy copies: each with the names of its copy below TO.
-use Rattle.std.specs.Prelude.{ℕ, Bool, false, cond, List, [], ◌∷◌, ◌++◌, drop, length, Option, Some, None, Result, Ok, Err}
+use Rattle.std.specs.Prelude.{Bool, false, cond, List, [], ◌∷◌, ◌++◌, drop, length, Option, Some, None, Result, Ok, Err}
 use Rattle.std.specs.FinMap as map
-use Rattle.ados_ram.specs.Place.{key_of}
+use Rattle.ados_text.specs.Text.{Text}
+use Rattle.ados_ram.specs.Place.{Place, key_of}
 use Rattle.ados_ram.specs.Entry.{is_directory}
 use Rattle.ados_ram.specs.Files.{Files}
 use Rattle.ados_ram.specs.Contents.{files_below}
@@ -13,7 +14,7 @@ use Rattle.ados_files.specs.Names.{FoundPlaces, named_places}
 use Rattle.ados_files.specs.declared.jobs.Job.{Job}
 
 -- the objects of several arguments, one after the other, or the first refusal
-abbrev pub prepend_places : List (List (List ℕ)) → Result FoundPlaces Codes → Result FoundPlaces Codes
+abbrev pub prepend_places : List Place → Result FoundPlaces Codes → Result FoundPlaces Codes
 prepend_places places (Err codes) = Err codes
 prepend_places places (Ok more) = Ok (record more { places = places ++ more.places })
 
@@ -21,37 +22,37 @@ abbrev pub found_in_order : Result FoundPlaces Codes → Result FoundPlaces Code
 found_in_order (Err codes) more = Err codes
 found_in_order (Ok found) more = prepend_places found.places more
 
-abbrev pub gathered_places : SharedState → List (List ℕ) → List (List ℕ) → Result FoundPlaces Codes
+abbrev pub gathered_places : SharedState → Place → List Text → Result FoundPlaces Codes
 gathered_places shared directory [] = Ok (record { literal = false; places = [] })
 gathered_places shared directory (text ∷ texts) = found_in_order (named_places shared directory text) (gathered_places shared directory texts)
 
 -- what the arguments name: just one object by its path only if there is one argument
-abbrev pub sources_of : SharedState → List (List ℕ) → List (List ℕ) → Result FoundPlaces Codes
+abbrev pub sources_of : SharedState → Place → List Text → Result FoundPlaces Codes
 sources_of shared directory [] = gathered_places shared directory []
 sources_of shared directory (text ∷ []) = named_places shared directory text
 sources_of shared directory (text ∷ next ∷ texts) = gathered_places shared directory (text ∷ next ∷ texts)
 
 -- a file below a directory keeps its path below it, with its names as they are written
-abbrev pub directory_job : Files → List (List ℕ) → List (List ℕ) → Job
+abbrev pub directory_job : Files → Place → Place → Job
 directory_job files directory place = record { source = place; names = drop (length directory) (written_place files place) }
 
-abbrev pub directory_jobs : Files → List (List ℕ) → List (List (List ℕ)) → List Job
+abbrev pub directory_jobs : Files → Place → List Place → List Job
 directory_jobs files directory [] = []
 directory_jobs files directory (place ∷ places) = directory_job files directory place ∷ directory_jobs files directory places
 
 -- a directory stands for its files, with ALL for all that are below it; a file keeps its name
-abbrev pub source_jobs : Bool → Files → List (List ℕ) → Option Entry → List Job
+abbrev pub source_jobs : Bool → Files → Place → Option Entry → List Job
 source_jobs all files place None = []
 source_jobs all files place (Some e) =
     cond (is_directory e) (directory_jobs files place (files_below all (key_of place) (map.entries files)))
     (record { source = place; names = e.name ∷ [] } ∷ [])
 
 -- the files that sources stand for
-abbrev pub all_jobs : Bool → Files → List (List (List ℕ)) → List Job
+abbrev pub all_jobs : Bool → Files → List Place → List Job
 all_jobs all files [] = []
 all_jobs all files (place ∷ places) = source_jobs all files place (map.get files (key_of place)) ++ all_jobs all files places
 
 -- files that are copied to TO itself
-abbrev pub target_jobs : List (List (List ℕ)) → List Job
+abbrev pub target_jobs : List Place → List Job
 target_jobs [] = []
 target_jobs (place ∷ places) = record { source = place; names = [] } ∷ target_jobs places

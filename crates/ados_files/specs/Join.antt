@@ -1,21 +1,20 @@
 -- Join: files are written, one after the other, to a file.
-use Rattle.std.specs.Prelude.{ℕ, List, [], Option, Some, None}
-use Rattle.ados_text.specs.declared.codes.TheConstants.Result2.{ARGUMENT_MISSING}
+use Rattle.std.specs.Prelude.{List, []}
+use Rattle.ados_text.specs.Text.{Bytes, Text}
 use Rattle.ados_readargs.specs.declared.args.Arg.{Arg}
 use Rattle.ados_readargs.specs.Args.{texts_at, text_at}
-use Rattle.ados_ram.specs.Place.{key_of, last_name}
+use Rattle.ados_ram.specs.Place.{Place, key_of, last_name}
 use Rattle.ados_ram.specs.InUse.{is_output}
 use Rattle.ados_ram.specs.FileOperations.{write_of, write_fault}
-use Rattle.ados_find.specs.Codes.{fail_codes}
 use Rattle.ados_find.specs.Shared.{SharedState, with_files}
 use Rattle.ados_find.specs.Views.{View}
-use Rattle.ados_find.specs.Effects.{Effect, codes_effect}
+use Rattle.ados_find.specs.Effects.{Effect, codes_effect, if_given}
 use Rattle.ados_find.specs.Done.{Done, fresh_work, refused_or, unless_stopped, act_on_each, end_effect}
 use Rattle.ados_files.specs.Acts.{at_path}
 use Rattle.ados_files.specs.TypeFiles.{type_one}
 
 -- bytes are written to a file
-abbrev pub write_one : View → List ℕ → Done → List (List ℕ) → Done
+abbrev pub write_one : View → Bytes → Done → Place → Done
 write_one view bytes done place =
     refused_or (write_fault (is_output view.busy (key_of place)) done.shared.files (key_of place) (last_name place) bytes) done
     (record done { shared = with_files done.shared (write_of done.shared.files (key_of place) (last_name place) bytes) })
@@ -25,17 +24,16 @@ abbrev pub without_output : Done → Done
 without_output done = record done { output = [] }
 
 -- all that was read is written, if nothing was refused
-abbrev pub write_read : View → List ℕ → Done → Done
+abbrev pub write_read : View → Text → Done → Done
 write_read view to read = unless_stopped read.stopped (without_output read) (at_path (write_one view read.output) view (without_output read) to)
 
 -- all files are read first
-abbrev pub join_to_target : View → List (List ℕ) → Done → List ℕ → Done
+abbrev pub join_to_target : View → List Text → Done → Text → Done
 join_to_target view texts done to = write_read view to (act_on_each (at_path (type_one view) view) done texts)
 
 -- the template ensures that TO is not missing
-abbrev pub join_by_texts : SharedState → View → List (List ℕ) → Option (List ℕ) → Effect
-join_by_texts shared view texts None = codes_effect shared (fail_codes ARGUMENT_MISSING)
-join_by_texts shared view texts (Some to) = end_effect (join_to_target view texts (fresh_work shared) to)
+abbrev pub join_by_texts : SharedState → View → List Text → Text → Effect
+join_by_texts shared view texts to = end_effect (join_to_target view texts (fresh_work shared) to)
 
 abbrev pub join_row : SharedState → View → List Arg → Effect
-join_row shared view args = join_by_texts shared view (texts_at args 0) (text_at args 1)
+join_row shared view args = if_given (codes_effect shared) (text_at args 1) (join_by_texts shared view (texts_at args 0))

@@ -1,6 +1,7 @@
 -- List: objects, and what is in directories.
-use Rattle.std.specs.Prelude.{ℕ, Bool, true, false, cond, ◌&&◌, List, [], ◌∷◌, ◌++◌, Option, Some, None, Result, Ok, Err, if◌then◌else◌}
+use Rattle.std.specs.Prelude.{Bool, true, false, cond, ◌&&◌, List, [], ◌∷◌, ◌++◌, Option, Some, None, Result, Ok, Err, if◌then◌else◌}
 use Rattle.std.specs.FinMap as map
+use Rattle.ados_text.specs.Text.{Bytes, Text}
 use Rattle.ados_pattern.specs.Meaning.{Meaning}
 use Rattle.ados_readargs.specs.declared.args.Arg.{Arg}
 use Rattle.ados_readargs.specs.Args.{texts_at, text_at, is_on}
@@ -13,7 +14,7 @@ use Rattle.ados_ram.specs.declared.entries.Entry.{Entry}
 use Rattle.ados_find.specs.declared.codes.Codes.{Codes}
 use Rattle.ados_find.specs.Shared.{SharedState}
 use Rattle.ados_find.specs.Views.{View}
-use Rattle.ados_find.specs.Effects.{Effect, codes_effect}
+use Rattle.ados_find.specs.Effects.{Effect, codes_effect, if_found}
 use Rattle.ados_find.specs.Done.{Done, fresh_work, stop_with_codes, refused_or, act_on_each, end_effect}
 use Rattle.ados_pattern.specs.Matching.{is_match}
 use Rattle.ados_files.specs.Bases.{all_children, entry_at}
@@ -31,14 +32,14 @@ abbrev pub is_kept : Shape → Entry → Bool
 is_kept shape e = cond (is_directory e) (keeps shape.dirs shape.files) (keeps shape.files shape.dirs)
 
 -- QUICK shows the name alone
-abbrev pub shown_line : Bool → Entry → List ℕ
+abbrev pub shown_line : Bool → Entry → Bytes
 shown_line true e = e.name ++ 10 ∷ []
 shown_line false e = list_line e
 
-abbrev pub kept_line : Shape → Entry → List ℕ
+abbrev pub kept_line : Shape → Entry → Bytes
 kept_line shape e = if is_kept shape e && passes shape.pattern e then shown_line shape.quick e else []
 
-abbrev pub line_by_shape : Shape → Option Entry → List ℕ
+abbrev pub line_by_shape : Shape → Option Entry → Bytes
 line_by_shape shape None = []
 line_by_shape shape (Some e) = kept_line shape e
 
@@ -51,24 +52,23 @@ entries_of files places (Some e) = cond (is_directory e) (all_children files pla
 abbrev pub listed_places : Files → FoundPlaces → List Place
 listed_places files found = if found.literal then entries_of files found.places (entry_at files found.places) else found.places
 
-abbrev pub list_places : Shape → Done → List (List (List ℕ)) → Done
+abbrev pub list_places : Shape → Done → List Place → Done
 list_places shape done places = record done { output = done.output ++ lines_by (line_by_shape shape) done.shared.files places }
 
-abbrev pub list_found : Shape → Done → Result FoundPlaces Codes → Done
-list_found shape done (Err codes) = stop_with_codes codes done
-list_found shape done (Ok found) = list_places shape done (listed_places done.shared.files found)
+abbrev pub list_found : Shape → Done → FoundPlaces → Done
+list_found shape done found = list_places shape done (listed_places done.shared.files found)
 
-abbrev pub list_text : Shape → View → Done → List ℕ → Done
-list_text shape view done text = list_found shape done (named_bases done.shared view.parts.directory text)
+abbrev pub list_text : Shape → View → Done → Text → Done
+list_text shape view done text = if_found (stop_with_codes done) (named_bases done.shared view.parts.directory text) (list_found shape done)
 
 -- the objects in a directory
-abbrev pub list_at : Shape → Done → List (List ℕ) → Done
+abbrev pub list_at : Shape → Done → Place → Done
 list_at shape done place =
     refused_or (list_fault (map.get done.shared.files (key_of place))) done
     (list_places shape done (children (key_of place) (map.entries done.shared.files)))
 
 -- without arguments the current directory
-abbrev pub list_texts : Shape → View → Done → List (List ℕ) → Done
+abbrev pub list_texts : Shape → View → Done → List Text → Done
 list_texts shape view done [] = list_at shape done view.parts.directory
 list_texts shape view done (text ∷ texts) = act_on_each (list_text shape view) done (text ∷ texts)
 
@@ -77,15 +77,14 @@ abbrev pub some_pattern : Result Meaning Codes → Result (Option Meaning) Codes
 some_pattern (Err codes) = Err codes
 some_pattern (Ok pattern) = Ok (Some pattern)
 
-abbrev pub pattern_given : Option (List ℕ) → Result (Option Meaning) Codes
+abbrev pub pattern_given : Option Text → Result (Option Meaning) Codes
 pattern_given None = Ok None
 pattern_given (Some text) = some_pattern (pattern_of text)
 
-abbrev pub list_by : SharedState → View → List Arg → Result (Option Meaning) Codes → Effect
-list_by shared view args (Err codes) = codes_effect shared codes
-list_by shared view args (Ok pattern) =
+abbrev pub list_by : SharedState → View → List Arg → Option Meaning → Effect
+list_by shared view args pattern =
     end_effect
     (list_texts (record { pattern = pattern; quick = is_on args 2; files = is_on args 3; dirs = is_on args 4 }) view (fresh_work shared) (texts_at args 0))
 
 abbrev pub list_row : SharedState → View → List Arg → Effect
-list_row shared view args = list_by shared view args (pattern_given (text_at args 1))
+list_row shared view args = if_found (codes_effect shared) (pattern_given (text_at args 1)) (list_by shared view args)

@@ -1,9 +1,10 @@
 -- MakeDir: directories are created, by their paths.
-use Rattle.std.specs.Prelude.{ℕ, List, [], ◌∷◌}
+use Rattle.std.specs.Prelude.{List, [], ◌∷◌}
+use Rattle.ados_text.specs.Text.{Text}
 use Rattle.ados_text.specs.declared.codes.TheConstants.Result2.{ARGUMENT_MISSING}
 use Rattle.ados_readargs.specs.declared.args.Arg.{Arg}
 use Rattle.ados_readargs.specs.Args.{texts_at}
-use Rattle.ados_ram.specs.Place.{key_of, last_name}
+use Rattle.ados_ram.specs.Place.{Place, key_of, last_name}
 use Rattle.ados_ram.specs.FileOperations.{make_dir_of, make_dir_fault}
 use Rattle.ados_find.specs.Codes.{fail_codes}
 use Rattle.ados_find.specs.Shared.{SharedState, with_files}
@@ -13,13 +14,13 @@ use Rattle.ados_find.specs.Done.{Done, fresh_work, refused_or, act_on_each, end_
 use Rattle.ados_files.specs.Acts.{at_path}
 
 -- one directory is created
-abbrev pub make_one : Done → List (List ℕ) → Done
+abbrev pub make_one : Done → Place → Done
 make_one done place =
     refused_or (make_dir_fault done.shared.files (key_of place) (last_name place)) done
     (record done { shared = with_files done.shared (make_dir_of done.shared.files (key_of place) (last_name place)) })
 
 -- without a name an argument is missing
-abbrev pub make_all : SharedState → View → List (List ℕ) → Effect
+abbrev pub make_all : SharedState → View → List Text → Effect
 make_all shared view [] = codes_effect shared (fail_codes ARGUMENT_MISSING)
 make_all shared view (text ∷ texts) = end_effect (act_on_each (at_path make_one view) (fresh_work shared) (text ∷ texts))
 

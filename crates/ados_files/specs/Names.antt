@@ -1,5 +1,5 @@
 -- Arguments that name objects: a path, whose last piece may be a pattern of names.
-use Rattle.std.specs.Prelude.{ℕ, List, [], ◌∷◌, ◌++◌, take, drop, Bool, true, false, cond, Option, Some, None, Result, Ok, Err}
+use Rattle.std.specs.Prelude.{List, [], ◌∷◌, ◌++◌, take, drop, Bool, true, false, cond, Option, Some, None, Result, Ok, Err}
 use Rattle.std.specs.FinMap as map
 use Rattle.ados_text.specs.Text.{Text}
 use Rattle.ados_text.specs.declared.codes.Result2.{Result2}
@@ -16,6 +16,7 @@ use Rattle.ados_ram.specs.Files.{Files}
 use Rattle.ados_ram.specs.declared.entries.Entry.{Entry}
 use Rattle.ados_find.specs.declared.codes.Codes.{Codes}
 use Rattle.ados_find.specs.Codes.{error_codes, warning_codes}
+use Rattle.ados_find.specs.Effects.{if_found}
 use Rattle.ados_find.specs.Shared.{SharedState}
 use Rattle.ados_find.specs.Paths.{place_of, bases_of}
 use Rattle.ados_pattern.specs.Matching.{is_match}
@@ -32,13 +33,13 @@ abbrev pub pattern_unless : Option PatternFault → Meaning → Result Meaning C
 pattern_unless None meaning = Ok meaning
 pattern_unless (Some fault) meaning = Err (pattern_codes fault)
 
-abbrev pub pattern_of : List ℕ → Result Meaning Codes
+abbrev pub pattern_of : Text → Result Meaning Codes
 pattern_of text = pattern_unless (fault_of text) (meaning_of text)
 
 -- the objects that an argument names, and whether it names just one, by its path
 pub record FoundPlaces : Type 0 where
   pub literal : Bool
-  pub places : List (List (List ℕ))
+  pub places : List Place
 
 -- there is an entry, and its name matches
 abbrev pub matches_form : Form → Option Entry → Bool
@@ -46,13 +47,13 @@ matches_form form None = false
 matches_form form (Some e) = is_match form e.name
 
 -- those of the places whose names match
-abbrev pub matching_places : Form → Files → List (List (List ℕ)) → List (List (List ℕ))
+abbrev pub matching_places : Form → Files → List Place → List Place
 matching_places form files [] = []
 matching_places form files (place ∷ places) =
     cond (matches_form form (map.get files (key_of place))) (place ∷ matching_places form files places) (matching_places form files places)
 
 -- if nothing matches, there is a warning
-abbrev pub some_matches : List (List (List ℕ)) → Result FoundPlaces Codes
+abbrev pub some_matches : List Place → Result FoundPlaces Codes
 some_matches [] = Err (warning_codes OBJECT_NOT_FOUND)
 some_matches (place ∷ places) = Ok (record { literal = false; places = place ∷ places })
 
@@ -63,55 +64,50 @@ matches_in form files bases (Some e) =
     cond (is_directory e) (some_matches (matching_places form files (all_children files bases))) (Err (error_codes WRONG_TYPE))
 
 -- the one object, if it exists
-abbrev pub the_one : List (List ℕ) → Option Entry → Result FoundPlaces Codes
+abbrev pub the_one : Place → Option Entry → Result FoundPlaces Codes
 the_one place None = Err (error_codes OBJECT_NOT_FOUND)
 the_one place (Some e) = Ok (record { literal = true; places = place ∷ [] })
 
 -- the same, given the directories for which a path stands, and the place to which it leads
-abbrev pub matches_at : Form → Files → Result (List Place) Codes → Result FoundPlaces Codes
-matches_at form files (Err codes) = Err codes
-matches_at form files (Ok bases) = matches_in form files bases (entry_at files bases)
+abbrev pub matches_at : Form → Files → List Place → Result FoundPlaces Codes
+matches_at form files bases = matches_in form files bases (entry_at files bases)
 
-abbrev pub one_at : Files → Result (List (List ℕ)) Codes → Result FoundPlaces Codes
-one_at files (Err codes) = Err codes
-one_at files (Ok place) = the_one place (map.get files (key_of place))
+abbrev pub one_at : Files → Place → Result FoundPlaces Codes
+one_at files place = the_one place (map.get files (key_of place))
 
 -- a literal piece is a name after the path before it; a pattern stands for its matches in the directories of that path
-abbrev pub places_by_form : SharedState → List (List ℕ) → List ℕ → Form → Option (List ℕ) → Result FoundPlaces Codes
-places_by_form shared directory head form (Some name) = one_at shared.files (place_of shared directory (head ++ name))
-places_by_form shared directory head form None = matches_at form shared.files (bases_of shared directory head)
+abbrev pub places_by_form : SharedState → Place → Text → Form → Option Text → Result FoundPlaces Codes
+places_by_form shared directory head form (Some name) = if_found Err (place_of shared directory (head ++ name)) (one_at shared.files)
+places_by_form shared directory head form None = if_found Err (bases_of shared directory head) (matches_at form shared.files)
 
-abbrev pub places_by_meaning : SharedState → List (List ℕ) → List ℕ → Result Meaning Codes → Result FoundPlaces Codes
-places_by_meaning shared directory head (Err codes) = Err codes
-places_by_meaning shared directory head (Ok pattern) = places_by_form shared directory head pattern.form pattern.name
+abbrev pub places_by_meaning : SharedState → Place → Text → Meaning → Result FoundPlaces Codes
+places_by_meaning shared directory head pattern = places_by_form shared directory head pattern.form pattern.name
 
 -- the path before the last piece of a text, and that piece
-abbrev pub head_of : List ℕ → List ℕ
+abbrev pub head_of : Text → Text
 head_of text = take (last_piece_of text) text
 
-abbrev pub piece_of : List ℕ → List ℕ
+abbrev pub piece_of : Text → Text
 piece_of text = drop (last_piece_of text) text
 
 -- the objects that an argument names
-abbrev pub named_places : SharedState → List (List ℕ) → List ℕ → Result FoundPlaces Codes
-named_places shared directory text = places_by_meaning shared directory (head_of text) (pattern_of (piece_of text))
+abbrev pub named_places : SharedState → Place → Text → Result FoundPlaces Codes
+named_places shared directory text = if_found Err (pattern_of (piece_of text)) (places_by_meaning shared directory (head_of text))
 
 -- the same, with all directories of a literal path that stands for several, as a device alone does
 abbrev pub bases_there : List Place → Option Entry → Result FoundPlaces Codes
 bases_there bases None = Err (error_codes OBJECT_NOT_FOUND)
 bases_there bases (Some e) = Ok (record { literal = true; places = bases })
 
-abbrev pub bases_at : Files → Result (List Place) Codes → Result FoundPlaces Codes
-bases_at files (Err codes) = Err codes
-bases_at files (Ok bases) = bases_there bases (entry_at files bases)
+abbrev pub bases_at : Files → List Place → Result FoundPlaces Codes
+bases_at files bases = bases_there bases (entry_at files bases)
 
 abbrev pub bases_by : SharedState → Place → Text → Form → Option Text → Result FoundPlaces Codes
-bases_by shared directory head form (Some name) = bases_at shared.files (bases_of shared directory (head ++ name))
-bases_by shared directory head form None = matches_at form shared.files (bases_of shared directory head)
+bases_by shared directory head form (Some name) = if_found Err (bases_of shared directory (head ++ name)) (bases_at shared.files)
+bases_by shared directory head form None = if_found Err (bases_of shared directory head) (matches_at form shared.files)
 
-abbrev pub bases_with : SharedState → Place → Text → Result Meaning Codes → Result FoundPlaces Codes
-bases_with shared directory head (Err codes) = Err codes
-bases_with shared directory head (Ok pattern) = bases_by shared directory head pattern.form pattern.name
+abbrev pub bases_with : SharedState → Place → Text → Meaning → Result FoundPlaces Codes
+bases_with shared directory head pattern = bases_by shared directory head pattern.form pattern.name
 
 abbrev pub named_bases : SharedState → Place → Text → Result FoundPlaces Codes
-named_bases shared directory text = bases_with shared directory (head_of text) (pattern_of (piece_of text))
+named_bases shared directory text = if_found Err (pattern_of (piece_of text)) (bases_with shared directory (head_of text))

@@ -2,12 +2,12 @@
 use Rattle.std.specs.Prelude.{ℕ, List, [], ◌∷◌, drop, codes, Bool, true, false, not, ◌&&◌, ◌||◌, ◌==◌, Option, Some, None, Result, Ok, Err, if◌then◌else◌}
 use Rattle.std.specs.List.{list_all, list_any}
 use Rattle.std.specs.FinMap as map
-use Rattle.ados_text.specs.Text.{fold_of}
+use Rattle.ados_text.specs.Text.{Text, fold_of}
 use Rattle.ados_text.specs.declared.codes.Result2.{Result2}
 use Rattle.ados_text.specs.declared.codes.TheConstants.Result2.{BAD_NUMBER, TOO_MANY_ARGUMENTS}
 use Rattle.ados_readargs.specs.declared.args.Arg.{Arg}
 use Rattle.ados_readargs.specs.Args.{texts_at, text_at, is_on}
-use Rattle.ados_ram.specs.Place.{key_of}
+use Rattle.ados_ram.specs.Place.{Place, key_of}
 use Rattle.ados_ram.specs.Entry.{fresh_bits}
 use Rattle.ados_ram.specs.FileOperations.{protect_of, protect_fault}
 use Rattle.ados_ram.specs.declared.entries.Bits.{Bits}
@@ -24,20 +24,20 @@ use Rattle.ados_files.specs.declared.protect.Way.TheVariants.{Set, Add, Take}
 use Rattle.ados_files.specs.declared.protect.Change.{Change}
 
 -- the flags begin with this sign
-abbrev pub begins_with : ℕ → List ℕ → Bool
+abbrev pub begins_with : ℕ → Text → Bool
 begins_with sign [] = false
 begins_with sign (c ∷ cs) = c == sign
 
 -- the letters of the flags: those after a leading `+` or `-`
-abbrev pub letters_of : List ℕ → List ℕ
+abbrev pub letters_of : Text → Text
 letters_of flags = if begins_with 43 flags || begins_with 45 flags then drop 1 flags else flags
 
 -- the letter is among them, with case ignored
-abbrev pub has_letter : ℕ → List ℕ → Bool
+abbrev pub has_letter : ℕ → Text → Bool
 has_letter letter letters = list_any (λ c. fold_of c == letter) letters
 
 -- the bits of letters: h s p a r w e d
-abbrev pub bits_of : List ℕ → Bits
+abbrev pub bits_of : Text → Bits
 bits_of letters =
     record {
       hold = has_letter 104 letters;
@@ -54,7 +54,7 @@ bits_of letters =
 abbrev pub is_letter : ℕ → Bool
 is_letter c = has_letter (fold_of c) (codes "hsparwed")
 
-abbrev pub are_letters : List ℕ → Bool
+abbrev pub are_letters : Text → Bool
 are_letters letters = list_all is_letter letters
 
 -- whether bits are added, removed or set: they cannot be added and removed at once
@@ -64,12 +64,12 @@ way_of true false = Ok Add
 way_of false true = Ok Take
 way_of false false = Ok Set
 
-abbrev pub change_by : Result Way Result2 → List ℕ → Result Change Result2
+abbrev pub change_by : Result Way Result2 → Text → Result Change Result2
 change_by (Err fault) letters = Err fault
 change_by (Ok way) letters = Ok (record { way = way; bits = bits_of letters })
 
 -- the change that the flags and the switches ask for
-abbrev pub change_of : List ℕ → Bool → Bool → Result Change Result2
+abbrev pub change_of : Text → Bool → Bool → Result Change Result2
 change_of flags add sub =
     if are_letters (letters_of flags) then change_by (way_of (add || begins_with 43 flags) (sub || begins_with 45 flags)) (letters_of flags)
     else Err BAD_NUMBER
@@ -100,12 +100,12 @@ bits_at None = fresh_bits
 bits_at (Some e) = e.bits
 
 -- the bits of one object are changed
-abbrev pub protect_one : Change → Done → List (List ℕ) → Done
+abbrev pub protect_one : Change → Done → Place → Done
 protect_one change done place = (let bits = changed_bits change (bits_at (map.get done.shared.files (key_of place))) in
     refused_or (protect_fault done.shared.files (key_of place)) done
     (record done { shared = with_files done.shared (protect_of done.shared.files (key_of place) bits) }))
 
-abbrev pub protect_all : SharedState → View → Result Change Result2 → List (List ℕ) → Effect
+abbrev pub protect_all : SharedState → View → Result Change Result2 → List Text → Effect
 protect_all shared view (Err fault) texts = codes_effect shared (fail_codes fault)
 protect_all shared view (Ok change) texts = end_effect (act_on_each (at_names (protect_one change) view) (fresh_work shared) texts)
 

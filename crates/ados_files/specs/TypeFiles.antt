@@ -1,9 +1,9 @@
 -- Type: the bytes of files, unchanged.
-use Rattle.std.specs.Prelude.{ℕ, List, ◌++◌}
+use Rattle.std.specs.Prelude.{List, ◌++◌}
 use Rattle.std.specs.FinMap as map
 use Rattle.ados_readargs.specs.declared.args.Arg.{Arg}
 use Rattle.ados_readargs.specs.Args.{texts_at}
-use Rattle.ados_ram.specs.Place.{key_of}
+use Rattle.ados_ram.specs.Place.{Place, key_of}
 use Rattle.ados_ram.specs.Files.{bytes_at}
 use Rattle.ados_ram.specs.InUse.{is_output}
 use Rattle.ados_ram.specs.FileOperations.{read_fault}
@@ -14,7 +14,7 @@ use Rattle.ados_find.specs.Done.{Done, fresh_work, refused_or, act_on_each, end_
 use Rattle.ados_files.specs.Acts.{at_names}
 
 -- the bytes of one file are output
-abbrev pub type_one : View → Done → List (List ℕ) → Done
+abbrev pub type_one : View → Done → Place → Done
 type_one view done place =
     refused_or (read_fault (is_output view.busy (key_of place)) (map.get done.shared.files (key_of place))) done
     (record done { output = done.output ++ bytes_at (map.get done.shared.files (key_of place)) })

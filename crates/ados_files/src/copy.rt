@@ -6,7 +6,6 @@ ghost use Rattle.ados_ram.specs.Files.{is_some_file};
 ghost use Rattle.ados_find.specs.Done.{done_of};
 ghost use Rattle.ados_find.specs.Shared.{version};
 ghost use Rattle.ados_find.specs.Effects.{effect_of};
-ghost use Rattle.ados_find.specs.Paths.{place_of};
 ghost use Rattle.ados_files.specs.Copy.{directory_for, copy_into, is_onto, one_entry, copy_found, copy_into_target, copy_row};
 
 use crate::acts::done_with;
@@ -30,14 +29,13 @@ pub fn copy_files(
 ) -> Result<Outcome, NoMemory>
     ensures { IfOk result (λ outcome. effect_of shared.now outcome ≡ copy_row shared.now view.now args.now) }
 {
-    let missing = Codes::failed(Result2::ARGUMENT_MISSING);
     let Some(to) = args.made_text(alloc, 1)? else {
-        return Ok(Outcome::answering(alloc, missing));
+        return Ok(Outcome::missing(alloc));
     };
     let texts = args.made_texts(alloc, 0)?;
     let texts = texts.as_slice();
     if texts.is_empty() {
-        return Ok(Outcome::answering(alloc, missing));
+        return Ok(Outcome::missing(alloc));
     }
     match sources_of(alloc, shared, view.directory, texts) {
         Err(refusal) => Ok(Outcome::answering(alloc, refusal.codes()?)),
@@ -72,7 +70,7 @@ impl<'a> Act<Place> for Copy<'a> {
 
 fn copied_to(alloc: Global, shared: &Shared, copy: &Copy, to: &Text) -> Result<Outcome, NoMemory>
     ensures { IfOk result (λ outcome. effect_of shared.now outcome ≡
-        copy_into_target shared.now copy.now.view.now copy.now.all copy.now.quiet copy.now.found (place_of shared.now copy.now.view.now.parts.directory to.now)) }
+        copy_into_target shared.now copy.now.view.now copy.now.all copy.now.quiet to.now copy.now.found) }
 {
     let view = copy.view;
     match place_of(alloc, shared, view.directory, to) {

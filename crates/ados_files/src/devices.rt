@@ -2,8 +2,6 @@
 ghost use Rattle.std.specs.Prelude.{◌≡◌, ◌++◌, OnOk};
 ghost use Rattle.std.specs.List.{flat_map};
 ghost use Rattle.ados_assign.specs.Uses.{reached_devices};
-ghost use Rattle.ados_readargs.specs.Args.{texts_at};
-ghost use Rattle.ados_find.specs.Search.{device_named};
 ghost use Rattle.ados_files.specs.Devices.{devices_of};
 
 use ados_find::Shared;
@@ -24,25 +22,11 @@ pub fn push_devices(
 ) -> Result<(), NoMemory>
     ensures { OnOk result (used.new.items ≡ used.old.items ++ flat_map (reached_devices shared.now.assigns) (devices_of command args.now)) }
 {
-    push_of(alloc, shared, args, 0, used)?;
+    shared.push_devices_of(used, args.made_texts(alloc, 0)?.as_slice())?;
     match command {
-        FilesCommand::Copy | FilesCommand::Join | FilesCommand::Rename => push_of(
-            alloc, shared, args, 1, used,
-        ),
+        FilesCommand::Copy | FilesCommand::Join | FilesCommand::Rename => {
+            shared.push_devices_of(used, args.made_texts(alloc, 1)?.as_slice())
+        }
         _ => Ok(()),
     }
-}
-
-// Those of the texts of an option.
-fn push_of(
-    alloc: Global,
-    shared: &Shared,
-    args: &Args,
-    place: usize,
-    used: &mut Vec<Name>,
-) -> Result<(), NoMemory>
-    ensures { OnOk result (used.new.items ≡ used.old.items ++ flat_map (reached_devices shared.now.assigns) (flat_map device_named (texts_at args.now place))) }
-{
-    let texts = args.made_texts(alloc, place)?;
-    shared.push_devices_of(used, texts.as_slice())
 }

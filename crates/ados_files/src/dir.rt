@@ -58,7 +58,7 @@ fn dir_at(
     files: bool,
     bases: &[Place],
 ) -> Result<Outcome, NoMemory>
-    ensures { IfOk result (λ outcome. effect_of shared.now outcome ≡ dir_at shared.now dirs files (Ok bases.now)) }
+    ensures { IfOk result (λ outcome. effect_of shared.now outcome ≡ dir_at shared.now dirs files bases.now) }
 {
     match list_refusal(entry_at(&shared.ram, bases)) {
         Some(fault) => Ok(Outcome::answering(alloc, Codes::erred(fault))),

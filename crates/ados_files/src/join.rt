@@ -5,10 +5,10 @@ ghost use Rattle.ados_files.specs.Join.{write_one, write_read, join_to_target, j
 
 use crate::acts::{Paths, at_path, done_with, go_on};
 use crate::type_files::Typing;
-use ados_find::{Act, Codes, Outcome, Shared, ShellView, Work, current, each};
+use ados_find::{Act, Outcome, Shared, ShellView, Work, current, each};
 use ados_ram::Place;
 use ados_readargs::Args;
-use ados_text::{NoMemory, Result2, Text};
+use ados_text::{NoMemory, Text};
 use std::alloc::Global;
 use std::{mem, slice};
 
@@ -22,8 +22,7 @@ pub fn join_files(
     ensures { IfOk result (λ outcome. effect_of shared.now outcome ≡ join_row shared.now view.now args.now) }
 {
     let Some(to) = args.made_text(alloc, 1)? else {
-        let codes = Codes::failed(Result2::ARGUMENT_MISSING);
-        return Ok(Outcome::answering(alloc, codes));
+        return Ok(Outcome::missing(alloc));
     };
     let texts = args.made_texts(alloc, 0)?;
     let act = Joining {

@@ -2,9 +2,10 @@
 ghost use Rattle.std.specs.Prelude.{◌≡◌, ℕ, List, Option, ◌++◌, ◌∷◌, [], OnOk};
 ghost use Rattle.std.specs.Option.{option_copied};
 ghost use Rattle.ados_text.specs.Columns.{right_aligned_text};
+ghost use Rattle.ados_ram.specs.Entry.{bits_text};
 ghost use Rattle.ados_ram.specs.Written.{full_path};
 ghost use Rattle.ados_ram.specs.declared.entries.Entry.{Entry};
-ghost use Rattle.ados_files.specs.Lines.{say, keeps, lines_by, letter, bits_text, size_text, comment_line, list_line};
+ghost use Rattle.ados_files.specs.Lines.{say, keeps, lines_by, size_text, comment_line, list_line};
 
 use ados_ram::{Bits, Body, Entry, Place, Ram};
 use ados_text::{NoMemory, push_left, push_right};
@@ -101,26 +102,7 @@ fn push_size(output: &mut Vec<u8>, body: &Body) -> Result<(), NoMemory>
 fn push_bits(output: &mut Vec<u8>, bits: Bits) -> Result<(), NoMemory>
     ensures { OnOk result (output.new.items ≡ output.old.items ++ (32 ∷ (bits_text bits ++ 10 ∷ []))) }
 {
-    let text = [
-        b' ',
-        letter(bits.hold, b'h'),
-        letter(bits.script, b's'),
-        letter(bits.pure, b'p'),
-        letter(bits.archive, b'a'),
-        letter(bits.read, b'r'),
-        letter(bits.write, b'w'),
-        letter(bits.execute, b'e'),
-        letter(bits.delete, b'd'),
-        b'\n',
-    ];
-    output.extend_from_slice(&text)?;
-    Ok(())
-}
-
-fn letter(on: bool, code: u8) -> u8
-    ensures { result ≡ letter on code }
-{
-    if on { code } else { b'-' }
+    put_between(output, b" ", &bits.letters(), b"\n")
 }
 
 fn push_comment(output: &mut Vec<u8>, comment: &[u8]) -> Result<(), NoMemory>

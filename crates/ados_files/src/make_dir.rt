@@ -4,10 +4,10 @@ ghost use Rattle.ados_find.specs.Effects.{effect_of};
 ghost use Rattle.ados_files.specs.MakeDir.{make_one, make_dir_row};
 
 use crate::acts::{Paths, done_with, go_on};
-use ados_find::{Act, Codes, Outcome, Shared, ShellView, Work, current};
+use ados_find::{Act, Outcome, Shared, ShellView, Work, current};
 use ados_ram::Place;
 use ados_readargs::Args;
-use ados_text::{NoMemory, Result2};
+use ados_text::NoMemory;
 use std::alloc::Global;
 
 /// MakeDir creates directories.
@@ -22,8 +22,7 @@ pub fn make_dir(
     let texts = args.made_texts(alloc, 0)?;
     let texts = texts.as_slice();
     if texts.is_empty() {
-        let codes = Codes::failed(Result2::ARGUMENT_MISSING);
-        return Ok(Outcome::answering(alloc, codes));
+        return Ok(Outcome::missing(alloc));
     }
     done_with(alloc, shared, view, &Paths { act: &Making, view }, texts)
 }

@@ -1,7 +1,8 @@
 // Arguments that name objects.
-ghost use Rattle.std.specs.Prelude.{◌≡◌, ◌∷◌, ◌++◌, [], false, IfOk, OnOk};
+ghost use Rattle.std.specs.Prelude.{◌≡◌, ◌∷◌, ◌++◌, [], false, Err, IfOk, OnOk};
 ghost use Rattle.std.specs.Option.{option_copied};
 ghost use Rattle.ados_files.specs.Bases.{entry_at};
+ghost use Rattle.ados_find.specs.Effects.{if_found};
 ghost use Rattle.ados_find.specs.Paths.{bases_of, place_of, Gives};
 
 use crate::bases::{all_children, entry_at};
@@ -144,7 +145,7 @@ fn matches_at(
     head: &Text,
     pattern: &Pattern,
 ) -> Result<Found, Refusal>
-    ensures { Gives result (matches_at pattern.now.form shared.now.files (bases_of shared.now directory.now head.now)) }
+    ensures { Gives result (if_found Err (bases_of shared.now directory.now head.now) (matches_at pattern.now.form shared.now.files)) }
 {
     let bases = bases_of(alloc, shared, directory, head)?;
     matches_in(alloc, pattern, &shared.ram, bases.as_slice())
@@ -157,7 +158,7 @@ fn bases_at(
     directory: &Place,
     path: &Text,
 ) -> Result<Found, Refusal>
-    ensures { Gives result (bases_at shared.now.files (bases_of shared.now directory.now path.now)) }
+    ensures { Gives result (if_found Err (bases_of shared.now directory.now path.now) (bases_at shared.now.files)) }
 {
     let bases = bases_of(alloc, shared, directory, path)?;
     match entry_at(&shared.ram, bases.as_slice()) {
@@ -171,7 +172,7 @@ fn bases_at(
 
 // The one object to which a path leads.
 fn one_at(alloc: Global, shared: &Shared, directory: &Place, path: &Text) -> Result<Found, Refusal>
-    ensures { Gives result (one_at shared.now.files (place_of shared.now directory.now path.now)) }
+    ensures { Gives result (if_found Err (place_of shared.now directory.now path.now) (one_at shared.now.files)) }
 {
     let place = place_of(alloc, shared, directory, path)?;
     the_one(alloc, &place, shared.ram.look(&place))

@@ -3,11 +3,8 @@ ghost use Rattle.std.specs.FinMap as map;
 ghost use Rattle.std.specs.Option.{option_copied};
 ghost use Rattle.ados_ram.specs.Place.{key_of};
 ghost use Rattle.ados_ram.specs.Files.{is_some_directory};
-ghost use Rattle.ados_text.specs.declared.codes.TheConstants.Result2.{ARGUMENT_MISSING};
-ghost use Rattle.ados_find.specs.Codes.{fail_codes};
-ghost use Rattle.ados_find.specs.Effects.{DoesTo, codes_effect, effect_of};
-ghost use Rattle.ados_find.specs.Paths.{place_of};
-ghost use Rattle.ados_files.specs.Rename.{target_of, rename_to_place, rename_entry, rename_places, rename_row};
+ghost use Rattle.ados_find.specs.Effects.{effect_of};
+ghost use Rattle.ados_files.specs.Rename.{target_of, rename_to_place, rename_entry, rename_from_place, rename_row};
 
 use ados_find::{Codes, Outcome, Renamed, Shared, ShellView, place_of};
 use ados_ram::{Entry, Place, Ram};
@@ -26,22 +23,15 @@ pub fn rename_object(
     ensures { IfOk result (λ outcome. effect_of shared.now outcome ≡ rename_row shared.now view.now args.now) }
 {
     let Some(from) = args.made_text(alloc, 0)? else {
-        return Ok(missing(alloc));
+        return Ok(Outcome::missing(alloc));
     };
     let Some(to) = args.made_text(alloc, 1)? else {
-        return Ok(missing(alloc));
+        return Ok(Outcome::missing(alloc));
     };
     match place_of(alloc, shared, view.directory, &from) {
         Err(refusal) => Ok(Outcome::answering(alloc, refusal.codes()?)),
         Ok(from) => renamed_at(alloc, shared, view, &from, &to),
     }
-}
-
-// An argument is missing.
-fn missing(alloc: Global) -> Outcome
-    ensures { DoesTo result (λ shared. codes_effect shared (fail_codes ARGUMENT_MISSING)) }
-{
-    Outcome::answering(alloc, Codes::failed(Result2::ARGUMENT_MISSING))
 }
 
 fn renamed_at(
@@ -51,7 +41,7 @@ fn renamed_at(
     from: &Place,
     to: &Text,
 ) -> Result<Outcome, NoMemory>
-    ensures { IfOk result (λ outcome. effect_of shared.now outcome ≡ rename_places shared.now view.now (Ok from.now) (place_of shared.now view.now.parts.directory to.now)) }
+    ensures { IfOk result (λ outcome. effect_of shared.now outcome ≡ rename_from_place shared.now view.now to.now from.now) }
 {
     match place_of(alloc, shared, view.directory, to) {
         Err(refusal) => Ok(Outcome::answering(alloc, refusal.codes()?)),

@@ -28,7 +28,7 @@ pub use paths::{bases_of, place_of};
 pub use questions::Question;
 pub use refusals::Refusal;
 pub use routes::{Route, Search};
-pub use search::{Found, ProgramFile, find, find_file};
+pub use search::{Found, ProgramFile, find, find_file, is_path};
 pub use search_path::SearchPath;
 pub use settings::{Setting, Settings};
 pub use shared::Shared;

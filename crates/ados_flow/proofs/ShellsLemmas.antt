@@ -9,17 +9,19 @@ use Rattle.ados_readargs.specs.declared.args.Arg.{Arg}
 use Rattle.ados_readargs.specs.Args.{is_on, text_at}
 use Rattle.ados_find.specs.declared.codes.Codes.{Codes}
 use Rattle.ados_find.specs.Paths.{place_of}
+use Rattle.ados_find.specs.Effects.{if_found, if_given}
 use Rattle.ados_find.specs.Shared.{SharedState}
 use Rattle.ados_find.specs.Views.{IgnoresShells}
 use Rattle.ados_resident.specs.declared.commands.FlowCommand.{FlowCommand}
 use Rattle.ados_resident.specs.declared.commands.FlowCommand.TheVariants.{Execute, If}
 use Rattle.ados_flow.specs.declared.tests.Test.{Test}
 use Rattle.ados_flow.specs.declared.tests.Test.TheVariants.{Warn, Error, Fail, Equal, Greater, GreaterOrEqual, Exists}
+use Rattle.ados_flow.specs.Actions.{codes_action}
 use Rattle.ados_flow.specs.Branches.{if_action, if_row}
-use Rattle.ados_flow.specs.Execute.{execute_file, script_at, script_or_codes, script_place, script_read, script_row}
+use Rattle.ados_flow.specs.Execute.{execute_file, script_at, script_by_word, script_place, script_read, script_row}
 use Rattle.ados_flow.specs.Frames.{ScriptLine}
 use Rattle.ados_flow.specs.Rows.{row_of}
-use Rattle.ados_flow.specs.Tests.{exists, holds, test_result, test_of}
+use Rattle.ados_flow.specs.Tests.{exists, holds, test_of}
 
 exists-ignores : (shared : SharedState) (word : Option Text) → IgnoresShells (λ view. exists shared view word)
 exists-ignores shared None = λ view names uses. refl
@@ -34,14 +36,14 @@ holds-ignores shared args Greater = λ view names uses. refl
 holds-ignores shared args GreaterOrEqual = λ view names uses. refl
 holds-ignores shared args Exists = λ view names uses. ap Ok (exists-ignores shared (text_at args 9) view names uses)
 
-tested-ignores : (shared : SharedState) (args : List Arg) (test : Result Test Codes) → IgnoresShells (λ view. test_result shared view args test)
+tested-ignores : (shared : SharedState) (args : List Arg) (test : Result Test Codes) → IgnoresShells (λ view. if_found Err test (holds shared view args))
 tested-ignores shared args (Err codes) = λ view names uses. refl
 tested-ignores shared args (Ok test) = holds-ignores shared args test
 
 if-ignores : (shared : SharedState) (script_line : Option ScriptLine) (args : List Arg) → IgnoresShells (λ view. if_row shared script_line view args)
 if-ignores shared None args = λ view names uses. refl
 if-ignores shared (Some here) args = λ view names uses.
-    ap (if_action shared (is_on args 0) here) (tested-ignores shared args (test_of args) view names uses)
+    ap (λ held. if_found (codes_action shared) held (if_action shared (is_on args 0) here)) (tested-ignores shared args (test_of args) view names uses)
 
 read-ignores : (shared : SharedState) (place : Place) (args : Text) (read : Result Bytes Result2) → IgnoresShells (λ view. script_read shared view place args read)
 read-ignores shared place args (Err fault) = λ view names uses. refl
@@ -51,15 +53,15 @@ pub script-ignores : (shared : SharedState) (place : Place) (args : Text) → Ig
 unfolding script_row
 script-ignores shared place args = λ view names uses. read-ignores shared place args (read_at shared.files view.busy.outputs place) view names uses
 
-at-ignores : (shared : SharedState) (args : Text) (place : Result Place Codes) → IgnoresShells (λ view. script_at shared view args place)
+at-ignores : (shared : SharedState) (args : Text) (place : Result Place Codes) → IgnoresShells (λ view. if_found (codes_action shared) place (script_at shared view args))
 at-ignores shared args (Err codes) = λ view names uses. refl
 at-ignores shared args (Ok place) = script-ignores shared place args
 
-word-ignores : (shared : SharedState) (word args : Text) (place : Result Place Codes) → IgnoresShells (λ view. script_or_codes shared view word args place)
+word-ignores : (shared : SharedState) (word args : Text) (place : Result Place Codes) → IgnoresShells (λ view. if_found (codes_action shared) place (script_by_word shared view word args))
 word-ignores shared word args (Err codes) = λ view names uses. refl
 word-ignores shared word args (Ok place) = λ view names uses. at-ignores shared args (script_place shared view.parts.directory word place) view names uses
 
-file-ignores : (shared : SharedState) (word : Option Text) (args : Text) → IgnoresShells (λ view. execute_file shared view word args)
+file-ignores : (shared : SharedState) (word : Option Text) (args : Text) → IgnoresShells (λ view. if_given (codes_action shared) word (execute_file shared view args))
 file-ignores shared None args = λ view names uses. refl
 file-ignores shared (Some word) args = λ view names uses. word-ignores shared word args (place_of shared view.parts.directory word) view names uses
 

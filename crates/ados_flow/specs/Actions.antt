@@ -2,7 +2,7 @@
 use Rattle.std.specs.Prelude.{ℕ}
 use Rattle.ados_text.specs.Text.{Text}
 use Rattle.ados_find.specs.declared.codes.Codes.{Codes}
-use Rattle.ados_find.specs.Effects.{Effect, effect_of}
+use Rattle.ados_find.specs.Effects.{Effect, codes_effect, effect_of}
 use Rattle.ados_find.specs.Shared.{SharedState}
 pub use Rattle.ados_flow.specs.declared.called.Called.{Called}
 use Rattle.ados_flow.specs.declared.actions.Action as code
@@ -16,6 +16,10 @@ pub data Action : Type 0 where
   Jumps : (line : ℕ) (codes : Codes) → Action
   Calls : Called → Action
   Asks : (prompt : Text) → Action
+
+-- it answers with codes, and changes nothing
+abbrev pub codes_action : SharedState → Codes → Action
+codes_action shared codes = Does (codes_effect shared codes)
 
 -- what an action is to the shared parts as they were
 abbrev pub action_effect : SharedState → code.Action → Action

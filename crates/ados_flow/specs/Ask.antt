@@ -1,15 +1,15 @@
 -- Ask: a question that is answered by yes or no.
 use Rattle.std.specs.Prelude.{[], ◌||◌, Option, Some, None, codes, if◌then◌else◌}
 use Rattle.ados_text.specs.Text.{Text, is_same}
-use Rattle.ados_text.specs.declared.codes.TheConstants.Result2.{ARGUMENT_MISSING, NONE}
+use Rattle.ados_text.specs.declared.codes.TheConstants.Result2.{NONE}
 use Rattle.ados_readargs.specs.declared.args.Arg.{Arg}
 use Rattle.ados_readargs.specs.Args.{text_at}
 use Rattle.ados_find.specs.declared.codes.Codes.{Codes}
-use Rattle.ados_find.specs.Codes.{fail_codes, warning_codes, went_well}
-use Rattle.ados_find.specs.Effects.{codes_effect}
+use Rattle.ados_find.specs.Codes.{warning_codes, went_well}
+use Rattle.ados_find.specs.Effects.{if_given}
 use Rattle.ados_find.specs.Shared.{SharedState}
 use Rattle.std.specs.Prelude.{List}
-use Rattle.ados_flow.specs.Actions.{Action, Asks, Does}
+use Rattle.ados_flow.specs.Actions.{Action, Asks, codes_action}
 
 -- What a line replies to a question: y and yes answer it with 5, n, no and an empty line with 0, case ignored; anything
 -- else is not an answer.
@@ -18,10 +18,6 @@ reply_of line =
     if is_same line (codes "y") || is_same line (codes "yes") then Some (warning_codes NONE) else
     (if is_same line [] || (is_same line (codes "n") || is_same line (codes "no")) then Some went_well else None)
 
-abbrev pub asks : SharedState → Option Text → Action
-asks shared None = Does (codes_effect shared (fail_codes ARGUMENT_MISSING))
-asks shared (Some prompt) = Asks prompt
-
 -- Ask asks with its PROMPT
 abbrev pub ask_row : SharedState → List Arg → Action
-ask_row shared args = asks shared (text_at args 0)
+ask_row shared args = if_given (codes_action shared) (text_at args 0) Asks

@@ -1,5 +1,5 @@
 -- Branches: If, Else and Skip, by which a script continues at another line.
-use Rattle.std.specs.Prelude.{List, Bool, not, Option, Some, None, Result, Ok, Err, if◌then◌else◌}
+use Rattle.std.specs.Prelude.{List, Bool, not, Option, Some, None, if◌then◌else◌}
 use Rattle.ados_text.specs.declared.codes.TheConstants.Result2.{NONE, OBJECT_NOT_FOUND, WRONG_TYPE}
 use Rattle.ados_readargs.specs.declared.args.Arg.{Arg}
 use Rattle.ados_readargs.specs.Args.{is_on, text_at}
@@ -7,12 +7,11 @@ use Rattle.ados_script.specs.declared.jumps.Jump.{Jump}
 use Rattle.ados_script.specs.declared.jumps.Jump.TheVariants.{To, EndSkip, None as Nowhere}
 use Rattle.ados_script.specs.Blocks.{after_if, after_else}
 use Rattle.ados_script.specs.Skips.{skip}
-use Rattle.ados_find.specs.declared.codes.Codes.{Codes}
 use Rattle.ados_find.specs.Codes.{fail_codes, warning_codes, went_well}
-use Rattle.ados_find.specs.Effects.{codes_effect}
+use Rattle.ados_find.specs.Effects.{if_found}
 use Rattle.ados_find.specs.Shared.{SharedState}
 use Rattle.ados_find.specs.Views.{View}
-use Rattle.ados_flow.specs.Actions.{Action, Does, Jumps, Quits}
+use Rattle.ados_flow.specs.Actions.{Action, Jumps, Quits, codes_action}
 use Rattle.ados_flow.specs.Frames.{ScriptLine}
 use Rattle.ados_flow.specs.Tests.{if_test}
 
@@ -24,19 +23,18 @@ jump_action Nowhere = Quits (fail_codes OBJECT_NOT_FOUND)
 
 -- a branch is taken only in a script
 abbrev pub in_script : SharedState → Option ScriptLine → (ScriptLine → Action) → Action
-in_script shared None branch = Does (codes_effect shared (fail_codes WRONG_TYPE))
+in_script shared None branch = codes_action shared (fail_codes WRONG_TYPE)
 in_script shared (Some here) branch = branch here
 
 -- If whose test is known; NOT inverts it
-abbrev pub if_action : SharedState → Bool → ScriptLine → Result Bool Codes → Action
-if_action shared turned here (Err codes) = Does (codes_effect shared codes)
-if_action shared turned here (Ok held) =
-    if (if turned then not held else held) then Does (codes_effect shared went_well) else jump_action (after_if here.lines here.line)
+abbrev pub if_action : SharedState → Bool → ScriptLine → Bool → Action
+if_action shared turned here held =
+    if (if turned then not held else held) then codes_action shared went_well else jump_action (after_if here.lines here.line)
 
 -- If continues, or jumps after its Else or EndIf if its test fails
 abbrev pub if_row : SharedState → Option ScriptLine → View → List Arg → Action
 if_row shared script_line view args =
-    in_script shared script_line (λ here. if_action shared (is_on args 0) here (if_test shared view args))
+    in_script shared script_line (λ here. if_found (codes_action shared) (if_test shared view args) (if_action shared (is_on args 0) here))
 
 -- Else jumps after its EndIf
 abbrev pub else_row : SharedState → Option ScriptLine → Action

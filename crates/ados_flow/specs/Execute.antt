@@ -1,11 +1,11 @@
 -- Execute: the call of a script.
-use Rattle.std.specs.Prelude.{ℕ, List, [], ◌++◌, Bool, ◌==◌, ◌&&◌, ◌||◌, Option, Some, None, Result, Ok, Err, codes, position, is_none, unwrap_or, if◌then◌else◌}
+use Rattle.std.specs.Prelude.{List, [], ◌++◌, not, ◌&&◌, Result, Ok, Err, codes, is_none, unwrap_or, if◌then◌else◌}
 use Rattle.std.specs.FinMap as finite
 use Rattle.std.specs.Fmt.{decimal}
 use Rattle.ados_text.specs.Lines.{lines_of}
 use Rattle.ados_text.specs.Text.{Bytes, Text}
 use Rattle.ados_text.specs.declared.codes.Result2.{Result2}
-use Rattle.ados_text.specs.declared.codes.TheConstants.Result2.{ARGUMENT_MISSING, NO_FREE_STORE}
+use Rattle.ados_text.specs.declared.codes.TheConstants.Result2.{NO_FREE_STORE}
 use Rattle.ados_text.specs.declared.errors.NoMemory.{NoMemory}
 use Rattle.ados_ram.specs.Place.{Place, key_of}
 use Rattle.ados_ram.specs.FileOperations.{read_at}
@@ -14,31 +14,25 @@ use Rattle.ados_readargs.specs.declared.args.Arg.{Arg}
 use Rattle.ados_readargs.specs.Args.{text_at}
 use Rattle.ados_find.specs.declared.codes.Codes.{Codes}
 use Rattle.ados_find.specs.Codes.{fail_codes, error_codes}
-use Rattle.ados_find.specs.Effects.{codes_effect}
+use Rattle.ados_find.specs.Effects.{if_found, if_given}
 use Rattle.ados_find.specs.Paths.{place_of}
+use Rattle.ados_find.specs.Search.{is_path}
 use Rattle.ados_find.specs.Shared.{SharedState}
 use Rattle.ados_find.specs.Views.{View}
 use Rattle.ados_subst.specs.declared.faults.SubstFault.{SubstFault}
 use Rattle.ados_subst.specs.Faults.{result2_of}
 use Rattle.ados_subst.specs.Scripts.{script_of}
-use Rattle.ados_flow.specs.Actions.{Action, Does, Calls}
+use Rattle.ados_flow.specs.Actions.{Action, Calls, codes_action}
 
-abbrev pub is_separator : ℕ → Bool
-is_separator byte = byte == 58 || byte == 47
-
--- a word without a colon or a slash
-abbrev pub is_plain : Text → Bool
-is_plain word = is_none (position is_separator word)
-
--- a script is sought in S: if its name is plain and nothing has it
+-- a script is sought in S: if its name is not a path and nothing has it
 abbrev pub script_place : SharedState → Place → Text → Place → Result Place Codes
 script_place shared directory word place =
-    if is_plain word && is_none (finite.get shared.files (key_of place)) then place_of shared directory (codes "S:" ++ word) else Ok place
+    if not (is_path word) && is_none (finite.get shared.files (key_of place)) then place_of shared directory (codes "S:" ++ word) else Ok place
 
 -- the answer to a fault of arguments, or of substitution; neither is ever out of memory, which has no number
 abbrev pub fault_answer : SharedState → Result Result2 NoMemory → Action
-fault_answer shared (Ok number) = Does (codes_effect shared (fail_codes number))
-fault_answer shared (Err none) = Does (codes_effect shared (fail_codes NO_FREE_STORE))
+fault_answer shared (Ok number) = codes_action shared (fail_codes number)
+fault_answer shared (Err none) = codes_action shared (fail_codes NO_FREE_STORE)
 
 -- the call of a script whose lines have its arguments put in
 abbrev pub call_of_lines : SharedState → Text → Result (List Text) SubstFault → Action
@@ -46,26 +40,24 @@ call_of_lines shared name (Err fault) = fault_answer shared (result2_of fault)
 call_of_lines shared name (Ok lines) = Calls (record { name = name; script = lines })
 
 abbrev pub script_read : SharedState → View → Place → Text → Result Bytes Result2 → Action
-script_read shared view place args (Err fault) = Does (codes_effect shared (error_codes fault))
+script_read shared view place args (Err fault) = codes_action shared (error_codes fault)
 script_read shared view place args (Ok bytes) = call_of_lines shared (full_path shared.files place) (script_of (lines_of bytes) args (decimal view.parts.number))
 
 -- the call of the script at a place, with these arguments: it is read, and its arguments are put in
 unfoldable pub script_row : SharedState → View → Place → Text → Action
 script_row shared view place args = script_read shared view place args (read_at shared.files view.busy.outputs place)
 
--- the script at a place, if there is one
-abbrev pub script_at : SharedState → View → Text → Result Place Codes → Action
-script_at shared view args (Err codes) = Does (codes_effect shared codes)
-script_at shared view args (Ok place) = script_row shared view place args
+-- the script of a word that leads to a place
+abbrev pub script_at : SharedState → View → Text → Place → Action
+script_at shared view args place = script_row shared view place args
 
-abbrev pub script_or_codes : SharedState → View → Text → Text → Result Place Codes → Action
-script_or_codes shared view word args (Err codes) = Does (codes_effect shared codes)
-script_or_codes shared view word args (Ok place) = script_at shared view args (script_place shared view.parts.directory word place)
+abbrev pub script_by_word : SharedState → View → Text → Text → Place → Action
+script_by_word shared view word args place =
+    if_found (codes_action shared) (script_place shared view.parts.directory word place) (script_at shared view args)
 
-abbrev pub execute_file : SharedState → View → Option Text → Text → Action
-execute_file shared view None args = Does (codes_effect shared (fail_codes ARGUMENT_MISSING))
-execute_file shared view (Some word) args = script_or_codes shared view word args (place_of shared view.parts.directory word)
+abbrev pub execute_file : SharedState → View → Text → Text → Action
+execute_file shared view args word = if_found (codes_action shared) (place_of shared view.parts.directory word) (script_by_word shared view word args)
 
 -- Execute calls the script FILE with ARGS
 abbrev pub execute_row : SharedState → View → List Arg → Action
-execute_row shared view args = execute_file shared view (text_at args 0) (unwrap_or (text_at args 1) [])
+execute_row shared view args = if_given (codes_action shared) (text_at args 0) (execute_file shared view (unwrap_or (text_at args 1) []))

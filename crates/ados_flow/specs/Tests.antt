@@ -15,6 +15,7 @@ use Rattle.ados_readargs.specs.declared.args.Arg.{Arg}
 use Rattle.ados_readargs.specs.Args.{is_on, text_at}
 use Rattle.ados_find.specs.declared.codes.Codes.{Codes}
 use Rattle.ados_find.specs.Codes.{fail_codes}
+use Rattle.ados_find.specs.Effects.{if_found}
 use Rattle.ados_find.specs.Paths.{place_of}
 use Rattle.ados_find.specs.Shared.{SharedState}
 use Rattle.ados_find.specs.Views.{View}
@@ -103,10 +104,6 @@ holds shared view args Greater = order_result is_greater (order_at args 6)
 holds shared view args GreaterOrEqual = order_result is_not_less (order_at args 7)
 holds shared view args Exists = Ok (exists shared view (text_at args 9))
 
-abbrev pub test_result : SharedState → View → List Arg → Result Test Codes → Result Bool Codes
-test_result shared view args (Err codes) = Err codes
-test_result shared view args (Ok test) = holds shared view args test
-
 -- the one test that is asked for holds, or what If answers if that can't be decided
 abbrev pub if_test : SharedState → View → List Arg → Result Bool Codes
-if_test shared view args = test_result shared view args (test_of args)
+if_test shared view args = if_found Err (test_of args) (holds shared view args)

@@ -7,8 +7,7 @@ ghost use Rattle.ados_find.specs.Paths.{place_of};
 ghost use Rattle.ados_find.specs.Search.{device_named};
 ghost use Rattle.ados_flow.specs.Devices.{devices_of, is_absent, script_devices};
 
-use crate::execute::is_plain;
-use ados_find::{Refusal, Shared, ShellView, place_of};
+use ados_find::{Refusal, Shared, ShellView, is_path, place_of};
 use ados_ram::Place;
 use ados_readargs::Args;
 use ados_resident::FlowCommand;
@@ -52,7 +51,7 @@ fn push_of_script(
         return Ok(());
     };
     shared.push_device_of(used, &word)?;
-    if is_plain(&word) && is_absent(alloc, shared, view.directory, &word)? {
+    if !is_path(&word) && is_absent(alloc, shared, view.directory, &word)? {
         shared.push_device(alloc, used, b"S")
     } else {
         Ok(())

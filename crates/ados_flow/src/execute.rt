@@ -1,23 +1,23 @@
 // Execute: the call of a script.
-ghost use Rattle.std.specs.Prelude.{◌≡◌, ◌<◌, ◌++◌, IfOk, IfSome, codes, length, position};
+ghost use Rattle.std.specs.Prelude.{◌≡◌, ◌++◌, IfOk, codes};
 ghost use Rattle.std.specs.Fmt.{decimal};
 ghost use Rattle.ados_text.specs.Lines.{lines_of};
 ghost use Rattle.ados_find.specs.Paths.{place_of, Gives};
 ghost use Rattle.ados_find.specs.Shared.{SharedState};
 ghost use Rattle.ados_subst.specs.Scripts.{script_of};
 ghost use Rattle.ados_flow.specs.Actions.{action_effect};
-ghost use Rattle.ados_flow.specs.Execute.{is_separator, is_plain, call_of_lines, script_place, script_or_codes, script_at, script_row, execute_row};
+ghost use Rattle.ados_flow.specs.Execute.{call_of_lines, execute_file, execute_row, script_by_word, script_place, script_row};
 
 use crate::actions::Action;
 use crate::called::Called;
-use ados_find::{Codes, Refusal, Shared, ShellView, place_of};
+use ados_find::{Codes, Refusal, Shared, ShellView, is_path, place_of};
 use ados_ram::Place;
 use ados_readargs::Args;
 use ados_script::Script;
 use ados_text::{NoMemory, Result2, Text};
 use std::alloc::Global;
 
-/// Execute calls the script FILE with ARGS. It is sought by its path, and if that is a plain name that nothing has,
+/// Execute calls the script FILE with ARGS. It is sought by its path, and if that is a mere name that nothing has,
 /// in S:.
 ///
 /// What finding, reading and substituting refuse: 202 for an open output, 204, 205, 210, 212, 218, 224 with 10; 114 to
@@ -43,7 +43,7 @@ fn call(
     word: &Text,
     args: &[u8],
 ) -> Result<Action, NoMemory>
-    ensures { IfOk result (λ action. action_effect shared.now action ≡ script_or_codes shared.now view.now word.now args.now (place_of shared.now view.now.parts.directory word.now)) }
+    ensures { IfOk result (λ action. action_effect shared.now action ≡ execute_file shared.now view.now args.now word.now) }
 {
     match place_of(alloc, shared, view.directory, word) {
         Err(Refusal::NoMemory) => Err(NoMemory),
@@ -61,7 +61,7 @@ fn call_found(
     place: Place,
     args: &[u8],
 ) -> Result<Action, NoMemory>
-    ensures { IfOk result (λ action. action_effect shared.now action ≡ script_at shared.now view.now args.now (script_place shared.now view.now.parts.directory word.now place)) }
+    ensures { IfOk result (λ action. action_effect shared.now action ≡ script_by_word shared.now view.now word.now args.now place) }
 {
     match script_place(alloc, shared, view.directory, word, place) {
         Err(Refusal::NoMemory) => Err(NoMemory),
@@ -70,7 +70,7 @@ fn call_found(
     }
 }
 
-/// Where a script is: in S: if its name is plain and nothing has it.
+/// Where a script is: in S: if its name is not a path and nothing has it.
 fn script_place(
     alloc: Global,
     shared: &Shared,
@@ -80,7 +80,7 @@ fn script_place(
 ) -> Result<Place, Refusal>
     ensures { Gives result (script_place shared.now directory.now word.now place) }
 {
-    if is_plain(word) && shared.ram.look(&place).is_none() {
+    if !is_path(word) && shared.ram.look(&place).is_none() {
         in_scripts(alloc, shared, directory, word)
     } else {
         Ok(place)
@@ -99,20 +99,6 @@ fn in_scripts(
     let mut path = Text::from_bytes(alloc, b"S:")?;
     path.push_bytes(word.as_bytes())?;
     place_of(alloc, shared, directory, &path)
-}
-
-/// A word without a colon or a slash.
-pub fn is_plain(word: &Text) -> bool
-    ensures { result ≡ is_plain word.now }
-{
-    separator(word.as_bytes()).is_none()
-}
-
-fn separator(text: &[u8]) -> Option<usize>
-    ensures place { result ≡ position is_separator text.now }
-    ensures within { IfSome result (λ place. place < length text.now) }
-{
-    text.iter().position(|byte| *byte == b':' || *byte == b'/')
 }
 
 /// Calls the script at a place with these arguments: it is read, and its arguments are put in.

@@ -4,7 +4,7 @@ use crate::answers::push_request;
 use crate::lines::View;
 use crate::texts::{push_all, push_codes, push_count, push_lines};
 use ados_assign::{Assign, Binding};
-use ados_ram::{Bits, Entry, Place, Ram};
+use ados_ram::{Entry, Place, Ram};
 use ados_resident::{Program, Resident};
 use ados_text::{NoMemory, Text, push_number};
 use ados_vars::Vars;
@@ -112,24 +112,10 @@ fn push_entry(text: &mut Vec<u8>, entry: &Entry, path: &[u8]) -> Result<(), NoMe
     };
     push_all(
         text,
-        &[b"= ", letters(entry.bits).as_slice(), kind, path, b"\n"],
+        &[b"= ", entry.bits.letters().as_slice(), kind, path, b"\n"],
     )?;
     push_lines(text, b"; ", entry.comment.as_bytes())?;
     push_lines(text, b"", entry.bytes())
-}
-
-fn letters(bits: Bits) -> [u8; 8] {
-    let letter = |is_set: bool, letter: u8| if is_set { letter } else { b'-' };
-    [
-        letter(bits.hold, b'h'),
-        letter(bits.script, b's'),
-        letter(bits.pure, b'p'),
-        letter(bits.archive, b'a'),
-        letter(bits.read, b'r'),
-        letter(bits.write, b'w'),
-        letter(bits.execute, b'e'),
-        letter(bits.delete, b'd'),
-    ]
 }
 
 fn push_assigns(text: &mut Vec<u8>, files: &Ram, assigns: &[Assign]) -> Result<(), NoMemory> {

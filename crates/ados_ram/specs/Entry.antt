@@ -32,6 +32,17 @@ size_of e = length (bytes_of e)
 abbrev pub fresh_bits : Bits
 fresh_bits = record { hold = false; script = false; pure = false; archive = false; read = true; write = true; execute = true; delete = true }
 
+-- the letter of a bit that is set, and otherwise `-`
+abbrev pub letter : Bool → ℕ → ℕ
+letter true c = c
+letter false c = 45
+
+-- the bits as `hsparwed`
+abbrev pub bits_text : Bits → Bytes
+bits_text b =
+    letter b.hold 104 ∷ letter b.script 115 ∷ letter b.pure 112 ∷ letter b.archive 97
+    ∷ letter b.read 114 ∷ letter b.write 119 ∷ letter b.execute 101 ∷ letter b.delete 100 ∷ []
+
 -- the same bits without bit a
 abbrev pub without_archive_bit : Bits → Bits
 without_archive_bit b = record b { archive = false }

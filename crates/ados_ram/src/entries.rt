@@ -1,5 +1,6 @@
 ghost use Rattle.std.specs.Prelude.{◌≡◌, [], IfOk};
 ghost use Rattle.std.specs.Option.{option_copied};
+ghost use Rattle.ados_ram.specs.Entry.{letter};
 
 use crate::file_bytes::FileBytes;
 use ados_text::{Name, NoMemory, Text};
@@ -37,7 +38,7 @@ pub struct Bits {
 }
 
 impl Bits {
-    ghost use Rattle.ados_ram.specs.Entry.{without_archive_bit};
+    ghost use Rattle.ados_ram.specs.Entry.{bits_text, without_archive_bit};
 
     /// The bits of a new object: `----rwed`.
     pub const FRESH: Bits = Bits {
@@ -51,6 +52,22 @@ impl Bits {
         delete: true,
     };
 
+    /// The letters of the bits in their order, each bit that is not set as `-`.
+    pub fn letters(self) -> [u8; 8]
+        ensures { result ≡ bits_text self }
+    {
+        [
+            letter(self.hold, b'h'),
+            letter(self.script, b's'),
+            letter(self.pure, b'p'),
+            letter(self.archive, b'a'),
+            letter(self.read, b'r'),
+            letter(self.write, b'w'),
+            letter(self.execute, b'e'),
+            letter(self.delete, b'd'),
+        ]
+    }
+
     /// The same bits without a.
     pub(crate) fn unarchived(self) -> Bits
         ensures { result ≡ without_archive_bit self }
@@ -60,6 +77,13 @@ impl Bits {
             ..self
         }
     }
+}
+
+// The letter of a bit that is set, and otherwise `-`.
+fn letter(is_set: bool, code: u8) -> u8
+    ensures { result ≡ letter is_set code }
+{
+    if is_set { code } else { b'-' }
 }
 
 /// An object of the files: its name as it is written, what it is, its bits and its comment.
