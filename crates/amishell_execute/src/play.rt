@@ -2,6 +2,7 @@
 
 ghost use Rattle.std.specs.Prelude.{◌≡◌, ◌<◌, ◌^◌, ◌-◌, []};
 ghost use Rattle.ados_launch.specs.Agreement.{Agrees};
+ghost use Rattle.ados_launch.specs.Leads.{Reaches};
 
 use crate::faults::Fault;
 use crate::launcher::Bringer;
@@ -31,6 +32,7 @@ pub fn play<R: AllocGlobal + Files + Input + Print + Eprint + Processes + Clone 
     share: Option<&mut Share>,
 ) -> Result<End, Fault>
     requires { Agrees world.old [] }
+    ensures leads { Reaches world.old world.new }
 {
     let mut launcher = Bringer::new(rt.alloc(), rt, plan.told())?;
     let mut reader = Prompter::new(
@@ -41,31 +43,45 @@ pub fn play<R: AllocGlobal + Files + Input + Print + Eprint + Processes + Clone 
     );
     let mut writer = Counted::new(io::writer(rt));
     let turns = turns.saturating_add(lines.events);
-    let ended = match share {
-        Some(share) => {
-            drive_shared(
-                rt,
-                world,
-                turns,
-                share,
-                &mut launcher,
-                &mut reader,
-                &mut writer,
-            )
-        }
-        None => drive(
-            rt.alloc(),
-            world,
-            turns,
-            &mut launcher,
-            &mut reader,
-            &mut writer,
-        ),
-    };
+    let ended = drive_either(
+        rt,
+        world,
+        turns,
+        share,
+        &mut launcher,
+        &mut reader,
+        &mut writer,
+    );
     if reader.is_refused() {
         return Err(Fault::NotBrought);
     }
     ended
+}
+
+// Drives the world to its end, with a shared folder or without one.
+#[tactic(auto, using(crate::proofs::Pairs::kept_pair))]
+fn drive_either<
+    R: AllocGlobal + Files + Eprint + Processes + Clone + Drop + Clock,
+    I: Read,
+    K: Sink,
+>(
+    rt: &R,
+    world: &mut World,
+    turns: u64,
+    share: Option<&mut Share>,
+    launcher: &mut Bringer<'_, R>,
+    reader: &mut Prompter<'_, I>,
+    writer: &mut K,
+) -> Result<End, Fault>
+    requires reader { reader.old.faults < 2 ^ 64 - 1 }
+    requires writer { K.faults writer.old < 2 ^ 64 - 1 }
+    requires agrees { Agrees world.old launcher.old.calls }
+    ensures leads { Reaches world.old world.new }
+{
+    match share {
+        Some(share) => drive_shared(rt, world, turns, share, launcher, reader, writer),
+        None => drive(rt.alloc(), world, turns, launcher, reader, writer),
+    }
 }
 
 // Drives the world to its end.
@@ -80,6 +96,7 @@ fn drive<L: Launcher, S: Source, K: Sink>(
     requires reader { S.faults reader.old < 2 ^ 64 - 1 }
     requires writer { K.faults writer.old < 2 ^ 64 - 1 }
     requires agrees { Agrees world.old (L.calls launcher.old) }
+    ensures leads { Reaches world.old world.new }
 {
     let drive = Drive {
         alloc,
@@ -107,6 +124,7 @@ fn drive_shared<
     requires reader { reader.old.faults < 2 ^ 64 - 1 }
     requires writer { K.faults writer.old < 2 ^ 64 - 1 }
     requires agrees { Agrees world.old launcher.old.calls }
+    ensures leads { Reaches world.old world.new }
 {
     let mut session = Session::new(rt.alloc(), world, &[]);
     for _ in 0..turns {

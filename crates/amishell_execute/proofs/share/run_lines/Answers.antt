@@ -1,0 +1,12 @@
+use Rattle.ados_launch.proofs.Leading.{leads_on}
+use Rattle.amishell_execute.proofs.share.run_lines.Goals as goal
+
+pub returns-in_err-run_alone-clause-leads : goal.returns-in_err-run_alone-clause-leads
+returns-in_err-run_alone-clause-leads g c =
+    leads_on c.args.world.now c.loop-line.world c.run_alone.new.world c.loop-line.invariant.leads c.run_alone.ensures.leads
+
+pub loop-line-preserved : goal.loop-line-preserved
+loop-line-preserved g c = record {
+  agrees = c.in_ok-run_alone.ensures.agrees;
+  leads = leads_on c.args.world.now c.loop-line.world c.run_alone.new.world c.loop-line.invariant.leads c.run_alone.ensures.leads;
+}
