@@ -1,5 +1,5 @@
 -- a line's arguments are what its phrases say, and its fault is the first
-use Rattle.std.proofs.Common.{ℕ, ◌≡◌, ◌∙◌, ◌-◌, List, [], Bool, Result, Ok, Err, IfOk, OnOk, refl, ap, sym, subst, append-nil}
+use Rattle.std.proofs.Common.{ℕ, ◌≡◌, ◌∙◌, List, [], Bool, Result, Ok, Err, IfOk, OnOk, refl, ap, sym, subst, append-nil}
 use Rattle.std.specs.List.{flat_map}
 use Rattle.std.proofs.lemmas.Bool.{cond_both}
 use Rattle.ados_items.specs.declared.items.Item.TheVariants as item

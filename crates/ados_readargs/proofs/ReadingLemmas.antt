@@ -1,5 +1,5 @@
 -- what the words of a line are read as: what its phrases say, or the first fault
-use Rattle.std.proofs.Common.{ℕ, ◌≡◌, ◌∙◌, ◌+◌, ◌-◌, ◌==◌, nat_lt, List, [], ◌∷◌, ◌++◌, Bool, true, false, ◌&&◌, Option, Some, None, Result, refl, ap, sym, subst, arith, append_assoc, append-nil, inl}
+use Rattle.std.proofs.Common.{ℕ, ◌≡◌, ◌∙◌, ◌+◌, ◌==◌, nat_lt, List, [], ◌∷◌, ◌++◌, Bool, true, false, ◌&&◌, Option, Some, None, Result, refl, ap, sym, subst, arith, append_assoc, append-nil, inl}
 use Rattle.std.proofs.lemmas.Bool.{cond_both}
 use Rattle.ados_items.specs.declared.items.Item.{Item}
 use Rattle.ados_items.specs.declared.items.Item.TheVariants as item
