@@ -66,7 +66,9 @@ pub data Whole : Type 0 where
   Short : Whole
 
 -- it depends on the events left, the answers, what is passed on, where the lines are, and a line that continues after its
--- command substitution
+-- command substitution. The functions below take these in this order, as `n`, `answers`, `common` and `at`, after `go`: what the lines
+-- mean from here on. `go` is the recursion, given as an argument, with a bound on its depth that the events left never exceed
+-- (`lines` in LoneShell).
 abbrev pub Meaning : Type 0
 Meaning = ℕ → List Reply → Common → At → Option Parted → Whole
 

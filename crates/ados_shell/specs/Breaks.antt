@@ -1,6 +1,5 @@
 -- Breaks: a turn that ends the scripts of its shell.
 use Rattle.std.specs.Prelude.{◌≡◌, ℕ, [], ◌∷◌, ◌++◌, List}
-use Rattle.std.specs.Option.{option_copied}
 use Rattle.ados_text.specs.Text.{Text}
 use Rattle.ados_flow.specs.Frames.{FrameState}
 use Rattle.ados_machine.specs.Breaks.{kept_after_break}
@@ -9,24 +8,13 @@ use Rattle.ados_machine.specs.Turning as machine
 use Rattle.ados_shell.specs.declared.scenes.Input.{Input}
 use Rattle.ados_shell.specs.declared.scenes.Scene.{Scene}
 use Rattle.ados_shell.specs.declared.drafts.Draft.{Draft}
-use Rattle.ados_shell.specs.declared.turnings.Turning.{Turning}
 use Rattle.ados_shell.specs.Drafts.{course_of, turn_start}
-use Rattle.ados_shell.specs.Turnings.{IsFirst, IsTurning, MayWantMemory, waiting_input, plain_turning}
+use Rattle.ados_shell.specs.Turnings.{waiting_input, plain_turning}
 
 -- the machine's turn of the scene's shell that ends its scripts instead of doing what it would have done
 abbrev pub broken_turning : Scene → Input → List Text → machine.Turning
 broken_turning scene input queue =
     machine.turning_at_break (plain_turning scene input scene.shell.now.phase queue) (waiting_input input queue) scene.shell.now.frames (turn_start scene)
-
--- a turn is that one, whatever lines wait after the first
-abbrev pub GivesBroken : Scene → Input → Turning → Draft → Type 0
-GivesBroken scene input turn draft =
-    (queue : List Text) → IsFirst (option_copied input.line) queue → IsTurning scene queue turn draft (broken_turning scene input queue)
-
--- the machine goes on at it, but an allocation may fail
-abbrev pub TakesBroken : Scene → Input → Type 0
-TakesBroken scene input =
-    (queue : List Text) → IsFirst (option_copied input.line) queue → MayWantMemory (broken_turning scene input queue)
 
 -- the end of a frame at a break was reported, if the frame is a script's, and nothing else was done
 pub record ReportsBreak (scene : Scene) (before after : Draft) (frame : FrameState) : Type 0 where

@@ -3,11 +3,7 @@ use Rattle.std.specs.Prelude.{◌≡◌, List, [], ◌∷◌, Option, Some, None
 use Rattle.std.specs.Option.{option_copied}
 use Rattle.ados_text.specs.Text.{Text}
 use Rattle.ados_machine.specs.declared.refusals.Refusal.TheVariants as refusal
-use Rattle.ados_machine.specs.declared.phases.Asking.{Asking}
-use Rattle.ados_machine.specs.declared.phases.Gathering.{Gathering}
 use Rattle.ados_machine.specs.declared.phases.Phase.{Phase}
-use Rattle.ados_machine.specs.declared.phases.Phase.TheVariants.{Ready, Waiting}
-use Rattle.ados_machine.specs.declared.phases.Wait.TheVariants.{ForAnswer, ForLines}
 use Rattle.ados_flow.specs.Frames.{FrameState}
 use Rattle.ados_machine.specs.Turning as machine
 use Rattle.ados_shell.specs.declared.scenes.Input.{Input}
@@ -43,40 +39,14 @@ IsTurning scene queue Goes draft (machine.Takes rest turned) = (rest ≡ queue) 
 IsTurning scene queue Takes draft (machine.Takes rest turned) = (line : Text) × (queue ≡ line ∷ rest) × IsDrafted scene draft turned
 IsTurning scene queue _ draft _ = ⊥
 
--- the turn of the scene's shell that reads this input, whatever lines wait after the first
-abbrev pub GivesTurning : Scene → Input → Turning → Draft → Type 0
-GivesTurning scene input turn draft =
-    (queue : List Text) → IsFirst (option_copied input.line) queue →
-    IsTurning scene queue turn draft (scene_turning scene input queue)
+-- the machine's turn of a shell that is ready and runs no frame, when these lines wait
+abbrev pub console_turning : Scene → Input → List Text → machine.Turning
+console_turning scene input queue = machine.console_turning queue input.is_ended (turn_start scene)
 
--- the same if it finds no flag
-abbrev pub GivesPlain : Scene → Input → Turning → Draft → Type 0
-GivesPlain scene input turn draft =
-    (queue : List Text) → IsFirst (option_copied input.line) queue →
-    IsTurning scene queue turn draft (plain_turning scene input scene.shell.now.phase queue)
-
--- the same of a shell that waits for the answer to a prompt
-abbrev pub GivesAnswer : Scene → Asking → Input → Turning → Draft → Type 0
-GivesAnswer scene asking input turn draft =
-    (queue : List Text) → IsFirst (option_copied input.line) queue →
-    IsTurning scene queue turn draft (plain_turning scene input (Waiting (ForAnswer asking)) queue)
-
--- the same of a shell whose Run gathers
-abbrev pub GivesGathering : Scene → Gathering → Input → Turning → Draft → Type 0
-GivesGathering scene gathering input turn draft =
-    (queue : List Text) → IsFirst (option_copied input.line) queue →
-    IsTurning scene queue turn draft (plain_turning scene input (Waiting (ForLines gathering)) queue)
-
--- the same of a shell that is ready
-abbrev pub GivesReady : Scene → Input → Turning → Draft → Type 0
-GivesReady scene input turn draft =
-    (queue : List Text) → IsFirst (option_copied input.line) queue → IsTurning scene queue turn draft (plain_turning scene input Ready queue)
-
--- the same of a shell that is ready and runs no frame
-abbrev pub GivesConsole : Scene → Input → Turning → Draft → Type 0
-GivesConsole scene input turn draft =
-    (queue : List Text) → IsFirst (option_copied input.line) queue →
-    IsTurning scene queue turn draft (machine.console_turning queue input.is_ended (turn_start scene))
+-- the turn is the one that the machine takes, whatever lines wait after the first; `turning` gives that one by the lines that wait
+abbrev pub Gives : Scene → Input → (List Text → machine.Turning) → Turning → Draft → Type 0
+Gives scene input turning turn draft =
+    (queue : List Text) → IsFirst (option_copied input.line) queue → IsTurning scene queue turn draft (turning queue)
 
 -- the next line of the newest frame
 abbrev pub next_of : List FrameState → Option Text
@@ -95,33 +65,6 @@ MayWantMemory (machine.Refuses why) = ⊥
 MayWantMemory machine.Ends = ⊥
 MayWantMemory (machine.Takes rest turned) = Unit {0}
 
--- the machine goes on at a turn of the scene's shell with this input, whatever lines wait after the first
-abbrev pub TakesTurn : Scene → Input → Type 0
-TakesTurn scene input =
-    (queue : List Text) → IsFirst (option_copied input.line) queue → MayWantMemory (scene_turning scene input queue)
-
--- the same if it finds no flag
-abbrev pub TakesPlain : Scene → Input → Type 0
-TakesPlain scene input =
-    (queue : List Text) → IsFirst (option_copied input.line) queue → MayWantMemory (plain_turning scene input scene.shell.now.phase queue)
-
--- the same of a shell that waits for the answer to a prompt
-abbrev pub TakesAnswer : Scene → Asking → Input → Type 0
-TakesAnswer scene asking input =
-    (queue : List Text) → IsFirst (option_copied input.line) queue → MayWantMemory (plain_turning scene input (Waiting (ForAnswer asking)) queue)
-
--- the same of a shell whose Run gathers
-abbrev pub TakesGathering : Scene → Gathering → Input → Type 0
-TakesGathering scene gathering input =
-    (queue : List Text) → IsFirst (option_copied input.line) queue → MayWantMemory (plain_turning scene input (Waiting (ForLines gathering)) queue)
-
--- the same of a shell that is ready
-abbrev pub TakesReady : Scene → Input → Type 0
-TakesReady scene input =
-    (queue : List Text) → IsFirst (option_copied input.line) queue → MayWantMemory (plain_turning scene input Ready queue)
-
--- the same of a shell that is ready and runs no frame
-abbrev pub TakesConsole : Scene → Input → Type 0
-TakesConsole scene input =
-    (queue : List Text) → IsFirst (option_copied input.line) queue →
-    MayWantMemory (machine.console_turning queue input.is_ended (turn_start scene))
+-- the machine goes on at the turn, whatever lines wait after the first, so an allocation may fail
+abbrev pub LacksMemory : Input → (List Text → machine.Turning) → Type 0
+LacksMemory input turning = (queue : List Text) → IsFirst (option_copied input.line) queue → MayWantMemory (turning queue)

@@ -28,7 +28,9 @@ pub enum Turning {
 
 impl Draft {
     ghost use Rattle.ados_shell.specs.Drafts.{IsDrafted, turn_start};
-    ghost use Rattle.ados_shell.specs.Turnings.{GivesAnswer, GivesConsole, GivesGathering, GivesPlain, GivesReady, GivesTurning, IsScriptDrafted, TakesAnswer, TakesConsole, TakesGathering, TakesPlain, TakesReady, TakesTurn};
+    ghost use Rattle.ados_machine.specs.declared.phases.Phase.TheVariants.{Ready, Waiting};
+    ghost use Rattle.ados_machine.specs.declared.phases.Wait.TheVariants.{ForAnswer, ForLines};
+    ghost use Rattle.ados_shell.specs.Turnings.{console_turning, Gives, IsScriptDrafted, LacksMemory, plain_turning, scene_turning};
 
     /// A turn of the scene's shell: if it goes on, the draft is filled with what is to be changed. Nothing else is
     /// changed, and what the draft held before is forgotten.
@@ -42,8 +44,8 @@ impl Draft {
     /// `NoMemory` if there is none for what the turn makes, and only if the shell has something to
     /// take: its end needs no memory.
     pub fn turn(&mut self, scene: &Scene, input: &Input) -> Result<Turning, NoMemory>
-        ensures turn { IfOk result (λ turn. GivesTurning scene.now input.now turn self.new) }
-        ensures memory { OnErr result (TakesTurn scene.now input.now) }
+        ensures turn { IfOk result (λ turn. Gives scene.now input.now (scene_turning scene.now input.now) turn self.new) }
+        ensures memory { OnErr result (LacksMemory input.now (scene_turning scene.now input.now)) }
     {
         let shell = scene.shell;
         if shell.flagged && shell.has_script() {
@@ -55,8 +57,8 @@ impl Draft {
 
     /// The same if no flag is found.
     fn plain_turn(&mut self, scene: &Scene, input: &Input) -> Result<Turning, NoMemory>
-        ensures turn { IfOk result (λ turn. GivesPlain scene.now input.now turn self.new) }
-        ensures memory { OnErr result (TakesPlain scene.now input.now) }
+        ensures turn { IfOk result (λ turn. Gives scene.now input.now (plain_turning scene.now input.now scene.now.shell.now.phase) turn self.new) }
+        ensures memory { OnErr result (LacksMemory input.now (plain_turning scene.now input.now scene.now.shell.now.phase)) }
     {
         let shell = scene.shell;
         match &shell.phase {
@@ -90,8 +92,8 @@ impl Draft {
 
     /// A turn of a shell that is ready.
     fn ready_turn(&mut self, scene: &Scene, input: &Input) -> Result<Turning, NoMemory>
-        ensures turn { IfOk result (λ turn. GivesReady scene.now input.now turn self.new) }
-        ensures memory { OnErr result (TakesReady scene.now input.now) }
+        ensures turn { IfOk result (λ turn. Gives scene.now input.now (plain_turning scene.now input.now Ready) turn self.new) }
+        ensures memory { OnErr result (LacksMemory input.now (plain_turning scene.now input.now Ready)) }
     {
         let shell = scene.shell;
         if shell.frames.is_empty() {
@@ -109,8 +111,8 @@ impl Draft {
         gathering: &Gathering,
         input: &Input,
     ) -> Result<Turning, NoMemory>
-        ensures turn { IfOk result (λ turn. GivesGathering scene.now gathering.now input.now turn self.new) }
-        ensures memory { OnErr result (TakesGathering scene.now gathering.now input.now) }
+        ensures turn { IfOk result (λ turn. Gives scene.now input.now (plain_turning scene.now input.now (Waiting (ForLines gathering.now))) turn self.new) }
+        ensures memory { OnErr result (LacksMemory input.now (plain_turning scene.now input.now (Waiting (ForLines gathering.now)))) }
     {
         match input.line {
             Some(line) => {
@@ -157,8 +159,8 @@ impl Draft {
         asking: &Asking,
         input: &Input,
     ) -> Result<Turning, NoMemory>
-        ensures turn { IfOk result (λ turn. GivesAnswer scene.now asking.now input.now turn self.new) }
-        ensures memory { OnErr result (TakesAnswer scene.now asking.now input.now) }
+        ensures turn { IfOk result (λ turn. Gives scene.now input.now (plain_turning scene.now input.now (Waiting (ForAnswer asking.now))) turn self.new) }
+        ensures memory { OnErr result (LacksMemory input.now (plain_turning scene.now input.now (Waiting (ForAnswer asking.now)))) }
     {
         match input.line {
             Some(line) => {
@@ -186,8 +188,8 @@ impl Draft {
     /// A turn of a shell that is ready and runs no frame.
     fn console_turn(&mut self, scene: &Scene, input: &Input) -> Result<Turning, NoMemory>
         requires { scene.now.shell.now.frames ≡ [] }
-        ensures turn { IfOk result (λ turn. GivesConsole scene.now input.now turn self.new) }
-        ensures memory { OnErr result (TakesConsole scene.now input.now) }
+        ensures turn { IfOk result (λ turn. Gives scene.now input.now (console_turning scene.now input.now) turn self.new) }
+        ensures memory { OnErr result (LacksMemory input.now (console_turning scene.now input.now)) }
     {
         match input.line {
             Some(line) => {

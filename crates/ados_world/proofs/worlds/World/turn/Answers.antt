@@ -2,7 +2,7 @@ use Rattle.std.proofs.Common.{subst}
 use Rattle.ados_machine.specs.World.{input_of}
 use Rattle.ados_machine.specs.declared.events.Event.TheVariants as event
 use Rattle.ados_shell.specs.declared.turnings.Turning.{Turning}
-use Rattle.ados_shell.specs.Turnings.{GivesTurning}
+use Rattle.ados_shell.specs.Turnings.{Gives, scene_turning}
 use Rattle.ados_world.proofs.StepLemmas.{answered, answers, goes-wants, sane-behind, sane-taken, takes-wants, turn-ends, turn-goes, turn-refused, turn-takes, turn-wants}
 use Rattle.ados_world.proofs.worlds.World.turn.Goals as goal
 
@@ -11,7 +11,7 @@ end_shell-requires-clause-sane c =
     let w = c.args.self.now in
     let k = c.args.number in
     let shell = c.in-Some.shell.now in
-    let P : Turning → Type 0 = λ t. GivesTurning c.scene.result c.input.result t c.turn.new.self in
+    let P : Turning → Type 0 = λ t. Gives c.scene.result c.input.result (scene_turning c.scene.result c.input.result) t c.turn.new.self in
     let given = subst P c.in-Ok-Ends.field-0-is c.in-Ok-Ends.ensures.turn in
     sane-behind w _ k _ (rw c.self.view_is at c.self.invariant) c.requires
     (turn-ends w k shell c.scene.result c.input.result c.turn.new.self c.codes-codes.result c.scene.ensures c.input.ensures.is_ended c.codes-codes.ensures
@@ -22,7 +22,7 @@ take-requires-clause-sane c =
     let w = c.args.self.now in
     let k = c.args.number in
     let shell = c.in-Some.shell.now in
-    let P : Turning → Type 0 = λ t. GivesTurning c.scene.result c.input.result t c.turn.new.self in
+    let P : Turning → Type 0 = λ t. Gives c.scene.result c.input.result (scene_turning c.scene.result c.input.result) t c.turn.new.self in
     let given = subst P c.in-Ok-Goes.field-0-is c.in-Ok-Goes.ensures.turn in
     sane-behind w _ k _ (rw c.self.view_is at c.self.invariant) c.requires
     (turn-goes w k shell c.scene.result c.input.result c.turn.new.self c.scene.ensures c.input.ensures.is_ended (given (input_of w k).queue c.input.ensures.line))
@@ -32,7 +32,7 @@ take_typed-requires-clause-sane c =
     let w = c.args.self.now in
     let k = c.args.number in
     let shell = c.in-Some.shell.now in
-    let P : Turning → Type 0 = λ t. GivesTurning c.scene.result c.input.result t c.turn.new.self in
+    let P : Turning → Type 0 = λ t. Gives c.scene.result c.input.result (scene_turning c.scene.result c.input.result) t c.turn.new.self in
     let given = subst P c.in-Ok-Takes.field-0-is c.in-Ok-Takes.ensures.turn in
     sane-taken _ _ (sane-behind w _ k _ (rw c.self.view_is at c.self.invariant) c.requires
     (turn-takes w k shell c.scene.result c.input.result c.turn.new.self c.scene.ensures c.input.ensures.is_ended (given (input_of w k).queue c.input.ensures.line)))
@@ -49,7 +49,7 @@ returns-in-Ok-Goes-clause-answer c =
     let w = c.args.self.now in
     let k = c.args.number in
     let shell = c.in-Some.shell.now in
-    let P : Turning → Type 0 = λ t. GivesTurning c.scene.result c.input.result t c.turn.new.self in
+    let P : Turning → Type 0 = λ t. Gives c.scene.result c.input.result (scene_turning c.scene.result c.input.result) t c.turn.new.self in
     let given = subst P c.in-Ok-Goes.field-0-is c.in-Ok-Goes.ensures.turn in
     answered _ (event.Turn k) _ _ c.take.result _
     (turn-goes w k shell c.scene.result c.input.result c.turn.new.self c.scene.ensures c.input.ensures.is_ended (given (input_of w k).queue c.input.ensures.line))
@@ -61,7 +61,7 @@ returns-in-Ok-Goes-clause-world c =
     let w = c.args.self.now in
     let k = c.args.number in
     let shell = c.in-Some.shell.now in
-    let P : Turning → Type 0 = λ t. GivesTurning c.scene.result c.input.result t c.turn.new.self in
+    let P : Turning → Type 0 = λ t. Gives c.scene.result c.input.result (scene_turning c.scene.result c.input.result) t c.turn.new.self in
     let given = subst P c.in-Ok-Goes.field-0-is c.in-Ok-Goes.ensures.turn in
     answers w _ c.take.new.self _ _ c.take.result _
     (turn-goes w k shell c.scene.result c.input.result c.turn.new.self c.scene.ensures c.input.ensures.is_ended (given (input_of w k).queue c.input.ensures.line))
@@ -72,7 +72,7 @@ returns-in-Ok-Takes-clause-answer c =
     let w = c.args.self.now in
     let k = c.args.number in
     let shell = c.in-Some.shell.now in
-    let P : Turning → Type 0 = λ t. GivesTurning c.scene.result c.input.result t c.turn.new.self in
+    let P : Turning → Type 0 = λ t. Gives c.scene.result c.input.result (scene_turning c.scene.result c.input.result) t c.turn.new.self in
     let given = subst P c.in-Ok-Takes.field-0-is c.in-Ok-Takes.ensures.turn in
     answered _ (event.Turn k) _ _ c.take_typed.result _
     (turn-takes w k shell c.scene.result c.input.result c.turn.new.self c.scene.ensures c.input.ensures.is_ended (given (input_of w k).queue c.input.ensures.line))
@@ -84,7 +84,7 @@ returns-in-Ok-Takes-clause-world c =
     let w = c.args.self.now in
     let k = c.args.number in
     let shell = c.in-Some.shell.now in
-    let P : Turning → Type 0 = λ t. GivesTurning c.scene.result c.input.result t c.turn.new.self in
+    let P : Turning → Type 0 = λ t. Gives c.scene.result c.input.result (scene_turning c.scene.result c.input.result) t c.turn.new.self in
     let given = subst P c.in-Ok-Takes.field-0-is c.in-Ok-Takes.ensures.turn in
     answers w _ c.take_typed.new.self _ _ c.take_typed.result _
     (turn-takes w k shell c.scene.result c.input.result c.turn.new.self c.scene.ensures c.input.ensures.is_ended (given (input_of w k).queue c.input.ensures.line))
@@ -95,6 +95,6 @@ returns-in-Ok-NotReady-clause-answer c =
     let w = c.args.self.now in
     let k = c.args.number in
     let shell = c.in-Some.shell.now in
-    let P : Turning → Type 0 = λ t. GivesTurning c.scene.result c.input.result t c.turn.new.self in
+    let P : Turning → Type 0 = λ t. Gives c.scene.result c.input.result (scene_turning c.scene.result c.input.result) t c.turn.new.self in
     let given = subst P c.in-Ok-NotReady.field-0-is c.in-Ok-NotReady.ensures.turn in
     turn-refused w k shell c.scene.result c.input.result c.turn.new.self c.scene.ensures c.input.ensures.is_ended (given (input_of w k).queue c.input.ensures.line)
