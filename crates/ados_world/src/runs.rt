@@ -8,7 +8,8 @@ ghost use Rattle.ados_machine.specs.Reports.{reports_of_trace, stacks_in};
 ghost use Rattle.ados_machine.specs.Stacks.{FramesHold};
 ghost use Rattle.ados_machine.specs.Trace.{own, reports_in, trace};
 ghost use Rattle.ados_machine.specs.World.{codes_at};
-ghost use Rattle.ados_world.specs.Laws.{BreaksEndScriptsIn, FailedStartsLeaveNothingIn, QuietShellsAreInvisibleIn};
+ghost use Rattle.ados_machine.specs.Starts.{FailedStartsLeaveNothingIn};
+ghost use Rattle.ados_world.specs.Laws.{BreaksEndScriptsIn, QuietShellsAreInvisibleIn};
 
 use crate::worlds::World;
 use ados_machine::{Event, Out, Refusal};

@@ -11,7 +11,8 @@ ghost use Rattle.ados_machine.specs.declared.refusals.Refusal.TheVariants.{NoMem
 ghost use Rattle.ados_find.specs.Shared.{version};
 ghost use Rattle.ados_shell.specs.Drafts.{out_of};
 ghost use Rattle.ados_world.specs.Binding.{BindsWhatItUsed};
-ghost use Rattle.ados_world.specs.Laws.{FailedStart, tells_break};
+ghost use Rattle.ados_machine.specs.Starts.{FailedStart};
+ghost use Rattle.ados_world.specs.Laws.{tells_break};
 ghost use Rattle.ados_world.specs.Shells.{IsShellNumber};
 ghost use Rattle.ados_world.specs.Steps.{step_answer, drafted_out, ended_world, world_after_turn};
 

@@ -10,7 +10,7 @@ use Rattle.ados_machine.proofs.RunLemmas.{Runs-more}
 use Rattle.ados_machine.proofs.Traces.{frames-hold, limits-hold}
 use Rattle.ados_machine.proofs.Ends.{reports-hold}
 use Rattle.ados_machine.proofs.Erased.{quiet-shells}
-use Rattle.ados_world.proofs.LawLemmas.{starts-leave-nothing}
+use Rattle.ados_machine.proofs.FailedStarts.{starts-leave-nothing}
 use Rattle.ados_world.proofs.BrokenLemmas.{breaks-end-in}
 use Rattle.ados_world.proofs.worlds.World.run.Goals as goal
 
