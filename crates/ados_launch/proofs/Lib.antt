@@ -2,6 +2,7 @@ pub mod Scanning
 pub mod HeldLines
 pub mod Appending
 pub mod Places
+pub mod Stages
 pub mod Coming
 pub mod Taken
 pub mod Taking

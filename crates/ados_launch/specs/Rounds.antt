@@ -36,6 +36,10 @@ comes w place =
 abbrev pub is_due : WorldState → List Bool → ℕ → Bool
 is_due w answered place = comes w place && not (nat_lt 40 place && get_or answered (place - 40) false)
 
+-- a read or a wait of a shell is due: it is asked for, and the shell had no answer in this round
+abbrev pub is_further_due : WorldState → List Bool → ℕ → Bool
+is_further_due w answered k = asks_read_or_wait (pending_of w k) && not (get_or answered k false)
+
 -- a round begins
 abbrev pub none_answered : List Bool
 none_answered = replicate 21 false

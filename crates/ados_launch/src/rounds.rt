@@ -1,11 +1,11 @@
 // The rounds in which events come.
-ghost use Rattle.std.specs.Prelude.{◌≡◌, ◌<◌, ◌≤◌, get_or, false, true, option_map, IfSome, if◌then◌else◌};
-ghost use Rattle.ados_machine.specs.World.{pending_of};
+ghost use Rattle.std.specs.Prelude.{◌≡◌, ◌<◌, ◌≤◌, ◌&&◌, get_or, false, true, nat_lt, option_map, IfSome, if◌then◌else◌};
+ghost use Rattle.ados_machine.specs.World.{pending_of, wants_line};
+ghost use Rattle.ados_world.specs.Due.{first_from};
 ghost use Rattle.ados_launch.specs.Rounds.{
   asks_start,
   asks_read_or_wait,
-  comes,
-  is_due,
+  is_further_due,
   due_place,
   in_next_round,
   in_this_round,
@@ -19,9 +19,6 @@ ghost use Rattle.ados_launch.specs.Rounds.{
 
 use ados_machine::Request;
 use ados_world::World;
-
-// The places of a round: 0 for the lines, and three for each shell: its turns, its starts, its reads and waits.
-const PLACES: u8 = 61;
 
 /// The state of a round.
 #[derive(Clone, Copy)]
@@ -85,14 +82,39 @@ impl Round {
         requires { self.now.place ≤ 61 }
         ensures { result ≡ in_this_round self.now world.now }
     {
-        (self.place..PLACES).find(|place| self.is_due(world, *place))
+        if self.is_line_due(world) {
+            return Some(0);
+        }
+        if let Some(number) = world.first_ready(self.place.clamp(1, 21)) {
+            return Some(number);
+        }
+        if let Some(number) = first_start(world, self.place.clamp(21, 41) - 20) {
+            return Some(number + 20);
+        }
+        let number = self.first_further(world, self.place.clamp(41, 61) - 40)?;
+        Some(number + 40)
     }
 
-    // Something may come at this place, and it is not a read or wait of a shell that had an answer in this round.
-    fn is_due(&self, world: &World, place: u8) -> bool
-        ensures { result ≡ is_due world.now self.now.answered place }
+    // Lines are still read in this round, and one is wanted.
+    fn is_line_due(&self, world: &World) -> bool
+        ensures { result ≡ (nat_lt self.now.place 1 && wants_line world.now) }
     {
-        comes(world, place) && !(place > 40 && self.had_answer(place - 40))
+        self.place < 1 && world.wants_line()
+    }
+
+    // The first shell from a number on that asks for a piece of its program's output, or for its end, and had no answer in this
+    // round.
+    fn first_further(&self, world: &World, from: u8) -> Option<u8>
+        requires { from ≤ 21 }
+        ensures number { result ≡ first_from from (is_further_due world.now self.now.answered) }
+        ensures high { IfSome result (λ number. number ≤ 20) }
+    {
+        let number = world.first_pending(from)?;
+        if asks_further(world, number) && !self.had_answer(number) {
+            Some(number)
+        } else {
+            self.first_further(world, number + 1)
+        }
     }
 
     fn had_answer(&self, number: u8) -> bool
@@ -134,18 +156,17 @@ fn first_due(world: &World) -> Option<Due>
     }
 }
 
-// Something may come at this place.
-fn comes(world: &World, place: u8) -> bool
-    ensures { result ≡ comes world.now place }
+// The first shell from a number on that asks for a program's start.
+fn first_start(world: &World, from: u8) -> Option<u8>
+    requires { from ≤ 21 }
+    ensures number { result ≡ first_from from (λ k. asks_start (pending_of world.now k)) }
+    ensures high { IfSome result (λ number. number ≤ 20) }
 {
-    if place < 1 {
-        world.wants_line()
-    } else if place < 21 {
-        world.ready(place)
-    } else if place < 41 {
-        asks_start(world, place - 20)
+    let number = world.first_pending(from)?;
+    if asks_start(world, number) {
+        Some(number)
     } else {
-        asks_further(world, place - 40)
+        first_start(world, number + 1)
     }
 }
 

@@ -1,8 +1,11 @@
 mod BindingLemmas
+mod BitLemmas
 mod BreakLemmas
 mod BrokenLemmas
 mod CarryingLemmas
+mod DueLemmas
 mod FillLemmas
+pub mod FirstLemmas
 mod LawLemmas
 mod MemoryLemmas
 mod NewShellLemmas

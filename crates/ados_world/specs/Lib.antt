@@ -1,5 +1,6 @@
 pub mod Binding
 pub mod Breaks
+pub mod Due
 pub mod Endings
 pub mod Hosts
 pub mod Laws

@@ -1,10 +1,11 @@
 // Breaks of shells.
-ghost use Rattle.std.specs.Prelude.{◌≡◌, ◌<◌};
+ghost use Rattle.std.specs.Prelude.{◌≡◌, ◌<◌, ◌≤◌};
 ghost use Rattle.std.specs.List.{slice_get, slice_set};
 ghost use Rattle.ados_machine.specs.Breaks.{breaks_by, broken_number, broken_place};
 ghost use Rattle.ados_machine.specs.World.{flatten};
 ghost use Rattle.ados_world.specs.Breaks.{shells_with_broken};
 
+use crate::table::ShellTable;
 use ados_find::{Breaking, Breaks};
 use ados_machine::Kind;
 use ados_shell::Shell;
@@ -21,7 +22,8 @@ pub fn breaks_by(kind: Kind) -> Breaks
 
 /// The shell with this number is broken, if one runs.
 pub fn break_number(shells: &mut [Option<Shell>; 20], number: usize, breaks: Breaks)
-    ensures { shells.new ≡ broken_number breaks number shells.old }
+    ensures broken { shells.new ≡ broken_number breaks number shells.old }
+    ensures outside { (1 ≤ number → 20 < number) → shells.new ≡ shells.old }
 {
     match number {
         1..=20 => break_place(shells, number - 1, breaks),
@@ -41,12 +43,12 @@ fn break_place(shells: &mut [Option<Shell>; 20], place: usize, breaks: Breaks)
 }
 
 /// The shell that a command broke is broken, unless it is the command's own, which has this number.
-pub fn break_other(shells: &mut [Option<Shell>; 20], number: u8, breaking: Option<Breaking>)
+pub fn break_other(shells: &mut ShellTable, number: u8, breaking: Option<Breaking>)
     ensures { shells.new ≡ shells_with_broken number breaking shells.old }
 {
     match breaking {
         Some(breaking) if breaking.shell != number as usize => {
-            break_number(shells, breaking.shell, breaking.breaks)
+            shells.break_shell(breaking.shell, breaking.breaks)
         }
         _ => {}
     }

@@ -4,6 +4,7 @@
 
 mod breaks;
 mod carrying;
+mod due;
 mod endings;
 mod hosts;
 mod new_shells;
@@ -12,6 +13,7 @@ mod queue;
 mod runs;
 mod shells;
 mod steps;
+mod table;
 mod worlds;
 
 pub use ados_machine::{

@@ -4,6 +4,7 @@ ghost use Rattle.ados_machine.specs.Numbers.{free_number};
 ghost use Rattle.ados_world.specs.NewShells.{joined_shells, new_shell};
 ghost use Rattle.ados_world.specs.Shells.{IsShellNumber};
 
+use crate::table::ShellTable;
 use ados_shell::{Begun, Shell, free_number};
 use ados_text::NoMemory;
 use std::alloc::Global;
@@ -40,12 +41,11 @@ pub fn new_shell(
 }
 
 /// A shell that begins is placed at its number.
-pub fn join(shells: &mut [Option<Shell>; 20], shell: Option<Shell>)
+pub fn join(shells: &mut ShellTable, shell: Option<Shell>)
     requires { IfSome shell (λ new. IsShellNumber new.parts.number) }
     ensures { shells.new ≡ joined_shells shell shells.old }
 {
     if let Some(shell) = shell {
-        let place = shell.number() as usize - 1;
-        shells[place] = Some(shell);
+        shells.put(shell.number(), Some(shell));
     }
 }

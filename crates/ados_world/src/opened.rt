@@ -44,7 +44,7 @@ impl World {
         if line.as_bytes().len() > LINE_BYTES {
             return Err(Refusal::LineTooLong);
         }
-        let Some(number) = next_number(&self.shells) else {
+        let Some(number) = next_number(self.shells.places()) else {
             return Ok(None);
         };
         match opened_shell(self.alloc, number, line) {
@@ -62,7 +62,7 @@ impl World {
         requires sane { IsSane (record self.old { shells = slice_set self.old.shells (number - 1) (Some shell) }) }
         ensures { self.new ≡ record self.old { shells = slice_set self.old.shells (number - 1) (Some shell) } }
     {
-        self.shells[number as usize - 1] = Some(shell);
+        self.shells.put(number, Some(shell));
     }
 }
 

@@ -3,9 +3,10 @@ ghost use Rattle.std.specs.Prelude.{◌≡◌, None, map, length, replicate, is_
 ghost use Rattle.std.specs.List.{filter, list_any};
 ghost use Rattle.std.specs.Option.{option_copied};
 ghost use Rattle.ados_machine.specs.World.{flatten, at_number};
-ghost use Rattle.ados_world.specs.Shells.{IsShellNumber, updated_carried_shells, is_entry, updated_shells, runs_from, shells_after_draft};
+ghost use Rattle.ados_world.specs.Shells.{IsShellNumber, updated_carried_shells, is_entry, runs_from, shells_after_draft};
 
-use crate::carrying::{carried_directories, place_all};
+use crate::carrying::carried_directories;
+use crate::table::ShellTable;
 use ados_find::Renamed;
 use ados_shell::{Shell, ShellDraft};
 use ados_text::{NoMemory, Text};
@@ -84,7 +85,7 @@ pub fn find_shell(shells: &[Option<Shell>; 20], number: u8) -> Option<&Shell>
 ///
 /// `NoMemory` if there is no room for its frames or a directory; the shells are then as they were.
 pub fn change_shell(
-    shells: &mut [Option<Shell>; 20],
+    shells: &mut ShellTable,
     number: u8,
     draft: &mut ShellDraft,
     moved: Option<&Renamed>,
@@ -95,32 +96,14 @@ pub fn change_shell(
     ensures err { OnErr result (shells.new ≡ shells.old) }
 {
     match moved {
-        None => move_in(shells, number, draft),
+        None => shells.move_in(number, draft),
         Some(moved) => carry_in(shells, number, draft, moved),
-    }
-}
-
-/// Moves in what a turn makes of the shell with this number; if there is no such shell, nothing is done.
-///
-/// `NoMemory` if there is no room for its frames; the shells are then as they were.
-fn move_in(
-    shells: &mut [Option<Shell>; 20],
-    number: u8,
-    draft: &mut ShellDraft,
-) -> Result<(), NoMemory>
-    requires { IsShellNumber number }
-    ensures ok { OnOk result (shells.new ≡ updated_shells number draft.old shells.old) }
-    ensures err { OnErr result (shells.new ≡ shells.old) }
-{
-    match &mut shells[number as usize - 1] {
-        None => Ok(()),
-        Some(shell) => draft.move_in(shell),
     }
 }
 
 /// The same of a shell that runs, if an object was moved: the current directories of all shells are carried.
 fn carry_in(
-    shells: &mut [Option<Shell>; 20],
+    shells: &mut ShellTable,
     number: u8,
     draft: &mut ShellDraft,
     moved: &Renamed,
@@ -130,13 +113,13 @@ fn carry_in(
     ensures ok { OnOk result (shells.new ≡ updated_carried_shells number moved.now draft.old shells.old) }
     ensures err { OnErr result (shells.new ≡ shells.old) }
 {
-    let Some(shell) = find_shell(shells, number) else {
+    let Some(shell) = find_shell(shells.places(), number) else {
         return Ok(());
     };
     let own = draft.carried_directory(shell, moved)?;
-    let mut directories = carried_directories(shells, moved)?;
+    let mut directories = carried_directories(shells.places(), moved)?;
     directories[number as usize - 1] = Some(own);
-    move_in(shells, number, draft)?;
-    place_all(shells, directories);
+    shells.move_in(number, draft)?;
+    shells.carry(directories);
     Ok(())
 }

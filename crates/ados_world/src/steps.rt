@@ -16,7 +16,7 @@ ghost use Rattle.ados_world.specs.Laws.{tells_break};
 ghost use Rattle.ados_world.specs.Shells.{IsShellNumber};
 ghost use Rattle.ados_world.specs.Steps.{step_answer, drafted_out, ended_world, world_after_turn};
 
-use crate::breaks::{break_number, break_other, breaks_by};
+use crate::breaks::{break_other, breaks_by};
 use crate::carrying::moved_by;
 use crate::endings::{end, end_done};
 use crate::new_shells::{join, new_shell};
@@ -144,7 +144,7 @@ impl World {
         if self.shell(number).is_none() {
             return Err(Refusal::NoSuchShell);
         }
-        break_number(&mut self.shells, number as usize, breaks_by(kind));
+        self.shells.break_shell(number as usize, breaks_by(kind));
         Ok(())
     }
 
@@ -179,7 +179,7 @@ impl World {
         let Ok(()) = self.ask(number, draft) else {
             return Err(Refusal::NoMemory);
         };
-        let Ok(begun) = new_shell(self.alloc, &self.shells, draft.begun.take()) else {
+        let Ok(begun) = new_shell(self.alloc, self.shells.places(), draft.begun.take()) else {
             return Err(Refusal::NoMemory);
         };
         let moved = moved_by(

@@ -1,16 +1,19 @@
 // A world, and what it shows.
-ghost use Rattle.std.specs.Prelude.{◌≡◌, Some, IfOk, OnSome};
+ghost use Rattle.std.specs.Prelude.{◌≡◌, ◌≤◌, Some, IfOk, IfSome, OnSome};
 ghost use Rattle.std.specs.Option.{option_copied};
+ghost use Rattle.ados_world.specs.Due.{first_from};
 ghost use Rattle.ados_world.specs.Hosts.{Answers, hosts_fault};
 ghost use Rattle.ados_world.specs.Scenes.{Shows};
 ghost use Rattle.ados_world.specs.Shells.{IsShellNumber};
 ghost use Rattle.ados_machine.specs.Children.{child_in};
+ghost use Rattle.ados_machine.specs.InUse.{asks};
 ghost use Rattle.ados_machine.specs.Limits.{IsSane};
 ghost use Rattle.ados_machine.specs.Starts.{use_count};
 ghost use Rattle.ados_machine.specs.World.{fresh_world, shell_at, is_over, is_ready, wants_line, codes_at, ended_at, running_numbers, pending_of};
 
 use crate::hosts::{NewFault, hosts_fault};
-use crate::shells::{any_runs, count_uses, find_shell, no_shells, taken};
+use crate::shells::{any_runs, count_uses, find_shell, taken};
+use crate::table::ShellTable;
 use ados_assign::Assigns;
 use ados_find::{Codes, Shared};
 use ados_machine::{ChildState, Request};
@@ -27,7 +30,7 @@ use std::marker::Model;
 pub struct World {
     pub(crate) alloc: Global,
     pub(crate) commands: Commands,
-    pub(crate) shells: [Option<Shell>; 20],
+    pub(crate) shells: ShellTable,
     pub(crate) ended: [Codes; 20],
     pub(crate) queue: VecDeque<Text>,
     pub(crate) input_ended: bool,
@@ -79,12 +82,10 @@ impl World {
         let commands = Commands::new(alloc)?;
         let shared = Shared::first(alloc, Hosts::of(alloc, hosts)?)?;
         let first = Shell::new(alloc, 1)?;
-        let mut shells = no_shells();
-        shells[0] = Some(first);
         Ok(World {
             alloc,
             commands,
-            shells,
+            shells: ShellTable::of_first(first),
             ended: [Codes::NONE; 20],
             queue: VecDeque::new(alloc),
             input_ended: false,
@@ -97,14 +98,14 @@ impl World {
         ensures shell { option_copied result ≡ shell_at self.now number }
         ensures number { OnSome result (IsShellNumber number) }
     {
-        find_shell(&self.shells, number)
+        find_shell(self.shells.places(), number)
     }
 
     /// Which numbers from 1 to 20 have a shell.
     pub fn shells(&self) -> [bool; 20]
         ensures { result ≡ running_numbers self.now }
     {
-        taken(&self.shells)
+        taken(self.shells.places())
     }
 
     /// The last codes of a number: an ended shell's are kept until its number is given again; 0 and 0
@@ -129,6 +130,32 @@ impl World {
             None => false,
             Some(shell) => shell.can_take(self.has_input(number)),
         }
+    }
+
+    /// The first number from this one on, up to 20, whose shell can take a turn, as [`ready`](World::ready) says.
+    pub fn first_ready(&self, from: u8) -> Option<u8>
+        requires { from ≤ 21 }
+        ensures number { result ≡ first_from from (is_ready self.now) }
+        ensures low { IfSome result (λ number. from ≤ number) }
+        ensures high { IfSome result (λ number. number ≤ 20) }
+    {
+        let number = self.shells.first_turning(from)?;
+        if self.ready(number) {
+            Some(number)
+        } else {
+            self.first_ready(number + 1)
+        }
+    }
+
+    /// The first number from this one on, up to 20, whose shell asked a launcher for something and waits for it, as
+    /// [`pending`](World::pending) says.
+    pub fn first_pending(&self, from: u8) -> Option<u8>
+        requires { from ≤ 21 }
+        ensures number { result ≡ first_from from (asks self.now) }
+        ensures low { IfSome result (λ number. from ≤ number) }
+        ensures high { IfSome result (λ number. number ≤ 20) }
+    {
+        self.shells.first_pending(from)
     }
 
     /// What the shell of this number asked a launcher for, and waits for. By the invariant of a world a request names its
@@ -190,7 +217,7 @@ impl World {
     pub fn uses(&self, name: &Text) -> usize
         ensures { result ≡ use_count self.now name.now }
     {
-        count_uses(&self.shells, name)
+        count_uses(self.shells.places(), name)
     }
 
     /// What a turn of the shell of a number sees.
@@ -203,7 +230,7 @@ impl World {
             commands: &self.commands,
             number,
             shell,
-            shells: &self.shells,
+            shells: self.shells.places(),
             shared: &self.shared,
         }
     }
@@ -211,7 +238,7 @@ impl World {
     pub(crate) fn is_over(&self) -> bool
         ensures { result ≡ is_over self.now }
     {
-        !any_runs(&self.shells)
+        !any_runs(self.shells.places())
     }
 
     fn ended_codes(&self, number: u8) -> Codes

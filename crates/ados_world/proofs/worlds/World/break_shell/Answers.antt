@@ -16,8 +16,8 @@ invariant_of-self c =
     let runs : is_some (shell_at w k) ≡ true =
     subst (λ o. is_some o ≡ true) c.shell.ensures.shell (copied-some c.shell.result (c.is_none.ensures ∙ ap not c.if-is_none.false)) in
     let sane = sane-broken w k kind (rw c.self.view_is at c.self.invariant) c.requires runs in
-    let shells : c.break_number.new.shells ≡ broken_number (breaks_by kind) k inside.shells =
-    c.break_number.ensures ∙ ap (λ b. broken_number b k inside.shells) c.breaks_by.ensures in
+    let shells : c.break_shell.new.self ≡ broken_number (breaks_by kind) k inside.shells =
+    c.break_shell.ensures ∙ ap (λ b. broken_number b k inside.shells) c.breaks_by.ensures in
     let P : WorldState → Type 0 = λ v. IsSane (record v { shells = broken_number (breaks_by kind) k v.shells }) in
     let Q : List (Option ShellState) → Type 0 = λ s.
     IsSane (record { shells = s; ended = inside.ended; queue = inside.queue.items; input_ended = inside.input_ended; shared = inside.shared }) in
