@@ -78,14 +78,21 @@ furthers w answered k low high =
     ap (λ b. b && not (nat_lt 40 (k + 40) && get_or answered (k + 40 - 40) false)) (comes-late w (k + 40) (omega (arith, low)))
     ∙ rw late (ap (is_further_due w answered) same)
 
--- what asks for a start, or for a piece or an end, asks for something
+-- what asks for a start, or for a read or a wait, asks for something
 pub start-asks : (request : Option Request) → asks_start request ≡ true → is_some request ≡ true
 start-asks None e = e
 start-asks (Some request) e = refl
 
-pub further-asks : (request : Option Request) → asks_read_or_wait request ≡ true → is_some request ≡ true
-further-asks None e = e
-further-asks (Some request) e = refl
+read-asks : (request : Option Request) → asks_read_or_wait request ≡ true → is_some request ≡ true
+read-asks None e = e
+read-asks (Some request) e = refl
+
+left-true : (a b : Bool) → (a && b) ≡ true → a ≡ true
+left-true true b e = refl
+left-true false b e = e
+
+pub further-asks : (w : WorldState) (answered : List Bool) (k : ℕ) → is_further_due w answered k ≡ true → is_some (pending_of w k) ≡ true
+further-asks w answered k e = read-asks (pending_of w k) (left-true (asks_read_or_wait (pending_of w k)) (not (get_or answered k false)) e)
 
 -- a line is due first; otherwise no line is due
 pub line-first : (w : WorldState) (answered : List Bool) (place : ℕ) → (nat_lt place 1 && wants_line w) ≡ true

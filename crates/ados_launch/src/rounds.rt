@@ -110,11 +110,18 @@ impl Round {
         ensures high { IfSome result (λ number. number ≤ 20) }
     {
         let number = world.first_pending(from)?;
-        if asks_further(world, number) && !self.had_answer(number) {
+        if self.is_further_due(world, number) {
             Some(number)
         } else {
             self.first_further(world, number + 1)
         }
+    }
+
+    // The shell of this number asks for one of these, and had no answer in this round.
+    fn is_further_due(&self, world: &World, number: u8) -> bool
+        ensures { result ≡ is_further_due world.now self.now.answered number }
+    {
+        asks_further(world, number) && !self.had_answer(number)
     }
 
     fn had_answer(&self, number: u8) -> bool
