@@ -1,5 +1,5 @@
 -- The world and the launcher's list agree after each event.
-use Rattle.std.proofs.Common.{arith, ◌≡◌, ◌≢◌, ℕ, ◌<◌, List, [], ◌++◌, Bool, true, false, Option, Some, None, Result, Ok, Err, OnOk, refl, sym, ap, ◌∙◌, inl, inr, subst, get_or, length, slice_set, append-nil}
+use Rattle.std.proofs.Common.{arith, ◌≡◌, ◌≢◌, ℕ, ◌<◌, List, [], ◌++◌, Bool, true, false, Option, Some, None, Ok, refl, sym, ap, ◌∙◌, inl, inr, subst, get_or, length, slice_set, append-nil}
 use Rattle.std.proofs.lemmas.Bool.{cases_eq}
 use Rattle.std.proofs.lemmas.Grind.{common_steps}
 use Rattle.std.proofs.lemmas.List.{get_or-set_same, get_or-set_other}
@@ -23,7 +23,7 @@ use Rattle.ados_machine.proofs.ChildLemmas.{request-names, requests-are}
 use Rattle.ados_launcher.specs.declared.calls.Call.{Call}
 use Rattle.ados_launcher.specs.Lives.{Broken, life_of, life_for_state, life_after_call, is_open, state_of}
 use Rattle.ados_launch.specs.Agreement.{Agrees, AreWhole, IsOpenTable}
-use Rattle.ados_launch.specs.Asked.{Answers, Asks, Lists, MayAsk, TakesAnswer, call_of}
+use Rattle.ados_launch.specs.Asked.{Answers, Asks, IsTaken, Lists, MayAsk, call_of}
 use Rattle.ados_launch.specs.Rounds.{asks_read_or_wait}
 use Rattle.ados_launch.proofs.Rows.{asked-start, life-more, life-here, life-there, may-ask, unmarked}
 
@@ -43,11 +43,10 @@ event-agrees : (w now : WorldState) (event : Event) (out : Out) (calls : List Ca
 event-agrees w now event out calls agrees other accepted k =
     agrees k ∙ ap life_for_state (sym (turns-keep w event now out accepted.items other accepted.is k))
 
-pub given-agrees : {X E : Type 0} (w now : WorldState) (event : Event) (out : Out) (calls : List Call) (result : Result X E) → Agrees w calls → is_launchers event ≡ false →
-    OnOk result (IsAnswer event (Ok out) (step_of w event)) → OnOk result (now ≡ world_after w (Ok out) (step_of w event)) → OnOk result (Agrees now calls)
-given-agrees w now event out calls (Ok done) agrees other answer world =
+pub given-agrees : (w now : WorldState) (event : Event) (out : Out) (calls : List Call) → Agrees w calls → is_launchers event ≡ false →
+    IsAnswer event (Ok out) (step_of w event) → now ≡ world_after w (Ok out) (step_of w event) → Agrees now calls
+given-agrees w now event out calls agrees other answer world =
     event-agrees w now event out calls agrees other (accepted-is w now event out (step_of w event) answer world)
-given-agrees w now event out calls (Err why) agrees other answer world = tt
 
 -- if the world does not change
 pub same-agrees : (w now : WorldState) (calls : List Call) → Agrees w calls → now ≡ w → Agrees now calls
@@ -89,12 +88,11 @@ answer-agrees w now k is_full request reply out calls listed sane agrees asked l
     ]
 
 -- if its answer was taken, the world and the list agree
-pub answers-agree : {X E : Type 0} (w now : WorldState) (k : ℕ) (was_full is_full : Bool) (calls calls_now : List Call) (result : Result X E) (out : Out) → IsSane w → Agrees w calls →
-    Answers w k was_full is_full calls calls_now (TakesAnswer w k result now out) → OnOk result (Agrees now calls_now)
-answers-agree w now k was_full is_full calls calls_now (Ok done) out sane agrees a =
+pub answers-agree : (w now : WorldState) (k : ℕ) (was_full is_full : Bool) (calls calls_now : List Call) (out : Out) → IsSane w → Agrees w calls →
+    Answers w k was_full is_full calls calls_now (IsTaken w k now out) → Agrees now calls_now
+answers-agree w now k was_full is_full calls calls_now out sane agrees a =
     rw a.asks.calls_are (answer-agrees w now k is_full a.request a.reply out calls a.asks.listed sane agrees a.pending_is a.asks.lists
     (accepted-is w now (Answer k a.reply) out (step_of w (Answer k a.reply)) a.led_to.0 a.led_to.1))
-answers-agree w now k was_full is_full calls calls_now (Err why) out sane agrees a = tt
 
 -- an answer that the world did not take, once it is given
 pub untaken-agrees : (w : WorldState) (k : ℕ) (was_full is_full : Bool) (calls calls_now : List Call) (request : Request) (reply : Reply) (out : Out) → IsSane w → Agrees w calls →
@@ -114,15 +112,15 @@ pub agrees-whole : (w : WorldState) (calls : List Call) → Agrees w calls → A
 agrees-whole w calls agrees k e = whole-in (child_in w k) (sym (agrees k) ∙ e)
 
 -- after a call each row is whole, whatever became of its answer
-pub answers-whole : (w : WorldState) (k : ℕ) (was_full is_full : Bool) (calls calls_now : List Call) (outcome : Reply → Type 0) → IsSane w → Agrees w calls →
-    Answers w k was_full is_full calls calls_now outcome → AreWhole calls_now
-answers-whole w k was_full is_full calls calls_now outcome sane agrees a j e =
-    let named = request-names w k a.request sane a.pending_is in
-    let is : life_of j (calls ++ a.asks.listed) ≡ Broken = ap (life_of j) (sym a.asks.calls_are) ∙ e in
+asked-whole : (w : WorldState) (k : ℕ) (was_full is_full : Bool) (request : Request) (reply : Reply) (calls calls_now : List Call) → IsSane w → Agrees w calls →
+    pending_of w k ≡ Some request → Asks request reply was_full is_full calls calls_now → AreWhole calls_now
+asked-whole w k was_full is_full request reply calls calls_now sane agrees asked asks j e =
+    let named = request-names w k request sane asked in
+    let is : life_of j (calls ++ asks.listed) ≡ Broken = ap (life_of j) (sym asks.calls_are) ∙ e in
     elim (cases_eq j k) [
-      | inl same ↦ whole-in (child_after_answer (is_marked w k) a.request a.reply)
-          (sym (row-here w k is_full a.request a.reply calls a.asks.listed agrees a.pending_is named a.asks.lists) ∙ subst (λ n. life_of n (calls ++ a.asks.listed) ≡ Broken) same is)
-      | inr apart ↦ agrees-whole w calls agrees j (sym (row-there k j is_full a.request a.reply calls a.asks.listed named a.asks.lists apart) ∙ is)
+      | inl same ↦ whole-in (child_after_answer (is_marked w k) request reply)
+          (sym (row-here w k is_full request reply calls asks.listed agrees asked named asks.lists) ∙ subst (λ n. life_of n (calls ++ asks.listed) ≡ Broken) same is)
+      | inr apart ↦ agrees-whole w calls agrees j (sym (row-there k j is_full request reply calls asks.listed named asks.lists apart) ∙ is)
     ]
 
 -- what a launcher's preconditions need
@@ -135,17 +133,25 @@ pub number-asked : (w : WorldState) (k : ℕ) (request : Request) → IsSane w �
 number-asked w k request sane asked few = rw (request-names w k request sane asked) few
 
 -- the table after a call
-pub table-asked : (w : WorldState) (k : ℕ) (was_full is_full b : Bool) (request : Request) (reply : Reply) (calls calls_now : List Call) (table : List Bool) → IsSane w → Agrees w calls →
+rows-asked : (w : WorldState) (k : ℕ) (was_full is_full b : Bool) (request : Request) (reply : Reply) (calls calls_now : List Call) (table : List Bool) → IsSane w → Agrees w calls →
     IsOpenTable table calls → k < length table → pending_of w k ≡ Some request → Asks request reply was_full is_full calls calls_now →
-    b ≡ is_open (life_for_state (child_after_answer false request reply)) → IsOpenTable (slice_set table k b) calls_now
-table-asked w k was_full is_full b request reply calls calls_now table sane agrees opened few asked asks is j =
+    b ≡ is_open (life_for_state (child_after_answer false request reply)) → (j : ℕ) → get_or (slice_set table k b) j false ≡ is_open (life_of j calls_now)
+rows-asked w k was_full is_full b request reply calls calls_now table sane agrees opened few asked asks is j =
     let named = request-names w k request sane asked in
     rw asks.calls_are
     (elim (cases_eq j k) [
       | inl same ↦ subst (λ n. get_or (slice_set table k b) n false ≡ is_open (life_of n (calls ++ asks.listed))) (sym same)
           (get_or-set_same table k b false few ∙ (is ∙ ap is_open (sym (row-here w k is_full request reply calls asks.listed agrees asked named asks.lists ∙ unmarked (is_marked w k) request reply))))
-      | inr apart ↦ get_or-set_other table k j b false apart ∙ (opened j ∙ ap is_open (sym (row-there k j is_full request reply calls asks.listed named asks.lists apart)))
+      | inr apart ↦ get_or-set_other table k j b false apart ∙ (opened.1 j ∙ ap is_open (sym (row-there k j is_full request reply calls asks.listed named asks.lists apart)))
     ])
+
+pub table-asked : (w : WorldState) (k : ℕ) (was_full is_full b : Bool) (request : Request) (reply : Reply) (calls calls_now : List Call) (table : List Bool) → IsSane w → Agrees w calls →
+    IsOpenTable table calls → k < length table → pending_of w k ≡ Some request → Asks request reply was_full is_full calls calls_now →
+    b ≡ is_open (life_for_state (child_after_answer false request reply)) → IsOpenTable (slice_set table k b) calls_now
+table-asked w k was_full is_full b request reply calls calls_now table sane agrees opened few asked asks is = (
+  asked-whole w k was_full is_full request reply calls calls_now sane agrees asked asks,
+  rows-asked w k was_full is_full b request reply calls calls_now table sane agrees opened few asked asks is,
+)
 
 further-open : (request : Option Request) (state : ChildState) → is_asked request state ≡ true → asks_read_or_wait request ≡ is_open (life_for_state state)
 further-open None state asked = grind (arith, common_steps)
@@ -155,7 +161,8 @@ further-open (Some (Wait n)) state asked = grind (arith, common_steps)
 
 -- the table of the open children according to what the shells ask for
 pub table-begins : (w : WorldState) (calls : List Call) (table : List Bool) → Agrees w calls → ((k : ℕ) → get_or table k false ≡ asks_read_or_wait (pending_of w k)) → IsOpenTable table calls
-table-begins w calls table agrees filled k = filled k ∙ (further-open (pending_of w k) (child_in w k) (requests-are w k) ∙ ap is_open (sym (agrees k)))
+table-begins w calls table agrees filled =
+    (agrees-whole w calls agrees, λ k. filled k ∙ (further-open (pending_of w k) (child_in w k) (requests-are w k) ∙ ap is_open (sym (agrees k))))
 
 -- a world that asks for nothing, as a fresh one does, and a launcher without a call
 pub new-pair : (w : WorldState) (calls : List Call) → ((k : ℕ) → child_in w k ≡ Closed) → calls ≡ [] → Agrees w calls

@@ -1,6 +1,6 @@
 -- How one world leads to another.
-use Rattle.std.proofs.Common.{◌≡◌, ℕ, Bool, List, [], ◌∷◌, ◌++◌, Option, Some, None, Result, Ok, Err, refl, sym, subst}
-use Rattle.ados_text.specs.Text.{Text, Bytes}
+use Rattle.std.proofs.Common.{◌≡◌, ℕ, Bool, List, [], ◌∷◌, ◌++◌, Option, Some, None, Ok, subst}
+use Rattle.ados_text.specs.Text.{Text}
 use Rattle.ados_machine.specs.Numbers.{free_number}
 use Rattle.ados_machine.specs.Runs.{Runs, world_after}
 use Rattle.ados_machine.specs.Step.{step_of}
@@ -8,9 +8,9 @@ use Rattle.ados_machine.specs.LoneShell.{world_with_opened}
 use Rattle.ados_machine.specs.World.{WorldState}
 use Rattle.ados_world.specs.Opened.{opening_fault}
 use Rattle.ados_launcher.specs.declared.calls.Call.{Call}
+use Rattle.ados_launch.specs.Intake.{TakesNextItem}
 use Rattle.ados_launch.specs.Leads.{Act, Takes, Opens, ActsLead, Reaches}
 use Rattle.ados_launch.specs.Schedule.{Next}
-use Rattle.ados_launch.specs.Session.{TakesNextItem}
 use Rattle.ados_launch.specs.Taken.{TakenItem, Given, LongLine, taken_events, taken_outs, world_after_item, IsAccepted}
 
 -- no act leads to the world itself

@@ -1,5 +1,5 @@
 -- A line that runs alone leads from a world to the one after it.
-use Rattle.std.proofs.Common.{◌≡◌, ℕ, List, [], ◌∷◌, Bool, Option, Some, None, Result, Ok, Err, refl}
+use Rattle.std.proofs.Common.{◌≡◌, ℕ, List, [], ◌∷◌, Bool, Option, Some, None, Result, Ok, Err}
 use Rattle.std.specs.Prelude.{IfErr, IfNone, IfSome}
 use Rattle.ados_text.specs.Text.{Text, Bytes}
 use Rattle.ados_machine.specs.declared.answers.Answer.{Answer as Reply}

@@ -8,14 +8,17 @@ use Rattle.ados_launcher.specs.declared.calls.Call.{Call}
 use Rattle.ados_launch.specs.declared.driver.End.{End}
 use Rattle.ados_launch.specs.declared.faults.DriveFault.{DriveFault}
 use Rattle.ados_launch.specs.declared.faults.DriveFault.TheVariants.{Read, Write, Turns, Memory}
+use Rattle.ados_launch.specs.declared.faults.IntakeFault.{IntakeFault}
+use Rattle.ados_launch.specs.declared.faults.IntakeFault.TheVariants.{NoMemory, Read as Unread}
 use Rattle.ados_launch.specs.Agreement.{Agrees, AreOver, WaitsForOpen}
 use Rattle.ados_launch.specs.Drives.{HasDriveResult, ComesToEnd, Drives, ReadsWell, StopsAtMemory, StopsAtRead, StopsAtTurns, StopsAtWrite, WritesWell}
-use Rattle.ados_launch.specs.Faults.{one_more}
+use Rattle.ados_launch.specs.Faults.{drive_fault, one_more}
+use Rattle.ados_launch.specs.Intake.{TakesNextItem}
 use Rattle.ados_launch.specs.Lines.{bytes_ahead, IsUnreadable, IfKnown}
 use Rattle.ados_launch.specs.NoFurther.{TakesPartAt}
 use Rattle.ados_launch.specs.Rounds.{IsIdle, IsRunning}
 use Rattle.ados_launch.specs.Schedule.{Next, AtLine, ScheduleState, next_in}
-use Rattle.ados_launch.specs.Session.{AreDropped, Moment, SessionProgress, TakesNextItem}
+use Rattle.ados_launch.specs.Session.{AreDropped, Moment, SessionProgress}
 use Rattle.ados_launch.proofs.Coming.{next-running}
 use Rattle.ados_launch.proofs.Over.{calls-over, over}
 use Rattle.ados_launch.proofs.PartLines.{no-further}
@@ -89,6 +92,15 @@ stops-write turns n m breaks before mid now standing rest later next out d few h
   cause = cause;
   reads_well = reads;
 }
+
+-- at an event that was not taken a run stops neither for its writer nor for its turns
+pub never-write : (fault : IntakeFault) → Write ≡ drive_fault fault → ⊥
+never-write Unread e = cc
+never-write NoMemory e = cc
+
+pub never-turns : (fault : IntakeFault) → Turns ≡ drive_fault fault → ⊥
+never-turns Unread e = cc
+never-turns NoMemory e = cc
 
 -- by its fault
 pub comes-by : (turns : ℕ) (breaks : List BreakAt) (before now : Moment) (result : Result End DriveFault) (P : DriveFault → Type 0) → IsErrAnd result P → (P Memory → StopsAtMemory turns breaks before now)

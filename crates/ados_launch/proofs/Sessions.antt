@@ -12,10 +12,11 @@ use Rattle.ados_launch.specs.declared.faults.DriveFault.{DriveFault}
 use Rattle.ados_launch.specs.declared.faults.DriveFault.TheVariants.{Read, Write, Turns, Memory}
 use Rattle.ados_launch.specs.Agreement.{Agrees}
 use Rattle.ados_launch.specs.Drives.{HasDriveResult, TakesSession}
+use Rattle.ados_launch.specs.Intake.{TakesNextItem}
 use Rattle.ados_launch.specs.Lines.{bytes_ahead, IsUnreadable, IfKnown}
 use Rattle.ados_launch.specs.Taken.{TakenItem, bytes_of, written_bytes, rest_after_items}
 use Rattle.ados_launch.specs.Schedule.{Next, ScheduleState, first_schedule_state, next_after_taken, next_in, next_of, final_schedule_state, following_schedule_state}
-use Rattle.ados_launch.specs.Session.{AreDropped, LeavesOverlong, Moment, Session, SessionProgress, CutSessionProgress, TakesNextItem}
+use Rattle.ados_launch.specs.Session.{AreDropped, LeavesOverlong, Moment, Session, SessionProgress, CutSessionProgress}
 use Rattle.ados_launch.proofs.Taken.{run-more, order-more, standing-more, along-full, along-more, asked-more, asked-full, lines-more, left-more, written-more, count-more}
 
 -- this many were taken, and all of their bytes written; the schedule goes on, with this left to read

@@ -1,5 +1,5 @@
 -- What an event that was taken is in a session.
-use Rattle.std.proofs.Common.{◌≡◌, ℕ, ◌+◌, ◌-◌, ◌≤◌, List, [], ◌++◌, Bool, true, false, not, Option, Some, Result, Ok, Err, OnOk, OnErr, nat_lt, refl, ap, sym, subst, ◌∙◌, append-nil, arith, inl, inr}
+use Rattle.std.proofs.Common.{◌≡◌, ℕ, ◌-◌, ◌≤◌, List, [], Bool, true, false, not, Option, Some, Result, Ok, Err, OnOk, nat_lt, refl, ap, sym, subst, ◌∙◌, append-nil, arith, inl, inr}
 use Rattle.std.specs.Prelude.{if◌then◌else◌}
 use Rattle.std.proofs.lemmas.Bool.{cases_Bool}
 use Rattle.std.proofs.lemmas.Grind.{common_steps}
@@ -17,22 +17,35 @@ use Rattle.ados_machine.specs.Runs.{IsAnswer, world_after}
 use Rattle.ados_launcher.specs.declared.calls.Call.{Call}
 use Rattle.ados_launch.specs.declared.lines.LineKind.{LineKind}
 use Rattle.ados_launch.specs.declared.lines.LineKind.TheVariants.{End, Overlong, Short}
-use Rattle.ados_launch.specs.Asked.{Answers, IsAsked, Lists, TakesAnswer}
+use Rattle.ados_launch.specs.declared.rounds.Due.{Due}
+use Rattle.ados_launch.specs.declared.schedule.Next as found
+use Rattle.ados_launch.specs.declared.schedule.Next.TheVariants.{Break as BreakFound, Due as DueFound}
+use Rattle.ados_launch.specs.Asked.{Answers, IsAsked, IsTaken, Lists}
+use Rattle.ados_launch.specs.Intake.{LacksMemory, TakesLineOrEnd, TakesNextItem}
 use Rattle.ados_launch.specs.Lines.{BeginsOverlong, IfKnown, TakesLine, line_of, rest_of, kind_of}
 use Rattle.ados_launch.specs.Taken.{TakenItem, Given, LongLine, IsNext, IsOfReader, rest_after_item, text_of}
 use Rattle.ados_launch.specs.Rounds.{asks_read_or_wait, asks_start, comes}
-use Rattle.ados_launch.specs.Schedule.{AtBreak, AtFurther, AtLine, AtStart, AtTurn, next_at, next_of, next_of_event}
-use Rattle.ados_launch.specs.Session.{AreDropped, TakesNextItem, TakesLineOrEnd}
+use Rattle.ados_launch.specs.NoFurther.{TakesPart}
+use Rattle.ados_launch.specs.Schedule.{AtBreak, AtFurther, AtLine, AtStart, AtTurn, Next, next_at, next_of, next_of_event}
+use Rattle.ados_launch.specs.Session.{AreDropped}
+use Rattle.ados_launch.proofs.PartLines.{part-at-line, part-at-none}
 use Rattle.ados_launch.proofs.Places.{comes-start, comes-late}
 
+-- what was found to be due is at one place
+abbrev place-found : found.Next → ℕ
+place-found (BreakFound at) = 0
+place-found (DueFound due_at) = due_at.place
+
+pub same-place : (next : found.Next) (one other : Due) → next ≡ DueFound one → next ≡ DueFound other → one.place ≡ other.place
+same-place next one other p q = sym (ap place-found p) ∙ ap place-found q
+
 -- a line of the reader, or its end
-pub took-line : {X E : Type 0} (w now : WorldState) (left rest : Option (List ℕ)) (event : Event) (out : Out) (result : Result X E)
-    → OnOk result (IsAnswer event (Ok out) (step_of w event)) → OnOk result (now ≡ world_after w (Ok out) (step_of w event)) → IsOfReader (Given event out)
+pub took-line : (w now : WorldState) (left rest : Option (List ℕ)) (event : Event) (out : Out)
+    → IsAnswer event (Ok out) (step_of w event) → now ≡ world_after w (Ok out) (step_of w event) → IsOfReader (Given event out)
     → IfKnown left (λ bytes. IsNext bytes (Given event out) × (rest ≡ Some (rest_after_item bytes (Given event out))))
-    → OnOk result (TakesLineOrEnd w left now rest out.bytes)
-took-line w now left rest event out (Ok done) answer world of_reader lines =
+    → TakesLineOrEnd w left now rest out.bytes
+took-line w now left rest event out answer world of_reader lines =
     (Given event out, of_reader, record { accepted = answer; world_is = world; lines = lines; bytes_are = refl })
-took-line w now left rest event out (Err fault) answer world of_reader lines = tt
 
 read-place : (item : TakenItem) → IsOfReader item → next_of item ≡ AtLine
 read-place (Given (Typed line) out) h = refl
@@ -68,10 +81,10 @@ turn-at : (place : ℕ) → 1 ≤ place → place ≤ 20 → AtTurn place ≡ ne
 turn-at place low high = grind (arith, common_steps)
 
 -- the turn of a shell
-pub took-at-turn : {X E : Type 0} (w now : WorldState) (left : Option (List ℕ)) (is_full : Bool) (calls : List Call) (place : ℕ) (out : Out) (result : Result X E)
-    → 1 ≤ place → place ≤ 20 → OnOk result (IsAnswer (Turn place) (Ok out) (step_of w (Turn place))) → OnOk result (now ≡ world_after w (Ok out) (step_of w (Turn place)))
-    → OnOk result (TakesNextItem w left is_full calls (next_at place) now left calls out.bytes)
-took-at-turn w now left is_full calls place out (Ok done) low high answer world = record {
+pub took-at-turn : (w now : WorldState) (left : Option (List ℕ)) (is_full : Bool) (calls : List Call) (place : ℕ) (out : Out)
+    → 1 ≤ place → place ≤ 20 → IsAnswer (Turn place) (Ok out) (step_of w (Turn place)) → now ≡ world_after w (Ok out) (step_of w (Turn place))
+    → TakesNextItem w left is_full calls (next_at place) now left calls out.bytes
+took-at-turn w now left is_full calls place out low high answer world = record {
   item = Given (Turn place) out;
   listed = [];
   next_is = turn-at place low high;
@@ -80,13 +93,12 @@ took-at-turn w now left is_full calls place out (Ok done) low high answer world 
   asked = refl;
   when_full = λ full. tt;
 }
-took-at-turn w now left is_full calls place out (Err fault) low high answer world = tt
 
 -- a break of a shell
-pub took-at-break : {X E : Type 0} (w now : WorldState) (left : Option (List ℕ)) (is_full : Bool) (calls : List Call) (k : ℕ) (kind : Kind) (out : Out) (result : Result X E)
-    → OnOk result (IsAnswer (Break k kind) (Ok out) (step_of w (Break k kind))) → OnOk result (now ≡ world_after w (Ok out) (step_of w (Break k kind)))
-    → OnOk result (TakesNextItem w left is_full calls (AtBreak k kind) now left calls out.bytes)
-took-at-break w now left is_full calls k kind out (Ok done) answer world = record {
+pub took-at-break : (w now : WorldState) (left : Option (List ℕ)) (is_full : Bool) (calls : List Call) (k : ℕ) (kind : Kind) (out : Out)
+    → IsAnswer (Break k kind) (Ok out) (step_of w (Break k kind)) → now ≡ world_after w (Ok out) (step_of w (Break k kind))
+    → TakesNextItem w left is_full calls (AtBreak k kind) now left calls out.bytes
+took-at-break w now left is_full calls k kind out answer world = record {
   item = Given (Break k kind) out;
   listed = [];
   next_is = refl;
@@ -95,7 +107,6 @@ took-at-break w now left is_full calls k kind out (Ok done) answer world = recor
   asked = refl;
   when_full = λ full. tt;
 }
-took-at-break w now left is_full calls k kind out (Err fault) answer world = tt
 
 start-fits : (request : Request) (reply : Reply) → fits request reply ≡ true → asks_start (Some request) ≡ answers_start reply
 start-fits (Start job) reply fit = sym fit
@@ -144,19 +155,43 @@ listed-dropped w is_full place request reply listed late due asked (fit, inl is)
     (record { number = shell_at_place place; request = request; reply = reply; next_is = ap Some (sym (answer-at w place request reply late due asked fit)); pending_is = asked; fit = fit; call_is = refl })
 listed-dropped w is_full place request reply listed late due asked (fit, inr none) = subst (AreDropped w (Some (next_at place))) (sym none.0) tt
 
--- a launcher's answer that was not taken
-pub dropped-at-answer : {X E : Type 0} (w now : WorldState) (was_full is_full : Bool) (calls calls_now : List Call) (place : ℕ) (out : Out) (result : Result X E)
-    → 21 ≤ place → comes w place ≡ true → Answers w (shell_at_place place) was_full is_full calls calls_now (TakesAnswer w (shell_at_place place) result now out)
-    → OnErr result ((dropped : List Call) × AreDropped w (Some (next_at place)) dropped × (calls_now ≡ calls ++ dropped))
-dropped-at-answer w now was_full is_full calls calls_now place out (Ok done) late due a = tt
-dropped-at-answer w now was_full is_full calls calls_now place out (Err fault) late due a =
-    (a.asks.listed, listed-dropped w is_full place a.request a.reply a.asks.listed late due a.pending_is a.asks.lists, a.asks.calls_are)
+-- there was no memory for a turn or a break
+pub lacks-event : (w : WorldState) (next : Next) (faults : ℕ) (left : Option (List ℕ)) (calls : List Call) → LacksMemory w next faults faults left left calls calls
+lacks-event w next faults left calls = record {
+  reads_well = refl;
+  unread = λ bytes e. part-at-none next bytes left e;
+  dropped = [];
+  dropped_is = tt;
+  calls_are = sym (append-nil calls);
+}
+
+-- for a line
+pub lacks-line : (w : WorldState) (next : Next) (was_faults faults : ℕ) (left rest : Option (List ℕ)) (calls : List Call) → next ≡ AtLine → faults ≡ was_faults
+    → IfKnown left (λ bytes. TakesPart bytes rest) → LacksMemory w next was_faults faults left rest calls calls
+lacks-line w next was_faults faults left rest calls at honest part = record {
+  reads_well = honest;
+  unread = λ bytes e. part-at-line next bytes rest at (part bytes e);
+  dropped = [];
+  dropped_is = tt;
+  calls_are = sym (append-nil calls);
+}
+
+-- for a launcher's answer
+pub lacks-answer : (w : WorldState) (faults : ℕ) (left : Option (List ℕ)) (was_full is_full : Bool) (calls calls_now : List Call) (place : ℕ) (outcome : Reply → Type 0)
+    → 21 ≤ place → comes w place ≡ true → Answers w (shell_at_place place) was_full is_full calls calls_now outcome → LacksMemory w (next_at place) faults faults left left calls calls_now
+lacks-answer w faults left was_full is_full calls calls_now place outcome late due a = record {
+  reads_well = refl;
+  unread = λ bytes e. part-at-none (next_at place) bytes left e;
+  dropped = a.asks.listed;
+  dropped_is = listed-dropped w is_full place a.request a.reply a.asks.listed late due a.pending_is a.asks.lists;
+  calls_are = a.asks.calls_are;
+}
 
 -- a launcher's answer
-pub took-at-answer : {X E : Type 0} (w now : WorldState) (left : Option (List ℕ)) (was_full is_full : Bool) (calls calls_now : List Call) (place : ℕ) (out : Out) (result : Result X E)
-    → 21 ≤ place → comes w place ≡ true → Answers w (shell_at_place place) was_full is_full calls calls_now (TakesAnswer w (shell_at_place place) result now out)
-    → OnOk result (TakesNextItem w left is_full calls (next_at place) now left calls_now out.bytes)
-took-at-answer w now left was_full is_full calls calls_now place out (Ok done) late due a = record {
+pub took-at-answer : (w now : WorldState) (left : Option (List ℕ)) (was_full is_full : Bool) (calls calls_now : List Call) (place : ℕ) (out : Out)
+    → 21 ≤ place → comes w place ≡ true → Answers w (shell_at_place place) was_full is_full calls calls_now (IsTaken w (shell_at_place place) now out)
+    → TakesNextItem w left is_full calls (next_at place) now left calls_now out.bytes
+took-at-answer w now left was_full is_full calls calls_now place out late due a = record {
   item = Given (Answer (shell_at_place place) a.reply) out;
   listed = a.asks.listed;
   next_is = answer-at w place a.request a.reply late due a.pending_is a.asks.lists.0;
@@ -165,7 +200,6 @@ took-at-answer w now left was_full is_full calls calls_now place out (Ok done) l
   asked = rw a.pending_is a.asks.lists;
   when_full = a.asks.when_full;
 }
-took-at-answer w now left was_full is_full calls calls_now place out (Err fault) late due a = tt
 
 pub next-end : (bytes : List ℕ) (kind : LineKind) (kept : List ℕ) (now : Option (List ℕ)) → TakesLine bytes kind kept now → kind ≡ End → (kind_of bytes ≡ End) × (now ≡ Some (rest_of bytes))
 next-end bytes kind kept now t e = (sym t.kind_is ∙ e, t.now_is (λ k. cc))

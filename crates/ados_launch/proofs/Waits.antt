@@ -10,7 +10,7 @@ use Rattle.ados_machine.specs.Children.{answers_wait}
 use Rattle.ados_launcher.specs.declared.calls.Call.{Call}
 use Rattle.ados_launcher.specs.declared.calls.Call.TheVariants.{Start as Starts, Read as Reads, Wait as Waits}
 use Rattle.ados_launcher.specs.Lives.{Life, Between, InReads, BehindReads, Broken, life_of, life_after_wait, is_open}
-use Rattle.ados_launch.specs.Agreement.{AddsWait, AreWaits, AreOpenChildWaits, AreWhole, AreOver, IsOpenTable, WaitsForOpen, waited_child}
+use Rattle.ados_launch.specs.Agreement.{AddsWait, AreWaits, AreOpenChildWaits, AreOver, IsOpenTable, WaitsForOpen, waited_child}
 use Rattle.ados_launch.proofs.Rows.{life-more}
 
 -- a row once its open child was waited for
@@ -98,9 +98,9 @@ over-by true life h o = whole-over life h
 over-by false life h o = closed-over life h (o refl)
 
 -- at the end none is open
-pub all-over : (table : List Bool) (n : ℕ) (before after : List Call) → IsWaited n before after → AreWhole before → IsOpenTable table before → ((j : ℕ) → nat_lt j n ≡ false → get_or table j false ≡ false) → AreOver after
-all-over table n before after w h t past j =
-    w j ∙ over-by (nat_lt j n) (life_of j before) (h j) (λ e. sym (t j) ∙ past j e)
+pub all-over : (table : List Bool) (n : ℕ) (before after : List Call) → IsWaited n before after → IsOpenTable table before → ((j : ℕ) → nat_lt j n ≡ false → get_or table j false ≡ false) → AreOver after
+all-over table n before after w t past j =
+    w j ∙ over-by (nat_lt j n) (life_of j before) (t.0 j) (λ e. sym (t.1 j) ∙ past j e)
 
 -- the open children below n, in ascending order
 abbrev pub open_below : List Call → ℕ → List ℕ

@@ -48,9 +48,9 @@ pub record WaitsForOpen (before after : List Call) : Type 0 where
   pub calls_are : after ≡ before ++ waits
   pub are_for_open : AreOpenChildWaits before waits
 
--- the open children of a launcher according to its calls, in a table by number
+-- no call is out of place, and the table tells by number which children are open
 abbrev pub IsOpenTable : List Bool → List Call → Type 0
-IsOpenTable table calls = (k : ℕ) → get_or table k false ≡ is_open (life_of k calls)
+IsOpenTable table calls = AreWhole calls × ((k : ℕ) → get_or table k false ≡ is_open (life_of k calls))
 
 -- a wait for child k was asked, and nothing else
 pub record AddsWait (k : ℕ) (before after : List Call) : Type 0 where

@@ -95,8 +95,10 @@ pub record Answers (w : WorldState) (k : ℕ) (was_full is_full : Bool) (calls c
   pub asks : Asks request reply was_full is_full calls calls_now
   pub led_to : outcome reply
 
--- the world took the answer for shell k, which gave this; or the world is unchanged
+-- the world took the answer for shell k, which gave this
+abbrev pub IsTaken : WorldState → ℕ → WorldState → Out → Reply → Type 0
+IsTaken w k now out reply = IsAnswer (Answer k reply) (Ok out) (step_of w (Answer k reply)) × (now ≡ world_after w (Ok out) (step_of w (Answer k reply)))
+
+-- if it took it; otherwise the world is unchanged
 abbrev pub TakesAnswer : {X E : Type 0} → WorldState → ℕ → Result X E → WorldState → Out → Reply → Type 0
-TakesAnswer w k result now out reply = MatchResult result
-    (λ _. IsAnswer (Answer k reply) (Ok out) (step_of w (Answer k reply)) × (now ≡ world_after w (Ok out) (step_of w (Answer k reply))))
-    (λ _. now ≡ w)
+TakesAnswer w k result now out reply = MatchResult result (λ _. IsTaken w k now out reply) (λ _. now ≡ w)

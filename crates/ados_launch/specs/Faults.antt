@@ -2,8 +2,8 @@
 use Rattle.std.specs.Prelude.{◌≡◌, ℕ, ◌+◌, ◌-◌, ◌^◌, min, ◌&&◌, nat_lt, ◌==◌, if◌then◌else◌, MatchResult, Result}
 use Rattle.ados_launch.specs.declared.faults.DriveFault.{DriveFault}
 use Rattle.ados_launch.specs.declared.faults.DriveFault.TheVariants.{Read, Memory}
-use Rattle.ados_launch.specs.declared.lines.LineFault.{LineFault}
-use Rattle.ados_launch.specs.declared.lines.LineFault.TheVariants.{Read as Unread, NoMemory as OutOfMemory}
+use Rattle.ados_launch.specs.declared.faults.IntakeFault.{IntakeFault}
+use Rattle.ados_launch.specs.declared.faults.IntakeFault.TheVariants.{Read as Unread, NoMemory as OutOfMemory}
 
 -- an Err adds one, any other answer keeps the count
 abbrev pub CountsFault : {T E : Type 0} → ℕ → ℕ → Result T E → Type 0
@@ -18,7 +18,7 @@ abbrev pub CountsStall : {E : Type 0} → ℕ → ℕ → Result ℕ E → ℕ �
 CountsStall before after result room =
     MatchResult result (λ n. after ≡ (if (n == 0) && nat_lt 0 room then one_more before else before)) (λ _. after ≡ before)
 
--- why a run stops if the next line was not taken
-abbrev pub drive_fault : LineFault → DriveFault
+-- why a run stops if the next event was not taken
+abbrev pub drive_fault : IntakeFault → DriveFault
 drive_fault Unread = Read
 drive_fault OutOfMemory = Memory

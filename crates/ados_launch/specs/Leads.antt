@@ -1,5 +1,5 @@
 -- How one world leads to another: by events that it accepts, and by shells that are opened for lines.
-use Rattle.std.specs.Prelude.{◌≡◌, ℕ, List, [], ◌∷◌, Option, Some, None, Result, Ok}
+use Rattle.std.specs.Prelude.{◌≡◌, ℕ, List, [], ◌∷◌, Some, None, Ok}
 use Rattle.ados_text.specs.Text.{Text}
 use Rattle.ados_machine.specs.declared.events.Event.{Event}
 use Rattle.ados_machine.specs.declared.outs.Out.{Out}

@@ -3,6 +3,7 @@ pub mod Alone
 pub mod Asked
 pub mod Drives
 pub mod Faults
+pub mod Intake
 pub mod Laws
 pub mod Leads
 pub mod Lines

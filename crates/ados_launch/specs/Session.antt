@@ -12,9 +12,9 @@ use Rattle.ados_launcher.specs.declared.calls.Call.{Call}
 use Rattle.ados_launch.specs.declared.lines.LineKind.TheVariants.{Overlong}
 use Rattle.ados_launch.specs.Agreement.{Agrees}
 use Rattle.ados_launch.specs.Lines.{IfKnown, bytes_ahead, rest_after_overlong, kind_of}
-use Rattle.ados_launch.specs.Taken.{TakenItem, taken_events, taken_outs, bytes_of, written_bytes, world_after_item, IsAccepted, IsNext, IsOfReader, rest_after_item, AreRead}
-use Rattle.ados_launch.specs.Asked.{IsAsked, AreAsked, AreNoStarts, call_of}
-use Rattle.ados_launch.specs.Schedule.{InOrder, Next, first_schedule_state, next_of, next_of_event}
+use Rattle.ados_launch.specs.Taken.{TakenItem, taken_events, taken_outs, bytes_of, written_bytes, world_after_item, AreRead}
+use Rattle.ados_launch.specs.Asked.{AreAsked, call_of}
+use Rattle.ados_launch.specs.Schedule.{InOrder, Next, first_schedule_state, next_of_event}
 
 -- The state at a moment of a drive: the world; what the reader has left, and how many of its reads have failed; what the
 -- writer holds, how many of its writes have failed, and how many wrote nothing; and the launcher's calls, and whether it is full.
@@ -109,24 +109,3 @@ IsReadAhead left now = (held : List ℕ) × (length held < 4096) × (bytes_ahead
 -- after them
 abbrev pub LeavesOverlong : List ℕ → Option (List ℕ) → Type 0
 LeavesOverlong left now = (kind_of left ≡ Overlong) × IsReadAhead (rest_after_overlong left) now
-
--- One thing was taken: the world after it, what is left to read, and the bytes that are to be written.
-pub record Takes (w : WorldState) (left : Option (List ℕ)) (item : TakenItem) (now : WorldState) (rest : Option (List ℕ)) (bytes : List ℕ) : Type 0 where
-  pub accepted : IsAccepted w item
-  pub world_is : now ≡ world_after_item w item
-  pub lines : IfKnown left (λ known. IsNext known item × (rest ≡ Some (rest_after_item known item)))
-  pub bytes_are : bytes ≡ bytes_of item
-
--- A line was taken, or the end of the input.
-abbrev pub TakesLineOrEnd : WorldState → Option (List ℕ) → WorldState → Option (List ℕ) → List ℕ → Type 0
-TakesLineOrEnd w left now rest bytes = (item : TakenItem) × IsOfReader item × Takes w left item now rest bytes
-
--- What came next was taken, and this was asked of the launcher for it.
-pub record TakesNextItem (w : WorldState) (left : Option (List ℕ)) (is_full : Bool) (calls : List Call) (next : Next) (now : WorldState) (rest : Option (List ℕ)) (calls_now : List Call) (bytes : List ℕ) : Type 0 where
-  pub item : TakenItem
-  pub listed : List Call
-  pub next_is : next_of item ≡ next
-  pub takes : Takes w left item now rest bytes
-  pub calls_are : calls_now ≡ calls ++ listed
-  pub asked : IsAsked is_full w item listed
-  pub when_full : is_full ≡ true → AreNoStarts listed

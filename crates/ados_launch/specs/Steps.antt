@@ -4,9 +4,10 @@ use Rattle.std.specs.Io.KnownBytes.{Appends}
 use Rattle.ados_machine.specs.declared.requests.Request.{Request}
 use Rattle.ados_machine.specs.World.{WorldState, pending_of}
 use Rattle.ados_launch.specs.Drives.{ReadsWell, WritesWell}
+use Rattle.ados_launch.specs.Intake.{TakesNextItem}
 use Rattle.ados_launch.specs.Lines.{bytes_ahead}
 use Rattle.ados_launch.specs.Schedule.{Next, AtBreak, AtLine, AtTurn, AtStart, AtFurther, ScheduleState, next_in, following_schedule_state}
-use Rattle.ados_launch.specs.Session.{Moment, TakesNextItem}
+use Rattle.ados_launch.specs.Session.{Moment}
 
 -- the state of a session: its schedule, the bytes that were read ahead, and which children are open, by number
 pub record SessionState : Type 0 where

@@ -1,5 +1,5 @@
 // Asks a launcher for what a shell waits for, and gives the world its answer.
-ghost use Rattle.std.specs.Prelude.{◌≡◌, ◌≢◌, ◌<◌, false, None, Err, OnErr};
+ghost use Rattle.std.specs.Prelude.{◌≡◌, ◌≢◌, ◌<◌, false, None};
 ghost use Rattle.ados_machine.specs.Limits.{IsSane};
 ghost use Rattle.ados_machine.specs.World.{pending_of};
 ghost use Rattle.ados_machine.specs.Children.{child_after_answer, shell_named};
@@ -9,9 +9,9 @@ ghost use Rattle.ados_launch.specs.Agreement.{Agrees, IsOpenTable};
 ghost use Rattle.ados_launch.specs.Asked.{Answers, Asks, MayAsk, TakesAnswer};
 
 use crate::events::give;
-use crate::faults::DriveFault;
 use ados_launcher::Launcher;
 use ados_machine::{Answer, Request};
+use ados_text::NoMemory;
 use ados_world::{Draft, Event, World};
 
 // Lets a launcher answer what the shell with this number asks for, and updates the table of open children.
@@ -21,7 +21,7 @@ pub fn answer<L: Launcher>(
     children: &mut [bool; 21],
     number: u8,
     draft: &mut Draft,
-) -> Result<(), DriveFault>
+) -> Result<(), NoMemory>
     requires number { number < 21 }
     requires asked { pending_of world.old number ≢ None }
     requires agrees { Agrees world.old (L.calls launcher.old) }
@@ -30,7 +30,6 @@ pub fn answer<L: Launcher>(
         (TakesAnswer world.old number result world.new (out_of draft.new)) }
     ensures children { IsOpenTable children.new (L.calls launcher.new) }
     ensures sane { IsSane world.old }
-    ensures memory { OnErr result (result ≡ Err DriveFault.Memory) }
 {
     let Some(request) = world.pending(number) else {
         unreachable!();

@@ -3,7 +3,7 @@ ghost use Rattle.std.specs.Prelude.{◌≡◌, ◌≢◌, ◌<◌, ℕ, true, fa
 ghost use Rattle.ados_machine.specs.World.{pending_of};
 ghost use Rattle.ados_machine.specs.declared.children.ChildState.TheVariants.{Closed};
 ghost use Rattle.ados_launcher.specs.Lives.{state_of};
-ghost use Rattle.ados_launch.specs.Agreement.{AddsWait, AreOver, AreWhole, IsOpenTable, WaitsForOpen};
+ghost use Rattle.ados_launch.specs.Agreement.{AddsWait, AreOver, IsOpenTable, WaitsForOpen};
 ghost use Rattle.ados_launch.specs.Rounds.{asks_read_or_wait};
 
 use crate::rounds::asks_further;
@@ -26,7 +26,6 @@ pub fn open_children(world: &World) -> [bool; 21]
 // Waits once for each open child, in ascending order of number.
 pub fn wait_for_open<L: Launcher>(launcher: &mut L, children: &[bool; 21])
     requires children { IsOpenTable children.now (L.calls launcher.old) }
-    requires whole { AreWhole (L.calls launcher.old) }
     ensures over { AreOver (L.calls launcher.new) }
     ensures waits { WaitsForOpen (L.calls launcher.old) (L.calls launcher.new) }
     ensures room { L.is_full launcher.new ≡ L.is_full launcher.old }

@@ -1,10 +1,11 @@
 // A world driven by a reader's lines, a launcher's answers and a list of breaks.
 ghost use Rattle.std.specs.Prelude.{◌≡◌, ◌<◌, ◌^◌, ◌-◌, [], length, OnOk};
 ghost use Rattle.ados_machine.specs.World.{codes_at};
-ghost use Rattle.ados_launch.specs.Agreement.{Agrees, AreWhole, IsOpenTable};
+ghost use Rattle.ados_launch.specs.Agreement.{Agrees, IsOpenTable};
 ghost use Rattle.ados_launch.specs.Drives.{HasDriveResult, Drives};
 ghost use Rattle.ados_launch.specs.Session.{moment_of};
 
+use crate::children::wait_for_open;
 use crate::faults::DriveFault;
 use crate::intake::Intake;
 use crate::schedule::Schedule;
@@ -109,7 +110,7 @@ impl Drive<'_> {
         match self.run_schedule(world, launcher, &mut intake, reader, writer) {
             Ok(end) => Ok(end),
             Err(fault) => {
-                intake.wait_for_open(launcher);
+                wait_for_open(launcher, &intake.children);
                 Err(fault)
             }
         }
@@ -131,7 +132,6 @@ impl Drive<'_> {
         requires children { IsOpenTable intake.old.children (L.calls launcher.old) }
         // The open children are those of the calls, none of which is out of place.
         ensures children { IsOpenTable intake.new.children (L.calls launcher.new) }
-        ensures whole { AreWhole (L.calls launcher.new) }
         ensures agrees { OnOk result (Agrees world.new (L.calls launcher.new)) }
         ensures comes_to { HasDriveResult self.now.turns self.now.breaks.now
             (moment_of S.left S.faults K.contents K.faults K.stalls L.calls L.is_full world.old reader.old writer.old launcher.old)

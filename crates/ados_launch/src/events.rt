@@ -1,11 +1,10 @@
 // Giving an event to the world.
-ghost use Rattle.std.specs.Prelude.{◌≡◌, ◌<◌, ◌≤◌, ◌-◌, [], true, nat_lt, if◌then◌else◌, OnOk, OnErr, Ok, Err};
+ghost use Rattle.std.specs.Prelude.{◌≡◌, ◌<◌, ◌≤◌, ◌-◌, [], true, nat_lt, if◌then◌else◌, OnOk, OnErr, Ok};
 ghost use Rattle.ados_machine.specs.Step.{out_with, is_accepted, step_of};
 ghost use Rattle.ados_machine.specs.Runs.{IsAnswer, world_after};
 ghost use Rattle.ados_shell.specs.Drafts.{out_of};
 
-use crate::faults::DriveFault;
-use ados_text::Text;
+use ados_text::{NoMemory, Text};
 use ados_world::{Draft, Event, Refusal, World};
 
 // The shell whose start, read or wait is answered at this place.
@@ -18,31 +17,29 @@ pub fn shell_answered(place: u8) -> u8
 }
 
 // Gives the world an event that it accepts, unless an allocation fails.
-pub fn give(world: &mut World, event: &Event, draft: &mut Draft) -> Result<(), DriveFault>
+pub fn give(world: &mut World, event: &Event, draft: &mut Draft) -> Result<(), NoMemory>
     requires { is_accepted (step_of world.old event.now) ≡ true }
     ensures answer { OnOk result (IsAnswer event.now (Ok (out_of draft.new)) (step_of world.old event.now)) }
     ensures world { OnOk result (world.new ≡ world_after world.old (Ok (out_of draft.new)) (step_of world.old event.now)) }
-    ensures memory { OnErr result (result ≡ Err DriveFault.Memory) }
     ensures err { OnErr result (world.new ≡ world.old) }
 {
     match world.step_into(event, draft) {
         Ok(()) => Ok(()),
         // An event that is accepted is refused only if an allocation fails.
-        Err(_) => Err(DriveFault::Memory),
+        Err(_) => Err(NoMemory),
     }
 }
 
 // Gives the world a line that it accepts, unless an allocation fails.
-pub fn give_line(world: &mut World, line: Text) -> Result<(), DriveFault>
+pub fn give_line(world: &mut World, line: Text) -> Result<(), NoMemory>
     requires { is_accepted (step_of world.old (Event.Typed line)) ≡ true }
     ensures answer { OnOk result (IsAnswer (Event.Typed line) (Ok (out_with [] None [])) (step_of world.old (Event.Typed line))) }
     ensures world { OnOk result (world.new ≡ world_after world.old (Ok (out_with [] None [])) (step_of world.old (Event.Typed line))) }
-    ensures memory { OnErr result (result ≡ Err DriveFault.Memory) }
     ensures err { OnErr result (world.new ≡ world.old) }
 {
     match world.type_line(line) {
         Ok(()) => Ok(()),
-        Err(Refusal::NoMemory) => Err(DriveFault::Memory),
+        Err(Refusal::NoMemory) => Err(NoMemory),
         Err(_) => unreachable!(),
     }
 }

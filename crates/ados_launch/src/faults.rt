@@ -1,9 +1,9 @@
 // Why a run stops before its end.
 ghost use Rattle.std.specs.Prelude.{◌≡◌};
 ghost use Rattle.ados_launch.specs.Faults.{drive_fault};
-ghost use Rattle.ados_launch.specs.declared.faults.DriveFault.TheVariants.{Write, Memory};
+ghost use Rattle.ados_launch.specs.declared.faults.DriveFault.TheVariants.{Write};
+ghost use Rattle.ados_launch.specs.declared.faults.IntakeFault.TheVariants.{NoMemory as OutOfMemory};
 
-use crate::lines::LineFault;
 use crate::written::WriteFault;
 use ados_text::NoMemory;
 use std::alloc::AllocError;
@@ -26,13 +26,24 @@ pub enum DriveFault {
     Memory,
 }
 
-impl From<LineFault> for DriveFault {
-    ghost from_gives = { λ line fault. fault ≡ drive_fault line };
+/// Why the next event was not taken.
+#[derive(Clone, Copy, PartialEq, Eq, Debug, Error)]
+pub enum IntakeFault {
+    /// A read failed, or a line has more than 65,536 bytes.
+    #[error("read fault")]
+    Read,
+    /// No memory for the line or the event.
+    #[error("no free store")]
+    NoMemory,
+}
 
-    fn from(fault: LineFault) -> DriveFault {
+impl From<IntakeFault> for DriveFault {
+    ghost from_gives = { λ fault why. why ≡ drive_fault fault };
+
+    fn from(fault: IntakeFault) -> DriveFault {
         match fault {
-            LineFault::Read => DriveFault::Read,
-            LineFault::NoMemory => DriveFault::Memory,
+            IntakeFault::Read => DriveFault::Read,
+            IntakeFault::NoMemory => DriveFault::Memory,
         }
     }
 }
@@ -45,18 +56,18 @@ impl From<WriteFault> for DriveFault {
     }
 }
 
-impl From<NoMemory> for DriveFault {
-    ghost from_gives = { λ _ fault. fault ≡ Memory };
+impl From<NoMemory> for IntakeFault {
+    ghost from_gives = { λ _ fault. fault ≡ OutOfMemory };
 
-    fn from(_e: NoMemory) -> DriveFault {
-        DriveFault::Memory
+    fn from(_e: NoMemory) -> IntakeFault {
+        IntakeFault::NoMemory
     }
 }
 
-impl From<AllocError> for DriveFault {
-    ghost from_gives = { λ _ fault. fault ≡ Memory };
+impl From<AllocError> for IntakeFault {
+    ghost from_gives = { λ _ fault. fault ≡ OutOfMemory };
 
-    fn from(_e: AllocError) -> DriveFault {
-        DriveFault::Memory
+    fn from(_e: AllocError) -> IntakeFault {
+        IntakeFault::NoMemory
     }
 }

@@ -2,13 +2,12 @@ ghost use Rattle.std.specs.Prelude.{◌≡◌, ◌<◌, ◌≤◌, ℕ, List, Op
 ghost use Rattle.ados_text.specs.Lines.{is_newline};
 ghost use Rattle.ados_launch.specs.Lines.{bytes_ahead, kind_of_length, IfKnown, TakesLine};
 ghost use Rattle.ados_launch.specs.NoFurther.{TakesPart};
-ghost use Rattle.ados_launch.specs.declared.lines.LineFault.TheVariants.{NoMemory as OutOfMemory};
 
 use crate::Source;
+use crate::faults::IntakeFault;
 use crate::read_ahead::ReadAhead;
 use ados_text::LINE_BYTES;
 use std::alloc::AllocError;
-use thiserror::Error;
 
 // The longest line that is read to its end.
 const INPUT_LINE_BYTES: u32 = 65_536;
@@ -26,25 +25,6 @@ pub enum LineKind {
     Overlong,
 }
 
-/// Why the next line was not taken.
-#[derive(Clone, Copy, PartialEq, Eq, Debug, Error)]
-pub enum LineFault {
-    /// A read failed.
-    #[error("read fault")]
-    Read,
-    /// No memory for the line.
-    #[error("no free store")]
-    NoMemory,
-}
-
-impl From<AllocError> for LineFault {
-    ghost from_gives = { λ _ fault. fault ≡ OutOfMemory };
-
-    fn from(_e: AllocError) -> LineFault {
-        LineFault::NoMemory
-    }
-}
-
 /// Takes the next line, up to byte 10 or the end, and gives its kind.
 ///
 /// A last line without byte 10 counts if it is not empty. `line` then holds a short line; of any
@@ -57,15 +37,15 @@ pub fn next_line<S: Source>(
     held: &mut ReadAhead,
     source: &mut S,
     line: &mut Vec<u8>,
-) -> Result<LineKind, LineFault>
+) -> Result<LineKind, IntakeFault>
     requires { S.faults source.old < 2 ^ 64 - 1 }
     ensures taken { IfOk result (λ kind. IfKnown (bytes_ahead held.old (S.left source.old))
         (λ bytes. TakesLine bytes kind line.new.items (bytes_ahead held.new (S.left source.new)))) }
     ensures short { vec_len line.new ≤ 512 }
     ensures few { length held.old < 4096 → length held.new < 4096 }
-    ensures read { IsErrOf result LineFault.Read → S.faults source.new ≡ S.faults source.old + 1 }
-    ensures others { (IsErrOf result LineFault.Read → ⊥) → S.faults source.new ≡ S.faults source.old }
-    ensures no_further { IsErrOf result LineFault.NoMemory → IfKnown (bytes_ahead held.old (S.left source.old))
+    ensures read { IsErrOf result IntakeFault.Read → S.faults source.new ≡ S.faults source.old + 1 }
+    ensures others { (IsErrOf result IntakeFault.Read → ⊥) → S.faults source.new ≡ S.faults source.old }
+    ensures no_further { IsErrOf result IntakeFault.NoMemory → IfKnown (bytes_ahead held.old (S.left source.old))
         (λ bytes. TakesPart bytes (bytes_ahead held.new (S.left source.new))) }
 {
     line.clear();
@@ -74,7 +54,7 @@ pub fn next_line<S: Source>(
     }
     for length in 0..=INPUT_LINE_BYTES {
         match held.next(source) {
-            Err(_) => return Err(LineFault::Read),
+            Err(_) => return Err(IntakeFault::Read),
             Ok(None) => {
                 return Ok(if length == 0 {
                     LineKind::End

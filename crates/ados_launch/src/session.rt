@@ -2,13 +2,13 @@
 ghost use Rattle.std.specs.Prelude.{◌≡◌, ◌⊎◌, ◌<◌, ◌^◌, ◌-◌, ◌+◌, ◌≤◌, ℕ, [], true, false, None, get_or, is_none, IfOk, OnOk, IsErrOf, length};
 ghost use Rattle.std.specs.Option.{option_copied};
 ghost use Rattle.ados_machine.specs.World.{codes_at, pending_of};
-ghost use Rattle.ados_launch.specs.Agreement.{Agrees, AreOver, AreWhole, IsOpenTable, WaitsForOpen};
+ghost use Rattle.ados_launch.specs.Agreement.{Agrees, AreOver, IsOpenTable, WaitsForOpen};
 ghost use Rattle.ados_launch.specs.Leads.{Reaches};
 ghost use Rattle.ados_launch.specs.Rounds.{asks_read_or_wait, due_place};
 ghost use Rattle.ados_launch.specs.Schedule.{first_schedule_state, next_in};
 ghost use Rattle.ados_launch.specs.Steps.{TakesOne, next_request};
 
-use crate::children::open_children;
+use crate::children::{open_children, wait_for_open};
 use crate::driver::End;
 use crate::events::shell_answered;
 use crate::faults::DriveFault;
@@ -98,7 +98,6 @@ impl<'a> Session<'a> {
         ensures stays { L.is_full launcher.old ≡ true → L.is_full launcher.new ≡ true }
         ensures agrees { OnOk result (Agrees world.new (L.calls launcher.new)) }
         ensures children { IsOpenTable self.new.children (L.calls launcher.new) }
-        ensures whole { AreWhole (L.calls launcher.new) }
         // What the next step needs.
         ensures count { self.new.standing.taken ≤ self.old.standing.taken + 1 }
         ensures reads { OnOk result (S.faults reader.new ≡ S.faults reader.old) }
@@ -142,11 +141,10 @@ impl<'a> Session<'a> {
     /// Waits for each open child once, in ascending order of number. No event is taken after it.
     pub fn abandon<L: Launcher>(&self, launcher: &mut L)
         requires children { IsOpenTable self.now.children (L.calls launcher.old) }
-        requires whole { AreWhole (L.calls launcher.old) }
         ensures over { AreOver (L.calls launcher.new) }
         ensures waits { WaitsForOpen (L.calls launcher.old) (L.calls launcher.new) }
         ensures room { L.is_full launcher.new ≡ L.is_full launcher.old }
     {
-        self.intake.wait_for_open(launcher);
+        wait_for_open(launcher, &self.intake.children);
     }
 }

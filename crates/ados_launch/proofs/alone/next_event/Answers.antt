@@ -1,4 +1,4 @@
-use Rattle.std.proofs.Common.{rules, ◌≡◌, Ok, refl}
+use Rattle.std.proofs.Common.{rules, ◌≡◌, refl}
 use Rattle.ados_machine.proofs.ChildLemmas.{fitting-accepted}
 use Rattle.ados_machine.specs.declared.events.Event.TheVariants.{Turn}
 use Rattle.ados_shell.specs.Drafts.{out_of}
@@ -48,7 +48,7 @@ pub returns-in_default-clause-agrees : goal.returns-in_default-clause-agrees
 returns-in_default-clause-agrees g c =
     elim c.match-give.branch [
       | in-Ok w ↦ rw w.result-is
-          (given-agrees {X = Unit {0}} {E = Unit {0}} c.args.world.now c.give.new.world (Turn c.args.number) (out_of c.give.new.draft) (g.L.Launcher.calls c.args.launcher.now)
-          (Ok tt) c.requires.agrees refl w.in-Ok.ensures.answer w.in-Ok.ensures.world)
+          (given-agrees c.args.world.now c.give.new.world (Turn c.args.number) (out_of c.give.new.draft) (g.L.Launcher.calls c.args.launcher.now)
+          c.requires.agrees refl w.in-Ok.ensures.answer w.in-Ok.ensures.world)
       | in-Err w ↦ rw w.result-is tt
     ]

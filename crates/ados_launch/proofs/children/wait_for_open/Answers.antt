@@ -7,7 +7,7 @@ pub wait_if-requires-clause-children : goal.wait_if-requires-clause-children
 wait_if-requires-clause-children g c o =
     open-state c.loop-number.number (g.L.Launcher.calls c.loop-number.launcher)
     (still-open c.loop-number.number (g.L.Launcher.calls c.args.launcher.now) (g.L.Launcher.calls c.loop-number.launcher) c.loop-number.invariant.rows
-    (sym (c.requires.children c.loop-number.number) ∙ (search rules)))
+    (sym (c.requires.children.1 c.loop-number.number) ∙ (search rules)))
 
 pub loop-number-init : goal.loop-number-init
 loop-number-init g c = record {
@@ -19,8 +19,8 @@ loop-number-init g c = record {
 pub loop-number-preserved : goal.loop-number-preserved
 loop-number-preserved g c = record {
   rows = rows-more c.loop-number.number (get_or c.args.children.now c.loop-number.number false) (g.L.Launcher.calls c.args.launcher.now) (g.L.Launcher.calls c.loop-number.launcher) _
-      c.loop-number.invariant.rows (c.requires.children c.loop-number.number) (rw c.from.ensures at c.wait_if.ensures.asked);
+      c.loop-number.invariant.rows (c.requires.children.1 c.loop-number.number) (rw c.from.ensures at c.wait_if.ensures.asked);
   waits = waits-more c.loop-number.number (get_or c.args.children.now c.loop-number.number false) (g.L.Launcher.calls c.args.launcher.now) (g.L.Launcher.calls c.loop-number.launcher) _
-      c.loop-number.invariant.waits (c.requires.children c.loop-number.number) (rw c.from.ensures at c.wait_if.ensures.asked);
+      c.loop-number.invariant.waits (c.requires.children.1 c.loop-number.number) (rw c.from.ensures at c.wait_if.ensures.asked);
   full = search rules;
 }

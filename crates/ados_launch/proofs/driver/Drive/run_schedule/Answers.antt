@@ -1,13 +1,12 @@
 use Rattle.std.proofs.Common.{rules, IsErrOf, ◌≡◌, ◌+◌, Some, refl, sym, ◌∙◌, ap, arith}
-use Rattle.ados_launch.proofs.Agreeing.{agrees-whole}
 use Rattle.ados_launch.proofs.Coming.{due-none, due-some, in-round, next-none, passed-taken, standing-in_round}
-use Rattle.ados_launch.proofs.Outcomes.{comes-by, ends, stops-memory, stops-read, stops-turns, stops-write}
+use Rattle.ados_launch.proofs.Outcomes.{comes-by, ends, never-turns, never-write, stops-memory, stops-read, stops-turns, stops-write}
 use Rattle.ados_launch.proofs.Places.{idle, running}
 use Rattle.ados_launch.proofs.Sessions.{driven-more, driven-none}
 use Rattle.ados_launch.specs.Lines.{bytes_ahead}
 use Rattle.ados_launch.specs.Rounds.{due_place, IsIdle}
 use Rattle.ados_launch.specs.Schedule.{found_next, next_in, following_schedule_state}
-use Rattle.ados_launch.specs.declared.faults.DriveFault.TheVariants.{Memory, Read, Turns, Write}
+use Rattle.ados_launch.specs.declared.faults.IntakeFault.TheVariants.{NoMemory, Read as Unread}
 use Rattle.ados_launch.proofs.driver.Drive.run_schedule.Goals as goal
 
 pub pass-requires-clause-place : goal.pass-requires-clause-place
@@ -53,22 +52,19 @@ pub returns-in_err-take-clause-comes_to : goal.returns-in_err-take-clause-comes_
 returns-in_err-take-clause-comes_to g c =
     let i = c.loop-events.invariant in
     let here : next_in c.loop-events.schedule c.loop-events.world ≡ Some (found_next c.in-Some.next) = sym c.in-Some.ensures.next in
-    let dropped = c.in_err-take.ensures.dropped in
     comes-by c.args.self.now.turns c.args.self.now.breaks.now _ _ c.from_residual.result _ c.from_residual.ensures.1
     (λ is.
-    let failed : IsErrOf c.take.result Memory = search rules in
-    stops-memory c.args.self.now.turns c.loop-events.events c.args.self.now.breaks.now _ _ _ c.loop-events.schedule (bytes_ahead c.loop-events.intake.held (g.S.Source.left c.loop-events.reader)) c.take.new.self.held (found_next c.in-Some.next) dropped.0 i.driven c.loop-events-test.true i.in_round here
-    c.take.ensures.stays c.in_err-take.ensures.err refl dropped.2 dropped.1 (c.take.ensures.few i.few) (c.take.ensures.memory_unread failed) (c.take.ensures.memory_honest failed ∙ i.reader) (i.writer, i.stalls))
+    let failed : IsErrOf c.take.result NoMemory = search rules in
+    let lacks = c.take.ensures.memory failed in
+    stops-memory c.args.self.now.turns c.loop-events.events c.args.self.now.breaks.now _ _ _ c.loop-events.schedule (bytes_ahead c.loop-events.intake.held (g.S.Source.left c.loop-events.reader)) c.take.new.self.held (found_next c.in-Some.next) lacks.dropped i.driven c.loop-events-test.true i.in_round here
+    c.take.ensures.stays c.in_err-take.ensures.err refl lacks.calls_are lacks.dropped_is (c.take.ensures.few i.few) lacks.unread (lacks.reads_well ∙ i.reader) (i.writer, i.stalls))
     (λ is.
-    let failed : IsErrOf c.take.result Read = search rules in
-    stops-read c.args.self.now.turns c.loop-events.events c.args.self.now.breaks.now _ _ _ c.loop-events.schedule (bytes_ahead c.loop-events.intake.held (g.S.Source.left c.loop-events.reader)) c.take.new.self.held i.driven c.loop-events-test.true (rw (c.take.ensures.reading failed) at here)
-    c.take.ensures.stays c.in_err-take.ensures.err refl (c.take.ensures.unasked failed) (c.take.ensures.few i.few) i.reader (c.take.ensures.read failed) (i.writer, i.stalls))
-    (λ is.
-    let failed : IsErrOf c.take.result Write = search rules in
-    absurd (c.take.ensures.no_write failed))
-    (λ is.
-    let failed : IsErrOf c.take.result Turns = search rules in
-    absurd (c.take.ensures.no_turns failed))
+    let failed : IsErrOf c.take.result Unread = search rules in
+    let fails = c.take.ensures.read failed in
+    stops-read c.args.self.now.turns c.loop-events.events c.args.self.now.breaks.now _ _ _ c.loop-events.schedule (bytes_ahead c.loop-events.intake.held (g.S.Source.left c.loop-events.reader)) c.take.new.self.held i.driven c.loop-events-test.true (rw fails.next_is at here)
+    c.take.ensures.stays c.in_err-take.ensures.err refl fails.calls_are (c.take.ensures.few i.few) i.reader fails.cause (i.writer, i.stalls))
+    (λ is. absurd (never-write _ is))
+    (λ is. absurd (never-turns _ is))
 
 pub returns-in_err-write_whole-clause-comes_to : goal.returns-in_err-write_whole-clause-comes_to
 returns-in_err-write_whole-clause-comes_to g c =
@@ -90,17 +86,11 @@ returns-in_default-clause-comes_to g c =
     let none : IsIdle c.loop-events.world = idle c.loop-events.schedule.round c.loop-events.world (next-none c.loop-events.schedule c.loop-events.world (sym c.in_default.ensures.next)) in
     ends c.args.self.now.turns c.loop-events.events c.args.self.now.breaks.now _ _ c.loop-events.schedule c.loop-events.intake.held c.of.result c.loop-events.invariant.driven (omega arith) c.of.ensures.events c.of.ensures.code c.of.ensures.result2 c.of.ensures.shells none i.reader (i.writer, i.stalls)
 
-pub returns-in_default-clause-whole : goal.returns-in_default-clause-whole
-returns-in_default-clause-whole g c = agrees-whole c.loop-events.world (g.L.Launcher.calls c.loop-events.launcher) c.loop-events.invariant.agrees
-
 pub returns-then-is_over-clause-comes_to : goal.returns-then-is_over-clause-comes_to
 returns-then-is_over-clause-comes_to g c =
     let i = c.loop-events.invariant in
     let none : IsIdle c.loop-events.world = idle c.loop-events.schedule.round c.loop-events.world (due-none (due_place c.loop-events.schedule.round c.loop-events.world) c.is_over.result c.is_over.ensures c.if-is_over.true) in
     ends c.args.self.now.turns c.loop-events.events c.args.self.now.breaks.now _ _ c.loop-events.schedule c.loop-events.intake.held _ i.driven (omega arith) (search rules) (search rules) (search rules) (search rules) none i.reader (i.writer, i.stalls)
-
-pub returns-then-is_over-clause-whole : goal.returns-then-is_over-clause-whole
-returns-then-is_over-clause-whole g c = agrees-whole c.loop-events.world (g.L.Launcher.calls c.loop-events.launcher) c.loop-events.invariant.agrees
 
 pub returns-else-is_over-clause-comes_to : goal.returns-else-is_over-clause-comes_to
 returns-else-is_over-clause-comes_to g c =
@@ -108,6 +98,3 @@ returns-else-is_over-clause-comes_to g c =
     let some = due-some (due_place c.loop-events.schedule.round c.loop-events.world) c.is_over.result c.is_over.ensures c.if-is_over.false in
     stops-turns c.args.self.now.turns c.loop-events.events c.args.self.now.breaks.now _ _ c.loop-events.schedule c.loop-events.intake.held i.driven (omega arith) i.few
     (running c.loop-events.schedule.round some.0 c.loop-events.world i.in_round some.1) i.reader (i.writer, i.stalls)
-
-pub returns-else-is_over-clause-whole : goal.returns-else-is_over-clause-whole
-returns-else-is_over-clause-whole g c = agrees-whole c.loop-events.world (g.L.Launcher.calls c.loop-events.launcher) c.loop-events.invariant.agrees

@@ -1,12 +1,12 @@
-use Rattle.std.proofs.Common.{arith, rules, ap, inr, length, sym, ◌∙◌, [], subst, List, ℕ, OnOk, ◌≡◌}
+use Rattle.std.proofs.Common.{arith, rules, ap, inr, length, sym, ◌∙◌, [], subst, List, ℕ, ◌≡◌}
 use Rattle.std.proofs.lemmas.List.{length-map}
 use Rattle.ados_text.specs.Text.{to_ascii}
 use Rattle.ados_machine.specs.declared.events.Event.TheVariants.{Typed, EndOfInput}
 use Rattle.ados_machine.specs.Step.{out_with}
 use Rattle.std.specs.Prelude.{None}
 use Rattle.ados_shell.specs.Drafts.{out_of}
+use Rattle.ados_launch.specs.Intake.{TakesLineOrEnd}
 use Rattle.ados_launch.specs.Lines.{bytes_ahead}
-use Rattle.ados_launch.specs.Session.{TakesLineOrEnd}
 use Rattle.ados_launch.proofs.Accepts.{end-accepted, line-accepted}
 use Rattle.ados_launch.specs.declared.lines.LineKind.TheVariants.{End, Long, Short}
 use Rattle.ados_launch.proofs.PartLines.{part-kind}
@@ -20,15 +20,15 @@ pub give_line-requires : goal.give_line-requires
 give_line-requires g c = line-accepted c.args.world.now c.in_ok-text-in-Short.text c.requires.due
     (omega (arith, ap length c.in_ok-text-in-Short.ensures, length-map c.as_slice.result.now to_ascii, c.as_slice.ensures.len, c.next_line.ensures.short))
 
-pub returns-in-End-clause-took : goal.returns-in-End-clause-took
-returns-in-End-clause-took g c = took-line _ _ _ _ EndOfInput (out_of c.give.new.draft) c.give.result c.give.ensures.answer c.give.ensures.world tt
+pub returns-in_ok-give-in-End-clause-took : goal.returns-in_ok-give-in-End-clause-took
+returns-in_ok-give-in-End-clause-took g c = took-line c.args.world.now _ _ _ EndOfInput (out_of c.give.new.draft) c.in_ok-give-in-End.ensures.answer c.in_ok-give-in-End.ensures.world tt
     (λ bytes e. next-end bytes _ _ _ (c.in_ok-next_line.ensures.taken bytes (rw c.heed.ensures.left e)) c.in-End.is)
 
-pub returns-in_ok-text-in-Short-clause-took : goal.returns-in_ok-text-in-Short-clause-took
-returns-in_ok-text-in-Short-clause-took g c =
-    let P : List ℕ → Type 0 = λ b. OnOk c.give_line.result (TakesLineOrEnd c.args.world.now (bytes_ahead c.args.self.now.held (g.S.Source.left c.args.reader.now)) c.give_line.new.world (bytes_ahead c.next_line.new.held (g.S.Source.left c.next_line.new.source)) b) in
+pub returns-in_ok-give_line-in-Short-clause-took : goal.returns-in_ok-give_line-in-Short-clause-took
+returns-in_ok-give_line-in-Short-clause-took g c =
+    let P : List ℕ → Type 0 = λ b. TakesLineOrEnd c.args.world.now (bytes_ahead c.args.self.now.held (g.S.Source.left c.args.reader.now)) c.give_line.new.world (bytes_ahead c.next_line.new.held (g.S.Source.left c.next_line.new.source)) b in
     subst P (sym (ap (λ o. o.bytes) c.give_nothing.ensures))
-    (took-line _ _ _ _ (Typed c.in_ok-text-in-Short.text) (out_with [] None []) c.give_line.result c.give_line.ensures.answer c.give_line.ensures.world tt
+    (took-line c.args.world.now _ _ _ (Typed c.in_ok-text-in-Short.text) (out_with [] None []) c.in_ok-give_line-in-Short.ensures.answer c.in_ok-give_line-in-Short.ensures.world tt
     (λ bytes e. next-short bytes _ _ _ _ _ (c.in_ok-next_line.ensures.taken bytes (rw c.heed.ensures.left e)) c.in-Short.is c.in_ok-text-in-Short.ensures c.as_slice.ensures.value))
 
 pub returns-in-Overlong-clause-read : goal.returns-in-Overlong-clause-read
@@ -36,14 +36,14 @@ returns-in-Overlong-clause-read g c failed =
     let honest : g.S.Source.faults c.next_line.new.source ≡ g.S.Source.faults c.heed.new.self = search rules in
     inr (honest ∙ c.heed.ensures.faults, λ bytes e. next-overlong bytes _ _ _ (c.in_ok-next_line.ensures.taken bytes (rw c.heed.ensures.left e)) c.in-Overlong.is)
 
-pub returns-in-End-clause-memory_unread : goal.returns-in-End-clause-memory_unread
-returns-in-End-clause-memory_unread g c failed bytes e = part-kind bytes _ End _ _ c.in-End.is (λ k. cc) (c.in_ok-next_line.ensures.taken bytes (rw c.heed.ensures.left e))
+pub returns-in_err-give-in-End-clause-memory_unread : goal.returns-in_err-give-in-End-clause-memory_unread
+returns-in_err-give-in-End-clause-memory_unread g c failed bytes e = part-kind bytes _ End _ _ c.in-End.is (λ k. cc) (c.in_ok-next_line.ensures.taken bytes (rw c.heed.ensures.left e))
 
 pub returns-in_err-text-in-Short-clause-memory_unread : goal.returns-in_err-text-in-Short-clause-memory_unread
 returns-in_err-text-in-Short-clause-memory_unread g c failed bytes e = part-kind bytes _ Short _ _ c.in-Short.is (λ k. cc) (c.in_ok-next_line.ensures.taken bytes (rw c.heed.ensures.left e))
 
-pub returns-in_ok-text-in-Short-clause-memory_unread : goal.returns-in_ok-text-in-Short-clause-memory_unread
-returns-in_ok-text-in-Short-clause-memory_unread g c failed bytes e = part-kind bytes _ Short _ _ c.in-Short.is (λ k. cc) (c.in_ok-next_line.ensures.taken bytes (rw c.heed.ensures.left e))
+pub returns-in_err-give_line-in-Short-clause-memory_unread : goal.returns-in_err-give_line-in-Short-clause-memory_unread
+returns-in_err-give_line-in-Short-clause-memory_unread g c failed bytes e = part-kind bytes _ Short _ _ c.in-Short.is (λ k. cc) (c.in_ok-next_line.ensures.taken bytes (rw c.heed.ensures.left e))
 
 pub returns-in_err-extend_from_slice-in-Long-clause-memory_unread : goal.returns-in_err-extend_from_slice-in-Long-clause-memory_unread
 returns-in_err-extend_from_slice-in-Long-clause-memory_unread g c failed bytes e = part-kind bytes _ Long _ _ c.in-Long.is (λ k. cc) (c.in_ok-next_line.ensures.taken bytes (rw c.heed.ensures.left e))

@@ -1,4 +1,4 @@
-use Rattle.std.proofs.Common.{rules, ◌≡◌, ◌<◌, Some, None}
+use Rattle.std.proofs.Common.{rules, ◌≡◌, Some, None}
 use Rattle.ados_launch.specs.Rounds.{due_place}
 use Rattle.ados_launch.proofs.Places.{due_below}
 use Rattle.ados_launch.proofs.Requests.{place_none}

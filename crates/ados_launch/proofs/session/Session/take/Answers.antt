@@ -1,4 +1,4 @@
-use Rattle.std.proofs.Common.{rules, ◌≡◌, refl, sym, ◌∙◌}
+use Rattle.std.proofs.Common.{refl, sym, ◌∙◌}
 use Rattle.ados_launch.proofs.Leading.{leads_at}
 use Rattle.ados_launch.specs.Schedule.{found_next}
 use Rattle.ados_launch.proofs.session.Session.take.Goals as goal
