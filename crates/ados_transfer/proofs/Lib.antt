@@ -1,2 +1,4 @@
 mod WordLemmas
 mod StrikeLemmas
+mod WithinLemmas
+mod PathLemmas

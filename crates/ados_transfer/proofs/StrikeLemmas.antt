@@ -1,5 +1,5 @@
 -- Scripts in which bytes are made blanks.
-use Rattle.std.proofs.Common.{ℕ, zero, suc, ◌≡◌, ◌∙◌, ◌<◌, ◌==◌, ◌||◌, true, List, [], ◌∷◌, length, slice_index, slice_set, refl, arith}
+use Rattle.std.proofs.Common.{ℕ, zero, suc, ◌≡◌, ◌∙◌, ◌<◌, ◌==◌, ◌||◌, true, [], ◌∷◌, length, slice_index, slice_set, refl, arith}
 use Rattle.std.proofs.lemmas.Bool.Decides.{nat_tests}
 use Rattle.std.proofs.lemmas.List.{length-set}
 use Rattle.ados_text.specs.Text.{Bytes}

@@ -1,14 +1,13 @@
 -- how a text is read that is a word of a line
-use Rattle.std.proofs.Common.{ℕ, suc, OnOk, Result, Ok, Err, ◌≡◌, ◌+◌, ◌-◌, ◌<◌, ◌∙◌, List, [], ◌∷◌, ◌++◌, Bool, true, false, ◌||◌, ◌&&◌, ◌==◌, nat_lt, not, map, length, take, drop, Option, Some, None, refl, ap, sym, arith, append_assoc, length-append}
+use Rattle.std.proofs.Common.{ℕ, suc, OnOk, Result, Ok, Err, ◌≡◌, ◌+◌, ◌-◌, ◌<◌, ◌∙◌, [], ◌∷◌, ◌++◌, Bool, true, false, ◌&&◌, ◌==◌, nat_lt, not, map, length, take, drop, Some, refl, ap, sym, arith, append_assoc, length-append}
 use Rattle.std.proofs.lemmas.Bool.{cond_both, both_ways, false_from_ne_true}
 use Rattle.std.proofs.lemmas.Bool.Decides.{nat_tests}
 use Rattle.std.proofs.Math.Seq.{drop-append_seam, drop-append-add, take-append_seam}
 use Rattle.std.specs.List.{prefix_len, list_all}
-use Rattle.ados_text.specs.Text.{to_ascii, IsText, Bytes, Text}
-use Rattle.ados_items.specs.declared.items.Item.{Item}
-use Rattle.ados_items.specs.declared.items.Item.TheVariants.{Word, Quoted, Equal, End, Unmatched}
+use Rattle.ados_text.specs.Text.{to_ascii, IsText, Bytes}
+use Rattle.ados_items.specs.declared.items.Item.TheVariants.{Word, Quoted}
 use Rattle.ados_items.specs.Items.{is_blank, is_word_byte, closing_place, quoted_item, item_by_first, item_at, escape_of, unescaped_bytes, bytes_between, value_of}
-use Rattle.ados_transfer.specs.Words.{equal_signs, escaped_byte, has_plain_ends, quoted_body, is_bare, is_plain, is_starred, quoted_word, word_of, IsApart, ReadsAs, end_of}
+use Rattle.ados_transfer.specs.Words.{equal_signs, has_plain_ends, quoted_body, is_bare, is_plain, is_starred, quoted_word, word_of, IsApart, ReadsAs, end_of}
 
 -- the closing quote is the one after the text
 closing-inside : (t : Bytes) (place : ℕ) (after : Bytes) → closing_place place false (quoted_body t ++ 34 ∷ after) ≡ Some (place + length (quoted_body t))

@@ -2,3 +2,7 @@ pub mod Words
 pub mod Told
 pub mod LeftOut
 pub mod Mirror
+pub mod Paths
+pub mod StandIns
+pub mod Account
+pub mod Looked

@@ -1,5 +1,5 @@
 -- Files and directories that are to be in the Shell's world when the script begins.
-use Rattle.std.specs.Prelude.{Bool, true, false, ◌&&◌, not, Option, Some, None, List}
+use Rattle.std.specs.Prelude.{Bool, false, ◌&&◌, not, Option, Some, None}
 use Rattle.std.specs.Bool.{beq}
 use Rattle.std.specs.FinMap as map
 use Rattle.std.specs.Str.{bytes_eq}

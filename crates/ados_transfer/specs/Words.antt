@@ -1,5 +1,5 @@
 -- Texts as words of a typed line: how a word is written so that the Shell reads exactly this text.
-use Rattle.std.specs.Prelude.{ℕ, ◌≡◌, ◌+◌, ◌-◌, List, [], ◌∷◌, ◌++◌, Bool, true, false, ◌==◌, ◌||◌, ◌&&◌, not, nat_le, nat_lt, length, slice_index, codes, filter, if◌then◌else◌}
+use Rattle.std.specs.Prelude.{ℕ, ◌≡◌, ◌+◌, ◌-◌, [], ◌∷◌, ◌++◌, Bool, true, ◌==◌, ◌||◌, ◌&&◌, not, nat_le, nat_lt, length, slice_index, codes, filter, if◌then◌else◌}
 use Rattle.std.specs.List.{list_all, list_any}
 use Rattle.ados_text.specs.Text.{Bytes, Text}
 use Rattle.ados_items.specs.declared.items.Item.{Item}

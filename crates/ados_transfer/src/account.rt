@@ -1,4 +1,8 @@
 //! What a time of writing to the folder of a share leaves open.
+ghost use Rattle.std.specs.Prelude.{◌≡◌, ◌++◌, ◌∷◌, [], OnOk, string_bytes};
+ghost use Rattle.std.specs.List.{list_any};
+ghost use Rattle.std.specs.Option.{option_map, is_some};
+ghost use Rattle.ados_transfer.specs.Account.{first, is_in_unwritten, is_within, with_bytes_of};
 
 use crate::faults::TransferFault;
 use crate::records::Record;
@@ -8,15 +12,18 @@ use std::alloc::Global;
 /// What the Shell holds and the folder does not, what is not deleted there because of it, and what was moved aside there.
 #[derive(Drop)]
 pub struct Account {
-    alloc: Global,
-    // The first object that the Shell holds and that is not written.
-    unwritten: Option<String>,
-    // What the files hold that are not written.
-    bytes: Vec<FileBytes>,
-    // The first object that is not deleted because of that, and how many more there are.
-    held: Option<String>,
-    more: usize,
-    aside: Vec<Aside>,
+    /// Where memory comes from.
+    pub alloc: Global,
+    /// The first object that the Shell holds and that is not written.
+    pub unwritten: Option<String>,
+    /// What the files hold that are not written.
+    pub bytes: Vec<FileBytes>,
+    /// The first object that is not deleted because of that.
+    pub held: Option<String>,
+    /// How many more there are.
+    pub more: usize,
+    /// What was moved out of the way.
+    pub aside: Vec<Aside>,
 }
 
 /// An object of the folder that was moved out of the way of another one.
@@ -44,17 +51,24 @@ impl Account {
     }
 
     /// Something that the Shell holds is not written: nothing is to be deleted.
-    pub fn is_owing(&self) -> bool {
+    pub fn is_owing(&self) -> bool
+        ensures { result ≡ is_some self.now.unwritten }
+    {
         self.unwritten.is_some()
     }
 
     /// Something is not deleted because of that.
-    pub fn is_holding(&self) -> bool {
+    pub fn is_holding(&self) -> bool
+        ensures { result ≡ is_some self.now.held }
+    {
         self.held.is_some()
     }
 
     /// Notes that the Shell holds an object which is not written.
-    pub fn owe(&mut self, path: &str) -> Result<(), TransferFault> {
+    pub fn owe(&mut self, path: &str) -> Result<(), TransferFault>
+        ensures unwritten { OnOk result (option_map string_bytes self.new.unwritten ≡ first (option_map string_bytes self.old.unwritten) path.now) }
+        ensures rest { self.new ≡ record self.old { unwritten = self.new.unwritten } }
+    {
         if self.unwritten.is_none() {
             self.unwritten = Some(String::from_str(self.alloc, path)?);
         }
@@ -62,7 +76,11 @@ impl Account {
     }
 
     /// Notes that the Shell holds this entry, which is not written.
-    pub fn owe_entry(&mut self, path: &str, entry: &Entry) -> Result<(), TransferFault> {
+    pub fn owe_entry(&mut self, path: &str, entry: &Entry) -> Result<(), TransferFault>
+        ensures unwritten { OnOk result (option_map string_bytes self.new.unwritten ≡ first (option_map string_bytes self.old.unwritten) path.now) }
+        ensures bytes { OnOk result (self.new.bytes.items ≡ with_bytes_of self.old.bytes.items entry.now.body) }
+        ensures rest { self.new ≡ record self.old { unwritten = self.new.unwritten; bytes = self.new.bytes } }
+    {
         if let Body::File(bytes) = &entry.body {
             self.bytes.push(bytes.clone()?)?;
         }
@@ -70,16 +88,17 @@ impl Account {
     }
 
     /// These bytes are in a file that is not written.
-    pub fn is_in_unwritten(&self, bytes: &[u8]) -> bool {
-        !bytes.is_empty()
-            && self
-                .bytes
-                .iter()
-                .any(|unwritten| is_within(bytes, unwritten.as_bytes()))
+    pub fn is_in_unwritten(&self, bytes: &[u8]) -> bool
+        ensures { result ≡ is_in_unwritten self.now.bytes.items bytes.now }
+    {
+        !bytes.is_empty() && is_in_any(bytes, self.bytes.as_slice())
     }
 
     /// Notes that an object is not deleted.
-    pub fn hold(&mut self, path: &str) -> Result<(), TransferFault> {
+    pub fn hold(&mut self, path: &str) -> Result<(), TransferFault>
+        ensures held { OnOk result (option_map string_bytes self.new.held ≡ first (option_map string_bytes self.old.held) path.now) }
+        ensures rest { self.new ≡ record self.old { held = self.new.held; more = self.new.more } }
+    {
         if self.held.is_none() {
             self.held = Some(String::from_str(self.alloc, path)?);
         } else {
@@ -89,13 +108,20 @@ impl Account {
     }
 
     /// Notes that an object was moved aside.
-    pub fn set_aside(&mut self, aside: Aside) -> Result<(), TransferFault> {
+    pub fn set_aside(&mut self, aside: Aside) -> Result<(), TransferFault>
+        ensures aside { OnOk result (self.new.aside.items ≡ self.old.aside.items ++ aside ∷ []) }
+        ensures rest { self.new ≡ record self.old { aside = self.new.aside } }
+    {
         self.aside.push(aside)?;
         Ok(())
     }
 
     /// What was moved aside, in that order.
-    pub fn take_aside(&mut self) -> Vec<Aside> {
+    pub fn take_aside(&mut self) -> Vec<Aside>
+        ensures all { result.items ≡ self.old.aside.items }
+        ensures none { self.new.aside.items ≡ [] }
+        ensures rest { self.new ≡ record self.old { aside = self.new.aside } }
+    {
         std::mem::replace(&mut self.aside, Vec::new(self.alloc))
     }
 
@@ -124,8 +150,17 @@ impl Account {
     }
 }
 
+// The bytes are in one of the files.
+fn is_in_any(bytes: &[u8], files: &[FileBytes]) -> bool
+    ensures { result ≡ list_any (is_within bytes.now) files.now }
+{
+    files.iter().any(|file| is_within(bytes, file.as_bytes()))
+}
+
 /// The second bytes have the first ones in them.
-pub fn is_within(bytes: &[u8], all: &[u8]) -> bool {
+pub fn is_within(bytes: &[u8], all: &[u8]) -> bool
+    ensures { result ≡ is_within bytes.now all.now }
+{
     for from in 0..all.len() {
         if all[from..].starts_with(bytes) {
             return true;

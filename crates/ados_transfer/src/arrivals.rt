@@ -8,7 +8,7 @@ use crate::mirror::Mirror;
 use crate::records::{Last, Record};
 use crate::share_lines::ShareLines;
 use crate::stamps::Stamp;
-use crate::stand_ins::is_stand_in;
+use crate::stand_ins::{Watch, is_stand_in};
 use ados_ram::{Body, Entry, Ram};
 use ados_text::{NoMemory, Octets, Text};
 use std::alloc::Global;
@@ -108,6 +108,10 @@ impl Mirror {
         files: &Ram,
     ) -> Result<Vec<Arrival>, TransferFault> {
         self.begin_look();
+        if self.is_elsewhere(rt) {
+            self.tell_unread("", "")?;
+            return Ok(Vec::new(self.alloc));
+        }
         let look = Look::new(rt, self.folder.as_str(), self.options.all, &self.records)?;
         for unread in &look.unread {
             self.tell_unread(unread.key.as_str(), unread.path.as_str())?;
@@ -147,7 +151,7 @@ impl Mirror {
                 last,
                 stamp: arrival.stamp,
                 is_fresh: arrival.is_fresh,
-                may_delete: false,
+                watch: Watch::NEW,
             }),
             None => self.fail(
                 arrival.key.as_str(),

@@ -102,10 +102,7 @@ impl Mirror {
         let is_stand_in = record.is_some_and(Record::is_stand_in);
         match here.deed(record, entry) {
             Deed::Keep => self.keep_alike(plan, seen, &here, entry),
-            Deed::Write => {
-                self.keep_marks(plan, key, &here);
-                Ok(())
-            }
+            Deed::Write => self.keep_marks(plan, seen, &here),
             Deed::Stand => {
                 self.tell_standing(key, seen.path.as_str(), is_stand_in)?;
                 self.overrule(seen.path.as_str(), entry.is_some())?;
@@ -115,11 +112,19 @@ impl Mirror {
         }
     }
 
-    // Keeps the marks of an object in whose place the Shell's is to be written.
-    fn keep_marks(&mut self, plan: &ArrivalPlan<'_>, key: &str, here: &Here) {
+    // Keeps the path and the marks of an object in whose place the Shell's is to be written.
+    fn keep_marks(
+        &mut self,
+        plan: &ArrivalPlan<'_>,
+        seen: &Seen,
+        here: &Here,
+    ) -> Result<(), TransferFault> {
         if let Some(stamp) = here.stamp() {
-            self.records.mark(key, stamp, stamp.is_fresh(plan.now()));
+            let path = String::from_str(self.alloc, seen.path.as_str())?;
+            self.records
+                .mark(seen.key.as_str(), path, stamp, stamp.is_fresh(plan.now()));
         }
+        Ok(())
     }
 
     // Both sides are alike: that is kept.

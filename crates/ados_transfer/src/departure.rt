@@ -1,4 +1,6 @@
 //! One object of the Shell's files on its way to the folder of a share.
+ghost use Rattle.std.specs.Prelude.{IfOk, string_bytes};
+ghost use Rattle.ados_transfer.specs.Paths.{IsBelow};
 
 use crate::faults::TransferFault;
 use crate::folders::{is_below, is_left_out};
@@ -7,7 +9,7 @@ use crate::paths::step_into;
 use crate::placing::{Draft, place_whole};
 use crate::records::{Last, Record};
 use crate::stamps::Stamp;
-use crate::writing::{checked, enter, joined, open_beside};
+use crate::writing::{enter, open_beside, path_of};
 use ados_ram::Entry;
 use std::alloc::Global;
 use std::os::unix::fs::PermissionsExt;
@@ -75,11 +77,10 @@ pub fn write_entry<R: AllocGlobal + Files>(
         let made = enter(rt, folder.as_str(), name)?;
         return Ok(Some(Stamp::of(&fs::symlink_metadata(rt, made.as_str())?)));
     }
-    checked(name)?;
-    if !place_whole(rt, folder.as_str(), name, draft)? {
+    let whole = path_of(rt.alloc(), folder.as_str(), name)?;
+    if !place_whole(rt, folder.as_str(), whole.as_str(), draft)? {
         return Ok(None);
     }
-    let whole = joined(rt.alloc(), folder.as_str(), name)?;
     Ok(Some(Stamp::of(&fs::symlink_metadata(rt, whole.as_str())?)))
 }
 
@@ -133,25 +134,30 @@ pub fn move_aside<R: AllocGlobal + Files>(
     }
 }
 
-/// The whole path of an object below a folder. Folders on the way are made; one that is a link is refused.
-pub fn own_path<R: AllocGlobal + Files>(rt: &R, root: &str, path: &str) -> io::Result<String> {
+/// The whole path of an object below a folder, and in no other. Folders on the way are made; one that is a link is refused.
+#[tactic(auto, using(crate::proofs::PathLemmas::below_step))]
+pub fn own_path<R: AllocGlobal + Files>(rt: &R, root: &str, path: &str) -> io::Result<String>
+    ensures { IfOk result (λ path. IsBelow root.now (string_bytes path)) }
+{
     let (folder, name) = way(rt, root, path)?;
-    checked(name)?;
-    joined(rt.alloc(), folder.as_str(), name)
+    let whole = path_of(rt.alloc(), folder.as_str(), name)?;
+    Ok(whole)
 }
 
 // What is at a path has the marks of what was looked at.
 fn is_still<R: Files>(rt: &R, path: &str, here: &Here) -> io::Result<bool> {
-    let found = Stamp::of(&fs::symlink_metadata(rt, path)?);
-    Ok(here.stamp().is_some_and(|stamp| stamp.is_same(&found)))
+    Ok(here.has_marks(&Stamp::of(&fs::symlink_metadata(rt, path)?)))
 }
 
 // The folder of a path's last name, and that name. Folders on the way are made; one that is a link is refused.
+#[tactic(auto, using(crate::proofs::PathLemmas::below_itself, crate::proofs::PathLemmas::below_step))]
 fn way<'a, R: AllocGlobal + Files>(
     rt: &R,
     root: &str,
     path: &'a str,
-) -> io::Result<(String, &'a str)> {
+) -> io::Result<(String, &'a str)>
+    ensures { IfOk result (λ way. IsBelow root.now (string_bytes way.0)) }
+{
     let mut folder = String::from_str(rt.alloc(), root)?;
     let Some((above, name)) = path.rsplit_once('/') else {
         return Ok((folder, path));

@@ -4,8 +4,7 @@ use crate::account::Account;
 use crate::departure::{Departure, is_key_left_out};
 use crate::faults::TransferFault;
 use crate::mirror::Mirror;
-use crate::paths::{last_piece, step_into};
-use crate::stand_ins::is_stand_in;
+use crate::stand_ins::own;
 use ados_ram::{Entry, Place, Ram};
 use std::rt::Files;
 use std::time::Clock;
@@ -31,7 +30,12 @@ impl Mirror {
                 path.as_str(),
             );
         }
+        if self.is_elsewhere(rt) {
+            let folder = String::from_str(self.alloc, self.folder.as_str())?;
+            return self.fail("", "cannot write", folder.as_str());
+        }
         self.forget("");
+        self.spare_moved(files)?;
         let mut account = Account::new(self.alloc);
         let departures = self.departures(files, &mut account)?;
         for is_new in [true, false] {
@@ -44,7 +48,7 @@ impl Mirror {
         self.turn(rt, files, &departures, &mut account)?;
         for departure in departures.iter().rev() {
             if departure.entry.is_none() && !departure.is_at_turn {
-                self.delete_here(rt, files, departure, &mut account)?;
+                self.delete_here(rt, departure, &mut account)?;
             }
         }
         self.tell_account(&account)
@@ -61,7 +65,7 @@ impl Mirror {
     ) -> Result<(), TransferFault> {
         for departure in departures.iter().rev() {
             if departure.is_at_turn && (departure.is_turned || departure.entry.is_none()) {
-                self.delete_here(rt, files, departure, account)?;
+                self.delete_here(rt, departure, account)?;
             }
         }
         for departure in departures {
@@ -134,7 +138,8 @@ impl Mirror {
             if self.records.find(key.as_str()).is_some() {
                 continue;
             }
-            let path = self.path_of(files, key.as_str(), place)?;
+            let written = files.written(place)?;
+            let path = self.path_of(written.names_behind(&self.place))?;
             if !is_key_left_out(key.as_str(), self.options.all) {
                 departures.push(Departure {
                     path,
@@ -151,19 +156,6 @@ impl Mirror {
         Ok(())
     }
 
-    // The path on this machine of an object that is new in the Shell's files.
-    fn path_of(&self, files: &Ram, key: &str, place: &Place) -> Result<String, TransferFault> {
-        let written = files.written(place)?;
-        let path = self.spelled(written.names_behind(&self.place))?;
-        let Some((above, _)) = key.rsplit_once('/') else {
-            return Ok(path);
-        };
-        match self.records.find(above) {
-            Some(record) => step_into(self.alloc, record.path.as_str(), last_piece(path.as_str())),
-            None => Ok(path),
-        }
-    }
-
     // Reports what is not deleted.
     pub(crate) fn tell_account(&mut self, account: &Account) -> Result<(), TransferFault> {
         self.is_holding = account.is_holding();
@@ -171,13 +163,5 @@ impl Mirror {
             Some(line) => self.tell_line(line),
             None => Ok(()),
         }
-    }
-}
-
-// An entry that is not a stand-in: one that was moved to another object's place counts as nothing there.
-fn own(entry: Option<&Entry>) -> Option<&Entry> {
-    match entry {
-        Some(entry) if !is_stand_in(entry) => Some(entry),
-        _ => None,
     }
 }

@@ -1,7 +1,10 @@
 //! What is in the folder of a share.
+ghost use Rattle.std.specs.Prelude.{◌≡◌};
+ghost use Rattle.ados_transfer.specs.Paths.{is_left_out};
 
 use crate::choice::{Named, is_chosen, order};
 use crate::faults::{TransferFault, named};
+use crate::here::is_nothing;
 use crate::paths::{name_of, step_into};
 use crate::records::Records;
 use crate::stamps::Stamp;
@@ -128,6 +131,8 @@ impl Look {
             Err(error) if error.kind() == ErrorKind::OutOfMemory => {
                 return Err(TransferFault::NoMemory);
             }
+            // It was there a moment ago; if the folder of the share itself is gone, nothing is known of what was in it.
+            Err(error) if is_nothing(error.kind()) && !path.is_empty() => return Ok(folders),
             Err(_) => {
                 self.add_unread(alloc, path)?;
                 return Ok(folders);
@@ -212,7 +217,7 @@ impl Look {
         let whole = step_into(alloc, folder, named.path.as_str())?;
         let found = match fs::symlink_metadata(rt, whole.as_str()) {
             Ok(found) => found,
-            Err(error) if error.kind() == ErrorKind::NotFound => return Ok(()),
+            Err(error) if is_nothing(error.kind()) => return Ok(()),
             Err(_) => return self.add_unread(alloc, named.path.as_str()),
         };
         let kind = kind_of(&found);
@@ -255,8 +260,13 @@ fn kind_of(found: &Metadata) -> Kind {
 }
 
 /// The name is left out: it begins with a dot, is that of a temporary file that is written beside its place, or leads elsewhere.
-pub fn is_left_out(name: &str, all: bool) -> bool {
-    (name.starts_with('.') && !all) || name.starts_with(BESIDE) || matches!(name, "." | "..")
+pub fn is_left_out(name: &str, all: bool) -> bool
+    ensures { result ≡ is_left_out name.now all }
+{
+    let bytes = name.as_bytes();
+    (bytes.starts_with(b".") && !all)
+        || bytes.starts_with(BESIDE.as_bytes())
+        || matches!(name, "." | "..")
 }
 
 /// A path in lower case.

@@ -1,4 +1,6 @@
 //! What this machine has at the place of one object of a share.
+ghost use Rattle.std.specs.Prelude.{◌≡◌};
+ghost use Rattle.ados_transfer.specs.Looked.{has_marks, marks_of};
 
 use crate::bringing::bytes_of;
 use crate::decision::{Deed, State, decide};
@@ -68,6 +70,7 @@ impl Here {
             }),
             Ok(_) => Ok(Here::Large(stamp)),
             Err(error) if error.kind() == ErrorKind::OutOfMemory => Err(TransferFault::NoMemory),
+            Err(error) if is_nothing(error.kind()) => Ok(Here::Absent),
             Err(_) => Ok(Here::Unread),
         }
     }
@@ -93,7 +96,7 @@ impl Here {
                 &record.state(),
                 &state,
                 &record.state_there(entry),
-                record.may_delete,
+                record.watch.may_delete(),
             ),
             None => decide(&State::Absent, &state, &state_there(entry), false),
         }
@@ -127,8 +130,17 @@ impl Here {
         matches!(self, Here::Directory(_))
     }
 
+    /// It had these marks, so that nothing took its place since.
+    pub fn has_marks(&self, found: &Stamp) -> bool
+        ensures { result ≡ has_marks self.now found.now }
+    {
+        self.stamp().is_some_and(|stamp| stamp.is_same(found))
+    }
+
     /// Its marks.
-    pub fn stamp(&self) -> Option<Stamp> {
+    pub fn stamp(&self) -> Option<Stamp>
+        ensures { result ≡ marks_of self.now }
+    {
         match self {
             Here::Absent | Here::Foreign | Here::Unread => None,
             Here::Directory(stamp) | Here::Large(stamp) | Here::File { stamp, .. } => Some(*stamp),
@@ -136,7 +148,7 @@ impl Here {
     }
 }
 
-// Nothing is there, also since what would be above it is a file.
-fn is_nothing(kind: ErrorKind) -> bool {
+/// Nothing is there, also since what would be above it is a file.
+pub fn is_nothing(kind: ErrorKind) -> bool {
     matches!(kind, ErrorKind::NotFound | ErrorKind::NotADirectory)
 }

@@ -20,6 +20,7 @@ mod left_out;
 mod lines;
 mod mirror;
 mod paths;
+mod places;
 mod placing;
 mod plan;
 mod records;

@@ -38,7 +38,11 @@ fn bringing_lines(alloc: Global, told: &[Told]) -> Result<Lines, TransferFault> 
     for one in told {
         let path = one.place.path(alloc)?;
         match &one.content {
-            Content::Directory => lines.add(alloc, command(alloc, b"\"MakeDir\"", &path)?, &path)?,
+            Content::Directory => lines.add(
+                alloc,
+                command_line(alloc, b"\"MakeDir\"", &path)?,
+                &path,
+            )?,
             Content::File { bytes, is_script } => {
                 let mut line = start(alloc, b"\"amishell-bring\" >")?;
                 push_word(&mut line, &path, true)?;
@@ -90,7 +94,7 @@ impl Lines {
         args: &[&str],
         quotes: bool,
     ) -> Result<(), TransferFault> {
-        let mut line = command(alloc, b"\"Execute\"", &place.path(alloc)?)?;
+        let mut line = command_line(alloc, b"\"Execute\"", &place.path(alloc)?)?;
         for arg in args {
             push_word(&mut line, &ascii(alloc, arg)?, quotes)?;
         }
@@ -112,8 +116,8 @@ pub fn start(alloc: Global, words: &[u8]) -> Result<Text, NoMemory> {
     Text::from_bytes(alloc, words)
 }
 
-// A command with a path.
-fn command(alloc: Global, name: &[u8], path: &Text) -> Result<Text, NoMemory> {
+/// A line that begins with a command and a path.
+pub fn command_line(alloc: Global, name: &[u8], path: &Text) -> Result<Text, NoMemory> {
     let mut line = start(alloc, name)?;
     push_word(&mut line, path, true)?;
     Ok(line)
@@ -121,7 +125,7 @@ fn command(alloc: Global, name: &[u8], path: &Text) -> Result<Text, NoMemory> {
 
 // The line that sets bit s of a file.
 fn protection(alloc: Global, place: &Place) -> Result<Text, NoMemory> {
-    let mut line = command(alloc, b"\"Protect\"", &literal(alloc, place)?)?;
+    let mut line = command_line(alloc, b"\"Protect\"", &literal(alloc, place)?)?;
     let word = start(alloc, b" +s")?;
     line.push_bytes(word.as_bytes())?;
     Ok(line)

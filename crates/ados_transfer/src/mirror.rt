@@ -2,13 +2,12 @@
 
 use crate::bringing::parted;
 use crate::faults::{TransferFault, named};
-use crate::folders::lower;
 use crate::keys::Keys;
-use crate::paths::{is_free, place_in, step_into};
+use crate::paths::{is_free, place_in};
 use crate::records::{Last, Record, Records};
 use crate::stamps::Stamp;
+use crate::stand_ins::Watch;
 use ados_ram::{Place, Ram};
-use ados_text::{Name, Text};
 use std::alloc::Global;
 use std::fs;
 use std::rt::Files;
@@ -116,36 +115,6 @@ impl Mirror {
         self.is_holding || !self.failing.is_empty() || !self.unread.is_empty()
     }
 
-    // The key of a place, the empty one for the directory itself; none outside it.
-    pub(crate) fn key_of(&self, place: &Place) -> Result<Option<String>, TransferFault> {
-        if !place.names().starts_with(self.place.names()) {
-            return Ok(None);
-        }
-        let path = self.spelled(place.names_behind(&self.place))?;
-        Ok(Some(lower(self.alloc, path.as_str())?))
-    }
-
-    // The place of a key or of a path below the directory.
-    pub(crate) fn place_of(&self, path: &str) -> Result<Place, TransferFault> {
-        let mut place = self.place.copy()?;
-        for name in path.split('/') {
-            place = place.with(Name::new(Text::from_bytes(self.alloc, name.as_bytes())?))?;
-        }
-        Ok(place)
-    }
-
-    // Names as a path of this machine.
-    pub(crate) fn spelled(&self, names: &[Name]) -> Result<String, TransferFault> {
-        let mut path = String::new(self.alloc);
-        for name in names {
-            match std::str::from_utf8(name.text().as_bytes()) {
-                Ok(name) => path = step_into(self.alloc, path.as_str(), name)?,
-                Err(_) => return Err(TransferFault::NoMemory),
-            }
-        }
-        Ok(path)
-    }
-
     // Keeps an object as it is on both sides now.
     pub(crate) fn keep(&mut self, record: Record) -> Result<(), TransferFault> {
         if matches!(record.last, Last::StandIn) {
@@ -172,7 +141,7 @@ impl Mirror {
             last,
             stamp,
             is_fresh: stamp.is_fresh(now),
-            may_delete: false,
+            watch: Watch::NEW,
         })
     }
 

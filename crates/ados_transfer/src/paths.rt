@@ -1,4 +1,6 @@
 //! Paths of this machine, and places of the Shell's files.
+ghost use Rattle.std.specs.Prelude.{◌≡◌, IfOk, string_bytes};
+ghost use Rattle.ados_transfer.specs.Paths.{is_step, path_in, separator};
 
 use crate::faults::{TransferFault, named};
 use ados_names::{Path, Step, is_name};
@@ -29,16 +31,34 @@ pub fn last_piece(path: &str) -> &str {
     }
 }
 
+/// The name of an object in a folder, which leads nowhere else.
+pub fn is_step(name: &str) -> bool
+    ensures { result ≡ is_step name.now }
+{
+    !matches!(name, "" | "." | "..") && !name.as_bytes().contains(&b'/')
+}
+
 /// The path of a name in a folder.
-pub fn step_into(alloc: Global, folder: &str, name: &str) -> Result<String, TransferFault> {
+pub fn step_into(alloc: Global, folder: &str, name: &str) -> Result<String, TransferFault>
+    ensures { IfOk result (λ path. string_bytes path ≡ path_in folder.now name.now) }
+{
     let room = folder.len().saturating_add(name.len()).saturating_add(1);
     let mut path = String::with_capacity(alloc, room)?;
     path.push_str(folder)?;
-    if !folder.is_empty() && !folder.ends_with('/') {
-        path.push('/')?;
-    }
+    path.push_str(separator(folder))?;
     path.push_str(name)?;
     Ok(path)
+}
+
+// What stands between a folder and a name in it.
+fn separator(folder: &str) -> &'static str
+    ensures { result.now ≡ separator folder.now }
+{
+    if folder.is_empty() || folder.as_bytes().ends_with(b"/") {
+        ""
+    } else {
+        "/"
+    }
 }
 
 /// A name of this machine as one of the Shell's files; a fault names `path`.

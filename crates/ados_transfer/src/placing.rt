@@ -5,7 +5,7 @@
 
 use crate::bringing::bytes_of;
 use crate::here::Here;
-use crate::writing::{Manner, joined, link_beside, write_beside};
+use crate::writing::{Manner, link_beside, write_beside};
 use ados_ram::Entry;
 use std::io::ErrorKind;
 use std::os::unix::fs::MetadataExt;
@@ -30,26 +30,19 @@ impl<'a> Draft<'a> {
     }
 }
 
-/// Writes a file with this name in a folder, in place of what was looked at; `false` if something else came to be there since.
+/// Writes a file to a path in a folder, in place of what was looked at; `false` if something else came to be there since.
 pub fn place_whole<R: AllocGlobal + Files>(
     rt: &R,
     folder: &str,
-    name: &str,
+    target: &str,
     draft: &Draft<'_>,
 ) -> io::Result<bool> {
-    let target = joined(rt.alloc(), folder, name)?;
     let beside = write_beside(rt, folder, draft.entry.bytes(), manner(draft)?)?;
     let placed = match draft.here {
         Here::File { bytes, .. } => {
-            place_over(
-                rt,
-                folder,
-                beside.as_str(),
-                target.as_str(),
-                bytes.as_slice(),
-            )
+            place_over(rt, folder, beside.as_str(), target, bytes.as_slice())
         }
-        _ => place_new(rt, beside.as_str(), target.as_str()),
+        _ => place_new(rt, beside.as_str(), target),
     };
     if !matches!(placed, Ok(true)) {
         let _ = fs::remove_file(rt, beside.as_str());
@@ -57,14 +50,10 @@ pub fn place_whole<R: AllocGlobal + Files>(
     placed
 }
 
-// The permissions for a file: those it had before, or those of the file of which it is a copy; a new script is executable. A file
-// that may not be written is refused.
+// The permissions for a file: those it had before, or those of the file of which it is a copy; a new script is executable.
 fn manner(draft: &Draft<'_>) -> io::Result<Manner> {
     match (draft.here, draft.mode) {
-        (Here::File { mode, .. }, _) if mode & 0o222 == 0 => {
-            Err(io::Error::from(ErrorKind::PermissionDenied))
-        }
-        (Here::File { mode, .. }, _) => Ok(Manner::Mode(*mode)),
+        (Here::File { mode, .. }, _) => Manner::over(*mode),
         (_, Some(mode)) => Ok(Manner::Mode(mode)),
         _ if draft.entry.bits.script => Ok(Manner::Executable),
         _ => Ok(Manner::Plain),

@@ -1,6 +1,7 @@
 //! What is to be brought in: files and directories, within the limits of the Shell's files.
 
 use crate::faults::{TransferFault, named};
+use crate::room::Room;
 use crate::told::{Content, Told};
 use ados_ram::{Place, Ram};
 use ados_text::Octets;
@@ -23,25 +24,16 @@ pub const PATH_BYTES: usize = 255;
 pub struct Plan {
     alloc: Global,
     told: Vec<Told>,
-    bytes: usize,
-    objects: usize,
+    room: Room,
 }
 
 impl Plan {
     /// Nothing to be brought in yet; the files that are there count.
     pub fn new(alloc: Global, files: &Ram) -> Result<Plan, TransferFault> {
-        let places = files.contents(&Place::root(alloc))?;
-        let mut bytes = 0usize;
-        for place in &places {
-            if let Some(entry) = files.look(place) {
-                bytes = bytes.saturating_add(entry.bytes().len());
-            }
-        }
         Ok(Plan {
             alloc,
             told: Vec::new(alloc),
-            bytes,
-            objects: places.len(),
+            room: Room::new(alloc, files)?,
         })
     }
 
@@ -120,14 +112,13 @@ impl Plan {
         if size > FILE_BYTES {
             return Err(named(self.alloc, path, TransferFault::LargeFile));
         }
-        if size > ALL_BYTES.saturating_sub(self.bytes) {
+        if !self.room.fits(size, None) {
             return Err(named(self.alloc, path, TransferFault::ManyBytes));
         }
-        if self.objects >= OBJECTS {
+        if !self.room.has_place() {
             return Err(named(self.alloc, path, TransferFault::ManyObjects));
         }
-        self.bytes = self.bytes.saturating_add(size);
-        self.objects += 1;
+        self.room.put(size, None);
         self.told.push(Told { place, content })?;
         Ok(())
     }

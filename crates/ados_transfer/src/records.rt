@@ -1,10 +1,13 @@
 //! What was alike on both sides of a share at the last time.
-ghost use Rattle.std.specs.Prelude.{◌<◌, ◌≤◌, length, MatchResult};
+ghost use Rattle.std.specs.Prelude.{◌≡◌, ◌<◌, ◌≤◌, length, not, MatchResult};
+ghost use Rattle.std.specs.Option.{is_some, option_copied};
+ghost use Rattle.ados_transfer.specs.Mirror.{is_absent};
+ghost use Rattle.ados_transfer.specs.StandIns.{own};
 
 use crate::decision::State;
 use crate::stamps::Stamp;
-use crate::stand_ins::is_stand_in;
-use ados_ram::{Body, Entry, FileBytes, Place};
+use crate::stand_ins::{Watch, is_stand_in, own};
+use ados_ram::{Body, Entry, FileBytes, Place, Ram};
 use ados_text::NoMemory;
 use std::alloc::Global;
 
@@ -44,8 +47,8 @@ pub struct Record {
     pub stamp: Stamp,
     /// A later change might leave the same marks.
     pub is_fresh: bool,
-    /// It is a stand-in that had bit d when it was last looked at.
-    pub may_delete: bool,
+    /// What was seen of it in the Shell's files, if it is empty there.
+    pub watch: Watch,
 }
 
 impl Record {
@@ -98,11 +101,12 @@ impl Record {
 }
 
 /// What the Shell has at a place if nothing was there before; a stand-in that was moved there counts as nothing.
-pub fn state_there(entry: Option<&Entry>) -> State<'_> {
-    match entry {
+pub fn state_there(entry: Option<&Entry>) -> State<'_>
+    ensures { is_absent result ≡ not (is_some (own (option_copied entry.entry))) }
+{
+    match own(entry) {
         None => State::Absent,
         Some(entry) if entry.is_directory() => State::Directory,
-        Some(entry) if is_stand_in(entry) => State::Absent,
         Some(entry) => State::File(entry.bytes()),
     }
 }
@@ -134,19 +138,29 @@ impl Records {
         }
     }
 
-    /// Notes whether a stand-in had bit d.
-    pub fn allow(&mut self, key: &str, may_delete: bool) {
-        if let Ok(place) = self.place(key) {
-            if let Some(record) = self.sorted.get_mut(place) {
-                record.may_delete = may_delete;
+    /// Looks at those that are empty in the Shell's files.
+    pub fn watch(&mut self, files: &Ram) {
+        for record in &mut self.sorted {
+            if record.is_stand_in() || record.is_file_of(&[]) {
+                record.watch = record.watch.after(files.look(&record.place));
             }
         }
     }
 
-    /// Notes the marks that an object has now.
-    pub fn mark(&mut self, key: &str, stamp: Stamp, is_fresh: bool) {
+    /// Spares the files of the stand-ins that are not in their places.
+    pub fn spare_gone(&mut self, files: &Ram) {
+        for record in &mut self.sorted {
+            if record.is_stand_in() && !files.look(&record.place).is_some_and(is_stand_in) {
+                record.watch.is_spared = true;
+            }
+        }
+    }
+
+    /// Notes the path and the marks that an object has now.
+    pub fn mark(&mut self, key: &str, path: String, stamp: Stamp, is_fresh: bool) {
         if let Ok(place) = self.place(key) {
             if let Some(record) = self.sorted.get_mut(place) {
+                record.path = path;
                 record.stamp = stamp;
                 record.is_fresh = is_fresh;
             }

@@ -22,12 +22,10 @@ impl Mirror {
     pub(crate) fn delete_here<R: AllocGlobal + Files>(
         &mut self,
         rt: &R,
-        files: &Ram,
         departure: &Departure<'_>,
         account: &mut Account,
     ) -> Result<(), TransferFault> {
         let (key, path) = (departure.key.as_str(), departure.path.as_str());
-        let may_delete = self.may_delete(files, key)?;
         let Some(record) = self.records.find(key) else {
             return Ok(());
         };
@@ -37,7 +35,7 @@ impl Mirror {
             &record.state(),
             &here.state(Some(record)),
             &record.state_there(departure.entry),
-            may_delete,
+            record.watch.may_delete(),
             account.is_owing(),
         );
         match removal {
@@ -76,24 +74,20 @@ impl Mirror {
         } else {
             remove(rt, self.folder.as_str(), path, here)
         };
+        if !matches!(is_done, Ok(true)) {
+            owe_at_turn(departure, account)?;
+        }
         match is_done {
             Ok(true) => {
                 self.forget(key);
                 Ok(())
             }
-            Ok(false) => {
-                owe_at_turn(departure, account)?;
-                self.tell_standing(key, path, false)
-            }
+            Ok(false) => self.tell_standing(key, path, false),
             Err(error) if error.kind() == ErrorKind::DirectoryNotEmpty => {
-                owe_at_turn(departure, account)?;
                 self.forget(key);
                 self.tell_not_empty(key, path)
             }
-            Err(error) => {
-                owe_at_turn(departure, account)?;
-                self.not_done(&error, "cannot delete", departure)
-            }
+            Err(error) => self.not_done(&error, "cannot delete", departure),
         }
     }
 

@@ -1,22 +1,22 @@
 //! The lines of the Shell by which a change of the folder of a share comes in.
 
 use crate::faults::TransferFault;
-use crate::lines::{literal, start, too_long};
+use crate::lines::{command_line, literal, start, too_long};
 use crate::stand_ins::{comment_of, is_stand_in};
 use crate::words::push_word;
 use ados_ram::{Entry, Place, Ram};
 use ados_text::{LINE_BYTES, Text};
 use std::alloc::Global;
 
-// The commands by the names that the resident list has for the share, which nothing can shadow, and the files in C: from which
-// they come. By the first the script is called.
-const COMMANDS: [(&[u8], &[u8]); 6] = [
-    (b"Execute", b"C:Execute"),
-    (b"amishell-bring", b"C:amishell-bring"),
-    (b"amishell-makedir", b"C:MakeDir"),
-    (b"amishell-delete", b"C:Delete"),
-    (b"amishell-protect", b"C:Protect"),
-    (b"amishell-filenote", b"C:Filenote"),
+// The lines that put the commands of the share on the resident list, where nothing can shadow them, each by its name there and the
+// file in C: from which it comes. By the first the script is called.
+const COMMANDS: [&[u8]; 6] = [
+    b"\"Resident\" Execute C:Execute PURE SYSTEM",
+    b"\"Resident\" amishell-bring C:amishell-bring PURE SYSTEM",
+    b"\"Resident\" amishell-makedir C:MakeDir PURE SYSTEM",
+    b"\"Resident\" amishell-delete C:Delete PURE SYSTEM",
+    b"\"Resident\" amishell-protect C:Protect PURE SYSTEM",
+    b"\"Resident\" amishell-filenote C:Filenote PURE SYSTEM",
 ];
 
 /// Lines that are run in order.
@@ -49,13 +49,8 @@ impl ShareLines {
 
     /// Adds the lines that make the commands resident.
     pub fn add_commands(&mut self) -> Result<(), TransferFault> {
-        for (name, file) in &COMMANDS {
-            let mut line = start(self.alloc, b"\"Resident\" ")?;
-            line.push_bytes(start(self.alloc, name)?.as_bytes())?;
-            line.push(b' ')?;
-            line.push_bytes(start(self.alloc, file)?.as_bytes())?;
-            line.push_bytes(start(self.alloc, b" PURE SYSTEM")?.as_bytes())?;
-            self.lines.push(line)?;
+        for line in &COMMANDS {
+            self.lines.push(start(self.alloc, line)?)?;
         }
         Ok(())
     }
@@ -133,10 +128,8 @@ impl ShareLines {
 
     // Adds a command with a path, and more words.
     fn add(&mut self, command: &[u8], path: &Text, words: &[u8]) -> Result<(), TransferFault> {
-        let mut line = start(self.alloc, command)?;
-        push_word(&mut line, path, true)?;
-        let words = start(self.alloc, words)?;
-        line.push_bytes(words.as_bytes())?;
+        let mut line = command_line(self.alloc, command, path)?;
+        line.push_bytes(start(self.alloc, words)?.as_bytes())?;
         self.lines.push(line)?;
         Ok(())
     }

@@ -1,8 +1,10 @@
 //! Stand-ins: empty files of the Shell in place of files of this machine that it can't hold.
+ghost use Rattle.std.specs.Prelude.{◌≡◌, ◌&&◌, true, not};
+ghost use Rattle.std.specs.Option.{option_copied};
+ghost use Rattle.ados_transfer.specs.StandIns.{is_empty, is_stand_in, own, watched};
 
 use crate::faults::TransferFault;
 use crate::mirror::Mirror;
-use crate::records::Record;
 use ados_ram::{Entry, Place, Ram};
 use ados_text::NoMemory;
 use std::alloc::Global;
@@ -12,10 +14,20 @@ const STANDS_IN: &[u8] = b" bytes, on this machine alone";
 
 /// The entry stands for a file of this machine that the Shell can't hold: it is empty, and its comment says so. Its bits may have
 /// been set since.
-pub fn is_stand_in(entry: &Entry) -> bool {
-    !entry.is_directory()
-        && entry.bytes().is_empty()
-        && entry.comment.as_bytes().ends_with(STANDS_IN)
+pub fn is_stand_in(entry: &Entry) -> bool
+    ensures { result ≡ is_stand_in entry.now }
+{
+    is_empty(entry) && entry.comment.as_bytes().ends_with(STANDS_IN)
+}
+
+/// What the Shell holds itself: a stand-in counts as nothing, and so is never written to this machine.
+pub fn own(entry: Option<&Entry>) -> Option<&Entry>
+    ensures { option_copied result ≡ own (option_copied entry.entry) }
+{
+    match entry {
+        Some(entry) if !is_stand_in(entry) => Some(entry),
+        _ => None,
+    }
 }
 
 /// The comment of the stand-in of a file of this size.
@@ -23,53 +35,93 @@ pub fn comment_of(alloc: Global, size: u64) -> Result<String, NoMemory> {
     Ok(format!(in alloc; "{size} bytes, on this machine alone")?)
 }
 
+/// What was seen so far of an empty file of the Shell that both sides have.
+#[derive(Clone, Copy)]
+pub struct Watch {
+    /// It had bit d when it was last seen.
+    pub had_delete: bool,
+    /// Its file stays in any case: it had bit r at some time, so that it may have been copied as the empty file that it is, or it may
+    /// have been moved.
+    pub is_spared: bool,
+    /// It was not in its place at some time: what is there since may be another one.
+    pub was_away: bool,
+}
+
+impl Watch {
+    /// Nothing was seen.
+    pub const NEW: Watch = Watch {
+        had_delete: false,
+        is_spared: false,
+        was_away: false,
+    };
+
+    /// What was seen after a look at what is in its place.
+    pub fn after(self, entry: Option<&Entry>) -> Watch
+        ensures { result ≡ watched self (option_copied entry.entry) }
+    {
+        match entry {
+            Some(entry) if is_empty(entry) => Watch {
+                had_delete: entry.bits.delete,
+                is_spared: self.is_spared || entry.bits.read,
+                ..self
+            },
+            _ => Watch {
+                was_away: true,
+                ..self
+            },
+        }
+    }
+
+    /// If it was a stand-in and is gone, its file may be deleted on this machine too.
+    pub fn may_delete(self) -> bool
+        ensures { result ≡ (self.had_delete && not self.is_spared) }
+    {
+        self.had_delete && !self.is_spared
+    }
+}
+
+// The entry is a file without bytes.
+fn is_empty(entry: &Entry) -> bool
+    ensures { result ≡ is_empty entry.now }
+{
+    !entry.is_directory() && entry.bytes().is_empty()
+}
+
 impl Mirror {
-    /// Notes which stand-ins have bit d and not bit r: if such a stand-in is then deleted, its file is deleted on this machine too.
-    /// One with bit r may have been copied as the empty file that it is.
-    pub fn watch(&mut self, files: &Ram) -> Result<(), TransferFault> {
-        if !self.has_stand_ins {
-            return Ok(());
+    /// Looks at the stand-ins: the file of one that had bit d and never bit r is deleted on this machine too if it is deleted.
+    pub fn watch(&mut self, files: &Ram) {
+        if self.has_stand_ins {
+            self.records.watch(files);
         }
-        let mut seen = Vec::new(self.alloc);
-        for record in self.records.all() {
-            if record.is_stand_in() {
-                if let Some(entry) = files.look(&record.place) {
-                    seen.push((
-                        String::from_str(self.alloc, record.key.as_str())?,
-                        entry.bits.delete && !entry.bits.read,
-                    ))?;
-                }
-            }
-        }
-        for (key, may_delete) in &seen {
-            self.records.allow(key.as_str(), *may_delete);
+    }
+
+    // Spares the files of the stand-ins that are gone, if they may have been moved.
+    pub(crate) fn spare_moved(&mut self, files: &Ram) -> Result<(), TransferFault> {
+        if self.has_stand_ins && self.has_stray(files)? {
+            self.records.spare_gone(files);
         }
         Ok(())
     }
 
-    // A file that the Shell can't hold may be deleted on this machine: its stand-in had bit d, and was not moved.
-    pub(crate) fn may_delete(&self, files: &Ram, key: &str) -> Result<bool, TransferFault> {
-        match self.records.find(key) {
-            Some(record) if record.may_delete => Ok(!self.is_moved(files, record.stamp.size)?),
-            _ => Ok(false),
-        }
-    }
-
-    // A stand-in of the same size is elsewhere: it was moved there.
-    fn is_moved(&self, files: &Ram, size: u64) -> Result<bool, TransferFault> {
-        let comment = comment_of(self.alloc, size)?;
+    // There is an empty file that is not known: it may be a stand-in which was moved there.
+    fn has_stray(&self, files: &Ram) -> Result<bool, TransferFault> {
         for place in &files.contents(&Place::root(self.alloc))? {
-            let Some(entry) = files.look(place) else {
-                continue;
-            };
-            if is_stand_in(entry) && entry.comment.as_bytes() == comment.as_bytes() {
-                let key = self.key_of(place)?;
-                let known = key.and_then(|key| self.records.find(key.as_str()));
-                if !known.is_some_and(Record::is_stand_in) {
-                    return Ok(true);
-                }
+            let entry = files.look(place);
+            if entry.is_some_and(is_empty) && !self.is_known(place, entry)? {
+                return Ok(true);
             }
         }
         Ok(false)
+    }
+
+    // Both sides have what is at a place, and it was never away.
+    fn is_known(&self, place: &Place, entry: Option<&Entry>) -> Result<bool, TransferFault> {
+        let Some(key) = self.key_of(place)? else {
+            return Ok(false);
+        };
+        match self.records.find(key.as_str()) {
+            Some(record) => Ok(record.is_kept(entry) && !record.watch.was_away),
+            None => Ok(false),
+        }
     }
 }

@@ -26,20 +26,21 @@ impl Mirror {
         rt: &R,
         place: &Place,
     ) -> Result<StartPlace, TransferFault> {
-        let Some(key) = self.key_of(place)? else {
+        if !place.names().starts_with(self.place.names()) {
             return Ok(StartPlace::Home);
-        };
-        let path = match self.records.find(key.as_str()) {
-            Some(record) => String::from_str(self.alloc, record.path.as_str())?,
-            None => self.spelled(place.names_behind(&self.place))?,
-        };
+        }
+        let path = self.path_of(place.names_behind(&self.place))?;
         if self.has_folder(rt, path.as_str())? {
             let whole = step_into(self.alloc, self.folder.as_str(), path.as_str())?;
             return Ok(StartPlace::Folder(whole));
         }
+        let mut name = path;
+        if name.is_empty() {
+            name = String::from_str(self.alloc, self.folder.as_str())?;
+        }
         self.tell(
             "no program starts there, since it is no folder",
-            path.as_str(),
+            name.as_str(),
         )?;
         Ok(StartPlace::Nowhere)
     }
@@ -51,7 +52,7 @@ impl Mirror {
         path: &str,
     ) -> Result<bool, TransferFault> {
         let mut whole = String::from_str(self.alloc, self.folder.as_str())?;
-        if !is_folder(rt, whole.as_str()) {
+        if self.is_elsewhere(rt) || !is_folder(rt, whole.as_str()) {
             return Ok(false);
         }
         if path.is_empty() {

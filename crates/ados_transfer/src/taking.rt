@@ -2,8 +2,8 @@
 
 use crate::faults::{TransferFault, named};
 use crate::paths::{ascii, last_piece};
-use crate::stand_ins::is_stand_in;
-use crate::writing::{Manner, checked, enter, no_memory, spelled, write_whole};
+use crate::stand_ins::own;
+use crate::writing::{checked, enter, no_memory, spelled, write_whole};
 use ados_assign::Assigns;
 use ados_names::Path;
 use ados_ram::{Entry, Place, Ram};
@@ -33,7 +33,7 @@ pub fn take<R: AllocGlobal + Files>(
     };
     let own = own_name(rt.alloc(), entry)?;
     let taken = if entry.is_directory() {
-        take_directory(rt, files, &place, path.unwrap_or(own.as_str()))
+        take_directory(rt, files, &place, path, own.as_str())
     } else {
         take_file(rt, entry, path, own.as_str())
     };
@@ -87,11 +87,11 @@ fn place_of(
     }
 }
 
-// The name under which an object is written out: its own, and `.` for the root.
+// The name of an object; none for the root.
 fn own_name(alloc: Global, entry: &Entry) -> Result<String, TransferFault> {
     match std::str::from_utf8(entry.name.text().as_bytes()) {
-        Ok(name) if !name.is_empty() => Ok(String::from_str(alloc, name)?),
-        _ => Ok(String::from_str(alloc, ".")?),
+        Ok(name) => Ok(String::from_str(alloc, name)?),
+        Err(_) => Ok(String::new(alloc)),
     }
 }
 
@@ -103,11 +103,9 @@ fn take_file<R: AllocGlobal + Files>(
     own: &str,
 ) -> io::Result<()> {
     let Some(path) = path else {
-        checked(own)?;
         return write(rt, ".", own, entry);
     };
     if path.ends_with('/') || is_folder(rt, path) {
-        checked(own)?;
         fs::create_dir_all(rt, path)?;
         return write(rt, path, own, entry);
     }
@@ -128,10 +126,10 @@ fn write<R: AllocGlobal + Files>(
     name: &str,
     entry: &Entry,
 ) -> io::Result<()> {
-    if is_stand_in(entry) {
+    let Some(entry) = own(Some(entry)) else {
         return Err(io::Error::from(ErrorKind::InvalidData));
-    }
-    write_whole(rt, folder, name, entry.bytes(), Manner::Plain)
+    };
+    write_whole(rt, folder, name, entry.bytes())
 }
 
 fn is_folder<R: Files>(rt: &R, path: &str) -> bool {
@@ -141,23 +139,34 @@ fn is_folder<R: Files>(rt: &R, path: &str) -> bool {
     }
 }
 
-// Writes what is in a directory into a folder. What cannot be written is left out, and the last fault is reported.
+// The folder for a directory, which is made if it is not there: that of a path, or one of the directory's own name in this folder,
+// which is no link, and this folder for the root.
+fn folder_for<R: AllocGlobal + Files>(rt: &R, path: Option<&str>, own: &str) -> io::Result<String> {
+    let path = match path {
+        Some("..") => return Err(io::Error::from(ErrorKind::InvalidInput)),
+        Some(path) => path,
+        None if own.is_empty() => ".",
+        None => return enter(rt, ".", own),
+    };
+    fs::create_dir_all(rt, path)?;
+    Ok(String::from_str(rt.alloc(), path)?)
+}
+
+// Writes what is in a directory to a path or under its own name. What cannot be written is left out, and the last fault is reported.
 fn take_directory<R: AllocGlobal + Files>(
     rt: &R,
     files: &Ram,
     directory: &Place,
-    folder: &str,
+    path: Option<&str>,
+    own: &str,
 ) -> io::Result<()> {
-    if folder == ".." {
-        return Err(io::Error::from(ErrorKind::InvalidInput));
-    }
-    fs::create_dir_all(rt, folder)?;
+    let folder = folder_for(rt, path, own)?;
     let Ok(places) = files.contents(directory) else {
         return Err(no_memory());
     };
     let mut taken = Ok(());
     for place in &places {
-        if let Err(error) = take_one(rt, files, directory, place, folder) {
+        if let Err(error) = take_one(rt, files, directory, place, folder.as_str()) {
             taken = Err(error);
         }
     }
@@ -197,7 +206,5 @@ fn take_below<R: AllocGlobal + Files>(
         enter(rt, path.as_str(), spelled(last)?)?;
         return Ok(());
     }
-    let name = spelled(last)?;
-    checked(name)?;
-    write(rt, path.as_str(), name, entry)
+    write(rt, path.as_str(), spelled(last)?, entry)
 }

@@ -1,4 +1,7 @@
 //! How an object of the Shell's files is written to the folder of a share.
+ghost use Rattle.std.specs.Prelude.{◌≡◌};
+ghost use Rattle.ados_ram.specs.Entry.{bytes_of};
+ghost use Rattle.ados_transfer.specs.Looked.{is_moved_away};
 
 use crate::account::{Account, is_within};
 use crate::decision::Deed;
@@ -179,7 +182,9 @@ impl Mirror {
 }
 
 // What a file of this machine holds is in a file of the Shell that is not written, and not in the one that takes its place.
-fn is_moved_away(draft: &Draft<'_>, account: &Account) -> bool {
+fn is_moved_away(draft: &Draft<'_>, account: &Account) -> bool
+    ensures { result ≡ is_moved_away draft.now.here.now (bytes_of draft.now.entry.now) account.now.bytes.items }
+{
     match draft.here {
         Here::File { bytes, .. } => {
             !is_within(bytes.as_slice(), draft.entry.bytes())

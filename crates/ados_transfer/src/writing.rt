@@ -1,7 +1,9 @@
 //! How files and folders of this machine are written: to a temporary file in the same folder, which then takes the file's
 //! name. No link is followed.
+ghost use Rattle.std.specs.Prelude.{◌≡◌, true, IfOk, OnOk, string_bytes};
+ghost use Rattle.ados_transfer.specs.Paths.{is_step, path_in};
 
-use crate::paths::step_into;
+use crate::paths::{is_step, step_into};
 use ados_text::Name;
 use std::alloc::Global;
 use std::fs::{OpenFile, OpenOptions, Permissions};
@@ -28,6 +30,14 @@ pub enum Manner {
 }
 
 impl Manner {
+    /// The permissions of a file in place of one with this mode; one that may not be written is refused.
+    pub fn over(mode: u32) -> io::Result<Manner> {
+        if mode & 0o222 == 0 {
+            return Err(io::Error::from(ErrorKind::PermissionDenied));
+        }
+        Ok(Manner::Mode(mode))
+    }
+
     // The permissions that the file has until all of it is written: a file that others may not read must not be open to them.
     fn first_mode(self) -> u32 {
         match self {
@@ -38,9 +48,11 @@ impl Manner {
 }
 
 /// The path of a folder in a folder; it is made if it is not there. One that is a link is refused.
-pub fn enter<R: AllocGlobal + Files>(rt: &R, folder: &str, name: &str) -> io::Result<String> {
-    checked(name)?;
-    let path = joined(rt.alloc(), folder, name)?;
+pub fn enter<R: AllocGlobal + Files>(rt: &R, folder: &str, name: &str) -> io::Result<String>
+    ensures step { OnOk result (is_step name.now ≡ true) }
+    ensures path { IfOk result (λ path. string_bytes path ≡ path_in folder.now name.now) }
+{
+    let path = path_of(rt.alloc(), folder, name)?;
     match fs::symlink_metadata(rt, path.as_str()) {
         Ok(found) if found.is_dir() => Ok(path),
         Ok(_) => Err(io::Error::from(ErrorKind::NotADirectory)),
@@ -53,11 +65,23 @@ pub fn enter<R: AllocGlobal + Files>(rt: &R, folder: &str, name: &str) -> io::Re
 }
 
 /// A name that does not lead elsewhere.
-pub fn checked(name: &str) -> io::Result<()> {
-    if matches!(name, "" | "." | "..") || name.contains('/') {
-        return Err(io::Error::from(ErrorKind::InvalidInput));
+pub fn checked(name: &str) -> io::Result<()>
+    ensures { OnOk result (is_step name.now ≡ true) }
+{
+    if is_step(name) {
+        Ok(())
+    } else {
+        Err(io::Error::from(ErrorKind::InvalidInput))
     }
-    Ok(())
+}
+
+/// The path of an object in a folder; a name that leads elsewhere is refused.
+pub fn path_of(alloc: Global, folder: &str, name: &str) -> io::Result<String>
+    ensures step { OnOk result (is_step name.now ≡ true) }
+    ensures path { IfOk result (λ path. string_bytes path ≡ path_in folder.now name.now) }
+{
+    checked(name)?;
+    joined(alloc, folder, name)
 }
 
 /// A name as std's calls take it: ASCII is always UTF-8.
@@ -69,7 +93,9 @@ pub fn spelled(name: &Name) -> io::Result<&str> {
 }
 
 /// The path of a name in a folder.
-pub fn joined(alloc: Global, folder: &str, name: &str) -> io::Result<String> {
+pub fn joined(alloc: Global, folder: &str, name: &str) -> io::Result<String>
+    ensures { IfOk result (λ path. string_bytes path ≡ path_in folder.now name.now) }
+{
     match step_into(alloc, folder, name) {
         Ok(path) => Ok(path),
         Err(_) => Err(no_memory()),
@@ -81,15 +107,21 @@ pub fn no_memory() -> io::Error {
     io::Error::from(ErrorKind::OutOfMemory)
 }
 
-/// Writes a file with this name in a folder, with these permissions: a temporary file beside it, which then takes the name.
+/// Writes a file with this name in a folder: a temporary file beside it, which then takes the name. A file that is there keeps its
+/// permissions; one that may not be written is refused, and so are a link, a device, and a name that leads elsewhere.
 pub fn write_whole<R: AllocGlobal + Files>(
     rt: &R,
     folder: &str,
     name: &str,
     bytes: &[u8],
-    manner: Manner,
 ) -> io::Result<()> {
-    let target = joined(rt.alloc(), folder, name)?;
+    let target = path_of(rt.alloc(), folder, name)?;
+    let manner = match fs::symlink_metadata(rt, target.as_str()) {
+        Ok(found) if found.is_file() => Manner::over(found.permissions().mode())?,
+        Ok(_) => return Err(io::Error::from(ErrorKind::InvalidInput)),
+        Err(error) if error.kind() == ErrorKind::NotFound => Manner::Plain,
+        Err(error) => return Err(error),
+    };
     let beside = write_beside(rt, folder, bytes, manner)?;
     let moved = fs::rename(rt, beside.as_str(), target.as_str());
     if moved.is_err() {

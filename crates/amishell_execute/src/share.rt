@@ -111,7 +111,7 @@ impl Share {
         ensures standing { session.new.standing ≡ session.old.standing }
         ensures leads { Reaches world.old world.new }
     {
-        self.mirror.watch(world.files())?;
+        self.mirror.watch(world.files());
         if !self.is_filled {
             if is_ready && world.wants_line() {
                 self.bring_in(rt, world, launcher)?;

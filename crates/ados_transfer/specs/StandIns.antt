@@ -1,0 +1,26 @@
+-- Stand-ins: empty files of the Shell in place of files of this machine that it can't hold.
+use Rattle.std.specs.Prelude.{Bool, true, ◌&&◌, ◌||◌, ◌==◌, not, Option, Some, None, codes, length, if◌then◌else◌}
+use Rattle.std.specs.List.{ends_with}
+use Rattle.ados_ram.specs.declared.entries.Entry.{Entry}
+use Rattle.ados_ram.specs.Entry.{is_directory, bytes_of}
+use Rattle.ados_transfer.specs.declared.stand_ins.Watch.{Watch}
+
+-- the entry is a file without bytes
+abbrev pub is_empty : Entry → Bool
+is_empty entry = not (is_directory entry) && length (bytes_of entry) == 0
+
+-- the entry is an empty file whose comment says that it stands for a file of this machine
+abbrev pub is_stand_in : Entry → Bool
+is_stand_in entry = is_empty entry && ends_with ◌==◌ entry.comment (codes " bytes, on this machine alone")
+
+-- what the Shell holds itself: a stand-in is nothing
+abbrev pub own : Option Entry → Option Entry
+own None = None
+own (Some entry) = if is_stand_in entry then None else Some entry
+
+-- what was seen of an empty file after one more look: whether it has bit d, whether it ever had bit r, and whether it was away
+abbrev pub watched : Watch → Option Entry → Watch
+watched watch None = record watch { was_away = true }
+watched watch (Some entry) =
+    if is_empty entry then record watch { had_delete = entry.bits.delete; is_spared = watch.is_spared || entry.bits.read }
+    else record watch { was_away = true }

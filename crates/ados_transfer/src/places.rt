@@ -1,0 +1,64 @@
+//! Paths of the folder of a share and places of its directory, from one to the other.
+
+use crate::faults::TransferFault;
+use crate::folders::lower;
+use crate::mirror::Mirror;
+use crate::paths::step_into;
+use ados_ram::Place;
+use ados_text::{Name, Text};
+use std::fs;
+use std::rt::Files;
+
+impl Mirror {
+    // The key of a place, the empty one for the directory itself; none outside it.
+    pub(crate) fn key_of(&self, place: &Place) -> Result<Option<String>, TransferFault> {
+        if !place.names().starts_with(self.place.names()) {
+            return Ok(None);
+        }
+        let path = self.spelled(place.names_behind(&self.place))?;
+        Ok(Some(lower(self.alloc, path.as_str())?))
+    }
+
+    // The place of a key or of a path below the directory.
+    pub(crate) fn place_of(&self, path: &str) -> Result<Place, TransferFault> {
+        let mut place = self.place.copy()?;
+        for name in path.split('/') {
+            place = place.with(Name::new(Text::from_bytes(self.alloc, name.as_bytes())?))?;
+        }
+        Ok(place)
+    }
+
+    // Names as a path of this machine.
+    pub(crate) fn spelled(&self, names: &[Name]) -> Result<String, TransferFault> {
+        let mut path = String::new(self.alloc);
+        for name in names {
+            match std::str::from_utf8(name.text().as_bytes()) {
+                Ok(name) => path = step_into(self.alloc, path.as_str(), name)?,
+                Err(_) => return Err(TransferFault::NoMemory),
+            }
+        }
+        Ok(path)
+    }
+
+    // Names below the directory as a path of this machine: each object that both sides have is spelled as it is there.
+    pub(crate) fn path_of(&self, names: &[Name]) -> Result<String, TransferFault> {
+        let mut path = String::new(self.alloc);
+        for name in self.spelled(names)?.split('/') {
+            let below = step_into(self.alloc, path.as_str(), name)?;
+            let key = lower(self.alloc, below.as_str())?;
+            path = match self.records.find(key.as_str()) {
+                Some(record) => String::from_str(self.alloc, record.path.as_str())?,
+                None => below,
+            };
+        }
+        Ok(path)
+    }
+
+    // By now a link is on the way to the folder: its path leads elsewhere, where nothing is shared.
+    pub(crate) fn is_elsewhere<R: AllocGlobal + Files>(&self, rt: &R) -> bool {
+        match fs::canonicalize(rt, self.folder.as_str()) {
+            Ok(whole) => whole.as_path().as_str() != self.folder.as_str(),
+            Err(_) => false,
+        }
+    }
+}
