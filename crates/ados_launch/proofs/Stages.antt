@@ -94,19 +94,7 @@ left-true false b e = e
 pub further-asks : (w : WorldState) (answered : List Bool) (k : ℕ) → is_further_due w answered k ≡ true → is_some (pending_of w k) ≡ true
 further-asks w answered k e = read-asks (pending_of w k) (left-true (asks_read_or_wait (pending_of w k)) (not (get_or answered k false)) e)
 
--- a line is due first; otherwise no line is due
-pub line-first : (w : WorldState) (answered : List Bool) (place : ℕ) → (nat_lt place 1 && wants_line w) ≡ true
-    → Some 0 ≡ find (is_due w answered) (range_with_len place (61 - place))
-line-first w answered place e =
-    let begins : place < 1 = grind (arith, common_steps) in
-    let wanted : wants_line w ≡ true = grind (arith, common_steps) in
-    in-round (is_due w answered) place 61 0 (omega arith) (record {
-      low = omega (arith, begins);
-      high = omega arith;
-      here = early w answered 0 (omega arith) ∙ wanted;
-      before = λ j low high. absurd (omega (arith, high));
-    })
-
+-- no line is due
 pub no-line : (w : WorldState) (answered : List Bool) (place : ℕ) → (nat_lt place 1 && wants_line w) ≡ false → IsNowhere (is_due w answered) place 1
 no-line w answered place e j low high =
     let first : j ≡ 0 = omega (arith, high) in
@@ -114,7 +102,7 @@ no-line w answered place e j low high =
     let unwanted : wants_line w ≡ false = (let x = rw begins at e in x) in
     ap (is_due w answered) first ∙ early w answered 0 (omega arith) ∙ unwanted
 
--- a turn is due first, if no line is
+-- then a turn is the first
 pub turn-first : (w : WorldState) (answered : List Bool) (place from k : ℕ) → from ≡ max 1 (min place 21)
     → IsNowhere (is_due w answered) place 1 → Some k ≡ first_from from (is_ready w) → Some k ≡ find (is_due w answered) (range_with_len place (61 - place))
 turn-first w answered place from k clamped earlier e =
@@ -127,7 +115,7 @@ pub no-turn : (w : WorldState) (answered : List Bool) (place from : ℕ) → fro
 no-turn w answered place from clamped earlier e =
     stage-none (is_due w answered) (is_ready w) 0 place from (turns w answered) (omega (arith, clamped)) (sym e) earlier
 
--- a start, if no turn is
+-- or a start
 pub start-first : (w : WorldState) (answered : List Bool) (place clamped k : ℕ) → clamped ≡ max 21 (min place 41)
     → IsNowhere (is_due w answered) place 21 → Some k ≡ first_from (clamped - 20) (λ n. asks_start (pending_of w n))
     → Some (k + 20) ≡ find (is_due w answered) (range_with_len place (61 - place))
@@ -140,7 +128,7 @@ pub no-start : (w : WorldState) (answered : List Bool) (place clamped : ℕ) →
 no-start w answered place clamped e_clamped earlier e =
     stage-none (is_due w answered) (λ n. asks_start (pending_of w n)) 20 place (clamped - 20) (starts w answered) (omega (arith, e_clamped)) (sym e) earlier
 
--- a read or a wait, if no start is; otherwise nothing is due in the round
+-- or a read or a wait; or nothing is due in the round
 pub further-first : (w : WorldState) (answered : List Bool) (place clamped k : ℕ) → clamped ≡ max 41 (min place 61)
     → IsNowhere (is_due w answered) place 41 → Some k ≡ first_from (clamped - 40) (is_further_due w answered)
     → Some (k + 40) ≡ find (is_due w answered) (range_with_len place (61 - place))

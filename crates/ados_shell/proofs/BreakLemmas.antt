@@ -3,7 +3,6 @@ use Rattle.std.proofs.Common.{◌≡◌, ◌<◌, ◌∙◌, ◌++◌, ◌∷◌
 use Rattle.std.proofs.Math.Nat.{lt-suc_self}
 use Rattle.std.specs.Prelude.{Result, Ok, Err}
 use Rattle.std.specs.Result.{OnErr}
-use Rattle.ados_text.specs.Text.{Text}
 use Rattle.ados_text.specs.declared.codes.Code.{Code}
 use Rattle.ados_flow.specs.declared.kinds.Kind.{Kind}
 use Rattle.ados_flow.specs.declared.kinds.Kind.TheVariants.{Script, Lines, Tick}
@@ -17,14 +16,14 @@ use Rattle.ados_machine.specs.Course.{Course}
 use Rattle.ados_machine.specs.Completions.{Completion}
 use Rattle.ados_machine.specs.Items.{Item, Broke, break_of, broken_codes, reports_of}
 use Rattle.ados_machine.specs.Requests.{request_of}
-use Rattle.ados_machine.specs.Settle.{TurnResult, turn_by_rule, said_of}
+use Rattle.ados_machine.specs.Settle.{turn_by_rule, said_of}
 use Rattle.ados_machine.specs.Settled.{RuleState, RuleResult, after_break, with_items_first, end_at_break, finish, with_limit}
 use Rattle.ados_machine.specs.Turning.{Input, Refuses, Takes, turn_at_break, turning_at_break, input_turning, turning_in_phase}
 use Rattle.ados_machine.specs.World.{can_take}
 use Rattle.ados_shell.specs.declared.scenes.Scene.{Scene}
 use Rattle.ados_shell.specs.declared.drafts.Draft.{Draft}
 use Rattle.ados_shell.specs.Breaks.{GivesUp, ReportsBreak}
-use Rattle.ados_shell.specs.Drafts.{IsRuled, held_course, course_of, frames_of, held_state}
+use Rattle.ados_shell.specs.Drafts.{IsRuled, course_of, frames_of, held_state}
 use Rattle.ados_shell.specs.Stacks.{drafted_frames}
 use Rattle.ados_shell.proofs.StackLemmas.{some-run}
 use Rattle.ados_shell.proofs.TurnLemmas.{IsStill, goes-on, said_in, step-ruled, still-course}

@@ -1,23 +1,31 @@
 -- Completions: what a line results in is what the code rule makes of it.
-use Rattle.std.proofs.Common.{◌≡◌, ◌∙◌, ◌++◌, ◌∷◌, [], List, ℕ, Bool, true, false, Option, None, length, nat_le, ap, sym, refl}
+use Rattle.std.proofs.Common.{◌≡◌, ◌∙◌, ◌++◌, ◌∷◌, [], List, ℕ, Bool, true, false, Option, Some, None, Result, Ok, Err, length, nat_le, ap, sym, refl, subst}
 use Rattle.std.proofs.lemmas.List.{append-nil}
 use Rattle.std.specs.Prelude.{if◌then◌else◌}
 use Rattle.ados_text.specs.Text.{Text}
+use Rattle.ados_text.specs.declared.codes.Result2.{Result2}
 use Rattle.ados_text.specs.declared.codes.TheConstants.Result2.{TOO_MANY_LEVELS}
+use Rattle.ados_text.specs.declared.stops.Stop.TheVariants.{Refused}
 use Rattle.ados_find.specs.declared.codes.Codes.{Codes}
 use Rattle.ados_find.specs.declared.targets.Target.{Target}
 use Rattle.ados_flow.specs.declared.called.Called.{Called}
 use Rattle.ados_flow.specs.declared.kinds.Kind.TheVariants.{Script, Tick}
 use Rattle.ados_flow.specs.Frames.{new_frame, frame_limit}
 use Rattle.ados_machine.specs.declared.phases.Phase.TheVariants.{Ready}
+use Rattle.ados_machine.specs.Answers.{child_of, next_wait, started_completion}
 use Rattle.ados_machine.specs.CodeRule.{fault_line}
 use Rattle.ados_machine.specs.Course.{Course}
-use Rattle.ados_machine.specs.Completions.{Answers, Calls, Jumps, Passes, Ticks, line_fault, refusal_completion}
+use Rattle.ados_machine.specs.Completions.{Answers, Calls, Jumps, Passes, Ticks, Waits, line_fault, refusal_completion}
+use Rattle.ados_machine.specs.Opening.{OpenedOutput}
+use Rattle.ados_machine.specs.declared.phases.Child.{Child}
+use Rattle.ados_machine.specs.declared.phases.Starting.{Starting}
+use Rattle.ados_machine.specs.declared.phases.Wait.{Wait}
 use Rattle.ados_machine.specs.Settled.{finish, finish_with_fault, pass_line}
 use Rattle.ados_machine.specs.Settle.{enter_script, turn_by_rule, frames_at_line, said_of, turn_of_completion, enter_tick}
 use Rattle.ados_shell.specs.declared.scenes.Scene.{Scene}
 use Rattle.ados_shell.specs.declared.drafts.Draft.{Draft}
 use Rattle.ados_shell.specs.Drafts.{GoesOn, IsRuled, Settles, held_course, course_of, frames_of, held_state, next_line_place, drafted_phase}
+use Rattle.ados_shell.specs.Outputs.{HasOpened}
 use Rattle.ados_shell.specs.Stacks.{drafted_frames}
 use Rattle.ados_shell.proofs.TurnLemmas.{IsStill, else-is, goes-same, said_in, still-course, then-is}
 
@@ -109,3 +117,16 @@ pub tick-goes : (scene : Scene) (before after : Draft) (front command rear : Tex
     → IsRuled scene before after (enter_tick front command rear (frames_of scene before) (said_in scene before))
 tick-goes scene before after front command rear f p c r =
     record { frames = f; phase = p; course = c; reports = r ∙ sym (append-nil before.reports.items) }
+
+-- a program has started, whose output is refused
+pub started-refused : (scene : Scene) (before mid after : Draft) (starting : Starting) (child : Child) (wait : Wait) (fault : Result2) (opened : Result OpenedOutput Result2)
+    → HasOpened scene before mid starting.output (Err (Refused fault)) opened
+    → child ≡ child_of starting None (Some fault) → wait ≡ next_wait child
+    → Settles scene mid after (Waits wait (course_of scene mid))
+    → Settles scene before after (started_completion starting (course_of scene before) opened)
+started-refused scene before mid after starting child wait fault (Err other) h e w g =
+    let P : Draft → Type 0 = λ d. Settles scene d after (Waits wait (course_of scene d)) in
+    let Q : Wait → Type 0 = λ x. Settles scene before after (Waits x (course_of scene before)) in
+    let R : Result2 → Type 0 = λ f. Settles scene before after (Waits (next_wait (child_of starting None (Some f))) (course_of scene before)) in
+    subst R h.0 (subst Q (w ∙ ap next_wait e) (subst P h.1 g))
+started-refused scene before mid after starting child wait fault (Ok opened) h e w g = absurd h

@@ -1,4 +1,4 @@
-mod LineLemmas
+mod EndLemmas
 pub mod CommandLemmas
 pub mod StackLemmas
 pub mod TurnLemmas

@@ -1,16 +1,18 @@
 -- The frames of a shell, as a turn changes them.
-use Rattle.std.proofs.Common.{◌≡◌, ◌∙◌, ◌++◌, ◌∷◌, [], ◌+◌, ◌<◌, ◌^◌, ℕ, zero, Some, List, Bool, true, false, ◌||◌, nat_lt, suc, ap, refl, sym}
+use Rattle.std.proofs.Common.{◌≡◌, ◌∙◌, ◌++◌, ◌∷◌, [], ◌≤◌, ℕ, zero, length, Some, List, Bool, true, false, ◌||◌, nat_lt, suc, ap, refl, sym}
 use Rattle.std.proofs.Common.{arith}
 use Rattle.std.proofs.lemmas.Bool.{lt-ltb}
 use Rattle.std.specs.Prelude.{if◌then◌else◌}
+use Rattle.std.specs.Option.{option_map}
 use Rattle.ados_text.specs.declared.codes.Code.{Code}
 use Rattle.ados_flow.specs.declared.kinds.Kind.{Kind}
 use Rattle.ados_flow.specs.declared.kinds.Kind.TheVariants.{Script, Lines, Tick}
-use Rattle.ados_flow.specs.Frames.{FrameState, first_limit, is_script, limit_above_frames, limit_above_scripts, scripts_in}
+use Rattle.ados_flow.specs.Frames.{FrameState, first_limit, is_script, limit_above_frames, limit_above_scripts, scripts_in, untaken_lines}
 use Rattle.ados_machine.specs.Breaks.{has_script}
 use Rattle.ados_machine.specs.Sinks.{Console, sink_by, sink_in}
-use Rattle.ados_shell.specs.Stacks.{HasTaken, sink_above}
-use Rattle.ados_machine.specs.Settle.{newest}
+use Rattle.ados_shell.specs.Stacks.{sink_above, skipped_frames}
+use Rattle.ados_shell.specs.Completions.{line_after, lines_left}
+use Rattle.ados_machine.specs.Settle.{frames_at_line, lines_of_frame, newest}
 
 -- one is more than none
 pub some-run : (scripts : ℕ) → nat_lt 0 (suc scripts) ≡ true
@@ -53,7 +55,13 @@ pub sink-alone : (frames : List FrameState) → sink_above frames Console ≡ si
 sink-alone [] = refl
 sink-alone (frame ∷ frames) = ap (sink_by frame.kind frame.output) (sink-alone frames)
 
--- the newest frame's position after this many more lines is a number of 64 bits
-pub taken-of : (frames : List FrameState) (frame : FrameState) (taken : ℕ) → newest frames ≡ Some frame → frame.position + taken < 2 ^ 64 → HasTaken taken frames
-taken-of [] frame taken e lt = tt
-taken-of (first ∷ frames) frame taken e lt = let same : first ≡ frame = cc in rw same lt
+-- no more lines were taken than are left of the newest frame
+pub left-of : (frames : List FrameState) (frame : FrameState) (taken : ℕ) → newest frames ≡ Some frame → taken ≤ length (untaken_lines frame)
+    → taken ≤ lines_left (option_map lines_of_frame (newest frames))
+left-of [] frame taken e le = absurd cc
+left-of (first ∷ frames) frame taken e le = let same : first ≡ frame = cc in rw same le
+
+-- the newest frame goes on at the line after those that were taken
+pub skipped-is : (taken : ℕ) (frames : List FrameState) → skipped_frames taken frames ≡ frames_at_line (line_after taken (option_map lines_of_frame (newest frames))) frames
+skipped-is taken [] = refl
+skipped-is taken (frame ∷ frames) = refl

@@ -1,28 +1,22 @@
 -- Devices that are used, and the assigns that are bound.
-use Rattle.std.proofs.Common.{◌≡◌, ◌∙◌, List, [], ◌∷◌, Option, Some, None, Result, Ok, length, ℕ, Bool, false, ◌==◌, ap, refl, subst, sym}
+use Rattle.std.proofs.Common.{◌≡◌, ◌∙◌, List, [], ◌∷◌, Option, Some, length, false, ◌==◌, ap, refl, sym}
 use Rattle.ados_text.specs.Text.{Text}
-use Rattle.ados_assign.specs.Assigns.{AssignMap}
 use Rattle.ados_assign.specs.Uses.{with_used_bound}
 use Rattle.ados_find.specs.Shared.{SharedState, with_assigns}
-use Rattle.ados_flow.specs.Actions.{Action}
-use Rattle.ados_find.specs.declared.search.Found.{Found}
 use Rattle.ados_find.specs.declared.targets.Target.{Target}
 use Rattle.ados_find.specs.Search.{device_named}
-use Rattle.ados_line.specs.declared.lines.Line.{Line}
 use Rattle.ados_line.specs.declared.lines.Redirection.{Redirection}
-use Rattle.ados_resident.specs.declared.commands.Builtin.{Builtin}
 use Rattle.ados_machine.specs.Course.{Course, with_devices_used}
 use Rattle.ados_machine.specs.Completions.{Completion, Here}
-use Rattle.ados_machine.specs.Lines.{action_completion, action_in, with_arguments, work_completion}
 use Rattle.ados_machine.specs.Opening.{OpenedOutput, output_devices}
-use Rattle.ados_machine.specs.Settle.{TurnResult, here_of, turn_of_completion}
+use Rattle.ados_machine.specs.Settle.{here_of, turn_of_completion}
 use Rattle.ados_machine.specs.Uses.{shared_with_bound}
 use Rattle.ados_shell.specs.declared.scenes.Scene.{Scene}
 use Rattle.ados_shell.specs.declared.drafts.Draft.{Draft}
-use Rattle.ados_shell.specs.Drafts.{IsDrafted, IsFresh, Settles, course_of, frames_of, next_line_place, start_of}
+use Rattle.ados_shell.specs.Drafts.{Settles, course_of, frames_of, next_line_place}
 use Rattle.ados_shell.specs.Outputs.{LeadsTo, opened_course}
 use Rattle.ados_shell.specs.Stacks.{drafted_frames}
-use Rattle.ados_shell.specs.Uses.{HasBound, HasUsed}
+use Rattle.ados_shell.specs.Uses.{HasUsed}
 use Rattle.ados_shell.proofs.TurnLemmas.{goes-same}
 
 -- devices were used on the way
@@ -35,17 +29,6 @@ used-goes scene before mid after work course u g =
     (ap (λ x. turn_of_completion (work (here_of (drafted_frames scene.shell.now x)) (course_of scene mid)) (drafted_frames scene.shell.now x)) u.frames
     ∙ ap (λ x. turn_of_completion (work (next_line_place scene before) x) (frames_of scene before)) u.course_is)
     g
-
--- the arguments of a command used devices, and it does its work
-pub work-goes : (scene : Scene) (before mid after : Draft) (builtin : Builtin) (line : Line) (target : Option Target) (input : Option (List Text)) (action : Action)
-    → HasUsed scene before mid (with_arguments builtin line (course_of scene before))
-    → action ≡ action_in builtin line target (next_line_place scene before) (course_of scene before)
-    → Settles scene mid after (action_completion line.command target input action (next_line_place scene mid) (course_of scene mid))
-    → Settles scene before after (work_completion builtin line target input (next_line_place scene before) (course_of scene before))
-work-goes scene before mid after builtin line target input action u e g =
-    let P : Action → Type 0 = λ a. Settles scene before after
-    (action_completion line.command target input a (next_line_place scene before) (with_arguments builtin line (course_of scene before))) in
-    subst P e (used-goes scene before mid after (λ at course. action_completion line.command target input action at course) (with_arguments builtin line (course_of scene before)) u g)
 
 -- an output was opened, and its device is used
 pub opened-used : (scene : Scene) (before mid after : Draft) (output : Redirection) (target : Option Target) (opened : OpenedOutput)

@@ -16,8 +16,8 @@ use Rattle.ados_machine.specs.declared.outs.Out.{Out}
 use Rattle.ados_machine.specs.declared.phases.Phase.{Phase}
 use Rattle.ados_machine.specs.declared.phases.Phase.TheVariants.{GoingOn}
 use Rattle.ados_flow.specs.Frames.{FrameState, limit_above_frames}
-use Rattle.ados_machine.specs.Breaks.{flags_own, kept_after_break}
-use Rattle.ados_machine.specs.Items.{break_of, reports_of}
+use Rattle.ados_machine.specs.Breaks.{flags_own}
+use Rattle.ados_machine.specs.Items.{reports_of}
 use Rattle.ados_find.specs.Parts.{Parts}
 use Rattle.ados_machine.specs.Shells.{ShellStart, ShellState}
 use Rattle.ados_find.specs.declared.targets.Target.{Target}

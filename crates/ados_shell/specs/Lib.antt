@@ -2,6 +2,7 @@ pub mod Shells
 pub mod Reports
 pub mod Stacks
 pub mod Drafts
+pub mod Completions
 pub mod Uses
 pub mod Outputs
 pub mod Inputs

@@ -5,13 +5,17 @@ use Rattle.ados_text.specs.declared.stops.Stop.{Stop}
 use Rattle.ados_text.specs.declared.stops.Stop.TheVariants.{Refused, NoMemory}
 use Rattle.ados_line.specs.declared.lines.Redirection.{Redirection}
 use Rattle.ados_find.specs.declared.codes.Codes.{Codes}
+use Rattle.ados_find.specs.Effects.{Effect}
 use Rattle.ados_find.specs.Shared.{SharedState, with_files}
 use Rattle.ados_ram.specs.Files.{Files}
 use Rattle.ados_find.specs.declared.targets.Target.{Target}
 use Rattle.ados_find.specs.declared.targets.Target.TheVariants.{Nil as Null, At}
 use Rattle.ados_machine.specs.Course as course
 use Rattle.ados_machine.specs.Course.{Course, with_devices_used}
+use Rattle.ados_machine.specs.Completions.{Here}
+use Rattle.ados_machine.specs.Lines.{with_effect}
 use Rattle.ados_machine.specs.Opening as line
+use Rattle.ados_machine.specs.Sinks.{sink_or}
 use Rattle.ados_shell.specs.declared.outputs.Opened.{Opened}
 use Rattle.ados_shell.specs.declared.outputs.Opened.TheVariants.{Nothing, Nil, File}
 use Rattle.ados_shell.specs.declared.scenes.Scene.{Scene}
@@ -60,6 +64,10 @@ pub record IsPut (scene : Scene) (before after : Draft) (codes : Codes) (done : 
   pub codes_are : codes ≡ done.codes
   pub course : course_of scene after ≡ done.course
   pub reports : after.reports.items ≡ before.reports.items
+
+-- what a command's effect leaves, whose output leads there: it is moved in, and its output is put
+abbrev pub effect_put : Option Target → Effect → Here → Course → course.Put
+effect_put target effect here before = course.put (sink_or target here.sink) effect.output effect.codes (with_effect effect before)
 
 -- a turn after other files were held
 pub record HoldsFiles (scene : Scene) (before after : Draft) (files : Files) : Type 0 where

@@ -1,6 +1,6 @@
 -- The frames of a shell, as a turn changes them.
-use Rattle.std.specs.Prelude.{◌≡◌, ℕ, suc, ◌+◌, ◌<◌, ◌^◌, [], ◌∷◌, ◌++◌, List, Option, Some, None, reverse, take}
-use Rattle.ados_flow.specs.Frames.{FrameState, frame_at_line, advanced_frame}
+use Rattle.std.specs.Prelude.{◌≡◌, ℕ, suc, ◌+◌, ◌<◌, ◌^◌, length, min, [], ◌∷◌, ◌++◌, List, Option, Some, None, reverse, take}
+use Rattle.ados_flow.specs.Frames.{FrameState, frame_at_line, advanced_frame, untaken_lines}
 use Rattle.ados_machine.specs.Shells.{ShellState}
 use Rattle.ados_machine.specs.Sinks.{Sink, Console, Kept, To, sink_by}
 use Rattle.ados_shell.specs.declared.stacks.Sink as code
@@ -44,14 +44,10 @@ abbrev pub HasRoom : List FrameState → Type 0
 HasRoom [] = Unit {0}
 HasRoom (frame ∷ frames) = frame.position + 1 < 2 ^ 64
 
--- the newest frame's position after this many more lines is a number of 64 bits
-abbrev pub HasTaken : ℕ → List FrameState → Type 0
-HasTaken taken [] = Unit {0}
-HasTaken taken (frame ∷ frames) = frame.position + taken < 2 ^ 64
-
-abbrev pub IsSkipped : ShellState → Stack → ℕ → List FrameState → Type 0
-IsSkipped shell after taken [] = drafted_frames shell after ≡ []
-IsSkipped shell after taken (frame ∷ frames) = drafted_frames shell after ≡ frame_at_line (suc (frame.position + taken)) frame ∷ frames
+-- these frames after this many more lines of the newest were taken, or all that are left of it
+abbrev pub skipped_frames : ℕ → List FrameState → List FrameState
+skipped_frames taken [] = []
+skipped_frames taken (frame ∷ frames) = frame_at_line (suc (frame.position + min taken (length (untaken_lines frame)))) frame ∷ frames
 
 -- the line of the newest of these frames was taken
 abbrev pub IsMovedOn : ShellState → Stack → List FrameState → Type 0

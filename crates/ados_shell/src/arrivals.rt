@@ -1,12 +1,13 @@
 // A line whose word leads to a directory: the change to it.
-ghost use Rattle.std.specs.Prelude.{◌≡◌, IfOk, OnOk};
+ghost use Rattle.std.specs.Prelude.{IfOk};
 ghost use Rattle.ados_find.specs.Effects.{DoesTo};
-ghost use Rattle.ados_machine.specs.Lines.{arrival, arrived_completion, arriving_completion, directory_completion};
+ghost use Rattle.ados_machine.specs.Lines.{arrival, arriving_completion, directory_completion};
 
+use crate::completions::Completion;
 use crate::drafts::Draft;
 use crate::inputs::is_end;
 use crate::scenes::Scene;
-use ados_find::{Change, Codes, Outcome, Target};
+use ados_find::{Change, Codes, Outcome};
 use ados_items::next_item;
 use ados_line::Line;
 use ados_ram::Place;
@@ -14,53 +15,37 @@ use ados_text::{NoMemory, Result2, Stop, Text};
 use std::alloc::Global;
 
 impl Draft {
-    ghost use Rattle.ados_shell.specs.Drafts.{IsUnset, Settles, course_of, next_line_place};
+    ghost use Rattle.ados_shell.specs.Completions.{HasEnded};
+    ghost use Rattle.ados_shell.specs.Drafts.{IsUnset, course_of, next_line_place};
 
-    /// Reads the input of a line whose word leads to a directory, if it has one, and changes to the directory.
-    pub(crate) fn arrive(
+    /// A line whose word leads to a directory: its input is read and its output is opened, and it changes to the directory.
+    pub(crate) fn change_directory(
         &mut self,
         scene: &Scene,
         place: Place,
         line: &Line,
-    ) -> Result<(), NoMemory>
+    ) -> Result<Completion, Stop>
         requires { IsUnset self.old }
-        ensures { OnOk result (Settles scene.now self.old self.new
-            (directory_completion place line.now (next_line_place scene.now self.old) (course_of scene.now self.old))) }
+        ensures { HasEnded scene.now self.old self.new line.now.command result
+            (directory_completion place line.now (next_line_place scene.now self.old) (course_of scene.now self.old)) }
     {
-        match self.read_own(scene, line.input.as_ref()) {
-            Err(Stop::NoMemory) => Err(NoMemory),
-            Err(Stop::Refused(fault)) => self.refuse(scene, &line.command, fault),
-            Ok(_) => self.change_to(scene, place, line),
-        }
+        self.read_own(scene, line.input.as_ref())?;
+        self.arrive(scene, place, line)
     }
 
     /// Opens the output of the line, and changes to the directory.
-    fn change_to(&mut self, scene: &Scene, place: Place, line: &Line) -> Result<(), NoMemory>
+    fn arrive(&mut self, scene: &Scene, place: Place, line: &Line) -> Result<Completion, Stop>
         requires { IsUnset self.old }
-        ensures { OnOk result (Settles scene.now self.old self.new
-            (arriving_completion place line.now (next_line_place scene.now self.old) (course_of scene.now self.old))) }
+        ensures { HasEnded scene.now self.old self.new line.now.command result
+            (arriving_completion place line.now (next_line_place scene.now self.old) (course_of scene.now self.old)) }
     {
-        match self.open_own(scene, line.output.as_ref()) {
-            Err(Stop::NoMemory) => Err(NoMemory),
-            Err(Stop::Refused(fault)) => self.refuse(scene, &line.command, fault),
-            Ok(target) => self.be_at(scene, place, line, target),
-        }
-    }
-
-    /// Changes to the directory.
-    fn be_at(
-        &mut self,
-        scene: &Scene,
-        place: Place,
-        line: &Line,
-        target: Option<Target>,
-    ) -> Result<(), NoMemory>
-        requires { IsUnset self.old }
-        ensures { OnOk result (Settles scene.now self.old self.new
-            (arrived_completion place line.now target (next_line_place scene.now self.old) (course_of scene.now self.old))) }
-    {
+        let target = self.open_own(scene, line.output.as_ref())?;
         let outcome = arrival(scene.alloc, place, &line.args)?;
-        self.apply(scene, &line.command, target.as_ref(), outcome)
+        let codes = self.apply(scene, target.as_ref(), outcome)?;
+        Ok(Completion::Answered {
+            codes,
+            quits: false,
+        })
     }
 }
 

@@ -1,7 +1,8 @@
 // A line whose word is a script: its call.
-ghost use Rattle.std.specs.Prelude.{◌≡◌, OnOk};
-ghost use Rattle.ados_machine.specs.Lines.{called_completion, calling_completion, script_completion};
+ghost use Rattle.std.specs.Prelude.{◌≡◌};
+ghost use Rattle.ados_machine.specs.Lines.{calling_completion, script_completion};
 
+use crate::completions::Completion;
 use crate::drafts::Draft;
 use crate::scenes::Scene;
 use crate::seen::Others;
@@ -17,51 +18,31 @@ impl Draft {
     ghost use Rattle.ados_flow.specs.Actions.{action_effect};
     ghost use Rattle.ados_flow.specs.Execute.{script_row};
     ghost use Rattle.ados_machine.specs.Lines.{nameless_view};
-    ghost use Rattle.ados_shell.specs.Drafts.{IsUnset, Settles, course_of, next_line_place};
+    ghost use Rattle.ados_shell.specs.Completions.{HasEnded};
+    ghost use Rattle.ados_shell.specs.Drafts.{IsUnset, course_of, next_line_place};
 
-    /// Reads the input of a line whose word is a script, if it has one, and calls the script.
+    /// A line whose word is a script: its input is read and its output is opened, and the script is called.
     pub(crate) fn run_script(
-        &mut self,
-        scene: &Scene,
-        place: Place,
-        line: &Line,
-    ) -> Result<(), NoMemory>
-        requires { IsUnset self.old }
-        ensures { OnOk result (Settles scene.now self.old self.new
-            (script_completion place line.now (next_line_place scene.now self.old) (course_of scene.now self.old))) }
-    {
-        match self.read_own(scene, line.input.as_ref()) {
-            Err(Stop::NoMemory) => Err(NoMemory),
-            Err(Stop::Refused(fault)) => self.refuse(scene, &line.command, fault),
-            Ok(_) => self.call_into(scene, &place, line),
-        }
-    }
-
-    /// Opens the output of the line, and calls the script.
-    fn call_into(&mut self, scene: &Scene, place: &Place, line: &Line) -> Result<(), NoMemory>
-        requires { IsUnset self.old }
-        ensures { OnOk result (Settles scene.now self.old self.new
-            (calling_completion place.now line.now (next_line_place scene.now self.old) (course_of scene.now self.old))) }
-    {
-        match self.open_own(scene, line.output.as_ref()) {
-            Err(Stop::NoMemory) => Err(NoMemory),
-            Err(Stop::Refused(fault)) => self.refuse(scene, &line.command, fault),
-            Ok(target) => self.call_at(scene, place, line, target),
-        }
-    }
-
-    /// Calls the script, whose output leads there.
-    fn call_at(
         &mut self,
         scene: &Scene,
         place: &Place,
         line: &Line,
-        target: Option<Target>,
-    ) -> Result<(), NoMemory>
+    ) -> Result<Completion, Stop>
         requires { IsUnset self.old }
-        ensures { OnOk result (Settles scene.now self.old self.new
-            (called_completion place.now line.now target (next_line_place scene.now self.old) (course_of scene.now self.old))) }
+        ensures { HasEnded scene.now self.old self.new line.now.command result
+            (script_completion place.now line.now (next_line_place scene.now self.old) (course_of scene.now self.old)) }
     {
+        self.read_own(scene, line.input.as_ref())?;
+        self.call_into(scene, place, line)
+    }
+
+    /// Opens the output of the line, and calls the script.
+    fn call_into(&mut self, scene: &Scene, place: &Place, line: &Line) -> Result<Completion, Stop>
+        requires { IsUnset self.old }
+        ensures { HasEnded scene.now self.old self.new line.now.command result
+            (calling_completion place.now line.now (next_line_place scene.now self.old) (course_of scene.now self.old)) }
+    {
+        let target = self.open_own(scene, line.output.as_ref())?;
         let action = self.script(scene, place, line, target.as_ref())?;
         self.act(scene, &line.command, target, None, action)
     }

@@ -1,7 +1,6 @@
 // The code rule: when a frame ends, and what its end is to the command that made it.
-ghost use Rattle.std.specs.Prelude.{◌≡◌, ◌+◌, ◌∷◌, List, suc, IfOk, OnOk};
-ghost use Rattle.ados_flow.specs.Frames.{FrameState};
-ghost use Rattle.ados_shell.specs.Stacks.{HasTaken};
+ghost use Rattle.std.specs.Prelude.{◌≡◌, IfOk, OnOk};
+ghost use Rattle.ados_shell.specs.Completions.{line_after};
 ghost use Rattle.ados_machine.specs.Settled.{finish, pass_line};
 ghost use Rattle.ados_machine.specs.Completions.{Answers, Calls, Jumps, Passes, refusal_completion};
 ghost use Rattle.ados_machine.specs.Settle.{enter_script, said_of};
@@ -16,7 +15,7 @@ use ados_machine::EndReport;
 use ados_text::{NoMemory, Result2, Text};
 
 impl Draft {
-    ghost use Rattle.ados_shell.specs.Drafts.{IsReported, IsRuled, Settles, course_of, frames_of};
+    ghost use Rattle.ados_shell.specs.Drafts.{IsReported, IsRuled, Settles, course_of, frames_of, next_line_place};
 
     /// No command was there to answer: the newest frame ends if no line is left.
     pub(crate) fn pass(&mut self, scene: &Scene) -> Result<(), NoMemory>
@@ -66,6 +65,7 @@ impl Draft {
     }
 
     /// A command answered, and the newest frame goes on at a line.
+    #[inline(never)]
     pub(crate) fn jump(
         &mut self,
         scene: &Scene,
@@ -79,7 +79,8 @@ impl Draft {
         self.answer(scene, word.as_bytes(), codes, false)
     }
 
-    /// A command answered that took this many more lines of the newest frame, if there is one.
+    /// A command answered that took this many more lines of the newest frame, or all that are left.
+    #[inline(never)]
     pub(crate) fn skip(
         &mut self,
         scene: &Scene,
@@ -87,15 +88,15 @@ impl Draft {
         codes: Codes,
         taken: usize,
     ) -> Result<(), NoMemory>
-        requires { HasTaken taken (frames_of scene.now self.old) }
-        ensures { OnOk result ((frame : FrameState) (frames : List FrameState) → frames_of scene.now self.old ≡ frame ∷ frames →
-            Settles scene.now self.old self.new (Jumps word.now codes (suc (frame.position + taken)) (course_of scene.now self.old))) }
+        ensures { OnOk result (Settles scene.now self.old self.new
+            (Jumps word.now codes (line_after taken (next_line_place scene.now self.old).frame_lines) (course_of scene.now self.old))) }
     {
         self.shell.frames.skip(scene.shell, taken)?;
         self.answer(scene, word.as_bytes(), codes, false)
     }
 
     /// A script is called: if there are as many frames as a shell may have, that is the command's fault.
+    #[inline(never)]
     pub(crate) fn call(
         &mut self,
         scene: &Scene,

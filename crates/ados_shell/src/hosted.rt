@@ -1,11 +1,12 @@
 // A line whose command is a program: a disk command, or a program of the host, which is to be started.
-ghost use Rattle.std.specs.Prelude.{◌≡◌, ℕ, List, Option, Some, IfOk, OnOk};
-ghost use Rattle.ados_items.specs.Items.{words_of};
+ghost use Rattle.std.specs.Prelude.{◌≡◌, ℕ, List, Option, Some, IfOk};
 ghost use Rattle.std.specs.Option.{option_copied};
 ghost use Rattle.ados_machine.specs.Hosted.{host_completion, start_completion, tested_completion};
+ghost use Rattle.ados_items.specs.Items.{words_of};
 ghost use Rattle.ados_machine.specs.Lines.{program_completion};
 ghost use Rattle.ados_machine.specs.Opening.{line_output};
 
+use crate::completions::Completion;
 use crate::drafts::Draft;
 use crate::scenes::Scene;
 use ados_items::{ItemFault, words};
@@ -15,7 +16,8 @@ use ados_resident::Program;
 use ados_text::{NoMemory, Result2, Stop, Text, Texts};
 
 impl Draft {
-    ghost use Rattle.ados_shell.specs.Drafts.{IsUnset, Settles, course_of, next_line_place};
+    ghost use Rattle.ados_shell.specs.Completions.{HasEnded};
+    ghost use Rattle.ados_shell.specs.Drafts.{IsUnset, course_of, next_line_place};
 
     /// Runs a line whose command is a program, which runs from an entry of the resident list, or from a file.
     pub(crate) fn run_program(
@@ -24,13 +26,13 @@ impl Draft {
         entry: Option<Text>,
         program: Program,
         line: &Line,
-    ) -> Result<(), NoMemory>
+    ) -> Result<Completion, Stop>
         requires { IsUnset self.old }
-        ensures { OnOk result (Settles scene.now self.old self.new
-            (program_completion entry program line.now (next_line_place scene.now self.old) (course_of scene.now self.old))) }
+        ensures { HasEnded scene.now self.old self.new line.now.command result
+            (program_completion entry program line.now (next_line_place scene.now self.old) (course_of scene.now self.old)) }
     {
         match program {
-            Program::Disk(command) => self.prepare(scene, command.builtin(), line),
+            Program::Disk(command) => self.builtin(scene, command.builtin(), line),
             Program::Host(program) => self.host(scene, entry, program, line),
         }
     }
@@ -42,11 +44,11 @@ impl Draft {
         entry: Option<Text>,
         program: Text,
         line: &Line,
-    ) -> Result<(), NoMemory>
-        ensures { OnOk result (Settles scene.now self.old self.new (host_completion entry program line.now (course_of scene.now self.old))) }
+    ) -> Result<Completion, Stop>
+        ensures { HasEnded scene.now self.old self.new line.now.command result (host_completion entry program line.now (course_of scene.now self.old)) }
     {
         match &line.input {
-            Some(_) => self.refuse(scene, &line.command, Result2::NOT_IMPLEMENTED),
+            Some(_) => Err(Stop::Refused(Result2::NOT_IMPLEMENTED)),
             None => self.test_output(scene, entry, program, line),
         }
     }
@@ -58,15 +60,12 @@ impl Draft {
         entry: Option<Text>,
         program: Text,
         line: &Line,
-    ) -> Result<(), NoMemory>
-        ensures { OnOk result (Settles scene.now self.old self.new
-            (tested_completion entry program line.now (course_of scene.now self.old) (line_output (course_of scene.now self.old) line.now.output))) }
+    ) -> Result<Completion, Stop>
+        ensures { HasEnded scene.now self.old self.new line.now.command result
+            (tested_completion entry program line.now (course_of scene.now self.old) (line_output (course_of scene.now self.old) line.now.output)) }
     {
-        match self.open(scene, line.output.as_ref()) {
-            Err(Stop::NoMemory) => Err(NoMemory),
-            Err(Stop::Refused(fault)) => self.refuse(scene, &line.command, fault),
-            Ok(_) => self.ask_to_start(scene, entry, program, line),
-        }
+        self.open(scene, line.output.as_ref())?;
+        self.ask_to_start(scene, entry, program, line)
     }
 
     /// The shell waits for the start of the program, with the words of its arguments.
@@ -76,15 +75,13 @@ impl Draft {
         entry: Option<Text>,
         program: Text,
         line: &Line,
-    ) -> Result<(), NoMemory>
-        ensures { OnOk result ((words : Option (List (List ℕ))) → words ≡ words_of line.now.args →
-            Settles scene.now self.old self.new (start_completion entry program line.now (course_of scene.now self.old) words)) }
+    ) -> Result<Completion, Stop>
+        ensures { (words : Option (List (List ℕ))) → words ≡ words_of line.now.args →
+            HasEnded scene.now self.old self.new line.now.command result (start_completion entry program line.now (course_of scene.now self.old) words) }
     {
         match words(scene.alloc, line.args.as_bytes()) {
-            Err(ItemFault::NoMemory) => Err(NoMemory),
-            Err(ItemFault::Unmatched) => {
-                self.refuse(scene, &line.command, Result2::UNMATCHED_QUOTES)
-            }
+            Err(ItemFault::NoMemory) => Err(Stop::NoMemory),
+            Err(ItemFault::Unmatched) => Err(Stop::Refused(Result2::UNMATCHED_QUOTES)),
             Ok(args) => self.wait_for_start(scene, entry, program, args, line),
         }
     }
@@ -97,8 +94,8 @@ impl Draft {
         program: Text,
         args: Texts,
         line: &Line,
-    ) -> Result<(), NoMemory>
-        ensures { OnOk result (Settles scene.now self.old self.new (start_completion entry program line.now (course_of scene.now self.old) (Some args))) }
+    ) -> Result<Completion, Stop>
+        ensures { HasEnded scene.now self.old self.new line.now.command result (start_completion entry program line.now (course_of scene.now self.old) (Some args)) }
     {
         let starting = Starting {
             word: line.command.copy()?,
@@ -109,7 +106,7 @@ impl Draft {
             marked: false,
         };
         self.use_nothing(scene);
-        self.wait(scene, Wait::ForStart(starting))
+        Ok(Completion::waiting(scene.alloc, Wait::ForStart(starting))?)
     }
 }
 

@@ -11,6 +11,7 @@ mod carrying;
 mod children;
 mod code_rule;
 mod commands;
+mod completions;
 mod console;
 mod drafts;
 mod hosted;

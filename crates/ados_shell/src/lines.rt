@@ -5,13 +5,15 @@ ghost use Rattle.ados_machine.specs.Course.{with_devices_used};
 ghost use Rattle.ados_machine.specs.Completions.{line_fault};
 ghost use Rattle.ados_machine.specs.Lines.{expanded_completion, found_completion, found_in, line_completion, with_search_used};
 
+use crate::completions::Completion;
 use crate::drafts::Draft;
 use crate::scenes::Scene;
 use ados_find::{Codes, Found, Search, find};
 use ados_line::{Expanded, Line, LineFault, Scope, expand};
-use ados_text::{NoMemory, Result2, Text};
+use ados_text::{NoMemory, Result2, Stop, Text};
 
 impl Draft {
+    ghost use Rattle.ados_shell.specs.Completions.{HasEnded};
     ghost use Rattle.ados_shell.specs.Drafts.{IsUnset, Settles, course_of, next_line_place};
     ghost use Rattle.ados_line.specs.Answers.{Gives};
     ghost use Rattle.ados_line.specs.declared.faults.LineFault.{LineFault};
@@ -99,31 +101,49 @@ impl Draft {
     {
         let Search { found, route } = self.find(scene, &line.command)?;
         self.use_route(scene, route, &line.command)?;
-        self.work_found(scene, found, line)
+        self.run_line(scene, found, line)
     }
 
-    /// Runs a line for whose command this was found. If it is not known, or can't be run, nothing is read or opened.
-    fn work_found(&mut self, scene: &Scene, found: Found, line: &Line) -> Result<(), NoMemory>
+    /// Runs a line for whose command this was found, and lays on the frames how it ends.
+    fn run_line(&mut self, scene: &Scene, found: Found, line: &Line) -> Result<(), NoMemory>
         requires { IsUnset self.old }
         ensures { OnOk result (Settles scene.now self.old self.new
             (found_completion found line.now (next_line_place scene.now self.old) (course_of scene.now self.old))) }
     {
-        let word = line.command.as_bytes();
+        let ended = self.execute(scene, found, line);
+        self.conclude(scene, &line.command, ended)
+    }
+
+    /// Runs a line for whose command this was found. If it is not known, or can't be run, nothing is read or opened.
+    fn execute(&mut self, scene: &Scene, found: Found, line: &Line) -> Result<Completion, Stop>
+        requires { IsUnset self.old }
+        ensures { HasEnded scene.now self.old self.new line.now.command result
+            (found_completion found line.now (next_line_place scene.now self.old) (course_of scene.now self.old)) }
+    {
         match found {
             Found::Internal(command) => match command.builtin() {
-                Some(builtin) => self.prepare(scene, builtin, line),
+                Some(builtin) => self.builtin(scene, builtin, line),
                 None => self.run(scene, line),
             },
             Found::Resident(entry) => {
                 self.run_program(scene, Some(entry.name), entry.program, line)
             }
             Found::File(file) => self.run_program(scene, None, file.program, line),
-            Found::Script(place) => self.run_script(scene, place, line),
-            Found::Directory(place) => self.arrive(scene, place, line),
-            Found::NotExecutable(fault) => self.answer(scene, word, Codes::erred(fault), false),
+            Found::Script(place) => self.run_script(scene, &place, line),
+            Found::Directory(place) => self.change_directory(scene, place, line),
+            Found::NotExecutable(fault) => {
+                let codes = Codes::erred(fault);
+                Ok(Completion::Answered {
+                    codes,
+                    quits: false,
+                })
+            },
             Found::Unknown => {
                 let codes = Codes::erred(Result2::OBJECT_NOT_FOUND);
-                self.answer(scene, word, codes, false)
+                Ok(Completion::Answered {
+                    codes,
+                    quits: false,
+                })
             }
         }
     }

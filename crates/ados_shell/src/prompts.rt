@@ -1,11 +1,12 @@
 // Prompts: a command that asks for its arguments.
-ghost use Rattle.std.specs.Prelude.{◌≡◌, ◌++◌, Ok, Some, IfOk, OnOk, drop};
+ghost use Rattle.std.specs.Prelude.{◌≡◌, ◌++◌, IfOk, OnOk, drop};
 ghost use Rattle.std.specs.Option.{option_copied, option_map};
 ghost use Rattle.ados_machine.specs.Completions.{Waits};
-ghost use Rattle.ados_machine.specs.Lines.{answer_completion, asked_completion, builtin_completion, command_completion, prompt_completion};
-ghost use Rattle.ados_machine.specs.Prompts.{first_of, input_lines, prompt, with_args};
+ghost use Rattle.ados_machine.specs.Lines.{answer_completion, builtin_completion, prompt_completion};
+ghost use Rattle.ados_machine.specs.Prompts.{first_of, input_lines, prompt};
 ghost use Rattle.ados_text.specs.Stop.{Gives};
 
+use crate::completions::Completion;
 use crate::drafts::Draft;
 use crate::inputs::{asks, input_lines};
 use crate::scenes::Scene;
@@ -17,24 +18,26 @@ use std::alloc::Global;
 
 impl Draft {
     ghost use Rattle.ados_shell.specs.Drafts.{IsUnset, Settles, course_of, next_line_place};
+    ghost use Rattle.ados_shell.specs.Completions.{HasEnded};
     ghost use Rattle.ados_shell.specs.Inputs.{HasRead};
 
-    /// Reads the input of a command, if it has one, and asks for its arguments if they are `?`.
-    pub(crate) fn prepare(
+    /// Runs a command: its input is read, if it has one, and its arguments are asked for if they are `?`.
+    pub(crate) fn builtin(
         &mut self,
         scene: &Scene,
         builtin: Builtin,
         line: &Line,
-    ) -> Result<(), NoMemory>
+    ) -> Result<Completion, Stop>
         requires { IsUnset self.old }
-        ensures { OnOk result (Settles scene.now self.old self.new
-            (builtin_completion builtin line.now (next_line_place scene.now self.old) (course_of scene.now self.old))) }
+        ensures { HasEnded scene.now self.old self.new line.now.command result
+            (builtin_completion builtin line.now (next_line_place scene.now self.old) (course_of scene.now self.old)) }
     {
-        match self.read_own(scene, line.input.as_ref()) {
-            Err(Stop::NoMemory) => Err(NoMemory),
-            Err(Stop::Refused(fault)) => self.refuse(scene, &line.command, fault),
-            Ok(None) => self.proceed(scene, builtin, line, None),
-            Ok(Some(lines)) => self.proceed(scene, builtin, line, Some(lines.as_slice())),
+        let lines = self.read_own(scene, line.input.as_ref())?;
+        let input = slice_of(lines.as_ref());
+        if asks(&line.args) {
+            self.prompt(scene, builtin, line, input)
+        } else {
+            self.command(scene, builtin, line, input)
         }
     }
 
@@ -67,47 +70,29 @@ impl Draft {
         Ok(lines)
     }
 
-    /// Asks for a command's arguments if they are `?`, and lets it begin; its input has these lines, if there is one.
-    fn proceed(
+    /// Prints a prompt; the first line of the input stands for the arguments. Without an input the shell waits for a line.
+    fn prompt(
         &mut self,
         scene: &Scene,
         builtin: Builtin,
         line: &Line,
         input: Option<&[Text]>,
-    ) -> Result<(), NoMemory>
+    ) -> Result<Completion, Stop>
         requires { IsUnset self.old }
-        ensures { OnOk result (Settles scene.now self.old self.new
-            (asked_completion builtin line.now (next_line_place scene.now self.old) (option_map (λ l. l.now) input.entry) (course_of scene.now self.old))) }
-    {
-        if asks(&line.args) {
-            self.ask(scene, builtin, line, input)
-        } else {
-            self.begin(scene, builtin, line, input)
-        }
-    }
-
-    /// Prints a prompt; the input's first line stands for the arguments. Without an input the shell waits for a line.
-    fn ask(
-        &mut self,
-        scene: &Scene,
-        builtin: Builtin,
-        line: &Line,
-        input: Option<&[Text]>,
-    ) -> Result<(), NoMemory>
-        requires { IsUnset self.old }
-        ensures { OnOk result (Settles scene.now self.old self.new
-            (prompt_completion builtin line.now (next_line_place scene.now self.old) (course_of scene.now self.old) (option_map (λ l. l.now) input.entry))) }
+        ensures { HasEnded scene.now self.old self.new line.now.command result
+            (prompt_completion builtin line.now (next_line_place scene.now self.old) (course_of scene.now self.old) (option_map (λ l. l.now) input.entry)) }
     {
         push_prompt(&mut self.printed, builtin)?;
         match input {
             None => {
-                let asking = Asking::Arguments {
-                    builtin,
-                    line: line.copy()?,
-                };
-                self.wait(scene, Wait::ForAnswer(asking))
+                let line = line.copy()?;
+                let asking = Asking::Arguments { builtin, line };
+                Ok(Completion::waiting(scene.alloc, Wait::ForAnswer(asking))?)
             }
-            Some(lines) => self.begin_with(scene, builtin, line, lines),
+            Some(lines) => {
+                let line = line.with_args(first_of(scene.alloc, lines)?)?;
+                self.command(scene, builtin, &line, Some(behind_first(lines)))
+            }
         }
     }
 
@@ -117,22 +102,6 @@ impl Draft {
     {
         self.shell.phase = Some(Box::new(scene.alloc, Phase::Waiting(wait))?);
         Ok(())
-    }
-
-    /// Lets a command begin; the first of these lines stands for its arguments.
-    fn begin_with(
-        &mut self,
-        scene: &Scene,
-        builtin: Builtin,
-        line: &Line,
-        lines: &[Text],
-    ) -> Result<(), NoMemory>
-        requires { IsUnset self.old }
-        ensures { OnOk result (Settles scene.now self.old self.new
-            (command_completion builtin (with_args line.now (first_of lines.now)) (Some (drop 1 lines.now)) (next_line_place scene.now self.old) (course_of scene.now self.old))) }
-    {
-        let line = line.with_args(first_of(scene.alloc, lines)?)?;
-        self.begin(scene, builtin, &line, Some(behind_first(lines)))
     }
 
     /// Takes the answer to a prompt: it stands for the arguments as it is, or replies to a question.
@@ -149,10 +118,24 @@ impl Draft {
         match asking {
             Asking::Arguments { builtin, line } => {
                 let line = line.with_args(answer.copy()?)?;
-                self.begin(scene, *builtin, &line, None)
+                let ended = self.command(scene, *builtin, &line, None);
+                self.conclude(scene, &line.command, ended)
             }
-            Asking::Reply(question) => self.reply(scene, question, answer),
+            Asking::Reply(question) => {
+                let ended = self.reply(scene, question, answer);
+                self.conclude(scene, &question.word, ended)
+            }
         }
+    }
+}
+
+/// The lines of an input, if there is one.
+fn slice_of(lines: Option<&Texts>) -> Option<&[Text]>
+    ensures { option_map (λ l. l.now) result ≡ option_copied lines.entry }
+{
+    match lines {
+        None => None,
+        Some(lines) => Some(lines.as_slice()),
     }
 }
 

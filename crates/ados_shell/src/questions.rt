@@ -3,16 +3,18 @@ ghost use Rattle.std.specs.Prelude.{◌≡◌, ◌++◌, IfOk, OnOk};
 ghost use Rattle.std.specs.Option.{option_map};
 ghost use Rattle.ados_machine.specs.Questions.{ask_completion, inquiry, question_completion, question_text, reply_completion};
 
+use crate::completions::Completion;
 use crate::drafts::Draft;
 use crate::scenes::Scene;
 use crate::stacks::copy_own;
 use ados_find::Codes;
 use ados_flow::reply_of;
 use ados_machine::{Asking, Question, Wait};
-use ados_text::{NoMemory, Text};
+use ados_text::{NoMemory, Stop, Text};
 
 impl Draft {
-    ghost use Rattle.ados_shell.specs.Drafts.{Settles, course_of};
+    ghost use Rattle.ados_shell.specs.Completions.{HasEnded};
+    ghost use Rattle.ados_shell.specs.Drafts.{course_of};
 
     /// Ask asks its input, and if it has none its shell waits.
     pub(crate) fn inquire(
@@ -20,25 +22,29 @@ impl Draft {
         scene: &Scene,
         question: Question,
         input: Option<&[Text]>,
-    ) -> Result<(), NoMemory>
-        ensures { OnOk result (Settles scene.now self.old self.new
-            (ask_completion question (option_map (λ l. l.now) input.entry) (course_of scene.now self.old))) }
+    ) -> Result<Completion, Stop>
+        ensures { HasEnded scene.now self.old self.new question.word result
+            (ask_completion question (option_map (λ l. l.now) input.entry) (course_of scene.now self.old)) }
     {
         match input {
             None => self.question(scene, question),
             Some(lines) => {
                 let codes = inquire(&mut self.printed, &question.prompt, lines)?;
-                self.answer(scene, question.word.as_bytes(), codes, false)
+                Ok(Completion::Answered {
+                    codes,
+                    quits: false,
+                })
             }
         }
     }
 
     /// The question is asked, and its shell waits for a line.
-    fn question(&mut self, scene: &Scene, question: Question) -> Result<(), NoMemory>
-        ensures { OnOk result (Settles scene.now self.old self.new (question_completion question (course_of scene.now self.old))) }
+    fn question(&mut self, scene: &Scene, question: Question) -> Result<Completion, Stop>
+        ensures { HasEnded scene.now self.old self.new question.word result (question_completion question (course_of scene.now self.old)) }
     {
         push_question(&mut self.printed, &question.prompt)?;
-        self.wait(scene, Wait::ForAnswer(Asking::Reply(question)))
+        let wait = Wait::ForAnswer(Asking::Reply(question));
+        Ok(Completion::waiting(scene.alloc, wait)?)
     }
 
     /// Takes a reply to a question that waited; if it is not a reply, the question is asked again.
@@ -47,11 +53,14 @@ impl Draft {
         scene: &Scene,
         question: &Question,
         line: &Text,
-    ) -> Result<(), NoMemory>
-        ensures { OnOk result (Settles scene.now self.old self.new (reply_completion line.now question.now (course_of scene.now self.old))) }
+    ) -> Result<Completion, Stop>
+        ensures { HasEnded scene.now self.old self.new question.now.word result (reply_completion line.now question.now (course_of scene.now self.old)) }
     {
         match reply_of(line) {
-            Some(codes) => self.answer(scene, question.word.as_bytes(), codes, false),
+            Some(codes) => Ok(Completion::Answered {
+                codes,
+                quits: false,
+            }),
             None => self.question(scene, copied(question)?),
         }
     }

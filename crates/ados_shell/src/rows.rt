@@ -2,13 +2,14 @@
 ghost use Rattle.std.specs.Prelude.{◌≡◌, None, IfOk, OnOk};
 ghost use Rattle.std.specs.Option.{option_copied, option_map};
 ghost use Rattle.ados_find.specs.Effects.{effect_of};
-ghost use Rattle.ados_flow.specs.Actions.{Does, action_effect};
-ghost use Rattle.ados_machine.specs.Lines.{action_completion, action_in, busy_in, command_completion, names_in, view_of, with_arguments, work_completion};
+ghost use Rattle.ados_flow.specs.Actions.{action_effect};
+ghost use Rattle.ados_machine.specs.Lines.{action_completion, action_in, busy_in, command_completion, names_in, view_of, with_arguments};
 
+use crate::completions::Completion;
 use crate::drafts::{Draft, ShellDraft};
 use crate::scenes::Scene;
 use crate::seen::{Others, in_use, names_while, uses};
-use ados_find::{Outcome, Shared, ShellNames, Target};
+use ados_find::{Codes, Outcome, Shared, ShellNames, Target};
 use ados_flow::Action;
 use ados_line::Line;
 use ados_machine::{Builtin, Question, reads_in_use, reads_shells};
@@ -17,43 +18,26 @@ use ados_readargs::Args;
 use ados_text::{Name, NoMemory, Stop, Text, Texts};
 
 impl Draft {
-    ghost use Rattle.ados_shell.specs.Drafts.{IsUnset, Settles, course_of, next_line_place, parts_of};
+    ghost use Rattle.ados_shell.specs.Completions.{HasEnded};
+    ghost use Rattle.ados_shell.specs.Drafts.{IsUnset, course_of, next_line_place, parts_of};
+    ghost use Rattle.ados_shell.specs.Outputs.{IsPut, effect_put};
     ghost use Rattle.ados_shell.specs.Views.{Serves, ServesInUse, ServesNames, ServesUses, shell_view};
     ghost use Rattle.ados_machine.specs.Course.{uses_of};
     ghost use Rattle.ados_shell.specs.Uses.{HasUsed};
 
-    /// Opens a command's output, and lets it do its work; its input has these lines, if there is one.
-    pub(crate) fn begin(
+    /// Runs a command whose arguments are there: its output is opened, and its row runs. Its input has these lines, if there is one.
+    pub(crate) fn command(
         &mut self,
         scene: &Scene,
         builtin: Builtin,
         line: &Line,
         input: Option<&[Text]>,
-    ) -> Result<(), NoMemory>
+    ) -> Result<Completion, Stop>
         requires { IsUnset self.old }
-        ensures { OnOk result (Settles scene.now self.old self.new
-            (command_completion builtin line.now (option_map (λ l. l.now) input.entry) (next_line_place scene.now self.old) (course_of scene.now self.old))) }
+        ensures { HasEnded scene.now self.old self.new line.now.command result
+            (command_completion builtin line.now (option_map (λ l. l.now) input.entry) (next_line_place scene.now self.old) (course_of scene.now self.old)) }
     {
-        match self.open_own(scene, line.output.as_ref()) {
-            Err(Stop::NoMemory) => Err(NoMemory),
-            Err(Stop::Refused(fault)) => self.refuse(scene, &line.command, fault),
-            Ok(target) => self.work(scene, builtin, line, target, input),
-        }
-    }
-
-    /// Does the work of a command whose output was opened.
-    fn work(
-        &mut self,
-        scene: &Scene,
-        builtin: Builtin,
-        line: &Line,
-        target: Option<Target>,
-        input: Option<&[Text]>,
-    ) -> Result<(), NoMemory>
-        requires { IsUnset self.old }
-        ensures { OnOk result (Settles scene.now self.old self.new
-            (work_completion builtin line.now target (option_map (λ l. l.now) input.entry) (next_line_place scene.now self.old) (course_of scene.now self.old))) }
-    {
+        let target = self.open_own(scene, line.output.as_ref())?;
         let action = self.action(scene, builtin, line, target.as_ref())?;
         self.act(scene, &line.command, target, input, action)
     }
@@ -66,17 +50,23 @@ impl Draft {
         target: Option<Target>,
         input: Option<&[Text]>,
         action: Action,
-    ) -> Result<(), NoMemory>
+    ) -> Result<Completion, Stop>
         requires { IsUnset self.old }
-        ensures { OnOk result (Settles scene.now self.old self.new
+        ensures { HasEnded scene.now self.old self.new word.now result
             (action_completion word.now target (option_map (λ l. l.now) input.entry) (action_effect (course_of scene.now self.old).shared action)
-            (next_line_place scene.now self.old) (course_of scene.now self.old))) }
+            (next_line_place scene.now self.old) (course_of scene.now self.old)) }
     {
         match action {
-            Action::Does(outcome) => self.apply(scene, word, target.as_ref(), outcome),
-            Action::Quits(codes) => self.answer(scene, word.as_bytes(), codes, true),
-            Action::Jumps { line, codes } => self.jump(scene, word, codes, line),
-            Action::Calls(script) => self.call(scene, word, target, script),
+            Action::Does(outcome) => {
+                let codes = self.apply(scene, target.as_ref(), outcome)?;
+                Ok(Completion::Answered {
+                    codes,
+                    quits: false,
+                })
+            }
+            Action::Quits(codes) => Ok(Completion::Answered { codes, quits: true }),
+            Action::Jumps { line, codes } => Ok(Completion::Jumped { codes, line }),
+            Action::Calls(script) => Ok(Completion::calling(scene.alloc, target, script)?),
             Action::Asks(prompt) => {
                 let question = Question {
                     word: word.copy()?,
@@ -186,18 +176,16 @@ impl Draft {
         )
     }
 
-    /// What a command made is moved in, its output is put, and it answers.
+    /// What a command made is moved in, and its output is put; gives what it returns then.
     pub(crate) fn apply(
         &mut self,
         scene: &Scene,
-        word: &Text,
         target: Option<&Target>,
         outcome: Outcome,
-    ) -> Result<(), NoMemory>
+    ) -> Result<Codes, NoMemory>
         requires { IsUnset self.old }
-        ensures { OnOk result (Settles scene.now self.old self.new
-            (action_completion word.now (option_copied target.entry) None (Does (effect_of (course_of scene.now self.old).shared outcome))
-            (next_line_place scene.now self.old) (course_of scene.now self.old))) }
+        ensures { IfOk result (λ codes. IsPut scene.now self.old self.new codes
+            (effect_put (option_copied target.entry) (effect_of (course_of scene.now self.old).shared outcome) (next_line_place scene.now self.old) (course_of scene.now self.old))) }
     {
         let Outcome {
             shared,
@@ -208,8 +196,7 @@ impl Draft {
             breaking,
         } = outcome;
         self.affect(scene.shell.number(), change, shared, renamed, breaking);
-        let answered = self.put(scene, target, output, codes)?;
-        self.answer(scene, word.as_bytes(), answered, false)
+        self.put(scene, target, output, codes)
     }
 }
 

@@ -1,11 +1,12 @@
 // Run: it makes a shell for the commands of its text.
-ghost use Rattle.std.specs.Prelude.{◌≡◌, ◌-◌, ◌++◌, ◌∷◌, [], drop, IfOk, IfSome, OnOk};
+ghost use Rattle.std.specs.Prelude.{◌≡◌, ◌≤◌, ◌-◌, ◌++◌, ◌∷◌, [], drop, IfOk, IfSome, OnOk};
 ghost use Rattle.std.specs.Option.{option_copied, option_map};
 ghost use Rattle.ados_flow.specs.Gathering.{before_plus, run_gathering, run_limit};
-ghost use Rattle.ados_machine.specs.NewShells.{answered_put, console_run, gathered_completion, joined_completion, new_shell, run_at, run_completion, run_into, running_completion};
-ghost use Rattle.ados_shell.specs.Stacks.{HasTaken};
+ghost use Rattle.ados_machine.specs.NewShells.{answered_put, console_run, gathered_completion, joined_completion, new_shell, run_at, run_completion, running_completion};
+ghost use Rattle.ados_shell.specs.Completions.{lines_left};
 
 use crate::begun::Begun;
+use crate::completions::Completion;
 use crate::drafts::Draft;
 use crate::scenes::Scene;
 use crate::seen::free_number;
@@ -19,48 +20,29 @@ use ados_text::{NoMemory, Result2, Stop, Text, Texts};
 use std::alloc::Global;
 
 impl Draft {
-    ghost use Rattle.ados_shell.specs.Drafts.{HasBegun, IsUnset, Settles, course_of, frames_of, next_line_place};
+    ghost use Rattle.ados_shell.specs.Drafts.{HasBegun, IsUnset, Settles, course_of, next_line_place};
+    ghost use Rattle.ados_shell.specs.Completions.{HasEnded};
     ghost use Rattle.ados_shell.specs.Outputs.{IsPut};
 
-    /// Reads the input of a Run, if it has one, which is ignored, and runs its text.
-    pub(crate) fn run(&mut self, scene: &Scene, line: &Line) -> Result<(), NoMemory>
+    /// A Run: its input is read, although nothing takes it, and its text is run.
+    pub(crate) fn run(&mut self, scene: &Scene, line: &Line) -> Result<Completion, Stop>
         requires { IsUnset self.old }
-        ensures { OnOk result (Settles scene.now self.old self.new
-            (run_completion line.now (next_line_place scene.now self.old) (course_of scene.now self.old))) }
+        ensures { HasEnded scene.now self.old self.new line.now.command result
+            (run_completion line.now (next_line_place scene.now self.old) (course_of scene.now self.old)) }
     {
-        match self.read_own(scene, line.input.as_ref()) {
-            Err(Stop::NoMemory) => Err(NoMemory),
-            Err(Stop::Refused(fault)) => self.refuse(scene, &line.command, fault),
-            Ok(_) => self.run_into(scene, line),
-        }
+        self.read_own(scene, line.input.as_ref())?;
+        self.run_into(scene, line)
     }
 
-    /// Opens the output of a Run, and runs its text.
-    fn run_into(&mut self, scene: &Scene, line: &Line) -> Result<(), NoMemory>
+    /// Opens the output of a Run, and runs its text; without a command it is refused.
+    fn run_into(&mut self, scene: &Scene, line: &Line) -> Result<Completion, Stop>
         requires { IsUnset self.old }
-        ensures { OnOk result (Settles scene.now self.old self.new
-            (running_completion line.now (next_line_place scene.now self.old) (course_of scene.now self.old))) }
+        ensures { HasEnded scene.now self.old self.new line.now.command result
+            (running_completion line.now (next_line_place scene.now self.old) (course_of scene.now self.old)) }
     {
-        match self.open_own(scene, line.output.as_ref()) {
-            Err(Stop::NoMemory) => Err(NoMemory),
-            Err(Stop::Refused(fault)) => self.refuse(scene, &line.command, fault),
-            Ok(target) => self.run_text(scene, line, target),
-        }
-    }
-
-    /// Runs the text of a Run, whose output leads there; without a command it is refused.
-    fn run_text(
-        &mut self,
-        scene: &Scene,
-        line: &Line,
-        output: Option<Target>,
-    ) -> Result<(), NoMemory>
-        requires { IsUnset self.old }
-        ensures { OnOk result (Settles scene.now self.old self.new
-            (run_into line.now (next_line_place scene.now self.old) output (course_of scene.now self.old))) }
-    {
+        let output = self.open_own(scene, line.output.as_ref())?;
         if asks_nothing(&line.args) {
-            self.refuse(scene, &line.command, Result2::ARGUMENT_MISSING)
+            Err(Stop::Refused(Result2::ARGUMENT_MISSING))
         } else {
             self.run_commands(scene, line, output)
         }
@@ -73,16 +55,16 @@ impl Draft {
         scene: &Scene,
         line: &Line,
         output: Option<Target>,
-    ) -> Result<(), NoMemory>
+    ) -> Result<Completion, Stop>
         requires { IsUnset self.old }
-        ensures { OnOk result (Settles scene.now self.old self.new
-            (run_at line.now.command output line.now.args (next_line_place scene.now self.old).sink (course_of scene.now self.old) (next_line_place scene.now self.old).frame_lines)) }
+        ensures { HasEnded scene.now self.old self.new line.now.command result
+            (run_at line.now.command output line.now.args (next_line_place scene.now self.old).sink (course_of scene.now self.old) (next_line_place scene.now self.old).frame_lines) }
     {
         match self.gathered(scene, &line.args)? {
             None => self.run_typed(scene, line, output),
             Some(Gathered { commands, taken }) => {
                 let codes = self.make_shell(scene, commands, output.as_ref())?;
-                self.skip(scene, &line.command, codes, taken)
+                Ok(Completion::Took { codes, taken })
             }
         }
     }
@@ -91,7 +73,7 @@ impl Draft {
     /// console.
     fn gathered(&self, scene: &Scene, text: &Text) -> Result<Option<Gathered>, NoMemory>
         ensures gathered { IfOk result (λ all. all ≡ option_map (λ frame. run_gathering (run_limit - 1) text.now (drop frame.position frame.lines)) (next_line_place scene.now self.now).frame_lines) }
-        ensures within { IfOk result (λ all. IfSome all (λ a. HasTaken a.taken (frames_of scene.now self.now))) }
+        ensures within { IfOk result (λ all. IfSome all (λ a. a.taken ≤ lines_left (next_line_place scene.now self.now).frame_lines)) }
     {
         match self.shell.frames.newest(scene.shell) {
             None => Ok(None),
@@ -105,15 +87,19 @@ impl Draft {
         scene: &Scene,
         line: &Line,
         output: Option<Target>,
-    ) -> Result<(), NoMemory>
+    ) -> Result<Completion, Stop>
         requires { IsUnset self.old }
-        ensures { OnOk result (Settles scene.now self.old self.new
-            (console_run line.now.command output line.now.args (next_line_place scene.now self.old).sink (course_of scene.now self.old) (before_plus line.now.args))) }
+        ensures { HasEnded scene.now self.old self.new line.now.command result
+            (console_run line.now.command output line.now.args (next_line_place scene.now self.old).sink (course_of scene.now self.old) (before_plus line.now.args)) }
     {
         match before_plus(line.args.as_bytes()) {
             None => {
                 let commands = behind(scene.alloc, &[], line.args.copy()?)?;
-                self.answer_begun(scene, &line.command, commands, output.as_ref())
+                let codes = self.make_shell(scene, commands, output.as_ref())?;
+                Ok(Completion::Answered {
+                    codes,
+                    quits: false,
+                })
             }
             Some(front) => {
                 let command = Text::from_bytes(scene.alloc, front)?;
@@ -122,7 +108,7 @@ impl Draft {
                     output,
                     commands: behind(scene.alloc, &[], command)?,
                 };
-                self.wait(scene, Wait::ForLines(gathering))
+                Ok(Completion::waiting(scene.alloc, Wait::ForLines(gathering))?)
             }
         }
     }

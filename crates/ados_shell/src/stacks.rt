@@ -26,7 +26,7 @@ pub struct Stack {
 
 impl Stack {
     ghost use Rattle.ados_machine.specs.Settle.{frames_at_line, newest};
-    ghost use Rattle.ados_shell.specs.Stacks.{drafted_frames, oldest_frames, HasRoom, HasTaken, IsMovedOn, IsPopped, IsSkipped};
+    ghost use Rattle.ados_shell.specs.Stacks.{drafted_frames, oldest_frames, skipped_frames, HasRoom, IsMovedOn, IsPopped};
 
     /// No frame.
     pub fn new(alloc: Global) -> Stack {
@@ -122,15 +122,15 @@ impl Stack {
         }
     }
 
-    /// More lines of the newest frame are taken, this many.
+    /// More lines of the newest frame are taken, this many, or all that are left.
     pub fn skip(&mut self, shell: &Shell, taken: usize) -> Result<(), NoMemory>
-        requires { HasTaken taken (drafted_frames shell.now self.old) }
-        ensures { OnOk result (IsSkipped shell.now self.new taken (drafted_frames shell.now self.old)) }
+        ensures { OnOk result (drafted_frames shell.now self.new ≡ skipped_frames taken (drafted_frames shell.now self.old)) }
     {
         match self.pop(shell)? {
             None => Ok(()),
             Some(mut frame) => {
-                frame.skip(taken);
+                let left = frame.further().len();
+                frame.skip(taken.min(left));
                 self.push(frame)
             }
         }

@@ -1,6 +1,5 @@
 use Rattle.std.proofs.Common.{◌≡◌, ◌∙◌, None, rules, sym}
-use Rattle.ados_world.proofs.FirstLemmas.{IsNowhere}
-use Rattle.ados_launch.specs.Rounds.{in_this_round, is_due}
+use Rattle.ados_launch.specs.Rounds.{in_this_round}
 use Rattle.ados_launch.proofs.Stages.{further-first, no-line, no-start, no-turn, nothing, start-first, turn-first}
 use Rattle.ados_launch.proofs.rounds.Round.next_here.Goals as goal
 

@@ -1,10 +1,9 @@
-use Rattle.std.proofs.Common.{◌≡◌, ◌∙◌, ◌∷◌, List, ℕ, length, None, refl, sym, ap, subst, arith, true, false}
+use Rattle.std.proofs.Common.{◌∙◌, List, ℕ, None, refl, sym, ap, subst, arith, true, false}
 use Rattle.std.proofs.lemmas.Result.{on_ok_weaker}
 use Rattle.std.specs.Prelude.{Option}
 use Rattle.ados_find.specs.declared.codes.Codes.{Codes}
 use Rattle.ados_flow.specs.Frames.{FrameState, limit_above_frames, maker}
 use Rattle.ados_machine.specs.Breaks.{has_script}
-use Rattle.ados_machine.specs.Items.{broken_codes}
 use Rattle.ados_machine.specs.Settled.{finish}
 use Rattle.ados_machine.specs.Settle.{said_of}
 use Rattle.ados_shell.specs.declared.drafts.Draft.{Draft}

@@ -1,35 +1,25 @@
-use Rattle.std.proofs.Common.{Err, Ok, OnOk, subst}
-use Rattle.std.proofs.lemmas.Result.{on_ok_weaker}
-use Rattle.ados_machine.specs.Lines.{arriving_completion}
-use Rattle.ados_machine.specs.Completions.{refusal_completion}
-use Rattle.ados_machine.specs.Prompts.{input_lines}
-use Rattle.ados_shell.specs.Drafts.{Settles, course_of}
-use Rattle.ados_shell.specs.Inputs.{HasRead}
-use Rattle.ados_shell.proofs.LineLemmas.{input-given, input-refused}
+use Rattle.std.proofs.Common.{Ok, false, subst}
+use Rattle.ados_find.specs.Effects.{effect_of}
+use Rattle.ados_machine.specs.Lines.{arrival, arrived_completion}
+use Rattle.ados_shell.specs.Drafts.{course_of, next_line_place}
+use Rattle.ados_shell.specs.declared.completions.Completion.TheVariants.{Answered}
+use Rattle.ados_shell.proofs.EndLemmas.{output-ends, put-ends}
+use Rattle.ados_machine.specs.Opening.{line_output}
+use Rattle.ados_shell.specs.Outputs.{HasOpened, IsPut, effect_put}
 use Rattle.ados_shell.proofs.drafts.Draft.arrive.Goals as goal
-
-pub returns-in-Err-Refused : goal.returns-in-Err-Refused
-returns-in-Err-Refused c =
-    let scene = c.args.scene.now in
-    let before = c.args.self.now in
-    let mid = c.read_own.new.self in
-    let input = c.args.line.now.input in
-    let read = input_lines (course_of scene before) input in
-    on_ok_weaker c.refuse.result
-    (λ g. input-refused scene before mid c.refuse.new.self c.args.line.now.command
-    (λ at lines course. arriving_completion c.args.place c.args.line.now at course) c.in-Err-Refused.fault input read
-    (subst (λ x. HasRead scene before mid input (Err x) read) c.in-Err-Refused.field-0-is
-    (subst (λ i. HasRead scene before mid i (Err c.in-Err-Refused.field-0) (input_lines (course_of scene before) i)) c.as_ref.ensures.value c.in-Err-Refused.ensures)) g)
-    (subst (λ f. OnOk c.refuse.result (Settles scene mid c.refuse.new.self (refusal_completion c.args.line.now.command f (course_of scene mid)))) c.in-Err-Refused.fault-is c.refuse.ensures)
 
 pub returns : goal.returns
 returns c =
     let scene = c.args.scene.now in
     let before = c.args.self.now in
-    let mid = c.read_own.new.self in
-    let input = c.args.line.now.input in
-    on_ok_weaker c.change_to.result
-    (λ g. input-given scene before mid c.change_to.new.self c.args.line.now.command
-    (λ at lines course. arriving_completion c.args.place c.args.line.now at course) c.in-Ok.field-0 input (input_lines (course_of scene before) input)
-    (subst (λ i. HasRead scene before mid i (Ok c.in-Ok.field-0) (input_lines (course_of scene before) i)) c.as_ref.ensures.value c.in-Ok.ensures) g)
-    c.change_to.ensures
+    let opened = c.open_own.new.self in
+    let line = c.args.line.now in
+    let target = c.in_ok-target.target in
+    let here = next_line_place scene opened in
+    let course = course_of scene opened in
+    output-ends scene before opened c.apply.new.self line.command (λ here target course. arrived_completion c.args.place line target here course) target line.output
+    (line_output (course_of scene before) line.output) (Ok (Answered c.in_ok-codes.codes false))
+    (subst (λ o. HasOpened scene before opened o (Ok target) (line_output (course_of scene before) o)) c.as_ref.ensures.value c.in_ok-target.ensures)
+    (put-ends scene opened c.apply.new.self line.command c.in_ok-codes.codes (effect_put target (arrival course.shared c.args.place line.args) here course)
+    (subst (λ e. IsPut scene opened c.apply.new.self c.in_ok-codes.codes (effect_put target e here course)) (c.in_ok-outcome.ensures course.shared)
+    (subst (λ o. IsPut scene opened c.apply.new.self c.in_ok-codes.codes (effect_put o (effect_of course.shared c.in_ok-outcome.outcome) here course)) c.as_ref-2.ensures.value c.in_ok-codes.ensures)))

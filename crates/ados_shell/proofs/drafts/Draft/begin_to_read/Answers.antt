@@ -3,7 +3,7 @@ use Rattle.std.proofs.lemmas.Result.{on_ok_weaker}
 use Rattle.ados_machine.specs.Opening.{line_output}
 use Rattle.ados_shell.specs.Drafts.{course_of}
 use Rattle.ados_shell.specs.Outputs.{HasOpened}
-use Rattle.ados_shell.proofs.LineLemmas.{started-refused}
+use Rattle.ados_shell.proofs.CompletionLemmas.{started-refused}
 use Rattle.ados_shell.proofs.drafts.Draft.begin_to_read.Goals as goal
 
 pub returns-in_ok-child-in-Err-Refused : goal.returns-in_ok-child-in-Err-Refused

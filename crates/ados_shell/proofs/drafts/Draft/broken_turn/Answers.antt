@@ -1,5 +1,4 @@
-use Rattle.std.proofs.Common.{◌≡◌, ◌∙◌, List, ℕ, true, false, refl, subst, sym}
-use Rattle.std.proofs.lemmas.Result.{IfOk-weaker}
+use Rattle.std.proofs.Common.{◌≡◌, ◌∙◌, true, false, refl, subst, sym}
 use Rattle.ados_machine.specs.Turning as machine
 use Rattle.ados_machine.specs.World.{can_take}
 use Rattle.ados_shell.specs.declared.turnings.Turning.TheVariants.{NotReady, Goes}

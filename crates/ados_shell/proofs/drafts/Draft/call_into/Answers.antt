@@ -1,20 +1,24 @@
-use Rattle.std.proofs.Common.{Err, ap, subst}
-use Rattle.std.proofs.lemmas.Result.{on_ok_weaker}
-use Rattle.ados_machine.specs.Lines.{called_completion}
+use Rattle.std.proofs.Common.{◌∙◌, None, Ok, ap, subst}
+use Rattle.ados_flow.specs.Execute.{script_row}
+use Rattle.ados_machine.specs.Lines.{action_completion, called_completion, nameless_view}
+use Rattle.ados_shell.specs.Completions.{HasEnded}
+use Rattle.ados_shell.specs.Drafts.{course_of, next_line_place}
+use Rattle.ados_shell.proofs.EndLemmas.{output-ends}
 use Rattle.ados_machine.specs.Opening.{line_output}
-use Rattle.ados_shell.specs.Drafts.{course_of}
 use Rattle.ados_shell.specs.Outputs.{HasOpened}
-use Rattle.ados_shell.proofs.LineLemmas.{output-refused}
 use Rattle.ados_shell.proofs.drafts.Draft.call_into.Goals as goal
 
-pub returns-in-Err-Refused : goal.returns-in-Err-Refused
-returns-in-Err-Refused c =
-    on_ok_weaker c.refuse.result
-    (λ g. output-refused c.args.scene.now c.args.self.now c.open_own.new.self c.refuse.new.self c.args.line.now.command
-    (λ here target further. called_completion c.args.place.now c.args.line.now target here further) c.in-Err-Refused.fault
-    c.args.line.now.output (line_output (course_of c.args.scene.now c.args.self.now) c.args.line.now.output)
-    (subst (λ x. HasOpened c.args.scene.now c.args.self.now c.open_own.new.self c.args.line.now.output x (line_output (course_of c.args.scene.now c.args.self.now) c.args.line.now.output))
-    (ap Err c.in-Err-Refused.field-0-is)
-    (subst (λ o. HasOpened c.args.scene.now c.args.self.now c.open_own.new.self o (Err c.in-Err-Refused.field-0) (line_output (course_of c.args.scene.now c.args.self.now) o))
-    c.as_ref.ensures.value c.in-Err-Refused.ensures)) g)
-    c.refuse.ensures
+pub returns : goal.returns
+returns c =
+    let scene = c.args.scene.now in
+    let before = c.args.self.now in
+    let opened = c.open_own.new.self in
+    let line = c.args.line.now in
+    let target = c.in_ok-target.target in
+    let here = next_line_place scene opened in
+    let course = course_of scene opened in
+    output-ends scene before opened c.act.new.self line.command (λ here target course. called_completion c.args.place.now line target here course) target line.output
+    (line_output (course_of scene before) line.output) c.act.result
+    (subst (λ o. HasOpened scene before opened o (Ok target) (line_output (course_of scene before) o)) c.as_ref.ensures.value c.in_ok-target.ensures)
+    (subst (λ a. HasEnded scene opened c.act.new.self line.command c.act.result (action_completion line.command target None a here course))
+    (c.in_ok-action.ensures ∙ ap (λ o. script_row course.shared (nameless_view o course) c.args.place.now line.args) c.as_ref-2.ensures.value) c.act.ensures)

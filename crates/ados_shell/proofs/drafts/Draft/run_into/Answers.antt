@@ -1,30 +1,21 @@
-use Rattle.std.proofs.Common.{Err, Ok, ap, subst}
-use Rattle.std.proofs.lemmas.Result.{on_ok_weaker}
+use Rattle.std.proofs.Common.{◌∙◌, Ok, subst, sym}
 use Rattle.ados_machine.specs.NewShells.{run_into}
-use Rattle.ados_machine.specs.Opening.{line_output}
+use Rattle.ados_shell.specs.Completions.{HasEnded}
 use Rattle.ados_shell.specs.Drafts.{course_of}
+use Rattle.ados_shell.proofs.EndLemmas.{output-ends}
+use Rattle.ados_shell.proofs.TurnLemmas.{else-is}
+use Rattle.ados_machine.specs.Opening.{line_output}
 use Rattle.ados_shell.specs.Outputs.{HasOpened}
-use Rattle.ados_shell.proofs.LineLemmas.{output-given, output-refused}
 use Rattle.ados_shell.proofs.drafts.Draft.run_into.Goals as goal
 
-pub returns-in-Err-Refused : goal.returns-in-Err-Refused
-returns-in-Err-Refused c =
-    on_ok_weaker c.refuse.result
-    (λ g. output-refused c.args.scene.now c.args.self.now c.open_own.new.self c.refuse.new.self c.args.line.now.command
-    (λ here target further. run_into c.args.line.now here target further) c.in-Err-Refused.fault
-    c.args.line.now.output (line_output (course_of c.args.scene.now c.args.self.now) c.args.line.now.output)
-    (subst (λ x. HasOpened c.args.scene.now c.args.self.now c.open_own.new.self c.args.line.now.output x (line_output (course_of c.args.scene.now c.args.self.now) c.args.line.now.output))
-    (ap Err c.in-Err-Refused.field-0-is)
-    (subst (λ o. HasOpened c.args.scene.now c.args.self.now c.open_own.new.self o (Err c.in-Err-Refused.field-0) (line_output (course_of c.args.scene.now c.args.self.now) o))
-    c.as_ref.ensures.value c.in-Err-Refused.ensures)) g)
-    c.refuse.ensures
-
-pub returns-in-Ok : goal.returns-in-Ok
-returns-in-Ok c =
-    on_ok_weaker c.run_text.result
-    (λ g. output-given c.args.scene.now c.args.self.now c.open_own.new.self c.run_text.new.self c.args.line.now.command
-    (λ here target further. run_into c.args.line.now here target further) c.in-Ok.target
-    c.args.line.now.output (line_output (course_of c.args.scene.now c.args.self.now) c.args.line.now.output)
-    (subst (λ o. HasOpened c.args.scene.now c.args.self.now c.open_own.new.self o (Ok c.in-Ok.target) (line_output (course_of c.args.scene.now c.args.self.now) o))
-    c.as_ref.ensures.value c.in-Ok.ensures) g)
-    c.run_text.ensures
+pub returns-else-asks_nothing : goal.returns-else-asks_nothing
+returns-else-asks_nothing c =
+    let scene = c.args.scene.now in
+    let before = c.args.self.now in
+    let opened = c.open_own.new.self in
+    let line = c.args.line.now in
+    let target = c.in_ok-output.output in
+    output-ends scene before opened c.run_commands.new.self line.command (λ here target course. run_into line here target course) target line.output
+    (line_output (course_of scene before) line.output) c.run_commands.result
+    (subst (λ o. HasOpened scene before opened o (Ok target) (line_output (course_of scene before) o)) c.as_ref.ensures.value c.in_ok-output.ensures)
+    (subst (HasEnded scene opened c.run_commands.new.self line.command c.run_commands.result) (sym (else-is _ _ _ (sym c.asks_nothing.ensures ∙ c.if-asks_nothing.false))) c.run_commands.ensures)

@@ -1,4 +1,4 @@
-use Rattle.std.proofs.Common.{◌≡◌, ◌∙◌, ◌++◌, ap, sym, reverse}
+use Rattle.std.proofs.Common.{◌∙◌, ◌++◌, ap, reverse}
 use Rattle.ados_machine.specs.Breaks.{has_script}
 use Rattle.ados_shell.proofs.stacks.Stack.has_script.Goals as goal
 

@@ -1,0 +1,9 @@
+use Rattle.std.proofs.lemmas.Result.{on_ok_weaker}
+use Rattle.ados_shell.proofs.EndLemmas.{concluded}
+use Rattle.ados_shell.proofs.drafts.Draft.resume.Goals as goal
+
+pub returns-in-Reply : goal.returns-in-Reply
+returns-in-Reply c =
+    rw c.in-Reply.is (on_ok_weaker c.conclude-in-Reply.result
+    (λ g. concluded c.args.scene.now c.args.self.now c.reply-ended.new.self c.conclude-in-Reply.new.self c.in-Reply.question.word c.reply-ended.result _ c.reply-ended.ensures g)
+    c.conclude-in-Reply.ensures)
