@@ -22,7 +22,7 @@ use ados_transfer::{Lines, Plan, bring, bring_script, take};
 use ados_world::{NewFault, World};
 use faults::{Fault, tell};
 use hosts::hosts_for;
-use play::play;
+use play::{Script, play};
 use request::{Options, Refused};
 use share::Share;
 use std::io;
@@ -127,7 +127,16 @@ fn run_script<R: AllocGlobal + Files + Input + Print + Eprint + Processes + Clon
         return Ok(FAILED);
     }
     let lines = lines_for(rt, options, share.as_ref(), &plan, &script)?;
-    let ended = play(rt, world, &plan, &lines, options.turns, share.as_mut());
+    let ended = play(
+        rt,
+        world,
+        &Script {
+            told: plan.told(),
+            lines: &lines,
+            turns: options.turns,
+        },
+        share.as_mut(),
+    );
     let is_alike = close(rt, world, share.as_mut())?;
     let is_taken = take_all(rt, options, world);
     let end = ended?;

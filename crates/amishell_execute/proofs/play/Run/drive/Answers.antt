@@ -1,6 +1,14 @@
 use Rattle.std.proofs.Common.{rules}
-use Rattle.ados_launch.proofs.Leading.{leads_on}
-use Rattle.amishell_execute.proofs.play.drive_shared.Goals as goal
+use Rattle.ados_launch.proofs.Leading.{leads_on, leads_run}
+use Rattle.amishell_execute.proofs.play.Run.drive.Goals as goal
+
+pub returns-in_err-run : goal.returns-in_err-run
+returns-in_err-run g c =
+    record { leads = leads_run c.args.world.now c.run.new.world c.run.ensures.drives.takes.taken c.run.ensures.drives.takes.session.run }
+
+pub returns-in_default : goal.returns-in_default
+returns-in_default g c =
+    record { leads = leads_run c.args.world.now c.run.new.world c.run.ensures.drives.takes.taken c.run.ensures.drives.takes.session.run }
 
 pub returns-in_err-attend : goal.returns-in_err-attend
 returns-in_err-attend g c =

@@ -1,14 +1,14 @@
 use Rattle.std.proofs.Common.{◌≡◌, ◌≤◌}
 use Rattle.ados_launch.specs.Agreement.{Agrees, IsOpenTable}
 use Rattle.ados_launch.specs.Leads.{Reaches}
-use Rattle.amishell_execute.proofs.play.drive_shared.Given as goal
+use Rattle.amishell_execute.proofs.play.Run.drive.Given as goal
 
 abbrev pub invariant-loop : goal.invariant-loop
 invariant-loop g l = record {
-  reader : l.reader.faults ≡ l.fn.reader.faults;
-  writer : g.K.Sink.faults l.writer ≡ g.K.Sink.faults l.fn.writer;
+  reader : l.self.reader.faults ≡ l.fn.self.reader.faults;
+  writer : g.K.Sink.faults l.self.writer ≡ g.K.Sink.faults l.fn.self.writer;
   count : l.session.standing.taken ≤ l.counter;
-  agrees : Agrees l.world l.launcher.calls;
+  agrees : Agrees l.world l.self.launcher.calls;
   leads : Reaches l.fn.world l.world;
-  children : IsOpenTable l.session.children l.launcher.calls;
+  children : IsOpenTable l.session.children l.self.launcher.calls;
 }
