@@ -7,6 +7,6 @@ mod pieces;
 mod steps;
 
 pub use names::is_name;
-pub use paths::Path;
+pub use paths::{PATH_LIMIT, Path};
 pub use pieces::last_piece;
 pub use steps::Step;

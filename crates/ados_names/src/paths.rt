@@ -14,8 +14,8 @@ use smallvec::SmallVec;
 use std::alloc::Global;
 use std::marker::Model;
 
-// The most bytes that the text of a path may have.
-const PATH_LIMIT: usize = 255;
+/// The most bytes that the text of a path may have.
+pub const PATH_LIMIT: usize = 255;
 
 /// A path: a device text, if one is named, and steps. Each path can be written as a text of at most 255 bytes.
 #[derive(Clone, Drop)]

@@ -25,4 +25,4 @@ pub use files::Ram;
 pub use in_use::Busy;
 pub use laws::{contents_in_order, objects_keep_their_names, others_stay, renames_move};
 pub use places::Place;
-pub use refusals::list_refusal;
+pub use refusals::{BYTES_LIMIT, FILE_LIMIT, OBJECTS_LIMIT, list_refusal};

@@ -14,12 +14,12 @@ use crate::places::{is_below, is_same};
 use crate::table::{Table, bytes_at};
 use ados_text::{Name, Result2};
 
-// The greatest number of bytes of a file.
-const FILE_LIMIT: usize = 65_536;
-// The greatest number of bytes of all files together.
-const BYTES_LIMIT: usize = 1_048_576;
-// The greatest number of objects, with the root.
-const OBJECTS_LIMIT: usize = 1_025;
+/// The most bytes of a file.
+pub const FILE_LIMIT: usize = 65_536;
+/// The most bytes of all files together.
+pub const BYTES_LIMIT: usize = 1_048_576;
+/// The most objects, with the root.
+pub const OBJECTS_LIMIT: usize = 1_025;
 
 /// Why a file is not read; `is_open` says that it is an open output.
 pub fn read_refusal(is_open: bool, entry: Option<&Entry>) -> Option<Result2>

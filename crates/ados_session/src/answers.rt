@@ -5,13 +5,10 @@ ghost use Rattle.hex.specs.Hex.{decode_of};
 ghost use Rattle.ados_session.specs.Answers.{answer_of, bytes_answer, piece, plain_answer, status_of, valued_answer};
 
 use crate::parts::parted;
-use ados_text::{NoMemory, Octets, number_in};
+use ados_text::{NoMemory, Octets, PIECE_BYTES, number_in};
 use ados_world::Answer;
 use hex::FromHexError;
 use std::alloc::Global;
-
-// A piece of a program's output has at most this many bytes.
-const PIECE_BYTES: usize = 4096;
 
 /// The answer that a text writes, if it writes one.
 pub fn answer_of(alloc: Global, text: &[u8]) -> Result<Option<Answer>, NoMemory>

@@ -12,6 +12,9 @@ use ados_text::{NoMemory, Text, lines_of};
 use ados_world::{HostEntry, hosts_fault};
 use std::alloc::Global;
 
+/// The most bytes of such a file.
+pub const HOSTS_BYTES: usize = 65_536;
+
 /// What a line of such a file says.
 #[derive(Drop)]
 pub enum HostLine {

@@ -10,5 +10,5 @@ mod parts;
 mod recordings;
 
 pub use faults::FileFault;
-pub use hosts::read_hosts;
+pub use hosts::{HOSTS_BYTES, read_hosts};
 pub use recordings::{Recording, read_recording};

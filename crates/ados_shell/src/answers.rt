@@ -11,7 +11,7 @@ use crate::drafts::Draft;
 use crate::scenes::Scene;
 use ados_find::Codes;
 use ados_machine::{Answer, Child, Phase, Starting, Wait};
-use ados_text::{Code, NoMemory, Octets, Result2, Stop, Text};
+use ados_text::{Code, NoMemory, Octets, PIECE_BYTES, Result2, Stop, Text};
 
 /// What an answer for a shell results in.
 #[derive(Clone, Copy)]
@@ -21,9 +21,6 @@ pub enum Answering {
     /// The shell went on by it.
     Goes,
 }
-
-/// The most bytes of a piece of a program's output.
-const PIECE_LIMIT: usize = 4096;
 
 impl Draft {
     ghost use Rattle.ados_shell.specs.Answerings.{GivesReply, IsReplied, TakesReply};
@@ -249,7 +246,7 @@ fn is_piece(bytes: &Octets) -> bool
     ensures { result ≡ is_piece bytes.now }
 {
     let bytes = bytes.as_bytes();
-    !bytes.is_empty() && bytes.len() <= PIECE_LIMIT
+    !bytes.is_empty() && bytes.len() <= PIECE_BYTES
 }
 
 /// What the command of a program that ended with a status answers.

@@ -6,10 +6,10 @@ use crate::folders::{Kind, Seen};
 use crate::here::Here;
 use crate::keys::Keys;
 use crate::mirror::Mirror;
-use crate::plan::PATH_BYTES;
 use crate::room::Room;
 use crate::script::is_shell_script;
 use crate::share_lines::ShareLines;
+use ados_names::PATH_LIMIT;
 use ados_ram::{Entry, Place, Ram};
 use ados_text::Octets;
 use std::alloc::Global;
@@ -115,7 +115,7 @@ impl<'a> ArrivalPlan<'a> {
         place: &Place,
     ) -> Result<(), TransferFault> {
         let entry = self.look(seen.key.as_str(), place);
-        if place.path(self.alloc)?.as_bytes().len() > PATH_BYTES {
+        if place.path(self.alloc)?.as_bytes().len() > PATH_LIMIT {
             return mirror.tell_once("bad name for the Shell, left alone", seen.path.as_str());
         }
         let Some(stamp) = here.stamp() else {

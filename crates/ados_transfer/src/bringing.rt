@@ -3,9 +3,9 @@
 use crate::faults::{TransferFault, named};
 use crate::left_out::strike;
 use crate::paths::{base_name, name_of, place_in, step_into};
-use crate::plan::{FILE_BYTES, Plan, file_of};
+use crate::plan::{Plan, file_of};
 use crate::script::shell_script;
-use ados_ram::{Place, Ram};
+use ados_ram::{FILE_LIMIT, Place, Ram};
 use std::alloc::Global;
 use std::io::Read;
 use std::os::unix::fs::PermissionsExt;
@@ -155,8 +155,8 @@ fn names_in<R: AllocGlobal + Files + Clone + Drop>(rt: &R, path: &str) -> io::Re
 
 // The bytes of a file that the Shell can hold.
 fn read_file<R: AllocGlobal + Files>(rt: &R, path: &str) -> Result<Vec<u8>, TransferFault> {
-    match bytes_of(rt, path, FILE_BYTES) {
-        Ok(bytes) if bytes.len() <= FILE_BYTES => Ok(bytes),
+    match bytes_of(rt, path, FILE_LIMIT) {
+        Ok(bytes) if bytes.len() <= FILE_LIMIT => Ok(bytes),
         Ok(_) => Err(named(rt.alloc(), path, TransferFault::LargeFile)),
         Err(error) => Err(not_read(rt.alloc(), path, &error)),
     }

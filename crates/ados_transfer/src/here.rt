@@ -6,10 +6,9 @@ use crate::bringing::bytes_of;
 use crate::decision::{Deed, State, decide};
 use crate::faults::TransferFault;
 use crate::paths::step_into;
-use crate::plan::FILE_BYTES;
 use crate::records::{Record, state_there};
 use crate::stamps::Stamp;
-use ados_ram::Entry;
+use ados_ram::{Entry, FILE_LIMIT};
 use std::fs;
 use std::io::ErrorKind;
 use std::os::unix::fs::PermissionsExt;
@@ -59,11 +58,11 @@ impl Here {
         if !found.is_file() {
             return Ok(Here::Foreign);
         }
-        if found.len() > FILE_BYTES as u64 {
+        if found.len() > FILE_LIMIT as u64 {
             return Ok(Here::Large(stamp));
         }
-        match bytes_of(rt, whole.as_str(), FILE_BYTES) {
-            Ok(bytes) if bytes.len() <= FILE_BYTES => Ok(Here::File {
+        match bytes_of(rt, whole.as_str(), FILE_LIMIT) {
+            Ok(bytes) if bytes.len() <= FILE_LIMIT => Ok(Here::File {
                 bytes,
                 stamp,
                 mode: found.permissions().mode(),

@@ -5,7 +5,7 @@ use crate::paths::ascii;
 use crate::told::{Content, Told};
 use crate::words::push_word;
 use ados_ram::Place;
-use ados_text::{LINE_BYTES, NoMemory, Text};
+use ados_text::{LINE_BYTES, NoMemory, PIECE_BYTES, Text};
 use std::alloc::Global;
 
 /// The command whose output is the next file that is brought in.
@@ -63,7 +63,9 @@ fn bringing_lines(alloc: Global, told: &[Told]) -> Result<Lines, TransferFault> 
 
 // How many answers of the launcher a file with these bytes takes.
 fn pieces(bytes: &[u8]) -> u64 {
-    (bytes.len() as u64).div_ceil(4096).saturating_add(3)
+    (bytes.len() as u64)
+        .div_ceil(PIECE_BYTES as u64)
+        .saturating_add(3)
 }
 
 impl Lines {

@@ -3,21 +3,10 @@
 use crate::faults::{TransferFault, named};
 use crate::room::Room;
 use crate::told::{Content, Told};
-use ados_ram::{Place, Ram};
+use ados_names::PATH_LIMIT;
+use ados_ram::{FILE_LIMIT, Place, Ram};
 use ados_text::Octets;
 use std::alloc::Global;
-
-/// The longest file.
-pub const FILE_BYTES: usize = 65_536;
-
-/// How many bytes all files may have.
-pub const ALL_BYTES: usize = 1_048_576;
-
-/// How many objects there may be besides the root.
-pub const OBJECTS: usize = 1024;
-
-/// The longest path.
-pub const PATH_BYTES: usize = 255;
 
 /// Files and directories to be brought in, each after the directory in which it is.
 #[derive(Drop)]
@@ -106,10 +95,10 @@ impl Plan {
 
     fn add(&mut self, place: Place, content: Content, path: &str) -> Result<(), TransferFault> {
         let size = size_of(&content);
-        if place.path(self.alloc)?.as_bytes().len() > PATH_BYTES {
+        if place.path(self.alloc)?.as_bytes().len() > PATH_LIMIT {
             return Err(named(self.alloc, path, TransferFault::BadName));
         }
-        if size > FILE_BYTES {
+        if size > FILE_LIMIT {
             return Err(named(self.alloc, path, TransferFault::LargeFile));
         }
         if !self.room.fits(size, None) {

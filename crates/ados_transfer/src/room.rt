@@ -1,7 +1,6 @@
 //! What there is still room for in the Shell's files.
 
-use crate::plan::{ALL_BYTES, FILE_BYTES, OBJECTS};
-use ados_ram::{Entry, Place, Ram};
+use ados_ram::{BYTES_LIMIT, Entry, FILE_LIMIT, OBJECTS_LIMIT, Place, Ram};
 use ados_text::NoMemory;
 use std::alloc::Global;
 
@@ -25,15 +24,15 @@ impl Room {
         })
     }
 
-    /// There is room for one more object in the files.
+    /// There is room for one more object in the files. Their limit counts the root, which is not counted here.
     pub fn has_place(&self) -> bool {
-        self.objects < OBJECTS
+        self.objects < OBJECTS_LIMIT - 1
     }
 
     /// There is room for a file with this many bytes in place of what is there.
     pub fn fits(&self, size_now: usize, old: Option<&Entry>) -> bool {
-        size_now <= FILE_BYTES
-            && size_now <= ALL_BYTES.saturating_sub(self.bytes.saturating_sub(size(old)))
+        size_now <= FILE_LIMIT
+            && size_now <= BYTES_LIMIT.saturating_sub(self.bytes.saturating_sub(size(old)))
     }
 
     /// Something with this many bytes takes the place of what is there.

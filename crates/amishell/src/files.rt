@@ -3,15 +3,12 @@ ghost use Rattle.std.specs.Prelude.{◌≡◌, ◌≤◌, true, IfOk, vec_len};
 ghost use Rattle.ados_session.specs.Hosts.{are_free};
 
 use crate::faults::Fault;
-use ados_session::{FileFault, Recording, read_hosts, read_recording};
+use ados_session::{FileFault, HOSTS_BYTES, Recording, read_hosts, read_recording};
 use ados_world::HostEntry;
 use std::alloc::Global;
 use std::io::Read;
 use std::rt::Files;
 use std::{fs, io};
-
-// How many bytes a file of hosts may have.
-const HOSTS_BYTES: usize = 65_536;
 
 // How many bytes a recording may have.
 const RECORDING_BYTES: usize = 1_048_576;

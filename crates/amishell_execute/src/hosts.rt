@@ -2,7 +2,7 @@
 
 use crate::faults::{Fault, bad_host, cannot_read};
 use crate::request::Options;
-use ados_session::{FileFault, read_hosts};
+use ados_session::{FileFault, HOSTS_BYTES, read_hosts};
 use ados_text::Text;
 use ados_transfer::{BRING, ascii, bytes_of, last_piece, step_into};
 use ados_world::{HostEntry, NewFault, hosts_fault};
@@ -10,9 +10,6 @@ use std::alloc::Global;
 use std::io::ErrorKind;
 use std::rt::{Env, Files};
 use std::{env, fs};
-
-// How many bytes a file of hosts may have.
-const HOSTS_BYTES: usize = 65_536;
 
 // The variable of the environment that names a file of hosts.
 const VARIABLE: &str = "AMISHELL_HOSTS";

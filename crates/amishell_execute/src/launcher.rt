@@ -5,14 +5,11 @@ ghost use Rattle.ados_machine.specs.Children.{answers_start, answers_read, answe
 use ados_launch::Launcher;
 use ados_launcher::{Log, Programs, StartFolder};
 use ados_machine::{Answer, Job};
-use ados_text::{NoMemory, Octets};
+use ados_text::{NoMemory, Octets, PIECE_BYTES};
 use ados_transfer::{BRING, Content, Told};
 use std::alloc::Global;
 use std::marker::Model;
 use std::process::Processes;
-
-// The longest piece of an output.
-const PIECE_BYTES: usize = 4096;
 
 /// A launcher whose command `amishell-bring` puts out the files one by one, and which starts real programs for all others.
 #[derive(Drop)]
