@@ -7,7 +7,7 @@ use Rattle.std.specs.List.{prefix_len, list_all}
 use Rattle.ados_text.specs.Text.{to_ascii, IsText, Bytes}
 use Rattle.ados_items.specs.declared.items.Item.TheVariants.{Word, Quoted}
 use Rattle.ados_items.specs.Items.{is_blank, is_word_byte, closing_place, quoted_item, item_by_first, item_at, escape_of, unescaped_bytes, bytes_between, value_of}
-use Rattle.ados_transfer.specs.Words.{equal_signs, has_plain_ends, quoted_body, is_bare, is_plain, is_starred, quoted_word, word_of, IsApart, ReadsAs, end_of}
+use Rattle.ados_transfer.specs.Words.{equal_signs, has_plain_ends, quoted_body, needs_no_quotes, is_plain, needs_star, quoted_word, word_of, IsApart, ReadsAs, end_of}
 
 -- the closing quote is the one after the text
 closing-inside : (t : Bytes) (place : ℕ) (after : Bytes) → closing_place place false (quoted_body t ++ 34 ∷ after) ≡ Some (place + length (quoted_body t))
@@ -17,7 +17,7 @@ closing-inside (c ∷ cs) place after =
     let starred : (x : ℕ) → P (42 ∷ x ∷ []) = λ x. closing-inside cs (place + 1 + 1) after ∙ ap Some (omega arith) in
     cond_both (c == 10) _ _ P (λ _. starred 78) (λ _.
     cond_both (c == 27) _ _ P (λ _. starred 69) (λ _.
-    cond_both (is_starred c) _ _ P (λ _. starred c) (λ plain.
+    cond_both (needs_star c) _ _ P (λ _. starred c) (λ plain.
     let e34 : (c == 34) ≡ false = grind (arith, nat_tests) in
     let e42 : (c == 42) ≡ false = grind (arith, nat_tests) in
     rw (e34, e42) (closing-inside cs (place + 1) after ∙ ap Some (omega arith)))))
@@ -31,7 +31,7 @@ unescaped-inside (c ∷ cs) =
     let starred : (x : ℕ) → escape_of x ≡ c → P (42 ∷ x ∷ []) = λ x e. cc in
     cond_both (c == 10) _ _ P (λ e. starred 78 (grind (arith, nat_tests))) (λ _.
     cond_both (c == 27) _ _ P (λ e. starred 69 (grind (arith, nat_tests))) (λ _.
-    cond_both (is_starred c) _ _ P (λ e. starred c (grind (arith, nat_tests))) (λ plain.
+    cond_both (needs_star c) _ _ P (λ e. starred c (grind (arith, nat_tests))) (λ plain.
     let e42 : (c == 42) ≡ false = grind (arith, nat_tests) in
     rw e42 (ap (λ xs. c ∷ xs) rest))))
 
@@ -131,7 +131,7 @@ bare-item before c cs after line e plain apart =
     ∙ ap (item_by_first false (length before + 1)) next ∙ word
     ∙ ap (λ n. Word (length before + 1) (length before + 1 + n)) (plain-run (c ∷ cs) after plain apart)
 
-bare-reads : (before t after : Bytes) → IsText t → is_bare t ≡ true → IsApart after
+bare-reads : (before t after : Bytes) → IsText t → needs_no_quotes t ≡ true → IsApart after
     → ReadsAs false ((before ++ 32 ∷ t) ++ after) (length before) (length (before ++ 32 ∷ t)) t
 bare-reads before [] after text bare apart = absurd cc
 bare-reads before (c ∷ cs) after text bare apart =
@@ -153,8 +153,8 @@ bare-reads before (c ∷ cs) after text bare apart =
 word-reads : (quotes : Bool) (before t after : Bytes) → IsText t → IsApart after
     → ReadsAs false ((before ++ 32 ∷ word_of quotes t) ++ after) (length before) (length (before ++ 32 ∷ word_of quotes t)) t
 word-reads quotes before t after text apart =
-    cond_both (not quotes && is_bare t) t (quoted_word t) (λ w. ReadsAs false ((before ++ 32 ∷ w) ++ after) (length before) (length (before ++ 32 ∷ w)) t)
-    (λ e. bare-reads before t after text (both-right (not quotes) (is_bare t) e) apart) (λ _. quoted-reads false before t after text)
+    cond_both (not quotes && needs_no_quotes t) t (quoted_word t) (λ w. ReadsAs false ((before ++ 32 ∷ w) ++ after) (length before) (length (before ++ 32 ∷ w)) t)
+    (λ e. bare-reads before t after text (both-right (not quotes) (needs_no_quotes t) e) apart) (λ _. quoted-reads false before t after text)
 
 -- a line to which a blank and a word were appended
 put-after : (quotes : Bool) (before middle t line : Bytes) → middle ≡ before ++ 32 ∷ [] → line ≡ middle ++ word_of quotes t

@@ -6,9 +6,9 @@ use Rattle.ados_ram.specs.declared.entries.Body.{Body}
 use Rattle.ados_ram.specs.declared.entries.Body.TheVariants.{Directory, File}
 
 -- the first one noted stays
-abbrev pub first : Option Bytes → Bytes → Option Bytes
-first None path = Some path
-first (Some old) path = Some old
+abbrev pub first_path : Option Bytes → Bytes → Option Bytes
+first_path None path = Some path
+first_path (Some old) path = Some old
 
 -- the bytes of a file, as one more of those that are not written
 abbrev pub with_bytes_of : List Bytes → Body → List Bytes

@@ -1,8 +1,8 @@
 pub mod Words
-pub mod Told
+pub mod Planned
 pub mod LeftOut
 pub mod Mirror
 pub mod Paths
 pub mod StandIns
 pub mod Account
-pub mod Looked
+pub mod Here

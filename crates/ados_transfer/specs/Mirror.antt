@@ -5,10 +5,10 @@ use Rattle.ados_transfer.specs.declared.stamps.Time.{Time}
 use Rattle.ados_transfer.specs.declared.stamps.Stamp.{Stamp}
 use Rattle.ados_transfer.specs.declared.decision.State.{State}
 use Rattle.ados_transfer.specs.declared.decision.State.TheVariants.{Absent, Directory, File, Large, Foreign}
-use Rattle.ados_transfer.specs.declared.decision.Deed.{Deed}
-use Rattle.ados_transfer.specs.declared.decision.Deed.TheVariants.{Keep, Bring, Write, Stand}
+use Rattle.ados_transfer.specs.declared.decision.Decision.{Decision}
+use Rattle.ados_transfer.specs.declared.decision.Decision.TheVariants.{Keep, Bring, Write, Conflict}
 use Rattle.ados_transfer.specs.declared.decision.Removal.{Removal}
-use Rattle.ados_transfer.specs.declared.decision.Removal.TheVariants.{Forget, Delete, Hold, Leave, Stand as Stays}
+use Rattle.ados_transfer.specs.declared.decision.Removal.TheVariants.{Forget, Delete, Hold, Leave, Conflict as Stays}
 
 -- the two are the same time
 abbrev pub is_same_time : Time → Time → Bool
@@ -41,28 +41,28 @@ is_large _ = false
 -- What this machine has, `here`, may be replaced by what the Shell has: it is nothing, or what it was at the last time. A file
 -- that the Shell can't hold is only deleted, if that is allowed; what is neither a file nor a directory is not touched.
 abbrev pub may_write : State → State → State → Bool → Bool
-may_write last Absent there leave = true
-may_write last Directory there leave = is_same Directory last
-may_write last (File bytes) there leave = is_same (File bytes) last
-may_write last (Large stamp) there leave = is_same (Large stamp) last && (is_absent there && leave)
-may_write last Foreign there leave = false
+may_write last Absent there may_delete = true
+may_write last Directory there may_delete = is_same Directory last
+may_write last (File bytes) there may_delete = is_same (File bytes) last
+may_write last (Large stamp) there may_delete = is_same (Large stamp) last && (is_absent there && may_delete)
+may_write last Foreign there may_delete = false
 
 -- what is done: nothing if both sides are alike; otherwise the changed one goes to the other side, and this machine's object
 -- stays if both changed
-abbrev pub decision : State → State → State → Bool → Deed
-decision last here there leave =
+abbrev pub decision : State → State → State → Bool → Decision
+decision last here there may_delete =
     if is_same here there then Keep else
     (if is_same there last then Bring else
-    (if may_write last here there leave then Write else Stand))
+    (if may_write last here there may_delete then Write else Conflict))
 
 -- what becomes of this machine's object after what is done with it is known: it is deleted in place of being written over, unless
 -- it is gone, or something that the Shell holds is not written
-abbrev pub removal_of : Deed → Bool → Bool → Removal
-removal_of Keep gone owing = if gone then Forget else Leave
-removal_of Bring gone owing = Leave
-removal_of Write gone owing = if gone then Forget else (if owing then Hold else Delete)
-removal_of Stand gone owing = Stays
+abbrev pub removal_of : Decision → Bool → Bool → Removal
+removal_of Keep gone has_unwritten = if gone then Forget else Leave
+removal_of Bring gone has_unwritten = Leave
+removal_of Write gone has_unwritten = if gone then Forget else (if has_unwritten then Hold else Delete)
+removal_of Conflict gone has_unwritten = Stays
 
 -- what becomes of this machine's object if the Shell's is gone or of another kind
 abbrev pub removal : State → State → State → Bool → Bool → Removal
-removal last here there leave owing = removal_of (decision last here there leave) (is_absent here) owing
+removal last here there may_delete has_unwritten = removal_of (decision last here there may_delete) (is_absent here) has_unwritten

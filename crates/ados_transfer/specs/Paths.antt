@@ -9,8 +9,8 @@ abbrev pub is_step : Bytes → Bool
 is_step name = not (bytes_eq name []) && (not (bytes_eq name (codes ".")) && (not (bytes_eq name (codes "..")) && not (list_any (λ b. b == 47) name)))
 
 -- The name is not shared: it begins with a dot, unless all names are shared, it is that of a temporary file, or it leads elsewhere.
-abbrev pub is_left_out : Bytes → Bool → Bool
-is_left_out name all =
+abbrev pub is_unshared : Bytes → Bool → Bool
+is_unshared name all =
     (starts_with ◌==◌ name (codes ".") && not all) || (starts_with ◌==◌ name (codes ".amishell-execute.") || (bytes_eq name (codes ".") || bytes_eq name (codes "..")))
 
 -- what stands between a folder and a name in it

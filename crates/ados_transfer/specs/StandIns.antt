@@ -14,13 +14,13 @@ abbrev pub is_stand_in : Entry → Bool
 is_stand_in entry = is_empty entry && ends_with ◌==◌ entry.comment (codes " bytes, on this machine alone")
 
 -- what the Shell holds itself: a stand-in is nothing
-abbrev pub own : Option Entry → Option Entry
-own None = None
-own (Some entry) = if is_stand_in entry then None else Some entry
+abbrev pub own_entry : Option Entry → Option Entry
+own_entry None = None
+own_entry (Some entry) = if is_stand_in entry then None else Some entry
 
 -- what was seen of an empty file after one more look: whether it has bit d, whether it ever had bit r, and whether it was away
-abbrev pub watched : Watch → Option Entry → Watch
-watched watch None = record watch { was_away = true }
-watched watch (Some entry) =
+abbrev pub next_watch : Watch → Option Entry → Watch
+next_watch watch None = record watch { was_away = true }
+next_watch watch (Some entry) =
     if is_empty entry then record watch { had_delete = entry.bits.delete; is_spared = watch.is_spared || entry.bits.read }
     else record watch { was_away = true }

@@ -7,15 +7,15 @@ use Rattle.ados_items.specs.declared.items.Item.TheVariants.{Word, Quoted, Equal
 use Rattle.ados_items.specs.Items.{is_blank, item_at, value_of}
 
 -- the byte has a special meaning inside quotes: a quote, a star, the sign of a variable, a back-tick
-abbrev pub is_starred : ℕ → Bool
-is_starred c = c == 34 || (c == 42 || (c == 36 || c == 96))
+abbrev pub needs_star : ℕ → Bool
+needs_star c = c == 34 || (c == 42 || (c == 36 || c == 96))
 
 -- a byte as it is written inside quotes: a newline and the byte 27 are written as letters
 abbrev pub escaped_byte : ℕ → Bytes
 escaped_byte c =
     if c == 10 then 42 ∷ 78 ∷ [] else
     (if c == 27 then 42 ∷ 69 ∷ [] else
-    (if is_starred c then 42 ∷ c ∷ [] else c ∷ []))
+    (if needs_star c then 42 ∷ c ∷ [] else c ∷ []))
 
 -- a text as it is written inside quotes
 abbrev pub quoted_body : Text → Bytes
@@ -51,12 +51,12 @@ abbrev pub equal_signs : Text → ℕ
 equal_signs text = length (filter (λ b. b == 61) text)
 
 -- The text stands for itself outside quotes, and may be the name of an option there, or set one by `=`.
-abbrev pub is_bare : Text → Bool
-is_bare text = has_plain_ends text && (list_all is_plain text && nat_lt (equal_signs text) 2)
+abbrev pub needs_no_quotes : Text → Bool
+needs_no_quotes text = has_plain_ends text && (list_all is_plain text && nat_lt (equal_signs text) 2)
 
 -- a text as a word of a typed line; `quotes` says that it is quoted in any case
 abbrev pub word_of : Bool → Text → Bytes
-word_of quotes text = if not quotes && is_bare text then text else quoted_word text
+word_of quotes text = if not quotes && needs_no_quotes text then text else quoted_word text
 
 -- nothing, or a blank
 abbrev pub IsApart : Bytes → Type 0

@@ -2,7 +2,7 @@
 ghost use Rattle.std.specs.Prelude.{◌≡◌, ◌++◌, ◌∷◌, [], OnOk, string_bytes};
 ghost use Rattle.std.specs.List.{list_any};
 ghost use Rattle.std.specs.Option.{option_map, is_some};
-ghost use Rattle.ados_transfer.specs.Account.{first, is_in_unwritten, is_within, with_bytes_of};
+ghost use Rattle.ados_transfer.specs.Account.{first_path, is_in_unwritten, is_within, with_bytes_of};
 
 use crate::faults::TransferFault;
 use crate::records::Record;
@@ -51,7 +51,7 @@ impl Account {
     }
 
     /// Something that the Shell holds is not written: nothing is to be deleted.
-    pub fn is_owing(&self) -> bool
+    pub fn has_unwritten(&self) -> bool
         ensures { result ≡ is_some self.now.unwritten }
     {
         self.unwritten.is_some()
@@ -66,7 +66,7 @@ impl Account {
 
     /// Notes that the Shell holds an object which is not written.
     pub fn owe(&mut self, path: &str) -> Result<(), TransferFault>
-        ensures unwritten { OnOk result (option_map string_bytes self.new.unwritten ≡ first (option_map string_bytes self.old.unwritten) path.now) }
+        ensures unwritten { OnOk result (option_map string_bytes self.new.unwritten ≡ first_path (option_map string_bytes self.old.unwritten) path.now) }
         ensures rest { self.new ≡ record self.old { unwritten = self.new.unwritten } }
     {
         if self.unwritten.is_none() {
@@ -77,7 +77,7 @@ impl Account {
 
     /// Notes that the Shell holds this entry, which is not written.
     pub fn owe_entry(&mut self, path: &str, entry: &Entry) -> Result<(), TransferFault>
-        ensures unwritten { OnOk result (option_map string_bytes self.new.unwritten ≡ first (option_map string_bytes self.old.unwritten) path.now) }
+        ensures unwritten { OnOk result (option_map string_bytes self.new.unwritten ≡ first_path (option_map string_bytes self.old.unwritten) path.now) }
         ensures bytes { OnOk result (self.new.bytes.items ≡ with_bytes_of self.old.bytes.items entry.now.body) }
         ensures rest { self.new ≡ record self.old { unwritten = self.new.unwritten; bytes = self.new.bytes } }
     {
@@ -96,7 +96,7 @@ impl Account {
 
     /// Notes that an object is not deleted.
     pub fn hold(&mut self, path: &str) -> Result<(), TransferFault>
-        ensures held { OnOk result (option_map string_bytes self.new.held ≡ first (option_map string_bytes self.old.held) path.now) }
+        ensures held { OnOk result (option_map string_bytes self.new.held ≡ first_path (option_map string_bytes self.old.held) path.now) }
         ensures rest { self.new ≡ record self.old { held = self.new.held; more = self.new.more } }
     {
         if self.held.is_none() {

@@ -253,7 +253,7 @@ fn last_of(arrival: &Arrival, entry: Option<&Entry>) -> Result<Option<Last>, Tra
     match (&arrival.coming, &entry.body) {
         (Coming::Directory, Body::Directory) => Ok(Some(Last::Directory)),
         (Coming::StandIn, _) if is_stand_in(entry) => Ok(Some(Last::StandIn)),
-        (Coming::File(told), Body::File(bytes)) if bytes.as_bytes() == told.as_bytes() => {
+        (Coming::File(planned), Body::File(bytes)) if bytes.as_bytes() == planned.as_bytes() => {
             Ok(Some(Last::File(bytes.clone()?)))
         }
         _ => Ok(None),

@@ -2,7 +2,7 @@
 
 use crate::arrival_plan::ArrivalPlan;
 use crate::arrivals::{Arrival, Change, Coming};
-use crate::decision::{Deed, State, decide};
+use crate::decision::{Decision, State, decide};
 use crate::faults::TransferFault;
 use crate::folders::{Kind, Seen};
 use crate::here::Here;
@@ -35,23 +35,23 @@ impl Mirror {
         let place = record.place.copy()?;
         let entry = plan.look(key, &place);
         let state = here.state(Some(record));
-        let deed = decide(&record.state(), &state, &record.state_there(entry), false);
+        let decision = decide(&record.state(), &state, &record.state_there(entry), false);
         let (is_absent, is_foreign) = (state.is_absent(), matches!(state, State::Foreign));
         let gone = (key, record.path.as_str());
         let arrival = Arrival::new(self.alloc, gone, Coming::Nothing, Stamp::NONE)?;
-        if deed == Deed::Stand {
+        if decision == Decision::Conflict {
             self.tell_standing(key, arrival.path.as_str(), false)?;
             self.overrule(arrival.path.as_str(), entry.is_some() && !is_foreign)?;
         }
-        let is_forgotten = match (deed, entry) {
-            (Deed::Stand, _) if is_foreign => false,
-            (Deed::Stand | Deed::Bring, Some(entry)) => {
+        let is_forgotten = match (decision, entry) {
+            (Decision::Conflict, _) if is_foreign => false,
+            (Decision::Conflict | Decision::Bring, Some(entry)) => {
                 plan.add_deletion(self, arrival, &place, entry)?;
                 !plan.deletes(key)
             }
-            (Deed::Keep, _) => true,
+            (Decision::Keep, _) => true,
             // What the Shell changed is new there: it is written again.
-            (Deed::Write, Some(_)) => !self.is_failing(key),
+            (Decision::Write, Some(_)) => !self.is_failing(key),
             _ => false,
         };
         if is_absent && is_forgotten {
@@ -100,15 +100,15 @@ impl Mirror {
             return Ok(());
         }
         let is_stand_in = record.is_some_and(Record::is_stand_in);
-        match here.deed(record, entry) {
-            Deed::Keep => self.keep_alike(plan, seen, &here, entry),
-            Deed::Write => self.keep_marks(plan, seen, &here),
-            Deed::Stand => {
+        match here.decision(record, entry) {
+            Decision::Keep => self.keep_alike(plan, seen, &here, entry),
+            Decision::Write => self.keep_marks(plan, seen, &here),
+            Decision::Conflict => {
                 self.tell_standing(key, seen.path.as_str(), is_stand_in)?;
                 self.overrule(seen.path.as_str(), entry.is_some())?;
                 plan.add_object(self, seen, here, &place)
             }
-            Deed::Bring => plan.add_object(self, seen, here, &place),
+            Decision::Bring => plan.add_object(self, seen, here, &place),
         }
     }
 

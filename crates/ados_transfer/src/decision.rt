@@ -21,7 +21,7 @@ pub enum State<'a> {
 
 /// What is done with an object.
 #[derive(Clone, Copy, PartialEq, Eq)]
-pub enum Deed {
+pub enum Decision {
     /// Nothing: both sides are alike.
     Keep,
     /// What this machine has is copied into the Shell's files, if nothing changed since.
@@ -29,7 +29,7 @@ pub enum Deed {
     /// What the Shell has is written to this machine, or deleted there.
     Write,
     /// Both sides changed, or this machine's object is not to be touched: the one on this machine stays.
-    Stand,
+    Conflict,
 }
 
 /// What becomes of this machine's object if the Shell no longer has it, or has another kind of object in its place.
@@ -42,7 +42,7 @@ pub enum Removal {
     /// It would be deleted, but something that the Shell holds is not written yet: its bytes may have been moved there.
     Hold,
     /// It changed, or is not to be touched: it stays.
-    Stand,
+    Conflict,
     /// Nothing: the Shell has what it had.
     Leave,
 }
@@ -72,59 +72,59 @@ impl State<'_> {
 
 /// What is done with an object, given what it was at the last time and what this machine and the Shell have now; `may_delete`
 /// says that a file which the Shell can't hold may be deleted.
-pub fn decide(last: &State<'_>, here: &State<'_>, there: &State<'_>, may_delete: bool) -> Deed
-    ensures deed { result ≡ decision last.now here.now there.now may_delete }
+pub fn decide(last: &State<'_>, here: &State<'_>, there: &State<'_>, may_delete: bool) -> Decision
+    ensures decision { result ≡ decision last.now here.now there.now may_delete }
     // Nothing is overwritten or deleted on this machine unless it is what was there at the last time.
-    ensures safe { result ≡ Deed.Write → (is_absent here.now ≡ true) ⊎ (is_same here.now last.now ≡ true) }
+    ensures safe { result ≡ Decision.Write → (is_absent here.now ≡ true) ⊎ (is_same here.now last.now ≡ true) }
     // A file that the Shell can't hold is never written, and is deleted only if that is allowed.
-    ensures large { result ≡ Deed.Write → is_large here.now ≡ true → (is_absent there.now ≡ true) × (may_delete ≡ true) }
+    ensures large { result ≡ Decision.Write → is_large here.now ≡ true → (is_absent there.now ≡ true) × (may_delete ≡ true) }
     // If neither changed nothing is done.
-    ensures kept { is_same here.now last.now ≡ true → is_same there.now last.now ≡ true → result ≡ Deed.Keep }
+    ensures kept { is_same here.now last.now ≡ true → is_same there.now last.now ≡ true → result ≡ Decision.Keep }
     // If both changed this machine's object stays.
     ensures stands { is_same here.now last.now ≡ false → is_same there.now last.now ≡ false → is_same here.now there.now ≡ false →
-        is_absent here.now ≡ false → result ≡ Deed.Stand }
+        is_absent here.now ≡ false → result ≡ Decision.Conflict }
     // The Shell's own change is never overwritten.
-    ensures brought { result ≡ Deed.Bring → is_same there.now last.now ≡ true }
+    ensures brought { result ≡ Decision.Bring → is_same there.now last.now ≡ true }
 {
     if here.is_same(there) {
-        return Deed::Keep;
+        return Decision::Keep;
     }
     if there.is_same(last) {
-        return Deed::Bring;
+        return Decision::Bring;
     }
     if may_write(last, here, there, may_delete) {
-        Deed::Write
+        Decision::Write
     } else {
-        Deed::Stand
+        Decision::Conflict
     }
 }
 
-/// What becomes of this machine's object if the Shell's is gone or of another kind; `is_owing` says that something which the Shell
+/// What becomes of this machine's object if the Shell's is gone or of another kind; `has_unwritten` says that something which the Shell
 /// holds is not written.
 pub fn decide_removal(
     last: &State<'_>,
     here: &State<'_>,
     there: &State<'_>,
     may_delete: bool,
-    is_owing: bool,
+    has_unwritten: bool,
 ) -> Removal
     // Nothing is deleted while anything that the Shell holds is unwritten.
-    ensures owed { result ≡ Removal.Delete → is_owing ≡ false }
+    ensures owed { result ≡ Removal.Delete → has_unwritten ≡ false }
     // What is deleted is there, and is what was there at the last time.
     ensures safe { result ≡ Removal.Delete → (is_absent here.now ≡ false) × (is_same here.now last.now ≡ true) }
     // A file that the Shell can't hold is deleted only if the Shell's is gone, and if that is allowed.
     ensures large { result ≡ Removal.Delete → is_large here.now ≡ true → (is_absent there.now ≡ true) × (may_delete ≡ true) }
-    ensures removal { result ≡ removal last.now here.now there.now may_delete is_owing }
+    ensures removal { result ≡ removal last.now here.now there.now may_delete has_unwritten }
 {
     match decide(last, here, there, may_delete) {
-        Deed::Keep => forget_if(here.is_absent()),
-        Deed::Bring => Removal::Leave,
-        Deed::Stand => Removal::Stand,
-        Deed::Write => {
+        Decision::Keep => forget_if(here.is_absent()),
+        Decision::Bring => Removal::Leave,
+        Decision::Conflict => Removal::Conflict,
+        Decision::Write => {
             if here.is_absent() {
                 return Removal::Forget;
             }
-            if is_owing {
+            if has_unwritten {
                 Removal::Hold
             } else {
                 Removal::Delete

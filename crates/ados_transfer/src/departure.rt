@@ -3,7 +3,7 @@ ghost use Rattle.std.specs.Prelude.{IfOk, string_bytes};
 ghost use Rattle.ados_transfer.specs.Paths.{IsBelow};
 
 use crate::faults::TransferFault;
-use crate::folders::{is_below, is_left_out};
+use crate::folders::{is_below, is_unshared};
 use crate::here::Here;
 use crate::paths::step_into;
 use crate::placing::{Draft, place_whole};
@@ -61,7 +61,7 @@ impl<'a> Departure<'a> {
 
 /// A key is left out: a name in it is left out.
 pub fn is_key_left_out(key: &str, all: bool) -> bool {
-    key.split('/').any(|name| is_left_out(name, all))
+    key.split('/').any(|name| is_unshared(name, all))
 }
 
 /// Writes an object to this machine in place of what was looked at, and gives its new marks; nothing if something else came to be

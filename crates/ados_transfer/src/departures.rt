@@ -4,7 +4,7 @@ use crate::account::Account;
 use crate::departure::{Departure, is_key_left_out};
 use crate::faults::TransferFault;
 use crate::mirror::Mirror;
-use crate::stand_ins::own;
+use crate::stand_ins::own_entry;
 use ados_ram::{Entry, Place, Ram};
 use std::rt::Files;
 use std::time::Clock;
@@ -91,7 +91,7 @@ impl Mirror {
                 known = known.saturating_add(1);
             }
             if !record.is_kept(entry) {
-                departures.push(Departure::of(self.alloc, record, own(entry))?)?;
+                departures.push(Departure::of(self.alloc, record, own_entry(entry))?)?;
             }
         }
         let places = files.contents(&self.place)?;
@@ -132,7 +132,8 @@ impl Mirror {
         account: &mut Account,
     ) -> Result<(), TransferFault> {
         for place in places {
-            let (Some(key), Some(entry)) = (self.key_of(place)?, own(files.look(place))) else {
+            let (Some(key), Some(entry)) = (self.key_of(place)?, own_entry(files.look(place)))
+            else {
                 continue;
             };
             if self.records.find(key.as_str()).is_some() {

@@ -1,6 +1,6 @@
 //! What is in the folder of a share.
 ghost use Rattle.std.specs.Prelude.{◌≡◌};
-ghost use Rattle.ados_transfer.specs.Paths.{is_left_out};
+ghost use Rattle.ados_transfer.specs.Paths.{is_unshared};
 
 use crate::choice::{Named, is_chosen, order};
 use crate::faults::{TransferFault, named};
@@ -167,7 +167,7 @@ impl Look {
         let mut names = Vec::new(rt.alloc());
         for entry in fs::read_dir(rt, whole)? {
             match entry {
-                Ok(entry) if is_left_out(entry.file_name(), all) => {}
+                Ok(entry) if is_unshared(entry.file_name(), all) => {}
                 Ok(entry) => names.push(String::from_str(rt.alloc(), entry.file_name())?)?,
                 Err(error) if error.kind() == ErrorKind::InvalidFilename => {
                     let folder = whole.trim_end_matches('/');
@@ -260,8 +260,8 @@ fn kind_of(found: &Metadata) -> Kind {
 }
 
 /// The name is left out: it begins with a dot, is that of a temporary file that is written beside its place, or leads elsewhere.
-pub fn is_left_out(name: &str, all: bool) -> bool
-    ensures { result ≡ is_left_out name.now all }
+pub fn is_unshared(name: &str, all: bool) -> bool
+    ensures { result ≡ is_unshared name.now all }
 {
     let bytes = name.as_bytes();
     (bytes.starts_with(b".") && !all)

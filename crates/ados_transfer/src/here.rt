@@ -1,9 +1,9 @@
 //! What this machine has at the place of one object of a share.
 ghost use Rattle.std.specs.Prelude.{◌≡◌};
-ghost use Rattle.ados_transfer.specs.Looked.{has_marks, marks_of};
+ghost use Rattle.ados_transfer.specs.Here.{has_marks, marks_of};
 
 use crate::bringing::bytes_of;
-use crate::decision::{Deed, State, decide};
+use crate::decision::{Decision, State, decide};
 use crate::faults::TransferFault;
 use crate::paths::step_into;
 use crate::records::{Record, state_there};
@@ -88,7 +88,7 @@ impl Here {
     }
 
     /// What is done with an object for which the Shell has this entry.
-    pub fn deed(&self, record: Option<&Record>, entry: Option<&Entry>) -> Deed {
+    pub fn decision(&self, record: Option<&Record>, entry: Option<&Entry>) -> Decision {
         let state = self.state(record);
         match record {
             Some(record) => decide(

@@ -2,7 +2,7 @@
 
 use crate::faults::{TransferFault, named};
 use crate::paths::ascii;
-use crate::told::{Content, Told};
+use crate::planned::{Content, Planned};
 use crate::words::push_word;
 use ados_ram::Place;
 use ados_text::{LINE_BYTES, NoMemory, PIECE_BYTES, Text};
@@ -24,18 +24,18 @@ pub struct Lines {
 
 impl Lines {
     /// The lines that bring these in, and hide the command that did it.
-    pub fn bringing(alloc: Global, told: &[Told]) -> Result<Lines, TransferFault> {
-        bringing_lines(alloc, told)
+    pub fn bringing(alloc: Global, planned: &[Planned]) -> Result<Lines, TransferFault> {
+        bringing_lines(alloc, planned)
     }
 }
 
-fn bringing_lines(alloc: Global, told: &[Told]) -> Result<Lines, TransferFault> {
+fn bringing_lines(alloc: Global, planned: &[Planned]) -> Result<Lines, TransferFault> {
     let mut lines = Lines {
         all: Vec::new(alloc),
         bringing: 0,
         events: 0,
     };
-    for one in told {
+    for one in planned {
         let path = one.place.path(alloc)?;
         match &one.content {
             Content::Directory => lines.add(

@@ -38,7 +38,7 @@ pub struct Mirror {
     pub(crate) has_stand_ins: bool,
     // The lines that are to be reported, and those that are reported only once in a run.
     lines: Vec<String>,
-    told: Keys,
+    reported: Keys,
     // The keys of those for which this machine's object stays, and of those that could not be written or brought in.
     standing: Keys,
     failing: Keys,
@@ -88,7 +88,7 @@ impl Mirror {
             records: Records::new(alloc),
             has_stand_ins: false,
             lines: Vec::new(alloc),
-            told: Keys::new(alloc),
+            reported: Keys::new(alloc),
             standing: Keys::new(alloc),
             failing: Keys::new(alloc),
             unread: Keys::new(alloc),
@@ -171,7 +171,7 @@ impl Mirror {
 
     // Reports a line once in a run.
     pub(crate) fn tell_line(&mut self, line: String) -> Result<(), TransferFault> {
-        if self.told.add(line.as_str())? {
+        if self.reported.add(line.as_str())? {
             self.lines.push(line)?;
         }
         Ok(())

@@ -1,8 +1,8 @@
 //! What is to be brought in: files and directories, within the limits of the Shell's files.
 
 use crate::faults::{TransferFault, named};
+use crate::planned::{Content, Planned};
 use crate::room::Room;
-use crate::told::{Content, Told};
 use ados_names::PATH_LIMIT;
 use ados_ram::{FILE_LIMIT, Place, Ram};
 use ados_text::Octets;
@@ -12,7 +12,7 @@ use std::alloc::Global;
 #[derive(Drop)]
 pub struct Plan {
     alloc: Global,
-    told: Vec<Told>,
+    planned: Vec<Planned>,
     room: Room,
 }
 
@@ -21,21 +21,21 @@ impl Plan {
     pub fn new(alloc: Global, files: &Ram) -> Result<Plan, TransferFault> {
         Ok(Plan {
             alloc,
-            told: Vec::new(alloc),
+            planned: Vec::new(alloc),
             room: Room::new(alloc, files)?,
         })
     }
 
     /// What is to be brought in.
-    pub fn told(&self) -> &[Told] {
-        self.told.as_slice()
+    pub fn planned(&self) -> &[Planned] {
+        self.planned.as_slice()
     }
 
     /// The bytes of the file that was added last; none after a directory.
     pub fn last_bytes(&self) -> &[u8] {
-        match self.told.last() {
+        match self.planned.last() {
             Some(
-                Told {
+                Planned {
                     content: Content::File { bytes, .. },
                     ..
                 },
@@ -89,8 +89,8 @@ impl Plan {
         if let Some(entry) = files.look(place) {
             return Some(entry.is_directory());
         }
-        let told = self.told.iter().find(|told| told.place == *place)?;
-        Some(matches!(told.content, Content::Directory))
+        let planned = self.planned.iter().find(|planned| planned.place == *place)?;
+        Some(matches!(planned.content, Content::Directory))
     }
 
     fn add(&mut self, place: Place, content: Content, path: &str) -> Result<(), TransferFault> {
@@ -108,7 +108,7 @@ impl Plan {
             return Err(named(self.alloc, path, TransferFault::ManyObjects));
         }
         self.room.put(size, None);
-        self.told.push(Told { place, content })?;
+        self.planned.push(Planned { place, content })?;
         Ok(())
     }
 }

@@ -2,11 +2,11 @@
 ghost use Rattle.std.specs.Prelude.{◌≡◌, ◌<◌, ◌≤◌, length, not, MatchResult};
 ghost use Rattle.std.specs.Option.{is_some, option_copied};
 ghost use Rattle.ados_transfer.specs.Mirror.{is_absent};
-ghost use Rattle.ados_transfer.specs.StandIns.{own};
+ghost use Rattle.ados_transfer.specs.StandIns.{own_entry};
 
 use crate::decision::State;
 use crate::stamps::Stamp;
-use crate::stand_ins::{Watch, is_stand_in, own};
+use crate::stand_ins::{Watch, is_stand_in, own_entry};
 use ados_ram::{Body, Entry, FileBytes, Place, Ram};
 use ados_text::NoMemory;
 use std::alloc::Global;
@@ -102,9 +102,9 @@ impl Record {
 
 /// What the Shell has at a place if nothing was there before; a stand-in that was moved there counts as nothing.
 pub fn state_there(entry: Option<&Entry>) -> State<'_>
-    ensures { is_absent result ≡ not (is_some (own (option_copied entry.entry))) }
+    ensures { is_absent result ≡ not (is_some (own_entry (option_copied entry.entry))) }
 {
-    match own(entry) {
+    match own_entry(entry) {
         None => State::Absent,
         Some(entry) if entry.is_directory() => State::Directory,
         Some(entry) => State::File(entry.bytes()),

@@ -36,7 +36,7 @@ impl Mirror {
             &here.state(Some(record)),
             &record.state_there(departure.entry),
             record.watch.may_delete(),
-            account.is_owing(),
+            account.has_unwritten(),
         );
         match removal {
             Removal::Forget => {
@@ -49,7 +49,7 @@ impl Mirror {
                 self.forget(key);
                 account.hold(path)
             }
-            Removal::Stand => {
+            Removal::Conflict => {
                 owe_at_turn(departure, account)?;
                 self.not_touched(departure, &here, "cannot delete", is_large)
             }
@@ -145,7 +145,7 @@ impl Mirror {
         account: &mut Account,
     ) -> Result<(), TransferFault> {
         let aside = account.take_aside();
-        if account.is_owing() {
+        if account.has_unwritten() {
             return self.put_all_back(rt, aside);
         }
         for one in &aside {

@@ -1,7 +1,7 @@
 //! Stand-ins: empty files of the Shell in place of files of this machine that it can't hold.
 ghost use Rattle.std.specs.Prelude.{◌≡◌, ◌&&◌, true, not};
 ghost use Rattle.std.specs.Option.{option_copied};
-ghost use Rattle.ados_transfer.specs.StandIns.{is_empty, is_stand_in, own, watched};
+ghost use Rattle.ados_transfer.specs.StandIns.{is_empty, is_stand_in, own_entry, next_watch};
 
 use crate::faults::TransferFault;
 use crate::mirror::Mirror;
@@ -21,8 +21,8 @@ pub fn is_stand_in(entry: &Entry) -> bool
 }
 
 /// What the Shell holds itself: a stand-in counts as nothing, and so is never written to this machine.
-pub fn own(entry: Option<&Entry>) -> Option<&Entry>
-    ensures { option_copied result ≡ own (option_copied entry.entry) }
+pub fn own_entry(entry: Option<&Entry>) -> Option<&Entry>
+    ensures { option_copied result ≡ own_entry (option_copied entry.entry) }
 {
     match entry {
         Some(entry) if !is_stand_in(entry) => Some(entry),
@@ -57,7 +57,7 @@ impl Watch {
 
     /// What was seen after a look at what is in its place.
     pub fn after(self, entry: Option<&Entry>) -> Watch
-        ensures { result ≡ watched self (option_copied entry.entry) }
+        ensures { result ≡ next_watch self (option_copied entry.entry) }
     {
         match entry {
             Some(entry) if is_empty(entry) => Watch {

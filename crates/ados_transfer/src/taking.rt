@@ -2,7 +2,7 @@
 
 use crate::faults::{TransferFault, named};
 use crate::paths::{ascii, last_piece};
-use crate::stand_ins::own;
+use crate::stand_ins::own_entry;
 use crate::writing::{checked, enter, no_memory, spelled, write_whole};
 use ados_assign::Assigns;
 use ados_names::Path;
@@ -126,7 +126,7 @@ fn write<R: AllocGlobal + Files>(
     name: &str,
     entry: &Entry,
 ) -> io::Result<()> {
-    let Some(entry) = own(Some(entry)) else {
+    let Some(entry) = own_entry(Some(entry)) else {
         return Err(io::Error::from(ErrorKind::InvalidData));
     };
     write_whole(rt, folder, name, entry.bytes())

@@ -2,7 +2,7 @@
 ghost use Rattle.std.specs.Prelude.{◌≡◌, ◌<◌, ◌++◌, ◌∷◌, [], List, ℕ, Bool, length, map, true, false, IfOk, OnOk, if◌then◌else◌};
 ghost use Rattle.std.specs.List.{list_all};
 ghost use Rattle.ados_text.specs.Text.{IsText};
-ghost use Rattle.ados_transfer.specs.Words.{equal_signs, escaped_byte, has_plain_ends, quoted_body, is_bare, is_first_sign, is_plain, is_starred, quoted_word, word_of, IsApart, ReadsAs};
+ghost use Rattle.ados_transfer.specs.Words.{equal_signs, escaped_byte, has_plain_ends, quoted_body, needs_no_quotes, is_first_sign, is_plain, needs_star, quoted_word, word_of, IsApart, ReadsAs};
 
 use ados_text::{NoMemory, Text};
 
@@ -30,7 +30,7 @@ fn push_written(line: &mut Text, text: &Text, quotes: bool) -> Result<(), NoMemo
     ensures text { IsText text.now }
 {
     let bytes = text.as_bytes();
-    if !quotes && is_bare(bytes) {
+    if !quotes && needs_no_quotes(bytes) {
         line.push_bytes(bytes)
     } else {
         push_quoted(line, bytes)
@@ -73,24 +73,24 @@ fn push_escaped(line: &mut Text, byte: u8) -> Result<(), NoMemory>
 // Adds a byte other than a newline and the byte 27.
 fn push_printed(line: &mut Text, byte: u8) -> Result<(), NoMemory>
     requires { byte < 128 }
-    ensures { OnOk result (line.new ≡ line.old ++ (if is_starred byte then 42 ∷ byte ∷ [] else byte ∷ [])) }
+    ensures { OnOk result (line.new ≡ line.old ++ (if needs_star byte then 42 ∷ byte ∷ [] else byte ∷ [])) }
 {
-    if is_starred(byte) {
+    if needs_star(byte) {
         line.push(b'*')?;
     }
     line.push(byte)
 }
 
 // The byte has a special meaning inside quotes.
-fn is_starred(byte: u8) -> bool
-    ensures { result ≡ is_starred byte }
+fn needs_star(byte: u8) -> bool
+    ensures { result ≡ needs_star byte }
 {
     matches!(byte, b'"' | b'*' | b'$' | b'`')
 }
 
 // The text stands for itself outside quotes.
-fn is_bare(text: &[u8]) -> bool
-    ensures { result ≡ is_bare text.now }
+fn needs_no_quotes(text: &[u8]) -> bool
+    ensures { result ≡ needs_no_quotes text.now }
 {
     has_plain_ends(text) && are_plain(text) && equal_signs(text) < 2
 }

@@ -1,10 +1,10 @@
 //! How an object of the Shell's files is written to the folder of a share.
 ghost use Rattle.std.specs.Prelude.{◌≡◌};
 ghost use Rattle.ados_ram.specs.Entry.{bytes_of};
-ghost use Rattle.ados_transfer.specs.Looked.{is_moved_away};
+ghost use Rattle.ados_transfer.specs.Here.{is_moved_away};
 
 use crate::account::{Account, is_within};
-use crate::decision::Deed;
+use crate::decision::Decision;
 use crate::departure::{Departure, write_entry};
 use crate::faults::TransferFault;
 use crate::here::Here;
@@ -33,7 +33,7 @@ impl Mirror {
         let Some(entry) = departure.entry else {
             return Ok(());
         };
-        if departure.is_at_turn && account.is_owing() {
+        if departure.is_at_turn && account.has_unwritten() {
             return Ok(());
         }
         if departure.is_at_turn && self.options.dry {
@@ -42,18 +42,18 @@ impl Mirror {
         let here = Here::look(rt, self.folder.as_str(), path)?;
         let record = self.records.find(departure.key.as_str());
         let is_large = record.is_some_and(Record::is_stand_in);
-        match here.deed(record, Some(entry)) {
-            Deed::Keep => match here.stamp() {
+        match here.decision(record, Some(entry)) {
+            Decision::Keep => match here.stamp() {
                 Some(stamp) => self.keep_written(rt, departure, entry, stamp),
                 None => Ok(()),
             },
-            Deed::Bring => Ok(()),
-            Deed::Stand => {
+            Decision::Bring => Ok(()),
+            Decision::Conflict => {
                 account.owe_entry(path, entry)?;
                 self.not_touched(departure, &here, "cannot write", is_large)
             }
-            Deed::Write if self.options.dry => self.tell_once("would write", path),
-            Deed::Write => {
+            Decision::Write if self.options.dry => self.tell_once("would write", path),
+            Decision::Write => {
                 let mode = self.mode_of(rt, files, entry, account)?;
                 self.write(rt, departure, &Draft::new(entry, &here, mode), account)
             }

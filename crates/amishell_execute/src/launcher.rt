@@ -6,7 +6,7 @@ use ados_launch::Launcher;
 use ados_launcher::{Log, Programs, StartFolder};
 use ados_machine::{Answer, Job};
 use ados_text::{NoMemory, Octets, PIECE_BYTES};
-use ados_transfer::{BRING, Content, Told};
+use ados_transfer::{BRING, Content, Planned};
 use std::alloc::Global;
 use std::marker::Model;
 use std::process::Processes;
@@ -23,7 +23,7 @@ pub struct Bringer<'a, R: Processes> {
 struct Children<'a, R: Processes> {
     alloc: Global,
     // What is left to be brought in.
-    left: &'a [Told],
+    left: &'a [Planned],
     // What is brought in before that.
     offered: Option<Octets>,
     // What `amishell-bring` has left to put out of a planned file, and its shell.
@@ -71,7 +71,7 @@ impl<'a, R: Processes> Bringer<'a, R> {
     pub fn new(
         alloc: Global,
         processes: &'a R,
-        told: &'a [Told],
+        planned: &'a [Planned],
     ) -> Result<Bringer<'a, R>, NoMemory>
         ensures calls { IfOk result (λ bringer. bringer.calls ≡ []) }
         ensures full { IfOk result (λ bringer. bringer.is_full ≡ false) }
@@ -79,7 +79,7 @@ impl<'a, R: Processes> Bringer<'a, R> {
         Ok(Bringer {
             children: Children {
                 alloc,
-                left: told,
+                left: planned,
                 offered: None,
                 open: None,
                 delivery: None,
@@ -244,10 +244,10 @@ fn how_it_ended(answer: Answer) -> Answer
 }
 
 // The bytes of the first file, and what follows it.
-fn next_file(told: &[Told]) -> Option<(&[u8], &[Told])> {
-    for place in 0..told.len() {
-        if let Content::File { bytes, .. } = &told[place].content {
-            return Some((bytes.as_bytes(), &told[place + 1..]));
+fn next_file(planned: &[Planned]) -> Option<(&[u8], &[Planned])> {
+    for place in 0..planned.len() {
+        if let Content::File { bytes, .. } = &planned[place].content {
+            return Some((bytes.as_bytes(), &planned[place + 1..]));
         }
     }
     None

@@ -131,7 +131,7 @@ fn run_script<R: AllocGlobal + Files + Input + Print + Eprint + Processes + Clon
         rt,
         world,
         &Script {
-            told: plan.told(),
+            planned: plan.planned(),
             lines: &lines,
             turns: options.turns,
         },
@@ -179,7 +179,7 @@ fn lines_for<R: AllocGlobal>(
     plan: &Plan,
     script: &Place,
 ) -> Result<Lines, Fault> {
-    let mut lines = Lines::bringing(rt.alloc(), plan.told())?;
+    let mut lines = Lines::bringing(rt.alloc(), plan.planned())?;
     if let Some(share) = share {
         lines.all.push(share.change_line(rt.alloc())?)?;
     }

@@ -9,7 +9,7 @@ use crate::launcher::Bringer;
 use crate::reader::Prompter;
 use crate::share::Share;
 use ados_launch::{Counted, Drive, DriveFault, End, Session, Sink};
-use ados_transfer::{Lines, Told};
+use ados_transfer::{Lines, Planned};
 use ados_world::World;
 use std::io;
 use std::io::{Eprint, Read};
@@ -21,7 +21,7 @@ use std::time::Clock;
 #[derive(Clone, Copy)]
 pub struct Script<'a> {
     /// What is brought in for it.
-    pub told: &'a [Told],
+    pub planned: &'a [Planned],
     /// The lines that bring it in and call the script.
     pub lines: &'a Lines,
     /// The most events that are taken, besides those that bring it in.
@@ -45,9 +45,9 @@ pub fn play<R: AllocGlobal + Files + Input + Print + Eprint + Processes + Clone 
     let mut run = Run {
         rt,
         turns: script.turns.saturating_add(script.lines.events),
-        launcher: Bringer::new(rt.alloc(), rt, script.told)?,
+        launcher: Bringer::new(rt.alloc(), rt, script.planned)?,
         reader: Prompter::new(
-            script.told,
+            script.planned,
             script.lines.all.as_slice(),
             script.lines.bringing,
             rt.reader(),

@@ -7,7 +7,7 @@ ghost use Rattle.amishell_execute.specs.Prompting.{IsBrought};
 
 use ados_launch::Source;
 use ados_text::Text;
-use ados_transfer::{Told, are_as_told};
+use ados_transfer::{Planned, are_as_planned};
 use ados_world::World;
 use std::io;
 use std::io::{Error, ErrorKind, Read};
@@ -31,7 +31,7 @@ enum Next<'a> {
 /// A reader that looks at the world to choose what it gives.
 #[derive(Drop)]
 pub struct Prompter<'a, I: Read> {
-    told: &'a [Told],
+    planned: &'a [Planned],
     lines: &'a [Text],
     bringing: usize,
     given: usize,
@@ -47,7 +47,7 @@ impl<'a, I: Read> Model for Prompter<'a, I> {
 
     ghost Value = { PrompterView };
 
-    ghost view = { λ p. record { told = p.told.now; bringing = p.bringing; given = p.given; is_ready = p.is_ready; faults = p.faults } };
+    ghost view = { λ p. record { planned = p.planned.now; bringing = p.bringing; given = p.given; is_ready = p.is_ready; faults = p.faults } };
 
     // No line after those that bring in was given before the files were checked.
     ghost invariant = { λ p. p.is_ready ≡ false → p.given ≤ p.bringing };
@@ -55,14 +55,19 @@ impl<'a, I: Read> Model for Prompter<'a, I> {
 
 impl<'a, I: Read> Prompter<'a, I> {
     /// A reader of these lines, of which this many bring these files in, and of this input.
-    pub fn new(told: &'a [Told], lines: &'a [Text], bringing: usize, input: I) -> Prompter<'a, I>
-        ensures told { result.told ≡ told.entry.now }
+    pub fn new(
+        planned: &'a [Planned],
+        lines: &'a [Text],
+        bringing: usize,
+        input: I,
+    ) -> Prompter<'a, I>
+        ensures planned { result.planned ≡ planned.entry.now }
         ensures ready { result.is_ready ≡ false }
         ensures bringing { result.bringing ≡ bringing }
         ensures faults { result.faults ≡ 0 }
     {
         Prompter {
-            told,
+            planned,
             lines,
             bringing,
             given: 0,
@@ -87,9 +92,9 @@ impl<'a, I: Read> Prompter<'a, I> {
     /// otherwise the next prepared line, or the end.
     pub fn choose(&mut self, world: &World)
         // The first line after those that bring in is given only if each file and directory is there as planned.
-        ensures begins { self.old.is_ready ≡ false → self.new.is_ready ≡ true → IsBrought world.now self.old.told }
+        ensures begins { self.old.is_ready ≡ false → self.new.is_ready ≡ true → IsBrought world.now self.old.planned }
         ensures waits { self.new.is_ready ≡ false → self.new.given ≤ self.new.bringing }
-        ensures told { self.new.told ≡ self.old.told }
+        ensures planned { self.new.planned ≡ self.old.planned }
         ensures bringing { self.new.bringing ≡ self.old.bringing }
         ensures faults { self.new.faults ≡ self.old.faults }
     {
@@ -103,9 +108,9 @@ impl<'a, I: Read> Prompter<'a, I> {
 
     // Checks whether the files are as planned, once all lines that bring them in were given.
     fn look(&mut self, world: &World)
-        ensures begins { self.old.is_ready ≡ false → self.new.is_ready ≡ true → IsBrought world.now self.old.told }
+        ensures begins { self.old.is_ready ≡ false → self.new.is_ready ≡ true → IsBrought world.now self.old.planned }
         ensures stays { self.old.is_ready ≡ true → self.new.is_ready ≡ true }
-        ensures told { self.new.told ≡ self.old.told }
+        ensures planned { self.new.planned ≡ self.old.planned }
         ensures bringing { self.new.bringing ≡ self.old.bringing }
         ensures given { self.new.given ≡ self.old.given }
         ensures faults { self.new.faults ≡ self.old.faults }
@@ -113,13 +118,13 @@ impl<'a, I: Read> Prompter<'a, I> {
         if self.is_ready || self.given < self.bringing {
             return;
         }
-        self.is_ready = are_as_told(world.files(), self.told);
+        self.is_ready = are_as_planned(world.files(), self.planned);
     }
 
     // The next prepared line, or the end. A line after those that bring in needs the files.
     fn take_line(&mut self)
         ensures waits { self.new.is_ready ≡ false → self.new.given ≤ self.new.bringing }
-        ensures told { self.new.told ≡ self.old.told }
+        ensures planned { self.new.planned ≡ self.old.planned }
         ensures bringing { self.new.bringing ≡ self.old.bringing }
         ensures ready { self.new.is_ready ≡ self.old.is_ready }
         ensures faults { self.new.faults ≡ self.old.faults }
@@ -140,7 +145,7 @@ impl<'a, I: Read> Prompter<'a, I> {
     // Reads what was chosen.
     fn give(&mut self, buffer: &mut [u8]) -> io::Result<usize>
         ensures bound { ReadsAtMost result buffer.new }
-        ensures told { self.new.told ≡ self.old.told }
+        ensures planned { self.new.planned ≡ self.old.planned }
         ensures bringing { self.new.bringing ≡ self.old.bringing }
         ensures given { self.new.given ≡ self.old.given }
         ensures ready { self.new.is_ready ≡ self.old.is_ready }
@@ -166,7 +171,7 @@ impl<'a, I: Read> Prompter<'a, I> {
     // end of the Shell's input would come before them.
     fn give_input(&mut self, buffer: &mut [u8]) -> io::Result<usize>
         ensures bound { ReadsAtMost result buffer.new }
-        ensures told { self.new.told ≡ self.old.told }
+        ensures planned { self.new.planned ≡ self.old.planned }
         ensures bringing { self.new.bringing ≡ self.old.bringing }
         ensures given { self.new.given ≡ self.old.given }
         ensures ready { self.new.is_ready ≡ self.old.is_ready }

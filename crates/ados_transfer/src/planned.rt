@@ -2,14 +2,14 @@
 ghost use Rattle.std.specs.Prelude.{◌≡◌};
 ghost use Rattle.std.specs.List.{list_all};
 ghost use Rattle.std.specs.Option.{option_copied};
-ghost use Rattle.ados_transfer.specs.Told.{is_as_told, holds_content, holds_file};
+ghost use Rattle.ados_transfer.specs.Planned.{is_as_planned, holds_content, holds_file};
 
 use ados_ram::{Entry, Place, Ram};
 use ados_text::Octets;
 
 /// What is to be at a place.
 #[derive(Drop)]
-pub struct Told {
+pub struct Planned {
     /// Where.
     pub place: Place,
     /// What.
@@ -26,17 +26,17 @@ pub enum Content {
 }
 
 /// Each of them is in the files as planned.
-pub fn are_as_told(files: &Ram, told: &[Told]) -> bool
-    ensures { result ≡ list_all (is_as_told files.now) told.now }
+pub fn are_as_planned(files: &Ram, planned: &[Planned]) -> bool
+    ensures { result ≡ list_all (is_as_planned files.now) planned.now }
 {
-    told.iter().all(|one| is_as_told(files, one))
+    planned.iter().all(|one| is_as_planned(files, one))
 }
 
 // It is in the files as planned.
-fn is_as_told(files: &Ram, told: &Told) -> bool
-    ensures { result ≡ is_as_told files.now told.now }
+fn is_as_planned(files: &Ram, planned: &Planned) -> bool
+    ensures { result ≡ is_as_planned files.now planned.now }
 {
-    holds(files.look(&told.place), &told.content)
+    holds(files.look(&planned.place), &planned.content)
 }
 
 // What is at a place is what was planned.

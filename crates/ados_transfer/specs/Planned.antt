@@ -8,9 +8,9 @@ use Rattle.ados_ram.specs.declared.entries.Entry.{Entry}
 use Rattle.ados_ram.specs.Entry.{is_directory, bytes_of}
 use Rattle.ados_ram.specs.Files.{Files}
 use Rattle.ados_ram.specs.Place.{key_of}
-use Rattle.ados_transfer.specs.declared.told.Content.{Content}
-use Rattle.ados_transfer.specs.declared.told.Content.TheVariants.{Directory, File}
-use Rattle.ados_transfer.specs.declared.told.Told.{Told}
+use Rattle.ados_transfer.specs.declared.planned.Content.{Content}
+use Rattle.ados_transfer.specs.declared.planned.Content.TheVariants.{Directory, File}
+use Rattle.ados_transfer.specs.declared.planned.Planned.{Planned}
 
 -- the entry is a file with these bytes, with bit s or without
 abbrev pub holds_file : Entry → Bytes → Bool → Bool
@@ -23,5 +23,5 @@ holds_content (Some entry) Directory = is_directory entry
 holds_content (Some entry) (File bytes script) = holds_file entry bytes script
 
 -- it is in the files as planned
-abbrev pub is_as_told : Files → Told → Bool
-is_as_told files told = holds_content (map.get files (key_of told.place)) told.content
+abbrev pub is_as_planned : Files → Planned → Bool
+is_as_planned files planned = holds_content (map.get files (key_of planned.place)) planned.content
