@@ -86,9 +86,9 @@ abbrev pub limit_above_frames : List FrameState → Code → Code
 limit_above_frames frames limit = limit_above_scripts (scripts_in frames) limit
 
 -- the line at which the command began; 0 on the console
-abbrev pub line_taken : List FrameState → ℕ
-line_taken [] = 0
-line_taken (frame ∷ frames) = frame.line
+abbrev pub current_line : List FrameState → ℕ
+current_line [] = 0
+current_line (frame ∷ frames) = frame.line
 
 -- the line of a frame's last record, and what it answered: 0, and success, if it has none
 abbrev pub last_line : Option Record → ℕ
@@ -110,7 +110,7 @@ is_early kind last = is_script kind && is_at_limit last
 
 -- the record of a command that began at the newest frame's line
 abbrev pub entry_of : List FrameState → Codes → Code → Record
-entry_of frames answered limit = record { line = line_taken frames; codes = answered; limit = limit }
+entry_of frames answered limit = record { line = current_line frames; codes = answered; limit = limit }
 
 -- a frame with its last record
 abbrev pub answered_frame : FrameState → List FrameState → Codes → Code → FrameState

@@ -81,24 +81,24 @@ order_if_both by_value (Some left) (Some right) = order_of by_value left right
 abbrev pub order_at : List Arg → ℕ → Result Ordering Codes
 order_at args place = order_if_both (is_on args 8) (text_at args 4) (text_at args place)
 
-abbrev pub is_there : SharedState → Result Place Codes → Bool
-is_there shared (Err codes) = false
-is_there shared (Ok place) = is_some (finite.get shared.files (key_of place))
+abbrev pub place_exists : SharedState → Result Place Codes → Bool
+place_exists shared (Err codes) = false
+place_exists shared (Ok place) = is_some (finite.get shared.files (key_of place))
 
 -- a path leads to an object
 abbrev pub exists : SharedState → View → Option Text → Bool
 exists shared view None = false
-exists shared view (Some word) = is_there shared (place_of shared view.parts.directory word)
+exists shared view (Some word) = place_exists shared (place_of shared view.parts.directory word)
 
 -- the last command's code is at a level, or above
-abbrev pub is_at : Code → View → Bool
-is_at level view = is_reached level view.parts.codes.code
+abbrev pub code_reaches : Code → View → Bool
+code_reaches level view = is_reached level view.parts.codes.code
 
 -- a test holds
 abbrev pub holds : SharedState → View → List Arg → Test → Result Bool Codes
-holds shared view args Warn = Ok (is_at WARN view)
-holds shared view args Error = Ok (is_at ERROR view)
-holds shared view args Fail = Ok (is_at FAIL view)
+holds shared view args Warn = Ok (code_reaches WARN view)
+holds shared view args Error = Ok (code_reaches ERROR view)
+holds shared view args Fail = Ok (code_reaches FAIL view)
 holds shared view args Equal = order_result is_equal (order_at args 5)
 holds shared view args Greater = order_result is_greater (order_at args 6)
 holds shared view args GreaterOrEqual = order_result is_not_less (order_at args 7)

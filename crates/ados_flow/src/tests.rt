@@ -6,7 +6,7 @@ ghost use Rattle.ados_text.specs.Text.{folded_text};
 ghost use Rattle.ados_find.specs.Codes.{fail_codes};
 ghost use Rattle.ados_find.specs.Paths.{Gives, place_of};
 ghost use Rattle.ados_readargs.specs.Args.{text_at};
-ghost use Rattle.ados_flow.specs.Tests.{exists, is_at, is_given, is_there, single_test, order_at, order_if_both, order_of, if_test};
+ghost use Rattle.ados_flow.specs.Tests.{exists, code_reaches, is_given, place_exists, single_test, order_at, order_if_both, order_of, if_test};
 
 use crate::code_rule::is_reached;
 use ados_find::{Codes, Refusal, Shared, ShellView, place_of};
@@ -85,9 +85,9 @@ impl Test {
         ensures { Gives result (holds shared.now view.now args.now self) }
     {
         match self {
-            Test::Warn => Ok(is_at(Code::WARN, view)),
-            Test::Error => Ok(is_at(Code::ERROR, view)),
-            Test::Fail => Ok(is_at(Code::FAIL, view)),
+            Test::Warn => Ok(code_reaches(Code::WARN, view)),
+            Test::Error => Ok(code_reaches(Code::ERROR, view)),
+            Test::Fail => Ok(code_reaches(Code::FAIL, view)),
             Test::Equal => Ok(order_at(args, 5)?.is_eq()),
             Test::Greater => Ok(order_at(args, 6)?.is_gt()),
             Test::GreaterOrEqual => Ok(order_at(args, 7)?.is_ge()),
@@ -125,8 +125,8 @@ pub fn tested(
 }
 
 // The last command's code is at a level, or above.
-fn is_at(level: Code, view: &ShellView) -> bool
-    ensures { result ≡ is_at level view.now }
+fn code_reaches(level: Code, view: &ShellView) -> bool
+    ensures { result ≡ code_reaches level view.now }
 {
     is_reached(level, view.codes.code)
 }
@@ -174,12 +174,17 @@ fn exists(alloc: Global, shared: &Shared, view: &ShellView, args: &Args) -> Resu
 {
     match args.made_text(alloc, 9)? {
         None => Ok(false),
-        Some(word) => is_there(alloc, shared, view, &word),
+        Some(word) => place_exists(alloc, shared, view, &word),
     }
 }
 
-fn is_there(alloc: Global, shared: &Shared, view: &ShellView, word: &Text) -> Result<bool, NoMemory>
-    ensures { IfOk result (λ there. there ≡ is_there shared.now (place_of shared.now view.now.parts.directory word.now)) }
+fn place_exists(
+    alloc: Global,
+    shared: &Shared,
+    view: &ShellView,
+    word: &Text,
+) -> Result<bool, NoMemory>
+    ensures { IfOk result (λ there. there ≡ place_exists shared.now (place_of shared.now view.now.parts.directory word.now)) }
 {
     match place_of(alloc, shared, view.directory, word) {
         Err(Refusal::NoMemory) => Err(NoMemory),

@@ -9,7 +9,7 @@ use Rattle.ados_machine.specs.declared.requests.Request.{Request}
 use Rattle.ados_machine.specs.World.{WorldState, is_ready, pending_of, wants_line}
 use Rattle.ados_world.specs.Due.{first_from}
 use Rattle.ados_world.proofs.FirstLemmas.{IsFirst, IsNowhere, is-none, is-some, none-is, some-is}
-use Rattle.ados_launch.specs.Rounds.{asks_read_or_wait, asks_start, comes, is_due, is_further_due}
+use Rattle.ados_launch.specs.Rounds.{asks_read_or_wait, asks_start, has_event, is_due, is_further_due}
 use Rattle.ados_launch.proofs.Places.{comes-late, comes-start, comes-turn}
 
 -- in a stage the shell k has the place k + s
@@ -55,10 +55,10 @@ and-true : (b : Bool) → (b && true) ≡ b
 and-true true = refl
 and-true false = refl
 
-early : (w : WorldState) (answered : List Bool) (j : ℕ) → j ≤ 40 → is_due w answered j ≡ comes w j
+early : (w : WorldState) (answered : List Bool) (j : ℕ) → j ≤ 40 → is_due w answered j ≡ has_event w j
 early w answered j low =
     let soon : nat_lt 40 j ≡ false = grind (arith, common_steps) in
-    rw soon (and-true (comes w j))
+    rw soon (and-true (has_event w j))
 
 turns : (w : WorldState) (answered : List Bool) → IsStage (is_due w answered) (is_ready w) 0
 turns w answered k low high =

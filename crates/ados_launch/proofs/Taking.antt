@@ -24,7 +24,7 @@ use Rattle.ados_launch.specs.Asked.{Answers, IsAsked, IsTaken, Lists}
 use Rattle.ados_launch.specs.Intake.{LacksMemory, TakesLineOrEnd, TakesNextItem}
 use Rattle.ados_launch.specs.Lines.{BeginsOverlong, IfKnown, TakesLine, line_of, rest_of, kind_of}
 use Rattle.ados_launch.specs.Taken.{TakenItem, Given, LongLine, IsNext, IsOfReader, rest_after_item, text_of}
-use Rattle.ados_launch.specs.Rounds.{asks_read_or_wait, asks_start, comes}
+use Rattle.ados_launch.specs.Rounds.{asks_read_or_wait, asks_start, has_event}
 use Rattle.ados_launch.specs.NoFurther.{TakesPart}
 use Rattle.ados_launch.specs.Schedule.{AtBreak, AtFurther, AtLine, AtStart, AtTurn, Next, next_at, next_of, next_of_event}
 use Rattle.ados_launch.specs.Session.{AreDropped}
@@ -118,14 +118,14 @@ further-fits (Start job) = refl
 further-fits (Read n) = refl
 further-fits (Wait n) = refl
 
-start-due : (w : WorldState) (place : ℕ) (request : Request) → 21 ≤ place → nat_lt place 41 ≡ true → comes w place ≡ true → pending_of w (place - 20) ≡ Some request → asks_start (Some request) ≡ true
+start-due : (w : WorldState) (place : ℕ) (request : Request) → 21 ≤ place → nat_lt place 41 ≡ true → has_event w place ≡ true → pending_of w (place - 20) ≡ Some request → asks_start (Some request) ≡ true
 start-due w place request late on due asked = rw asked at (sym (comes-start w place late (grind (arith, common_steps))) ∙ due)
 
 opposite : (b : Bool) → not b ≡ true → b ≡ false
 opposite true h = cc
 opposite false h = refl
 
-further-due : (w : WorldState) (place : ℕ) (request : Request) → nat_lt place 41 ≡ false → comes w place ≡ true → pending_of w (place - 40) ≡ Some request → asks_start (Some request) ≡ false
+further-due : (w : WorldState) (place : ℕ) (request : Request) → nat_lt place 41 ≡ false → has_event w place ≡ true → pending_of w (place - 40) ≡ Some request → asks_start (Some request) ≡ false
 further-due w place request off due asked =
     opposite (asks_start (Some request)) (sym (further-fits request) ∙ (rw asked at (sym (comes-late w place (grind (arith, common_steps))) ∙ due)))
 
@@ -142,13 +142,13 @@ answer-by place b late early further =
     ]
 
 -- an answer is what was due at its place
-answer-at : (w : WorldState) (place : ℕ) (request : Request) (reply : Reply) → 21 ≤ place → comes w place ≡ true → pending_of w (shell_at_place place) ≡ Some request → fits request reply ≡ true
+answer-at : (w : WorldState) (place : ℕ) (request : Request) (reply : Reply) → 21 ≤ place → has_event w place ≡ true → pending_of w (shell_at_place place) ≡ Some request → fits request reply ≡ true
     → next_of_event (Answer (shell_at_place place) reply) ≡ next_at place
 answer-at w place request reply late due asked fit = answer-by place (answers_start reply) late
     (λ on. sym (start-fits request reply fit) ∙ start-due w place request late on due (rw on at asked))
     (λ off. sym (start-fits request reply fit) ∙ further-due w place request off due (rw off at asked))
 
-listed-dropped : (w : WorldState) (is_full : Bool) (place : ℕ) (request : Request) (reply : Reply) (listed : List Call) → 21 ≤ place → comes w place ≡ true
+listed-dropped : (w : WorldState) (is_full : Bool) (place : ℕ) (request : Request) (reply : Reply) (listed : List Call) → 21 ≤ place → has_event w place ≡ true
     → pending_of w (shell_at_place place) ≡ Some request → Lists is_full request reply listed → AreDropped w (Some (next_at place)) listed
 listed-dropped w is_full place request reply listed late due asked (fit, inl is) =
     subst (AreDropped w (Some (next_at place))) (sym is)
@@ -178,7 +178,7 @@ lacks-line w next was_faults faults left rest calls at honest part = record {
 
 -- for a launcher's answer
 pub lacks-answer : (w : WorldState) (faults : ℕ) (left : Option (List ℕ)) (was_full is_full : Bool) (calls calls_now : List Call) (place : ℕ) (outcome : Reply → Type 0)
-    → 21 ≤ place → comes w place ≡ true → Answers w (shell_at_place place) was_full is_full calls calls_now outcome → LacksMemory w (next_at place) faults faults left left calls calls_now
+    → 21 ≤ place → has_event w place ≡ true → Answers w (shell_at_place place) was_full is_full calls calls_now outcome → LacksMemory w (next_at place) faults faults left left calls calls_now
 lacks-answer w faults left was_full is_full calls calls_now place outcome late due a = record {
   reads_well = refl;
   unread = λ bytes e. part-at-none (next_at place) bytes left e;
@@ -189,7 +189,7 @@ lacks-answer w faults left was_full is_full calls calls_now place outcome late d
 
 -- a launcher's answer
 pub took-at-answer : (w now : WorldState) (left : Option (List ℕ)) (was_full is_full : Bool) (calls calls_now : List Call) (place : ℕ) (out : Out)
-    → 21 ≤ place → comes w place ≡ true → Answers w (shell_at_place place) was_full is_full calls calls_now (IsTaken w (shell_at_place place) now out)
+    → 21 ≤ place → has_event w place ≡ true → Answers w (shell_at_place place) was_full is_full calls calls_now (IsTaken w (shell_at_place place) now out)
     → TakesNextItem w left is_full calls (next_at place) now left calls_now out.bytes
 took-at-answer w now left was_full is_full calls calls_now place out late due a = record {
   item = Given (Answer (shell_at_place place) a.reply) out;

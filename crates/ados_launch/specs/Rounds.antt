@@ -26,15 +26,15 @@ asks_read_or_wait (Some (Read k)) = true
 asks_read_or_wait (Some (Wait k)) = true
 
 -- something may come at this place
-abbrev pub comes : WorldState → ℕ → Bool
-comes w place =
+abbrev pub has_event : WorldState → ℕ → Bool
+has_event w place =
     if nat_lt place 1 then wants_line w else
     (if nat_lt place 21 then is_ready w place else
     (if nat_lt place 41 then asks_start (pending_of w (place - 20)) else asks_read_or_wait (pending_of w (place - 40))))
 
 -- something is due at it: what may come there, except for a read or a wait of a shell that had an answer in this round
 abbrev pub is_due : WorldState → List Bool → ℕ → Bool
-is_due w answered place = comes w place && not (nat_lt 40 place && get_or answered (place - 40) false)
+is_due w answered place = has_event w place && not (nat_lt 40 place && get_or answered (place - 40) false)
 
 -- a read or a wait of a shell is due: it is asked for, and the shell had no answer in this round
 abbrev pub is_further_due : WorldState → List Bool → ℕ → Bool
@@ -87,8 +87,8 @@ passed_round round found = record { place = following_place found.place; answere
 
 -- at some place something may come
 abbrev pub IsRunning : WorldState → Type 0
-IsRunning w = (place : ℕ) × (place ≤ 60) × (comes w place ≡ true)
+IsRunning w = (place : ℕ) × (place ≤ 60) × (has_event w place ≡ true)
 
 -- nothing may come at any place: no line is wanted, no shell is ready, and none asks for anything
 abbrev pub IsIdle : WorldState → Type 0
-IsIdle w = (place : ℕ) → place ≤ 60 → comes w place ≡ false
+IsIdle w = (place : ℕ) → place ≤ 60 → has_event w place ≡ false

@@ -11,7 +11,7 @@ use Rattle.ados_machine.specs.World.{WorldState, shell_at}
 use Rattle.ados_launch.specs.declared.rounds.Round.{Round}
 use Rattle.ados_launch.specs.declared.schedule.Next as found
 use Rattle.ados_launch.specs.declared.schedule.Next.TheVariants.{Break as BreakFound, Due as DueFound}
-use Rattle.ados_launch.specs.Rounds.{comes, due_place, first_round, passed_round, following_round}
+use Rattle.ados_launch.specs.Rounds.{has_event, due_place, first_round, passed_round, following_round}
 use Rattle.ados_launch.specs.Taken.{TakenItem, Given, LongLine, world_after_item}
 
 -- The state of a schedule: the round; the breaks of its list that were neither given nor passed over; and how many events and
@@ -96,7 +96,7 @@ passed_schedule_state s (DueFound due_at) = record s { round = passed_round s.ro
 -- it may come: a break of a shell that runs, or what may come at a place
 abbrev pub MayCome : WorldState → found.Next → Type 0
 MayCome w (BreakFound at) = is_some (shell_at w at.shell) ≡ true
-MayCome w (DueFound due_at) = (due_at.place < 61) × (comes w due_at.place ≡ true)
+MayCome w (DueFound due_at) = (due_at.place < 61) × (has_event w due_at.place ≡ true)
 
 -- what is due has a place in the round
 abbrev pub IsInRound : found.Next → Type 0

@@ -24,10 +24,10 @@ use Rattle.ados_machine.specs.Turning.{Input, Turning, Refuses, Ends, Takes, fla
 use Rattle.ados_machine.specs.World.{WorldState, input_of, is_over, shell_at}
 use Rattle.ados_machine.proofs.BreakLemmas.{breaks-end}
 use Rattle.ados_machine.proofs.Ends.{reports-hold}
-use Rattle.ados_world.specs.Laws.{BreaksEndScriptsIn, tells_break}
+use Rattle.ados_world.specs.Laws.{BreaksEndScriptsIn, reports_break}
 
 -- if no frame ended at a break no end reports one
-ends-whole : (items : List (ℕ × Item)) → has_break items ≡ false → tells_break (ends_in items) ≡ false
+ends-whole : (items : List (ℕ × Item)) → has_break items ≡ false → reports_break (ends_in items) ≡ false
 ends-whole [] e = refl
 ends-whole ((k, Began depth kind limit) ∷ items) e = ends-whole items e
 ends-whole ((k, Answered depth entry) ∷ items) e = ends-whole items e
@@ -38,26 +38,26 @@ ends-whole ((k, Broke depth kind line) ∷ items) e = cc
 
 -- the end of a script at a break is reported
 told-first : (k depth : ℕ) (kind : Kind) (line : ℕ) (log : List Item) → is_script kind ≡ true →
-    tells_break (reports_of k (Broke depth kind line ∷ log)) ≡ true
+    reports_break (reports_of k (Broke depth kind line ∷ log)) ≡ true
 told-first k depth (Script name command) line log e = refl
 told-first k depth Lines line log e = cc
 told-first k depth (Tick before after) line log e = cc
 
-told-later : (k depth : ℕ) (kind : Kind) (line : ℕ) (log : List Item) → tells_break (reports_of k log) ≡ true →
-    tells_break (reports_of k (Broke depth kind line ∷ log)) ≡ true
+told-later : (k depth : ℕ) (kind : Kind) (line : ℕ) (log : List Item) → reports_break (reports_of k log) ≡ true →
+    reports_break (reports_of k (Broke depth kind line ∷ log)) ≡ true
 told-later k depth (Script name command) line log e = refl
 told-later k depth Lines line log e = e
 told-later k depth (Tick before after) line log e = e
 
 -- the same if a script runs below a frame
 below-told : (k depth : ℕ) (frame : FrameState) (frames : List FrameState) (said : RuleState) (n : ℕ) (further : RuleResult) → nat_lt 0 n ≡ true →
-    tells_break (reports_of k further.log) ≡ true →
-    tells_break (reports_of k (with_items_first (break_of depth frame ∷ []) (after_break n frame.kind frame.limit further frames said)).log) ≡ true
+    reports_break (reports_of k further.log) ≡ true →
+    reports_break (reports_of k (with_items_first (break_of depth frame ∷ []) (after_break n frame.kind frame.limit further frames said)).log) ≡ true
 below-told k depth frame frames said zero further e told = cc
 below-told k depth frame frames said (suc n) further e told = told-later k depth frame.kind _ further.log told
 
 -- a break of frames of which one is a script is reported
-broken-told : (k : ℕ) (frames : List FrameState) (said : RuleState) → has_script frames ≡ true → tells_break (reports_of k (end_at_break frames said).log) ≡ true
+broken-told : (k : ℕ) (frames : List FrameState) (said : RuleState) → has_script frames ≡ true → reports_break (reports_of k (end_at_break frames said).log) ≡ true
 broken-told k [] said e = cc
 broken-told k (frame ∷ frames) said e =
     let inner = record said { kept = kept_after_break frame.kind said.kept } in
@@ -70,7 +70,7 @@ broken-told k (frame ∷ frames) said e =
 -- so a turn that finds a flag reports it, if frames end
 abbrev Tells : Response → Type 0
 Tells (Refused why) = Unit {0}
-Tells (Accepted world out items) = has_break items ≡ true → tells_break out.reports ≡ true
+Tells (Accepted world out items) = has_break items ≡ true → reports_break out.reports ≡ true
 
 place-tells : (w : WorldState) (k : ℕ) (codes : Codes) (event : Turning) (input : Input) (frames : List FrameState) (course : Course) →
     has_script frames ≡ true → Tells (turning_response w k codes (turning_at_break event input frames course))
@@ -110,21 +110,21 @@ reports-are w event world out items is =
 
 -- an accepted event reports a break exactly when it finds a flag
 breaks-told : (w : WorldState) (event : Event) (world : WorldState) (out : Out) (items : List (ℕ × Item)) →
-    step_of w event ≡ Accepted world out items → tells_break out.reports ≡ finds_flag w event
+    step_of w event ≡ Accepted world out items → reports_break out.reports ≡ finds_flag w event
 breaks-told w event world out items is =
     let ends = breaks-end w event world out items is in
     elim (cases_Bool (finds_flag w event)) [
       | inl found ↦ (let tells : Tells (Accepted world out items) = rw is at (event-tells w event found) in tells (ends ∙ found) ∙ sym found)
-      | inr none ↦ ap tells_break (reports-are w event world out items is) ∙ ends-whole items (ends ∙ none) ∙ sym none
+      | inr none ↦ ap reports_break (reports-are w event world out items is) ∙ ends-whole items (ends ∙ none) ∙ sym none
     ]
 
 event-told : (w : WorldState) (event : Event) (out : Result Out Refusal) (r : Response) → step_of w event ≡ r → IsAnswer event out r →
-    IfOk out (λ given. tells_break given.reports ≡ finds_flag w event)
+    IfOk out (λ given. reports_break given.reports ≡ finds_flag w event)
 event-told w event (Err why) r is answer = tt
 event-told w event (Ok out) (Refused why) is answer = absurd answer
 event-told w event (Ok out) (Accepted world given items) is answer = rw answer (breaks-told w event world given items is)
 
-pub step-told : (w : WorldState) (event : Event) (out : Out) → IsAnswer event (Ok out) (step_of w event) → tells_break out.reports ≡ finds_flag w event
+pub step-told : (w : WorldState) (event : Event) (out : Out) → IsAnswer event (Ok out) (step_of w event) → reports_break out.reports ≡ finds_flag w event
 step-told w event out answer = event-told w event (Ok out) (step_of w event) refl answer
 
 pub breaks-end-in : (w : WorldState) (events : List Event) (outs : List (Result Out Refusal)) (last : WorldState) → Runs w events outs last →

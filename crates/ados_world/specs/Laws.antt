@@ -12,14 +12,14 @@ use Rattle.ados_machine.specs.Runs.{world_after}
 use Rattle.ados_machine.specs.Quiet.{IsQuiet, CanBeTakenOut}
 
 -- one of these reports is about a break
-abbrev pub tells_break : List EndReport → Bool
-tells_break reports = list_any (λ report. report.broken) reports
+abbrev pub reports_break : List EndReport → Bool
+reports_break reports = list_any (λ report. report.broken) reports
 
 -- each accepted event of a run ends scripts at a break exactly when it is a turn that finds the flag of its shell, in which a
 -- script runs
 abbrev pub BreaksEndScriptsIn : WorldState → List Event → List (Result Out Refusal) → Type 0
 BreaksEndScriptsIn w (event ∷ events) (out ∷ outs) =
-    IfOk out (λ given. tells_break given.reports ≡ finds_flag w event)
+    IfOk out (λ given. reports_break given.reports ≡ finds_flag w event)
     × BreaksEndScriptsIn (world_after w out (step_of w event)) events outs
 BreaksEndScriptsIn w _ _ = Unit {0}
 

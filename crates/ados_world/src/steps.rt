@@ -12,7 +12,7 @@ ghost use Rattle.ados_find.specs.Shared.{version};
 ghost use Rattle.ados_shell.specs.Drafts.{out_of};
 ghost use Rattle.ados_world.specs.Binding.{BindsWhatItUsed};
 ghost use Rattle.ados_machine.specs.Starts.{FailedStart};
-ghost use Rattle.ados_world.specs.Laws.{tells_break};
+ghost use Rattle.ados_world.specs.Laws.{reports_break};
 ghost use Rattle.ados_world.specs.Shells.{IsShellNumber};
 ghost use Rattle.ados_world.specs.Steps.{step_answer, drafted_out, ended_world, world_after_turn};
 
@@ -44,7 +44,7 @@ impl World {
         ensures failed_start { OnOk result (FailedStart self.old event.now self.new) }
         ensures request { IfOk result (λ out. out.request ≡ request_after_event self.new event.now) }
         ensures binding { OnOk result (BindsWhatItUsed self.old event.now self.new) }
-        ensures breaks { IfOk result (λ out. tells_break out.reports ≡ finds_flag self.old event.now) }
+        ensures breaks { IfOk result (λ out. reports_break out.reports ≡ finds_flag self.old event.now) }
         ensures entries { OnOk result ((k : ℕ) → asks self.old k ≡ true → asks self.new k ≡ true → entry_of self.new k ≡ entry_of self.old k) }
         ensures outputs { OnOk result ((k : ℕ) → runs_program self.old k ≡ true → runs_program self.new k ≡ true → outputs_held self.new k ≡ outputs_held self.old k) }
     {
