@@ -4,7 +4,7 @@ use Rattle.std.specs.Option.{option_or}
 use Rattle.ados_text.specs.Text.{Text}
 use Rattle.ados_text.specs.declared.codes.TheConstants.Result2.{ARGUMENT_MISSING, TOO_MANY_ARGUMENTS}
 use Rattle.ados_readargs.specs.declared.args.Arg.{Arg}
-use Rattle.ados_readargs.specs.Args.{texts_at, is_on}
+use Rattle.ados_readargs.specs.Args.{option_texts, has_switch}
 use Rattle.ados_find.specs.declared.codes.Codes.{Codes}
 use Rattle.ados_find.specs.Codes.{fail_codes}
 use Rattle.ados_env.specs.declared.assign_request.Request.{Request}
@@ -12,12 +12,12 @@ use Rattle.ados_env.specs.declared.assign_request.Request.{Request}
 -- EXISTS prints; DEFER and PATH keep TARGET as a text; ADD and REMOVE change the directories of an assign
 abbrev pub request_of : List Arg → Request
 request_of args = record {
-  tells = is_on args 2;
-  defers = is_on args 3;
-  follows = is_on args 4;
-  adds = is_on args 5;
-  removes = is_on args 6;
-  targets = texts_at args 1;
+  tells = has_switch args 2;
+  defers = has_switch args 3;
+  follows = has_switch args 4;
+  adds = has_switch args 5;
+  removes = has_switch args 6;
+  targets = option_texts args 1;
 }
 
 abbrev pub has_target : Request → Bool

@@ -3,7 +3,7 @@ use Rattle.std.specs.Prelude.{List, [], ◌∷◌, ◌||◌, Bool, Option, Some,
 use Rattle.std.specs.List.{flat_map}
 use Rattle.ados_text.specs.Text.{Text}
 use Rattle.ados_readargs.specs.declared.args.Arg.{Arg}
-use Rattle.ados_readargs.specs.Args.{is_on, text_at, texts_at}
+use Rattle.ados_readargs.specs.Args.{has_switch, option_text, option_texts}
 use Rattle.ados_find.specs.Parts.{Parts}
 use Rattle.ados_find.specs.Search.{device_named, searched_devices}
 use Rattle.ados_find.specs.Shared.{SharedState}
@@ -17,10 +17,10 @@ program_paths removes None name = if removes then [] else name
 
 -- the texts of its arguments that are paths: TARGET of Assign, unless it is kept as a text, and never its NAME
 abbrev pub paths_in : EnvCommand → List Arg → List Text
-paths_in Assign args = if is_on args 3 || is_on args 4 then [] else texts_at args 1
-paths_in Cd args = texts_at args 0
-paths_in Path args = texts_at args 0
-paths_in Resident args = program_paths (is_on args 2) (text_at args 1) (texts_at args 0)
+paths_in Assign args = if has_switch args 3 || has_switch args 4 then [] else option_texts args 1
+paths_in Cd args = option_texts args 0
+paths_in Path args = option_texts args 0
+paths_in Resident args = program_paths (has_switch args 2) (option_text args 1) (option_texts args 0)
 paths_in command args = []
 
 -- the devices of the search for a word as a command
@@ -33,5 +33,5 @@ abbrev pub devices_of : EnvCommand → SharedState → Parts → List Arg → Li
 devices_of SetEnv shared parts args = codes "ENV" ∷ []
 devices_of GetEnv shared parts args = codes "ENV" ∷ []
 devices_of UnsetEnv shared parts args = codes "ENV" ∷ []
-devices_of Which shared parts args = search_devices shared parts (text_at args 0)
+devices_of Which shared parts args = search_devices shared parts (option_text args 0)
 devices_of command shared parts args = flat_map device_named (paths_in command args)

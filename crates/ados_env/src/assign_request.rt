@@ -30,11 +30,11 @@ impl Request {
         ensures { IfOk result (λ request. request ≡ request_of args.now) }
     {
         Ok(Request {
-            tells: args.is_on(2),
-            defers: args.is_on(3),
-            follows: args.is_on(4),
-            adds: args.is_on(5),
-            removes: args.is_on(6),
+            tells: args.has_switch(2),
+            defers: args.has_switch(3),
+            follows: args.has_switch(4),
+            adds: args.has_switch(5),
+            removes: args.has_switch(6),
             targets: args.made_texts(alloc, 1)?,
         })
     }

@@ -2,7 +2,7 @@
 ghost use Rattle.std.specs.Prelude.{◌≡◌, ◌++◌, OnOk};
 ghost use Rattle.std.specs.List.{flat_map};
 ghost use Rattle.ados_assign.specs.Uses.{reached_devices};
-ghost use Rattle.ados_readargs.specs.Args.{is_on, text_at, texts_at};
+ghost use Rattle.ados_readargs.specs.Args.{has_switch, option_text, option_texts};
 ghost use Rattle.ados_find.specs.Search.{device_named};
 ghost use Rattle.ados_resident.specs.declared.commands.EnvCommand.TheVariants.{Assign};
 ghost use Rattle.ados_env.specs.Devices.{devices_of, paths_in, program_paths, search_devices};
@@ -48,7 +48,7 @@ fn push_targets(
 ) -> Result<(), NoMemory>
     ensures { OnOk result (used.new.items ≡ used.old.items ++ flat_map (reached_devices shared.now.assigns) (flat_map device_named (paths_in Assign args.now))) }
 {
-    if args.is_on(3) || args.is_on(4) {
+    if args.has_switch(3) || args.has_switch(4) {
         Ok(())
     } else {
         shared.push_devices_of(used, args.made_texts(alloc, 1)?.as_slice())
@@ -63,11 +63,11 @@ fn push_program(
     used: &mut Vec<Name>,
 ) -> Result<(), NoMemory>
     ensures { OnOk result (used.new.items ≡ used.old.items ++ flat_map (reached_devices shared.now.assigns)
-        (flat_map device_named (program_paths (is_on args.now 2) (text_at args.now 1) (texts_at args.now 0)))) }
+        (flat_map device_named (program_paths (has_switch args.now 2) (option_text args.now 1) (option_texts args.now 0)))) }
 {
     match args.made_text(alloc, 1)? {
         Some(file) => shared.push_device_of(used, &file),
-        None if args.is_on(2) => Ok(()),
+        None if args.has_switch(2) => Ok(()),
         None => shared.push_devices_of(used, args.made_texts(alloc, 0)?.as_slice()),
     }
 }
@@ -80,7 +80,7 @@ fn push_sought(
     args: &Args,
     used: &mut Vec<Name>,
 ) -> Result<(), NoMemory>
-    ensures { OnOk result (used.new.items ≡ used.old.items ++ flat_map (reached_devices shared.now.assigns) (search_devices shared.now view.now.parts (text_at args.now 0))) }
+    ensures { OnOk result (used.new.items ≡ used.old.items ++ flat_map (reached_devices shared.now.assigns) (search_devices shared.now view.now.parts (option_text args.now 0))) }
 {
     let Some(word) = args.made_text(alloc, 0)? else {
         return Ok(());

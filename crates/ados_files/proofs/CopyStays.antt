@@ -5,7 +5,7 @@ use Rattle.std.specs.List.{AllByRecursion}
 use Rattle.std.specs.FinMap as map
 use Rattle.ados_text.specs.declared.codes.TheConstants.Result2.{WRONG_TYPE}
 use Rattle.ados_readargs.specs.declared.args.Arg.{Arg}
-use Rattle.ados_readargs.specs.Args.{texts_at, text_at, is_on}
+use Rattle.ados_readargs.specs.Args.{option_texts, option_text, has_switch}
 use Rattle.ados_ram.specs.declared.entries.Entry.{Entry}
 use Rattle.ados_ram.specs.Place.{Place, Key, key_of, last_name, is_same_key, is_at_or_below}
 use Rattle.ados_ram.specs.Entry.{is_directory, bytes_of}
@@ -122,4 +122,4 @@ texts-stay shared view all quiet [] (Some to) = λ key out. refl
 texts-stay shared view all quiet (text ∷ texts) (Some to) = from-stays shared view all quiet (sources_of shared view.parts.directory (text ∷ texts)) to
 
 pub copy-stays : (shared : SharedState) (view : View) (args : List Arg) → OthersStay (copy_may_change shared view args) shared.files (copy_row shared view args).shared.files
-copy-stays shared view args = texts-stay shared view (is_on args 2) (is_on args 3) (texts_at args 0) (text_at args 1)
+copy-stays shared view args = texts-stay shared view (has_switch args 2) (has_switch args 3) (option_texts args 0) (option_text args 1)

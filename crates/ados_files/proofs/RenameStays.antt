@@ -3,7 +3,7 @@ use Rattle.std.proofs.Common.{◌≡◌, ℕ, Bool, true, false, not, ◌&&◌, 
 use Rattle.std.specs.FinMap as map
 use Rattle.ados_text.specs.declared.codes.Result2.{Result2}
 use Rattle.ados_readargs.specs.declared.args.Arg.{Arg}
-use Rattle.ados_readargs.specs.Args.{text_at}
+use Rattle.ados_readargs.specs.Args.{option_text}
 use Rattle.ados_ram.specs.declared.entries.Entry.{Entry}
 use Rattle.ados_ram.specs.Place.{Place, Key, key_of, last_name, is_same_key, is_at_or_below}
 use Rattle.ados_ram.specs.Files.{Files, OthersStay, is_some_directory}
@@ -60,4 +60,4 @@ texts-stay shared view (Some from) None = λ key out. refl
 texts-stay shared view (Some from) (Some to) = at-stays shared view (place_of shared view.parts.directory from) to
 
 pub rename-row-stays : (shared : SharedState) (view : View) (args : List Arg) → OthersStay (rename_may_change shared view args) shared.files (rename_row shared view args).shared.files
-rename-row-stays shared view args = texts-stay shared view (text_at args 0) (text_at args 1)
+rename-row-stays shared view args = texts-stay shared view (option_text args 0) (option_text args 1)

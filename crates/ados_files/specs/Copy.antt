@@ -6,7 +6,7 @@ use Rattle.ados_text.specs.Text.{Bytes, Text}
 use Rattle.ados_text.specs.declared.codes.Result2.{Result2}
 use Rattle.ados_text.specs.declared.codes.TheConstants.Result2.{ARGUMENT_MISSING, OBJECT_IN_USE, DIRECTORY_NOT_FOUND, WRONG_TYPE}
 use Rattle.ados_readargs.specs.declared.args.Arg.{Arg}
-use Rattle.ados_readargs.specs.Args.{texts_at, text_at, is_on}
+use Rattle.ados_readargs.specs.Args.{option_texts, option_text, has_switch}
 use Rattle.ados_ram.specs.Place.{Place, key_of, last_name, is_same_key}
 use Rattle.ados_ram.specs.Entry.{is_directory, bytes_of}
 use Rattle.ados_ram.specs.Files.{Files, is_some_file, is_some_directory}
@@ -120,4 +120,4 @@ copy_by_texts shared view all quiet (text ∷ texts) to =
 
 abbrev pub copy_row : SharedState → View → List Arg → Effect
 copy_row shared view args =
-    if_given (codes_effect shared) (text_at args 1) (copy_by_texts shared view (is_on args 2) (is_on args 3) (texts_at args 0))
+    if_given (codes_effect shared) (option_text args 1) (copy_by_texts shared view (has_switch args 2) (has_switch args 3) (option_texts args 0))

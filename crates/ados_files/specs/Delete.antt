@@ -3,7 +3,7 @@ use Rattle.std.specs.Prelude.{Bool, true, false, List, [], ◌∷◌, ◌++◌, 
 use Rattle.std.specs.FinMap as map
 use Rattle.ados_text.specs.Text.{Bytes}
 use Rattle.ados_readargs.specs.declared.args.Arg.{Arg}
-use Rattle.ados_readargs.specs.Args.{texts_at, is_on}
+use Rattle.ados_readargs.specs.Args.{option_texts, has_switch}
 use Rattle.ados_ram.specs.Place.{Place, key_of}
 use Rattle.ados_ram.specs.Files.{Files}
 use Rattle.ados_ram.specs.FileOperations.{delete_fault}
@@ -38,4 +38,4 @@ delete_place view all quiet done place = act_on_each (delete_one view quiet) don
 
 abbrev pub delete_row : SharedState → View → List Arg → Effect
 delete_row shared view args =
-    end_effect (act_on_each (at_names (delete_place view (is_on args 1) (is_on args 2)) view) (fresh_work shared) (texts_at args 0))
+    end_effect (act_on_each (at_names (delete_place view (has_switch args 1) (has_switch args 2)) view) (fresh_work shared) (option_texts args 0))

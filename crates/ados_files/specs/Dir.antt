@@ -3,7 +3,7 @@ use Rattle.std.specs.Prelude.{Bool, cond, List, [], ◌∷◌, ◌++◌, codes, 
 use Rattle.std.specs.FinMap as map
 use Rattle.ados_text.specs.Text.{Bytes, Text}
 use Rattle.ados_readargs.specs.declared.args.Arg.{Arg}
-use Rattle.ados_readargs.specs.Args.{text_at, is_on}
+use Rattle.ados_readargs.specs.Args.{option_text, has_switch}
 use Rattle.ados_ram.specs.Place.{Place, key_of}
 use Rattle.ados_ram.specs.Entry.{is_directory}
 use Rattle.ados_ram.specs.Files.{Files}
@@ -51,4 +51,4 @@ directories_given shared view (Some text) = bases_of shared view.parts.directory
 
 abbrev pub dir_row : SharedState → View → List Arg → Effect
 dir_row shared view args =
-    if_found (codes_effect shared) (directories_given shared view (text_at args 0)) (dir_at shared (is_on args 1) (is_on args 2))
+    if_found (codes_effect shared) (directories_given shared view (option_text args 0)) (dir_at shared (has_switch args 1) (has_switch args 2))

@@ -2,7 +2,7 @@
 use Rattle.std.specs.Prelude.{List}
 use Rattle.ados_text.specs.Text.{Text}
 use Rattle.ados_readargs.specs.declared.args.Arg.{Arg}
-use Rattle.ados_readargs.specs.Args.{texts_at, text_at}
+use Rattle.ados_readargs.specs.Args.{option_texts, option_text}
 use Rattle.ados_ram.specs.Place.{Place, key_of}
 use Rattle.ados_ram.specs.FileOperations.{comment_of, comment_fault}
 use Rattle.ados_find.specs.Shared.{SharedState, with_files}
@@ -23,4 +23,4 @@ abbrev pub note_all : SharedState → View → Text → List Text → Effect
 note_all shared view comment texts = end_effect (act_on_each (at_names (note_one comment) view) (fresh_work shared) texts)
 
 abbrev pub filenote_row : SharedState → View → List Arg → Effect
-filenote_row shared view args = note_all shared view (text_or_empty (text_at args 1)) (texts_at args 0)
+filenote_row shared view args = note_all shared view (text_or_empty (option_text args 1)) (option_texts args 0)

@@ -2,7 +2,7 @@
 use Rattle.std.specs.Prelude.{List, []}
 use Rattle.ados_text.specs.Text.{Bytes, Text}
 use Rattle.ados_readargs.specs.declared.args.Arg.{Arg}
-use Rattle.ados_readargs.specs.Args.{texts_at, text_at}
+use Rattle.ados_readargs.specs.Args.{option_texts, option_text}
 use Rattle.ados_ram.specs.Place.{Place, key_of, last_name}
 use Rattle.ados_ram.specs.InUse.{is_output}
 use Rattle.ados_ram.specs.FileOperations.{write_of, write_fault}
@@ -36,4 +36,4 @@ abbrev pub join_by_texts : SharedState → View → List Text → Text → Effec
 join_by_texts shared view texts to = end_effect (join_to_target view texts (fresh_work shared) to)
 
 abbrev pub join_row : SharedState → View → List Arg → Effect
-join_row shared view args = if_given (codes_effect shared) (text_at args 1) (join_by_texts shared view (texts_at args 0))
+join_row shared view args = if_given (codes_effect shared) (option_text args 1) (join_by_texts shared view (option_texts args 0))

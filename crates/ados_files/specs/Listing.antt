@@ -4,7 +4,7 @@ use Rattle.std.specs.FinMap as map
 use Rattle.ados_text.specs.Text.{Bytes, Text}
 use Rattle.ados_pattern.specs.Meaning.{Meaning}
 use Rattle.ados_readargs.specs.declared.args.Arg.{Arg}
-use Rattle.ados_readargs.specs.Args.{texts_at, text_at, is_on}
+use Rattle.ados_readargs.specs.Args.{option_texts, option_text, has_switch}
 use Rattle.ados_ram.specs.Place.{Place, key_of}
 use Rattle.ados_ram.specs.Entry.{is_directory}
 use Rattle.ados_ram.specs.Files.{Files}
@@ -84,7 +84,7 @@ pattern_given (Some text) = some_pattern (pattern_of text)
 abbrev pub list_by : SharedState → View → List Arg → Option Meaning → Effect
 list_by shared view args pattern =
     end_effect
-    (list_texts (record { pattern = pattern; quick = is_on args 2; files = is_on args 3; dirs = is_on args 4 }) view (fresh_work shared) (texts_at args 0))
+    (list_texts (record { pattern = pattern; quick = has_switch args 2; files = has_switch args 3; dirs = has_switch args 4 }) view (fresh_work shared) (option_texts args 0))
 
 abbrev pub list_row : SharedState → View → List Arg → Effect
-list_row shared view args = if_found (codes_effect shared) (pattern_given (text_at args 1)) (list_by shared view args)
+list_row shared view args = if_found (codes_effect shared) (pattern_given (option_text args 1)) (list_by shared view args)

@@ -3,7 +3,7 @@ use Rattle.std.specs.Prelude.{List, [], ◌∷◌}
 use Rattle.ados_text.specs.Text.{Text}
 use Rattle.ados_text.specs.declared.codes.TheConstants.Result2.{ARGUMENT_MISSING}
 use Rattle.ados_readargs.specs.declared.args.Arg.{Arg}
-use Rattle.ados_readargs.specs.Args.{texts_at}
+use Rattle.ados_readargs.specs.Args.{option_texts}
 use Rattle.ados_ram.specs.Place.{Place, key_of, last_name}
 use Rattle.ados_ram.specs.FileOperations.{make_dir_of, make_dir_fault}
 use Rattle.ados_find.specs.Codes.{fail_codes}
@@ -25,4 +25,4 @@ make_all shared view [] = codes_effect shared (fail_codes ARGUMENT_MISSING)
 make_all shared view (text ∷ texts) = end_effect (act_on_each (at_path make_one view) (fresh_work shared) (text ∷ texts))
 
 abbrev pub make_dir_row : SharedState → View → List Arg → Effect
-make_dir_row shared view args = make_all shared view (texts_at args 0)
+make_dir_row shared view args = make_all shared view (option_texts args 0)

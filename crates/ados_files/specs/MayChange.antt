@@ -2,7 +2,7 @@
 use Rattle.std.specs.Prelude.{Bool, false, ◌||◌, List, [], ◌∷◌, Option, Some, None, Result, Ok, Err}
 use Rattle.ados_text.specs.Text.{Text}
 use Rattle.ados_readargs.specs.declared.args.Arg.{Arg}
-use Rattle.ados_readargs.specs.Args.{texts_at, text_at, is_on}
+use Rattle.ados_readargs.specs.Args.{option_texts, option_text, has_switch}
 use Rattle.ados_ram.specs.Place.{Place, Key, key_of, is_at_or_below}
 use Rattle.ados_find.specs.declared.codes.Codes.{Codes}
 use Rattle.ados_find.specs.Done.{Done, fresh_work}
@@ -41,13 +41,13 @@ is_under_worked act view done (text ∷ texts) key =
 
 -- Copy: TO, and what is below it
 abbrev pub copy_may_change : SharedState → View → List Arg → Key → Bool
-copy_may_change shared view args key = is_under_path shared view (text_at args 1) key
+copy_may_change shared view args key = is_under_path shared view (option_text args 1) key
 
 -- Delete: the objects that its arguments name when the turn of each comes, and what is below them
 abbrev pub delete_may_change : SharedState → View → List Arg → Key → Bool
 delete_may_change shared view args key =
-    is_under_worked (at_names (delete_place view (is_on args 1) (is_on args 2)) view) view (fresh_work shared) (texts_at args 0) key
+    is_under_worked (at_names (delete_place view (has_switch args 1) (has_switch args 2)) view) view (fresh_work shared) (option_texts args 0) key
 
 -- Rename: FROM and TO, and what is below them
 abbrev pub rename_may_change : SharedState → View → List Arg → Key → Bool
-rename_may_change shared view args key = is_under_path shared view (text_at args 0) key || is_under_path shared view (text_at args 1) key
+rename_may_change shared view args key = is_under_path shared view (option_text args 0) key || is_under_path shared view (option_text args 1) key

@@ -6,7 +6,7 @@ use Rattle.ados_text.specs.Text.{Text, fold_of}
 use Rattle.ados_text.specs.declared.codes.Result2.{Result2}
 use Rattle.ados_text.specs.declared.codes.TheConstants.Result2.{BAD_NUMBER, TOO_MANY_ARGUMENTS}
 use Rattle.ados_readargs.specs.declared.args.Arg.{Arg}
-use Rattle.ados_readargs.specs.Args.{texts_at, text_at, is_on}
+use Rattle.ados_readargs.specs.Args.{option_texts, option_text, has_switch}
 use Rattle.ados_ram.specs.Place.{Place, key_of}
 use Rattle.ados_ram.specs.Entry.{fresh_bits}
 use Rattle.ados_ram.specs.FileOperations.{protect_of, protect_fault}
@@ -111,4 +111,4 @@ protect_all shared view (Ok change) texts = end_effect (act_on_each (at_names (p
 
 abbrev pub protect_row : SharedState → View → List Arg → Effect
 protect_row shared view args =
-    protect_all shared view (change_of (text_or_empty (text_at args 1)) (is_on args 2) (is_on args 3)) (texts_at args 0)
+    protect_all shared view (change_of (text_or_empty (option_text args 1)) (has_switch args 2) (has_switch args 3)) (option_texts args 0)

@@ -4,7 +4,7 @@ use Rattle.std.specs.FinMap as map
 use Rattle.ados_text.specs.Text.{Text}
 use Rattle.ados_text.specs.declared.codes.TheConstants.Result2.{OBJECT_NOT_FOUND}
 use Rattle.ados_readargs.specs.declared.args.Arg.{Arg}
-use Rattle.ados_readargs.specs.Args.{text_at}
+use Rattle.ados_readargs.specs.Args.{option_text}
 use Rattle.ados_ram.specs.Place.{Place, key_of, is_same_key}
 use Rattle.ados_ram.specs.Files.{Files, is_some_directory}
 use Rattle.ados_ram.specs.FileOperations.{rename_fault}
@@ -48,4 +48,4 @@ abbrev pub rename_given : SharedState → View → Option Text → Text → Effe
 rename_given shared view to from = if_given (codes_effect shared) to (rename_by_texts shared view from)
 
 abbrev pub rename_row : SharedState → View → List Arg → Effect
-rename_row shared view args = if_given (codes_effect shared) (text_at args 0) (rename_given shared view (text_at args 1))
+rename_row shared view args = if_given (codes_effect shared) (option_text args 0) (rename_given shared view (option_text args 1))

@@ -2,7 +2,7 @@
 use Rattle.std.specs.Prelude.{List, ◌++◌}
 use Rattle.std.specs.FinMap as map
 use Rattle.ados_readargs.specs.declared.args.Arg.{Arg}
-use Rattle.ados_readargs.specs.Args.{texts_at}
+use Rattle.ados_readargs.specs.Args.{option_texts}
 use Rattle.ados_ram.specs.Place.{Place, key_of}
 use Rattle.ados_ram.specs.Files.{bytes_at}
 use Rattle.ados_ram.specs.InUse.{is_output}
@@ -20,4 +20,4 @@ type_one view done place =
     (record done { output = done.output ++ bytes_at (map.get done.shared.files (key_of place)) })
 
 abbrev pub type_row : SharedState → View → List Arg → Effect
-type_row shared view args = end_effect (act_on_each (at_names (type_one view) view) (fresh_work shared) (texts_at args 0))
+type_row shared view args = end_effect (act_on_each (at_names (type_one view) view) (fresh_work shared) (option_texts args 0))

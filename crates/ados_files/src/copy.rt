@@ -42,8 +42,8 @@ pub fn copy_files(
         Ok(found) => {
             let copy = Copy {
                 view,
-                all: args.is_on(2),
-                quiet: args.is_on(3),
+                all: args.has_switch(2),
+                quiet: args.has_switch(3),
                 found,
             };
             copied_to(alloc, shared, &copy, &to)

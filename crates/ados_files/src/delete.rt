@@ -22,8 +22,8 @@ pub fn delete(
 {
     let act = Deleting {
         view,
-        all: args.is_on(1),
-        quiet: args.is_on(2),
+        all: args.has_switch(1),
+        quiet: args.has_switch(2),
     };
     let texts = args.made_texts(alloc, 0)?;
     done_with_named(alloc, shared, view, &act, texts.as_slice())

@@ -29,8 +29,8 @@ pub fn show_directory(
         Ok(bases) => dir_at(
             alloc,
             shared,
-            args.is_on(1),
-            args.is_on(2),
+            args.has_switch(1),
+            args.has_switch(2),
             bases.as_slice(),
         ),
     }

@@ -44,9 +44,9 @@ pub fn list(
         Ok(pattern) => {
             let shape = Shape {
                 pattern,
-                quick: args.is_on(2),
-                files: args.is_on(3),
-                dirs: args.is_on(4),
+                quick: args.has_switch(2),
+                files: args.has_switch(3),
+                dirs: args.has_switch(4),
             };
             let texts = args.made_texts(alloc, 0)?;
             list_texts(alloc, shared, view, &shape, texts.as_slice())

@@ -38,7 +38,11 @@ pub fn protect(
 ) -> Result<Outcome, NoMemory>
     ensures { IfOk result (λ outcome. effect_of shared.now outcome ≡ protect_row shared.now view.now args.now) }
 {
-    let change = change_of(text_or_empty(args.text(1)), args.is_on(2), args.is_on(3));
+    let change = change_of(
+        text_or_empty(args.text(1)),
+        args.has_switch(2),
+        args.has_switch(3),
+    );
     let texts = args.made_texts(alloc, 0)?;
     protected_by(alloc, shared, view, change, texts.as_slice())
 }

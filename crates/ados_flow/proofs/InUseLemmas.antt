@@ -16,7 +16,7 @@ use Rattle.ados_flow.specs.Rows.{row_of}
 use Rattle.ados_flow.specs.Tests.{exists, holds, test_of}
 use Rattle.std.proofs.Common.{ap}
 use Rattle.ados_find.specs.declared.codes.Codes.{Codes}
-use Rattle.ados_readargs.specs.Args.{is_on, text_at}
+use Rattle.ados_readargs.specs.Args.{has_switch, option_text}
 
 exists-ignores : (shared : SharedState) (word : Option (List ℕ)) → IgnoresInUse (λ view. exists shared view word)
 exists-ignores shared None = λ view busy. refl
@@ -29,7 +29,7 @@ holds-ignores shared args Fail = λ view busy. refl
 holds-ignores shared args Equal = λ view busy. refl
 holds-ignores shared args Greater = λ view busy. refl
 holds-ignores shared args GreaterOrEqual = λ view busy. refl
-holds-ignores shared args Exists = λ view busy. ap Ok (exists-ignores shared (text_at args 9) view busy)
+holds-ignores shared args Exists = λ view busy. ap Ok (exists-ignores shared (option_text args 9) view busy)
 
 tested-ignores : (shared : SharedState) (args : List Arg) (test : Result Test Codes) → IgnoresInUse (λ view. if_found Err test (holds shared view args))
 tested-ignores shared args (Err codes) = λ view busy. refl
@@ -38,7 +38,7 @@ tested-ignores shared args (Ok test) = holds-ignores shared args test
 if-ignores : (shared : SharedState) (script_line : Option ScriptLine) (args : List Arg) → IgnoresInUse (λ view. if_row shared script_line view args)
 if-ignores shared None args = λ view busy. refl
 if-ignores shared (Some here) args = λ view busy.
-    ap (λ held. if_found (codes_action shared) held (if_action shared (is_on args 0) here)) (tested-ignores shared args (test_of args) view busy)
+    ap (λ held. if_found (codes_action shared) held (if_action shared (has_switch args 0) here)) (tested-ignores shared args (test_of args) view busy)
 
 -- the last clause is checked at each other command
 pub ignores : (command : FlowCommand) (shared : SharedState) (script_line : Option ScriptLine) (args : List Arg) → reads_in_use command ≡ false

@@ -6,7 +6,7 @@ use Rattle.ados_text.specs.declared.codes.Result2.{Result2}
 use Rattle.ados_ram.specs.FileOperations.{read_at}
 use Rattle.ados_ram.specs.Place.{Place}
 use Rattle.ados_readargs.specs.declared.args.Arg.{Arg}
-use Rattle.ados_readargs.specs.Args.{is_on, text_at}
+use Rattle.ados_readargs.specs.Args.{has_switch, option_text}
 use Rattle.ados_find.specs.declared.codes.Codes.{Codes}
 use Rattle.ados_find.specs.Paths.{place_of}
 use Rattle.ados_find.specs.Effects.{if_found, if_given}
@@ -34,7 +34,7 @@ holds-ignores shared args Fail = λ view names uses. refl
 holds-ignores shared args Equal = λ view names uses. refl
 holds-ignores shared args Greater = λ view names uses. refl
 holds-ignores shared args GreaterOrEqual = λ view names uses. refl
-holds-ignores shared args Exists = λ view names uses. ap Ok (exists-ignores shared (text_at args 9) view names uses)
+holds-ignores shared args Exists = λ view names uses. ap Ok (exists-ignores shared (option_text args 9) view names uses)
 
 tested-ignores : (shared : SharedState) (args : List Arg) (test : Result Test Codes) → IgnoresShells (λ view. if_found Err test (holds shared view args))
 tested-ignores shared args (Err codes) = λ view names uses. refl
@@ -43,7 +43,7 @@ tested-ignores shared args (Ok test) = holds-ignores shared args test
 if-ignores : (shared : SharedState) (script_line : Option ScriptLine) (args : List Arg) → IgnoresShells (λ view. if_row shared script_line view args)
 if-ignores shared None args = λ view names uses. refl
 if-ignores shared (Some here) args = λ view names uses.
-    ap (λ held. if_found (codes_action shared) held (if_action shared (is_on args 0) here)) (tested-ignores shared args (test_of args) view names uses)
+    ap (λ held. if_found (codes_action shared) held (if_action shared (has_switch args 0) here)) (tested-ignores shared args (test_of args) view names uses)
 
 read-ignores : (shared : SharedState) (place : Place) (args : Text) (read : Result Bytes Result2) → IgnoresShells (λ view. script_read shared view place args read)
 read-ignores shared place args (Err fault) = λ view names uses. refl
@@ -67,6 +67,6 @@ file-ignores shared (Some word) args = λ view names uses. word-ignores shared w
 
 -- the last clause is checked at each other command
 pub ignores_shells : (command : FlowCommand) (shared : SharedState) (script_line : Option ScriptLine) (args : List Arg) → IgnoresShells (λ view. row_of command shared script_line view args)
-ignores_shells Execute shared script_line args = file-ignores shared (text_at args 0) (unwrap_or (text_at args 1) [])
+ignores_shells Execute shared script_line args = file-ignores shared (option_text args 0) (unwrap_or (option_text args 1) [])
 ignores_shells If shared script_line args = if-ignores shared script_line args
 ignores_shells command shared script_line args = λ view names uses. refl

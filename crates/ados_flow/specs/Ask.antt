@@ -3,7 +3,7 @@ use Rattle.std.specs.Prelude.{[], ◌||◌, Option, Some, None, codes, if◌then
 use Rattle.ados_text.specs.Text.{Text, is_same}
 use Rattle.ados_text.specs.declared.codes.TheConstants.Result2.{NONE}
 use Rattle.ados_readargs.specs.declared.args.Arg.{Arg}
-use Rattle.ados_readargs.specs.Args.{text_at}
+use Rattle.ados_readargs.specs.Args.{option_text}
 use Rattle.ados_find.specs.declared.codes.Codes.{Codes}
 use Rattle.ados_find.specs.Codes.{warning_codes, went_well}
 use Rattle.ados_find.specs.Effects.{if_given}
@@ -20,4 +20,4 @@ reply_of line =
 
 -- Ask asks with its PROMPT
 abbrev pub ask_row : SharedState → List Arg → Action
-ask_row shared args = if_given (codes_action shared) (text_at args 0) Asks
+ask_row shared args = if_given (codes_action shared) (option_text args 0) Asks

@@ -2,7 +2,7 @@
 use Rattle.std.specs.Prelude.{List, Bool, not, Option, Some, None, if◌then◌else◌}
 use Rattle.ados_text.specs.declared.codes.TheConstants.Result2.{NONE, OBJECT_NOT_FOUND, WRONG_TYPE}
 use Rattle.ados_readargs.specs.declared.args.Arg.{Arg}
-use Rattle.ados_readargs.specs.Args.{is_on, text_at}
+use Rattle.ados_readargs.specs.Args.{has_switch, option_text}
 use Rattle.ados_script.specs.declared.jumps.Jump.{Jump}
 use Rattle.ados_script.specs.declared.jumps.Jump.TheVariants.{To, EndSkip, None as Nowhere}
 use Rattle.ados_script.specs.Blocks.{after_if, after_else}
@@ -34,7 +34,7 @@ if_action shared turned here held =
 -- If continues, or jumps after its Else or EndIf if its test fails
 abbrev pub if_row : SharedState → Option ScriptLine → View → List Arg → Action
 if_row shared script_line view args =
-    in_script shared script_line (λ here. if_found (codes_action shared) (if_test shared view args) (if_action shared (is_on args 0) here))
+    in_script shared script_line (λ here. if_found (codes_action shared) (if_test shared view args) (if_action shared (has_switch args 0) here))
 
 -- Else jumps after its EndIf
 abbrev pub else_row : SharedState → Option ScriptLine → Action
@@ -44,4 +44,4 @@ else_row shared script_line = in_script shared script_line (λ here. jump_action
 -- comes before that
 abbrev pub skip_row : SharedState → Option ScriptLine → List Arg → Action
 skip_row shared script_line args =
-    in_script shared script_line (λ here. jump_action (skip here.lines here.line (text_at args 0) (is_on args 1)))
+    in_script shared script_line (λ here. jump_action (skip here.lines here.line (option_text args 0) (has_switch args 1)))

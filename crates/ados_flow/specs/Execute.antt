@@ -11,7 +11,7 @@ use Rattle.ados_ram.specs.Place.{Place, key_of}
 use Rattle.ados_ram.specs.FileOperations.{read_at}
 use Rattle.ados_ram.specs.Written.{full_path}
 use Rattle.ados_readargs.specs.declared.args.Arg.{Arg}
-use Rattle.ados_readargs.specs.Args.{text_at}
+use Rattle.ados_readargs.specs.Args.{option_text}
 use Rattle.ados_find.specs.declared.codes.Codes.{Codes}
 use Rattle.ados_find.specs.Codes.{fail_codes, error_codes}
 use Rattle.ados_find.specs.Effects.{if_found, if_given}
@@ -60,4 +60,4 @@ execute_file shared view args word = if_found (codes_action shared) (place_of sh
 
 -- Execute calls the script FILE with ARGS
 abbrev pub execute_row : SharedState → View → List Arg → Action
-execute_row shared view args = if_given (codes_action shared) (text_at args 0) (execute_file shared view (unwrap_or (text_at args 1) []))
+execute_row shared view args = if_given (codes_action shared) (option_text args 0) (execute_file shared view (unwrap_or (option_text args 1) []))

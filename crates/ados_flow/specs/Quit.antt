@@ -4,7 +4,7 @@ use Rattle.ados_text.specs.declared.codes.Code.{Code}
 use Rattle.ados_text.specs.declared.codes.TheConstants.Code.{OK}
 use Rattle.ados_text.specs.declared.codes.TheConstants.Result2.{NONE}
 use Rattle.ados_readargs.specs.declared.args.Arg.{Arg}
-use Rattle.ados_readargs.specs.Args.{number_at}
+use Rattle.ados_readargs.specs.Args.{option_number}
 use Rattle.ados_find.specs.declared.codes.Codes.{Codes}
 use Rattle.ados_flow.specs.Actions.{Action, Quits}
 
@@ -18,4 +18,4 @@ quits (Some number) = Quits (quit_codes (record { 0 = number }))
 
 -- Quit ends its script with a code
 abbrev pub quit_row : List Arg → Action
-quit_row args = quits (number_at args 0)
+quit_row args = quits (option_number args 0)

@@ -12,7 +12,7 @@ use Rattle.ados_text.specs.declared.codes.TheConstants.Code.{WARN, ERROR, FAIL}
 use Rattle.ados_text.specs.declared.codes.TheConstants.Result2.{ARGUMENT_MISSING, BAD_NUMBER, TOO_MANY_ARGUMENTS}
 use Rattle.ados_ram.specs.Place.{Place, key_of}
 use Rattle.ados_readargs.specs.declared.args.Arg.{Arg}
-use Rattle.ados_readargs.specs.Args.{is_on, text_at}
+use Rattle.ados_readargs.specs.Args.{has_switch, option_text}
 use Rattle.ados_find.specs.declared.codes.Codes.{Codes}
 use Rattle.ados_find.specs.Codes.{fail_codes}
 use Rattle.ados_find.specs.Effects.{if_found}
@@ -26,13 +26,13 @@ use Rattle.ados_flow.specs.declared.tests.TheConstants.Test.{ALL}
 
 -- the arguments ask for a test
 abbrev pub is_given : List Arg → Test → Bool
-is_given args Warn = is_on args 1
-is_given args Error = is_on args 2
-is_given args Fail = is_on args 3
-is_given args Equal = is_some (text_at args 5)
-is_given args Greater = is_some (text_at args 6)
-is_given args GreaterOrEqual = is_some (text_at args 7)
-is_given args Exists = is_some (text_at args 9)
+is_given args Warn = has_switch args 1
+is_given args Error = has_switch args 2
+is_given args Fail = has_switch args 3
+is_given args Equal = is_some (option_text args 5)
+is_given args Greater = is_some (option_text args 6)
+is_given args GreaterOrEqual = is_some (option_text args 7)
+is_given args Exists = is_some (option_text args 9)
 
 -- exactly one is asked for
 abbrev pub single_test : List Test → Result Test Codes
@@ -79,7 +79,7 @@ order_if_both by_value (Some left) (Some right) = order_of by_value left right
 
 -- the order of the unnamed word and the value of the option at a place
 abbrev pub order_at : List Arg → ℕ → Result Ordering Codes
-order_at args place = order_if_both (is_on args 8) (text_at args 4) (text_at args place)
+order_at args place = order_if_both (has_switch args 8) (option_text args 4) (option_text args place)
 
 abbrev pub place_exists : SharedState → Result Place Codes → Bool
 place_exists shared (Err codes) = false
@@ -102,7 +102,7 @@ holds shared view args Fail = Ok (code_reaches FAIL view)
 holds shared view args Equal = order_result is_equal (order_at args 5)
 holds shared view args Greater = order_result is_greater (order_at args 6)
 holds shared view args GreaterOrEqual = order_result is_not_less (order_at args 7)
-holds shared view args Exists = Ok (exists shared view (text_at args 9))
+holds shared view args Exists = Ok (exists shared view (option_text args 9))
 
 -- the one test that is asked for holds, or what If answers if that can't be decided
 abbrev pub if_test : SharedState → View → List Arg → Result Bool Codes

@@ -5,7 +5,7 @@ ghost use Rattle.ados_text.specs.declared.codes.TheConstants.Result2.{WRONG_TYPE
 ghost use Rattle.ados_find.specs.Codes.{fail_codes};
 ghost use Rattle.ados_find.specs.Effects.{codes_effect};
 ghost use Rattle.ados_find.specs.Shared.{SharedState};
-ghost use Rattle.ados_readargs.specs.Args.{is_on, text_at};
+ghost use Rattle.ados_readargs.specs.Args.{has_switch, option_text};
 ghost use Rattle.ados_script.specs.Skips.{skip as skip_of};
 ghost use Rattle.ados_flow.specs.Actions.{Does, action_effect};
 ghost use Rattle.ados_flow.specs.Branches.{if_action, else_row, if_row, jump_action, skip_row};
@@ -38,7 +38,7 @@ pub fn branch(
     match tested(alloc, shared, view, args) {
         Err(Refusal::NoMemory) => Err(NoMemory),
         Err(Refusal::Stopped(codes)) => Ok(Action::answering(alloc, codes)),
-        Ok(held) if held != args.is_on(0) => Ok(Action::answering(alloc, Codes::NONE)),
+        Ok(held) if held != args.has_switch(0) => Ok(Action::answering(alloc, Codes::NONE)),
         Ok(_) => Ok(jumped(script.after_if(line))),
     }
 }
@@ -70,9 +70,9 @@ pub fn skip(alloc: Global, frame: Option<&Frame>, args: &Args) -> Action
 
 // Where a Skip at a line leads.
 fn skip_from(script: &Script, line: usize, args: &Args) -> Jump
-    ensures { result ≡ skip_of script.now line (text_at args.now 0) (is_on args.now 1) }
+    ensures { result ≡ skip_of script.now line (option_text args.now 0) (has_switch args.now 1) }
 {
-    script.skip(line, args.text(0), args.is_on(1))
+    script.skip(line, args.text(0), args.has_switch(1))
 }
 
 // Where a command of the newest frame is, if that is a script.

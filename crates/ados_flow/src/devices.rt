@@ -2,7 +2,7 @@
 ghost use Rattle.std.specs.Prelude.{◌≡◌, ◌++◌, Ok, OnOk, IfOk};
 ghost use Rattle.std.specs.List.{flat_map};
 ghost use Rattle.ados_assign.specs.Uses.{reached_devices};
-ghost use Rattle.ados_readargs.specs.Args.{text_at, texts_at};
+ghost use Rattle.ados_readargs.specs.Args.{option_text, option_texts};
 ghost use Rattle.ados_find.specs.Paths.{place_of};
 ghost use Rattle.ados_find.specs.Search.{device_named};
 ghost use Rattle.ados_flow.specs.Devices.{devices_of, is_absent, script_devices};
@@ -45,7 +45,7 @@ fn push_of_script(
     args: &Args,
     used: &mut Vec<Name>,
 ) -> Result<(), NoMemory>
-    ensures { OnOk result (used.new.items ≡ used.old.items ++ flat_map (reached_devices shared.now.assigns) (script_devices shared.now view.now.parts (text_at args.now 0))) }
+    ensures { OnOk result (used.new.items ≡ used.old.items ++ flat_map (reached_devices shared.now.assigns) (script_devices shared.now view.now.parts (option_text args.now 0))) }
 {
     let Some(word) = args.made_text(alloc, 0)? else {
         return Ok(());

@@ -5,7 +5,7 @@ ghost use Rattle.ados_text.specs.Name.{name_cmp};
 ghost use Rattle.ados_text.specs.Text.{folded_text};
 ghost use Rattle.ados_find.specs.Codes.{fail_codes};
 ghost use Rattle.ados_find.specs.Paths.{Gives, place_of};
-ghost use Rattle.ados_readargs.specs.Args.{text_at};
+ghost use Rattle.ados_readargs.specs.Args.{option_text};
 ghost use Rattle.ados_flow.specs.Tests.{exists, code_reaches, is_given, place_exists, single_test, order_at, order_if_both, order_of, if_test};
 
 use crate::code_rule::is_reached;
@@ -62,9 +62,9 @@ impl Test {
         ensures { result ≡ is_given args.now self }
     {
         match self {
-            Test::Warn => args.is_on(1),
-            Test::Error => args.is_on(2),
-            Test::Fail => args.is_on(3),
+            Test::Warn => args.has_switch(1),
+            Test::Error => args.has_switch(2),
+            Test::Fail => args.has_switch(3),
             Test::Equal => args.text(5).is_some(),
             Test::Greater => args.text(6).is_some(),
             Test::GreaterOrEqual => args.text(7).is_some(),
@@ -135,7 +135,7 @@ fn code_reaches(level: Code, view: &ShellView) -> bool
 fn order_at(args: &Args, place: usize) -> Result<Ordering, Refusal>
     ensures { Gives result (order_at args.now place) }
 {
-    order_by(args.is_on(8), args.text(4), args.text(place))
+    order_by(args.has_switch(8), args.text(4), args.text(place))
 }
 
 fn order_by(by_value: bool, left: Option<&[u8]>, right: Option<&[u8]>) -> Result<Ordering, Refusal>
@@ -170,7 +170,7 @@ fn word_order(left: &[u8], right: &[u8]) -> Ordering
 
 // The path of EXISTS leads to an object.
 fn exists(alloc: Global, shared: &Shared, view: &ShellView, args: &Args) -> Result<bool, NoMemory>
-    ensures { IfOk result (λ there. there ≡ exists shared.now view.now (text_at args.now 9)) }
+    ensures { IfOk result (λ there. there ≡ exists shared.now view.now (option_text args.now 9)) }
 {
     match args.made_text(alloc, 9)? {
         None => Ok(false),

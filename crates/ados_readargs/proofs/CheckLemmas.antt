@@ -6,7 +6,7 @@ use Rattle.std.proofs.lemmas.Option.{slice_get-get_or}
 use Rattle.ados_readargs.specs.declared.options.TemplateOption.{TemplateOption}
 use Rattle.ados_readargs.specs.declared.args.Arg.{Arg}
 use Rattle.ados_readargs.specs.declared.args.Arg.TheVariants.{Absent, On, One, Many}
-use Rattle.ados_readargs.specs.Args.{or_absent, texts_at, texts_or_none}
+use Rattle.ados_readargs.specs.Args.{or_absent, option_texts, texts_or_none}
 use Rattle.ados_readargs.specs.Checks.{is_lacking, lacks, is_bad_text, has_bad_number, is_bad, has_bad}
 
 or-nothing : (b : Bool) → (b || false) ≡ b
@@ -20,7 +20,7 @@ bad-text (Some On) = refl
 bad-text (Some (One text)) = or-nothing (is_bad_text text)
 bad-text (Some (Many texts)) = refl
 
-pub bad_text : (args : List Arg) (place : ℕ) → list_any is_bad_text (texts_at args place) ≡ has_bad_number (or_absent (slice_get args place))
+pub bad_text : (args : List Arg) (place : ℕ) → list_any is_bad_text (option_texts args place) ≡ has_bad_number (or_absent (slice_get args place))
 bad_text args place = bad-text (slice_get args place)
 
 -- the options from a place on, by the one there

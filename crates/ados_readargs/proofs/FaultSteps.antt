@@ -11,7 +11,7 @@ use Rattle.ados_readargs.specs.declared.words.LineWord.{LineWord}
 use Rattle.ados_readargs.specs.declared.words.LineWord.TheVariants as word
 use Rattle.ados_readargs.specs.declared.readings.Reading.{Reading}
 use Rattle.ados_readargs.specs.declared.meanings.Meaning.TheVariants as says
-use Rattle.ados_readargs.specs.Options.{takes_value, qualifiers_at}
+use Rattle.ados_readargs.specs.Options.{takes_value, option_qualifiers}
 use Rattle.ados_readargs.specs.Readings.{Readings, is_filled}
 use Rattle.ados_readargs.specs.Meanings.{is_full}
 use Rattle.ados_readargs.specs.Phrases.{Phrase, words_in, fillings, plain_words, may_fill, IsPhrase, IsLast, ArePhrases}
@@ -84,8 +84,8 @@ named-by true toggle e = refl
 named-by false true e = refl
 named-by false false e = cc
 
-pub full-not : (options : List TemplateOption) (given : List Reading) (place : ℕ) → is_full (qualifiers_at options place) (is_filled place given) ≡ false → may_fill options given place ≡ true
-full-not options given place = free-by (is_filled place given) (qualifiers_at options place).many (qualifiers_at options place).toggle
+pub full-not : (options : List TemplateOption) (given : List Reading) (place : ℕ) → is_full (option_qualifiers options place) (is_filled place given) ≡ false → may_fill options given place ≡ true
+full-not options given place = free-by (is_filled place given) (option_qualifiers options place).many (option_qualifiers options place).toggle
 
 pub full-by : (filled many switch toggle : Bool) → (filled && not many) ≡ true → not (switch || toggle) ≡ true → (not filled || (many || toggle)) ≡ false
 full-by false many switch toggle e t = cc
@@ -94,10 +94,10 @@ full-by true false true toggle e t = cc
 full-by true false false true e t = cc
 full-by true false false false e t = refl
 
-pub full-is : (options : List TemplateOption) (given : List Reading) (place : ℕ) → takes_value (qualifiers_at options place) ≡ true
-    → is_full (qualifiers_at options place) (is_filled place given) ≡ true → may_fill options given place ≡ false
+pub full-is : (options : List TemplateOption) (given : List Reading) (place : ℕ) → takes_value (option_qualifiers options place) ≡ true
+    → is_full (option_qualifiers options place) (is_filled place given) ≡ true → may_fill options given place ≡ false
 full-is options given place takes taken =
-    let q = qualifiers_at options place in full-by (is_filled place given) q.many q.switch q.toggle taken takes
+    let q = option_qualifiers options place in full-by (is_filled place given) q.many q.switch q.toggle taken takes
 
 pub plain-nil : (readings : Readings) (given : List Reading) → record { given = given; plain = readings.plain ++ [] } ≡ record readings { given = given }
 plain-nil readings given = ap (λ plain. record { given = given; plain = plain }) (append-nil readings.plain)

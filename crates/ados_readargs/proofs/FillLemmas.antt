@@ -19,7 +19,7 @@ use Rattle.ados_readargs.specs.FirstFault.{IsFaultAt, MayContinue, ArePhrasesAnd
 use Rattle.ados_readargs.specs.Shares.{TakesAll, is_left}
 use Rattle.ados_readargs.specs.Args.{args_of}
 use Rattle.ados_readargs.specs.Checks.{lacks, has_bad}
-use Rattle.ados_readargs.specs.Fill.{checked_args, args_of_readings, args_for, LosesNoWord}
+use Rattle.ados_readargs.specs.Fill.{checked_args, args_of_readings, parsed_args, LosesNoWord}
 use Rattle.ados_readargs.proofs.PhraseLemmas.{Said}
 use Rattle.ados_readargs.proofs.ReadingLemmas.{words-come}
 
@@ -57,7 +57,7 @@ by-read options line (Ok readings) args e given taken =
 by-read options line (Err fault) args e given taken = cc
 
 -- what a line gives to options is what its phrases say
-pub filled : {T : Type 0} (result : Result T ArgFault) (args : List Arg) (options : List TemplateOption) (line : List ℕ) → OnOk result (args_for options line ≡ Ok args)
+pub filled : {T : Type 0} (result : Result T ArgFault) (args : List Arg) (options : List TemplateOption) (line : List ℕ) → OnOk result (parsed_args options line ≡ Ok args)
     → OnOk result (LosesNoWord options line) → OnOk result (IsFilled options line args)
 filled (Ok value) args options line e taken = by-read options line _ args refl e taken
 filled (Err fault) args options line e taken = tt

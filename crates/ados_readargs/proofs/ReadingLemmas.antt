@@ -14,7 +14,7 @@ use Rattle.ados_readargs.specs.declared.meanings.Pending.{Pending}
 use Rattle.ados_readargs.specs.declared.meanings.Pending.TheVariants.{Free, Value}
 use Rattle.ados_readargs.specs.declared.meanings.Meaning.{Meaning}
 use Rattle.ados_readargs.specs.declared.meanings.Meaning.TheVariants as says
-use Rattle.ados_readargs.specs.Options.{takes_value, qualifiers_at}
+use Rattle.ados_readargs.specs.Options.{takes_value, option_qualifiers}
 use Rattle.ados_readargs.specs.Readings.{Readings, is_filled, no_readings}
 use Rattle.ados_readargs.specs.Words.{item_of, is_open_quote, is_equal}
 use Rattle.ados_readargs.specs.Meanings.{keyword_of, trimmed_end, is_full, given_meaning, keyword_value_meaning, switch_meaning, keyword_meaning, plain_meaning, word_meaning, value_meaning, next_meaning, rest_of, free_meaning, next_open, read_by_meaning, read_from}
@@ -32,7 +32,7 @@ IsPassed keyword equal (passed ∷ other ∷ more) = ⊥
 record IsWaiting (options : List TemplateOption) (line : List ℕ) (given : List Reading) (place : ℕ) (equal : Bool) (front : List LineWord) (keyword : LineWord) (passed : List LineWord) : Type 0 where
   front_is : front ≡ keyword ∷ passed
   named : IsKeyword options line place keyword
-  takes : takes_value (qualifiers_at options place) ≡ true
+  takes : takes_value (option_qualifiers options place) ≡ true
   alone : has_value keyword ≡ false
   no_rest : is_rest_next options given ≡ false
   between : IsPassed keyword equal passed
@@ -74,13 +74,13 @@ filling-said options line words readings answer phrase reading fills nothing her
 
 -- a keyword whose option takes a value
 value-said : (options : List TemplateOption) (line : List ℕ) (words : List LineWord) (readings : Readings) (answer : Result Readings ArgFault) (place : ℕ) (keyword : LineWord)
-    → IsKeyword options line place keyword → takes_value (qualifiers_at options place) ≡ true → is_rest_next options readings.given ≡ false
+    → IsKeyword options line place keyword → takes_value (option_qualifiers options place) ≡ true → is_rest_next options readings.given ≡ false
     → GoesOn options line words answer
-    → Ends options line words readings answer (keyword_value_meaning (is_full (qualifiers_at options place) (is_filled place readings.given)) place keyword)
+    → Ends options line words readings answer (keyword_value_meaning (is_full (option_qualifiers options place) (is_filled place readings.given)) place keyword)
     → Comes options line readings (keyword ∷ words) answer
 value-said options line words readings answer place (word.Run from key to) named takes no_rest goes =
     let keyword = word.Run from key to in
-    let full = is_full (qualifiers_at options place) (is_filled place readings.given) in
+    let full = is_full (option_qualifiers options place) (is_filled place readings.given) in
     let P : Meaning → Type 0 = λ m. Ends options line words readings answer m → Comes options line readings (keyword ∷ words) answer in
     cond_both (nat_lt (key + 1) to) (given_meaning full place (item.Word (key + 1) to)) (says.Wait place (key == to)) P
     (λ long. given-said options line words readings answer full place (item.Word (key + 1) to) (keyword ∷ words)
@@ -95,10 +95,10 @@ value-said options line words readings answer place (word.Open from) named takes
 -- a keyword
 keyword-said : (options : List TemplateOption) (line : List ℕ) (words : List LineWord) (readings : Readings) (answer : Result Readings ArgFault) (place : ℕ) (keyword : LineWord)
     → IsKeyword options line place keyword → is_rest_next options readings.given ≡ false → GoesOn options line words answer
-    → Ends options line words readings answer (keyword_meaning (qualifiers_at options place) (is_filled place readings.given) place keyword)
+    → Ends options line words readings answer (keyword_meaning (option_qualifiers options place) (is_filled place readings.given) place keyword)
     → Comes options line readings (keyword ∷ words) answer
 keyword-said options line words readings answer place keyword named no_rest goes =
-    let q = qualifiers_at options place in
+    let q = option_qualifiers options place in
     let filled = is_filled place readings.given in
     let P : Meaning → Type 0 = λ m. Ends options line words readings answer m → Comes options line readings (keyword ∷ words) answer in
     cond_both q.toggle (says.Read (Named place)) _ P
@@ -149,7 +149,7 @@ free-said options line words readings answer said None open_is goes =
     next-said options line words readings answer said None open_is (rw open_is refl) goes
 free-said options line words readings answer said (Some place) open_is goes =
     let P : Meaning → Type 0 = λ m. Ends options line words readings answer m → Comes options line readings (said ∷ words) answer in
-    cond_both (qualifiers_at options place).rest (says.Stop (Given place (rest_of line said))) _ P
+    cond_both (option_qualifiers options place).rest (says.Stop (Given place (rest_of line said))) _ P
     (λ last e.
     let ends = trimmed-is line line 0 0 refl (omega arith) (λ k above below. absurd (omega arith)) (inl refl) in
     let Q : Result Readings ArgFault → Type 0 = λ r. Comes options line readings (said ∷ words) r in
@@ -229,7 +229,7 @@ opened-at options line words given said place equal front keyword passed w opene
 
 full-at : (options : List TemplateOption) (line : List ℕ) (words : List LineWord) (given : List Reading) (said : LineWord) (place : ℕ) (equal : Bool) (front : List LineWord)
     (keyword : LineWord) (passed : List LineWord) → IsWaiting options line given place equal front keyword passed → is_open_quote said ≡ false
-    → (equal && is_equal said) ≡ false → is_full (qualifiers_at options place) (is_filled place given) ≡ true
+    → (equal && is_equal said) ≡ false → is_full (option_qualifiers options place) (is_filled place given) ≡ true
     → IsFaultAt options line given (front ++ said ∷ words) fault.TooMany
 full-at options line words given said place equal front keyword passed w closed other taken =
     let P : List LineWord → Type 0 = λ l. IsFaultAt options line given (l ++ said ∷ words) fault.TooMany in
@@ -248,10 +248,10 @@ valueless-at options line given place equal front keyword passed w =
 -- a word for which a keyword waits
 waiting-said : (options : List TemplateOption) (line : List ℕ) (words : List LineWord) (readings : Readings) (answer : Result Readings ArgFault) (said : LineWord) (place : ℕ) (equal : Bool) (front : List LineWord)
     (keyword : LineWord) (passed : List LineWord) → IsWaiting options line readings.given place equal front keyword passed → GoesOn options line words answer
-    → Ends options line words readings answer (value_meaning (is_full (qualifiers_at options place) (is_filled place readings.given)) place equal said)
+    → Ends options line words readings answer (value_meaning (is_full (option_qualifiers options place) (is_filled place readings.given)) place equal said)
     → Comes options line readings (front ++ said ∷ words) answer
 waiting-said options line words readings answer said place equal front keyword passed w goes =
-    let full = is_full (qualifiers_at options place) (is_filled place readings.given) in
+    let full = is_full (option_qualifiers options place) (is_filled place readings.given) in
     let P : Meaning → Type 0 = λ m. Ends options line words readings answer m → Comes options line readings (front ++ said ∷ words) answer in
     cond_both (is_open_quote said) (says.Refuse fault.Unmatched) _ P
     (λ opened e. stop options line readings (front ++ said ∷ words) fault.Unmatched answer

@@ -9,7 +9,7 @@ use Rattle.ados_readargs.specs.declared.options.Qualifiers.{Qualifiers}
 use Rattle.ados_readargs.specs.declared.options.TemplateOption.{TemplateOption}
 use Rattle.ados_readargs.specs.declared.readings.Reading.{Reading}
 use Rattle.ados_readargs.specs.Readings.{Readings, is_vacant}
-use Rattle.ados_readargs.specs.Options.{no_qualifiers, qualifiers_of, qualifiers_at}
+use Rattle.ados_readargs.specs.Options.{no_qualifiers, qualifiers_of, option_qualifiers}
 use Rattle.ados_readargs.specs.Shares.{vacant_count, front_share, middle_share, back_share, option_share, first_shares}
 
 abbrev no_option : TemplateOption
@@ -29,24 +29,24 @@ count-append needed place (x ∷ xs) ys given =
     let moved : vacant_count needed (place + 1 + length xs) ys given ≡ vacant_count needed (place + length (x ∷ xs)) ys given = ap (λ p. vacant_count needed p ys given) (omega arith) in
     omega (arith, h, moved)
 
-qualifiers-at : (options : List TemplateOption) (n : ℕ) → n < length options → qualifiers_at options n ≡ (get_or options n no_option).qualifiers
+qualifiers-at : (options : List TemplateOption) (n : ℕ) → n < length options → option_qualifiers options n ≡ (get_or options n no_option).qualifiers
 qualifiers-at options n h = ap qualifiers_of (slice_get-get_or options n no_option h)
 
 front-more : (options : List TemplateOption) (given : List Reading) (n : ℕ) → n < length options
-    → vacant_count false 0 (take (n + 1) options) given ≡ vacant_count false 0 (take n options) given + counted false n (qualifiers_at options n) given
+    → vacant_count false 0 (take (n + 1) options) given ≡ vacant_count false 0 (take n options) given + counted false n (option_qualifiers options n) given
 front-more options given n h =
     let e1 : vacant_count false 0 (take (n + 1) options) given ≡ vacant_count false 0 (take n options ++ get_or options n no_option ∷ []) given = ap (λ os. vacant_count false 0 os given) (take_more options n no_option h) in
     let e2 = count-append false 0 (take n options) (get_or options n no_option ∷ []) given in
     let long : length (take n options) ≡ n = length-take-le n options (omega arith) in
     let e3 : vacant_count false (0 + length (take n options)) (get_or options n no_option ∷ []) given ≡ vacant_count false n (get_or options n no_option ∷ []) given = ap (λ p. vacant_count false p (get_or options n no_option ∷ []) given) (omega (arith, long)) in
-    let e4 : counted false n (get_or options n no_option).qualifiers given ≡ counted false n (qualifiers_at options n) given = ap (λ q. counted false n q given) (sym (qualifiers-at options n h)) in
+    let e4 : counted false n (get_or options n no_option).qualifiers given ≡ counted false n (option_qualifiers options n) given = ap (λ q. counted false n q given) (sym (qualifiers-at options n h)) in
     omega (arith, e1, e2, e3, e4)
 
 back-less : (options : List TemplateOption) (given : List Reading) (n : ℕ) → n < length options
-    → vacant_count true n (drop n options) given ≡ counted true n (qualifiers_at options n) given + vacant_count true (n + 1) (drop (n + 1) options) given
+    → vacant_count true n (drop n options) given ≡ counted true n (option_qualifiers options n) given + vacant_count true (n + 1) (drop (n + 1) options) given
 back-less options given n h =
     let e1 : vacant_count true n (drop n options) given ≡ vacant_count true n (get_or options n no_option ∷ drop (n + 1) options) given = ap (λ os. vacant_count true n os given) (drop_more options n no_option h) in
-    let e4 : counted true n (get_or options n no_option).qualifiers given ≡ counted true n (qualifiers_at options n) given = ap (λ q. counted true n q given) (sym (qualifiers-at options n h)) in
+    let e4 : counted true n (get_or options n no_option).qualifiers given ≡ counted true n (option_qualifiers options n) given = ap (λ q. counted true n q given) (sym (qualifiers-at options n h)) in
     omega (arith, e1, e4)
 
 -- one more word, if there is one
@@ -62,9 +62,9 @@ front-counted false r a b e = e
 front-step : (options : List TemplateOption) (readings : Readings) (n : ℕ) → n < length options
     → take (vacant_count false 0 (take n options) readings.given) readings.plain ++ front_share options readings n ≡ take (vacant_count false 0 (take (n + 1) options) readings.given) readings.plain
 front-step options readings n h =
-    let vacant = is_vacant n (qualifiers_at options n) readings.given in
+    let vacant = is_vacant n (option_qualifiers options n) readings.given in
     one-more vacant (vacant_count false 0 (take n options) readings.given) _ readings.plain
-    (front-counted vacant (qualifiers_at options n).required _ _ (front-more options readings.given n h))
+    (front-counted vacant (option_qualifiers options n).required _ _ (front-more options readings.given n h))
 
 -- the first options take the first words
 to-front-none : (options : List TemplateOption) (readings : Readings) (n : ℕ) → n ≤ length options
@@ -148,7 +148,7 @@ to-back m options readings (suc j) n w e h =
     shares-more (Some m) options readings n k (omega arith)
     ∙ ap (λ s. s ++ option_share (Some m) options readings k) (to-back m options readings j k w refl (omega arith))
     ∙ ap (λ s. kept m k options readings ++ s) (share-back m k options readings (omega arith))
-    ∙ back-words (is_vacant k (qualifiers_at options k) readings.given) (qualifiers_at options k).required (vacant_count false 0 (take m options) readings.given)
+    ∙ back-words (is_vacant k (option_qualifiers options k) readings.given) (option_qualifiers options k).required (vacant_count false 0 (take m options) readings.given)
     (vacant_count true (k + 1) (drop (k + 1) options) readings.given) (vacant_count true k (drop k options) readings.given) readings.plain (back-less options readings.given k (omega arith))
     ∙ ap (λ i. kept m i options readings) e1
 

@@ -12,7 +12,7 @@ use Rattle.ados_items.specs.declared.items.Item.{Item}
 use Rattle.ados_readargs.specs.declared.args.Arg.TheVariants as arg
 use Rattle.ados_readargs.specs.declared.slots.Slot.{Slot}
 use Rattle.ados_readargs.specs.declared.slots.Slot.TheVariants.{Absent, On, One, Many}
-use Rattle.ados_readargs.specs.Args.{many_of, one_of, texts_or_none, texts_at}
+use Rattle.ados_readargs.specs.Args.{many_of, one_of, texts_or_none, option_texts}
 use Rattle.ados_readargs.specs.Slots.{arg_in, args_in, HoldsIn, slot_of}
 
 part-append : (texts more : List Text) (from to : ℕ) → from ≤ to → to ≤ length texts → take (to - from) (drop from (texts ++ more)) ≡ take (to - from) (drop from texts)
@@ -58,7 +58,7 @@ one-more many line items texts slots from to a b within =
 
 -- past the texts that an option was given there is none
 pub text-past : (texts : List Text) (slots : List Slot) (place number from to : ℕ) → slice_get slots place ≡ Some (Many from to) → to - from ≤ number
-    → get_or (texts_at (args_in texts slots) place) number [] ≡ []
+    → get_or (option_texts (args_in texts slots) place) number [] ≡ []
 text-past texts slots place number from to e h =
     ap (λ found. get_or (texts_or_none found) number []) (slice_get-map (arg_in texts) slots place ∙ ap (option_map (arg_in texts)) e)
     ∙ get_or_past (take (to - from) (drop from texts)) number [] (let long = length-take (to - from) (drop from texts) in omega (arith, h, long))

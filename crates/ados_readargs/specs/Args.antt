@@ -86,17 +86,17 @@ or_absent None = Absent
 or_absent (Some arg) = arg
 
 -- the option at a place is on
-abbrev pub is_on : List Arg → ℕ → Bool
-is_on args place = option_map_or is_set (slice_get args place) false
+abbrev pub has_switch : List Arg → ℕ → Bool
+has_switch args place = option_map_or is_set (slice_get args place) false
 
 -- the text of the option at a place
-abbrev pub text_at : List Arg → ℕ → Option Text
-text_at args place = option_and_then text_in (slice_get args place)
+abbrev pub option_text : List Arg → ℕ → Option Text
+option_text args place = option_and_then text_in (slice_get args place)
 
 -- the texts of the option at a place
-abbrev pub texts_at : List Arg → ℕ → List Text
-texts_at args place = texts_or_none (slice_get args place)
+abbrev pub option_texts : List Arg → ℕ → List Text
+option_texts args place = texts_or_none (slice_get args place)
 
 -- the number of the option at a place
-abbrev pub number_at : List Arg → ℕ → Option ℤ
-number_at args place = option_and_then number_of (text_at args place)
+abbrev pub option_number : List Arg → ℕ → Option ℤ
+option_number args place = option_and_then number_of (option_text args place)

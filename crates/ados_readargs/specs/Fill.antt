@@ -26,13 +26,13 @@ args_of_readings options line (Err fault) = Err fault
 args_of_readings options line (Ok readings) = checked_args options (is_left options readings) (args_of options line readings)
 
 -- the arguments that a line gives to options
-abbrev pub args_for : List TemplateOption → Bytes → Result (List Arg) ArgFault
-args_for options line = args_of_readings options line (read_of options line (line_words_of line))
+abbrev pub parsed_args : List TemplateOption → Bytes → Result (List Arg) ArgFault
+parsed_args options line = args_of_readings options line (read_of options line (line_words_of line))
 
 -- the same, if there are options
 abbrev pub args_for_template : Bytes → Option (List TemplateOption) → Result (List Arg) ArgFault
 args_for_template line None = Err fault.BadTemplate
-args_for_template line (Some options) = args_for options line
+args_for_template line (Some options) = parsed_args options line
 
 -- The arguments that a line gives to the options of a template's text, or the first fault that holds.
 abbrev pub fill_of : Text → Bytes → Result (List Arg) ArgFault

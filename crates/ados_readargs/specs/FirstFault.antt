@@ -9,8 +9,8 @@ use Rattle.ados_readargs.specs.declared.words.LineWord.{LineWord}
 use Rattle.ados_readargs.specs.declared.readings.Reading.{Reading}
 use Rattle.ados_readargs.specs.Args.{args_of}
 use Rattle.ados_readargs.specs.Checks.{lacks, has_bad}
-use Rattle.ados_readargs.specs.Fill.{args_for}
-use Rattle.ados_readargs.specs.Options.{takes_value, qualifiers_at}
+use Rattle.ados_readargs.specs.Fill.{parsed_args}
+use Rattle.ados_readargs.specs.Options.{takes_value, option_qualifiers}
 use Rattle.ados_readargs.specs.Phrases.{Phrase, words_in, IsKeyword, IsBetween, IsLast, ArePhrases, has_value, is_rest_next, is_whole, may_fill, readings_of_phrases}
 use Rattle.ados_readargs.specs.Readings.{is_filled}
 use Rattle.ados_readargs.specs.Shares.{is_left}
@@ -20,7 +20,7 @@ use Rattle.ados_readargs.specs.Words.{is_equal, is_open_quote, line_words_of}
 pub record TakesValue (options : List TemplateOption) (line : Bytes) (before : List Reading) (place : ℕ) (keyword : LineWord) : Type 0 where
   pub named : IsKeyword options line place keyword
   pub no_rest : is_rest_next options before ≡ false
-  pub takes : takes_value (qualifiers_at options place) ≡ true
+  pub takes : takes_value (option_qualifiers options place) ≡ true
 
 -- nothing follows a keyword, or only an `=` alone that is skipped
 abbrev pub IsSkippedEqual : LineWord → List LineWord → Type 0
@@ -33,7 +33,7 @@ IsSkippedEqual keyword (equal ∷ other ∷ more) = ⊥
 -- closed, as a word or as a value.
 pub data IsFaultAt (options : List TemplateOption) (line : Bytes) (before : List Reading) : List LineWord → ArgFault → Type 0 where
   twice : (place : ℕ) (keyword : LineWord) (behind : List LineWord) → IsKeyword options line place keyword → is_rest_next options before ≡ false
-      → takes_value (qualifiers_at options place) ≡ false → (qualifiers_at options place).toggle ≡ false → is_filled place before ≡ true
+      → takes_value (option_qualifiers options place) ≡ false → (option_qualifiers options place).toggle ≡ false → is_filled place before ≡ true
       → IsFaultAt options line before (keyword ∷ behind) TooMany
   full_joined : (place : ℕ) (keyword : LineWord) (behind : List LineWord) → TakesValue options line before place keyword → has_value keyword ≡ true
       → may_fill options before place ≡ false → IsFaultAt options line before (keyword ∷ behind) TooMany
@@ -79,4 +79,4 @@ pub data IsFirstFault (options : List TemplateOption) (line : Bytes) : ArgFault 
 
 -- a line that does not fill options has its first fault
 abbrev pub LinesHaveTheirFirstFault : Type 0
-LinesHaveTheirFirstFault = (options : List TemplateOption) (line : Bytes) (fault : ArgFault) → args_for options line ≡ Err fault → IsFirstFault options line fault
+LinesHaveTheirFirstFault = (options : List TemplateOption) (line : Bytes) (fault : ArgFault) → parsed_args options line ≡ Err fault → IsFirstFault options line fault

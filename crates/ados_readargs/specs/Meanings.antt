@@ -17,7 +17,7 @@ use Rattle.ados_readargs.specs.declared.meanings.Pending.{Pending}
 use Rattle.ados_readargs.specs.declared.meanings.Pending.TheVariants.{Free, Value}
 use Rattle.ados_readargs.specs.declared.meanings.Meaning.{Meaning}
 use Rattle.ados_readargs.specs.declared.meanings.Meaning.TheVariants.{Read, Plain, Wait, Stop, Refuse}
-use Rattle.ados_readargs.specs.Options.{has_name, is_rest, takes_value, qualifiers_at}
+use Rattle.ados_readargs.specs.Options.{has_name, is_rest, takes_value, option_qualifiers}
 use Rattle.ados_readargs.specs.Words.{item_of, start_of, is_open_quote, is_equal}
 use Rattle.ados_readargs.specs.Readings.{Readings, no_readings, is_filled, first_vacant}
 
@@ -69,7 +69,7 @@ plain_meaning (Some place) word = Read (Given place (item_of word))
 -- what a word says, if no keyword waits for its value
 abbrev pub word_meaning : List TemplateOption → List Reading → Option ℕ → LineWord → Option ℕ → Meaning
 word_meaning options given vacant word None = plain_meaning vacant word
-word_meaning options given vacant word (Some place) = keyword_meaning (qualifiers_at options place) (is_filled place given) place word
+word_meaning options given vacant word (Some place) = keyword_meaning (option_qualifiers options place) (is_filled place given) place word
 
 -- what the word says after a keyword of the option at a place; `equal` says that an `=` alone may come before its value
 abbrev pub value_meaning : Bool → ℕ → Bool → LineWord → Meaning
@@ -90,7 +90,7 @@ rest_of line word = item.Word (start_of word) (trimmed_end 0 0 line)
 abbrev pub free_meaning : List TemplateOption → Bytes → List Reading → LineWord → Option ℕ → Meaning
 free_meaning options line given word None = next_meaning options line given word None
 free_meaning options line given word (Some place) =
-    if (qualifiers_at options place).rest then Stop (Given place (rest_of line word)) else next_meaning options line given word (Some place)
+    if (option_qualifiers options place).rest then Stop (Given place (rest_of line word)) else next_meaning options line given word (Some place)
 
 -- in a template with /F, the first plain option that is open
 abbrev pub next_open : List TemplateOption → List Reading → Option ℕ
@@ -99,7 +99,7 @@ next_open options given = if list_any is_rest options then first_vacant options 
 -- what a word says after what is given so far; which option is open matters only to a template with /F
 abbrev pub meaning_of : List TemplateOption → Bytes → List Reading → Pending → LineWord → Meaning
 meaning_of options line given Free word = free_meaning options line given word (next_open options given)
-meaning_of options line given (Value place equal) word = value_meaning (is_full (qualifiers_at options place) (is_filled place given)) place equal word
+meaning_of options line given (Value place equal) word = value_meaning (is_full (option_qualifiers options place) (is_filled place given)) place equal word
 
 -- the readings if no word is left
 abbrev pub read_end : Readings → Pending → Result Readings ArgFault

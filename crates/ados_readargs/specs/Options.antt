@@ -39,5 +39,5 @@ qualifiers_of None = no_qualifiers
 qualifiers_of (Some option) = option.qualifiers
 
 -- the qualifiers of the option at a place
-abbrev pub qualifiers_at : List TemplateOption → ℕ → Qualifiers
-qualifiers_at options place = qualifiers_of (slice_get options place)
+abbrev pub option_qualifiers : List TemplateOption → ℕ → Qualifiers
+option_qualifiers options place = qualifiers_of (slice_get options place)

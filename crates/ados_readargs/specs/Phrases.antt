@@ -15,7 +15,7 @@ use Rattle.ados_readargs.specs.declared.readings.Reading.{Reading}
 use Rattle.ados_readargs.specs.declared.readings.Reading.TheVariants.{Named, Given}
 use Rattle.ados_readargs.specs.Args.{args_of}
 use Rattle.ados_readargs.specs.Meanings.{is_keyword, next_open}
-use Rattle.ados_readargs.specs.Options.{takes_value, qualifiers_at}
+use Rattle.ados_readargs.specs.Options.{takes_value, option_qualifiers}
 use Rattle.ados_readargs.specs.Readings.{Readings, is_filled}
 use Rattle.ados_readargs.specs.Shares.{TakesAll}
 use Rattle.ados_readargs.specs.Words.{line_words_of, item_of, start_of, is_open_quote, is_equal}
@@ -86,11 +86,11 @@ has_value (word.Open from) = false
 
 -- an option is filled once, and again if it has /M or /T
 abbrev pub may_fill : List TemplateOption → List Reading → ℕ → Bool
-may_fill options before place = not (is_filled place before) || ((qualifiers_at options place).many || (qualifiers_at options place).toggle)
+may_fill options before place = not (is_filled place before) || ((option_qualifiers options place).many || (option_qualifiers options place).toggle)
 
 -- the /F is the only plain option that is open
 abbrev pub is_rest_next : List TemplateOption → List Reading → Bool
-is_rest_next options before = option_map_or (λ place. (qualifiers_at options place).rest) (next_open options before) false
+is_rest_next options before = option_map_or (λ place. (option_qualifiers options place).rest) (next_open options before) false
 
 -- a word that begins a phrase of the option at a place, by its keyword
 pub record IsKeyed (options : List TemplateOption) (line : Bytes) (before : List Reading) (place : ℕ) (word : LineWord) : Type 0 where
@@ -119,11 +119,11 @@ pub record EndsInBlanks (line : Bytes) (end : ℕ) : Type 0 where
 -- what follows its `=`, or otherwise the next word. In a template with /F a plain word fills the first plain option that
 -- is open; if that is the /F, the line from the word on is its value, without the blanks at its end.
 abbrev pub IsPhrase : List TemplateOption → Bytes → List Reading → Phrase → Type 0
-IsPhrase options line before (Switch place keyword) = IsKeyed options line before place keyword × (takes_value (qualifiers_at options place) ≡ false)
+IsPhrase options line before (Switch place keyword) = IsKeyed options line before place keyword × (takes_value (option_qualifiers options place) ≡ false)
 IsPhrase options line before (Joined place keyword) =
-    IsKeyed options line before place keyword × (takes_value (qualifiers_at options place) ≡ true) × (has_value keyword ≡ true)
+    IsKeyed options line before place keyword × (takes_value (option_qualifiers options place) ≡ true) × (has_value keyword ≡ true)
 IsPhrase options line before (Parted place keyword between value) =
-    IsKeyed options line before place keyword × (takes_value (qualifiers_at options place) ≡ true) × (has_value keyword ≡ false)
+    IsKeyed options line before place keyword × (takes_value (option_qualifiers options place) ≡ true) × (has_value keyword ≡ false)
     × IsBetween keyword between value × (is_open_quote value ≡ false)
 IsPhrase options line before (Direct place word) = IsPlainWord options line before word × (next_open options before ≡ Some place)
 IsPhrase options line before (Rest place word behind end) = (next_open options before ≡ Some place) × (is_rest_next options before ≡ true) × EndsInBlanks line end

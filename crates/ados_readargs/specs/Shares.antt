@@ -3,7 +3,7 @@ use Rattle.std.specs.Prelude.{◌≡◌, ℕ, zero, suc, ◌+◌, ◌-◌, ◌==
 use Rattle.ados_items.specs.declared.items.Item.{Item}
 use Rattle.ados_readargs.specs.declared.options.TemplateOption.{TemplateOption}
 use Rattle.ados_readargs.specs.declared.readings.Reading.{Reading}
-use Rattle.ados_readargs.specs.Options.{is_plain, qualifiers_at}
+use Rattle.ados_readargs.specs.Options.{is_plain, option_qualifiers}
 use Rattle.ados_readargs.specs.Readings.{Readings, is_vacant, given_items}
 
 -- how many of the options, which begin at a place, are vacant, and have /A if that is `needed`
@@ -23,7 +23,7 @@ middle_of options = position is_middle options
 -- the plain word of a vacant option before the /M: the option with n vacant ones before it takes the word with n words before it
 abbrev pub front_share : List TemplateOption → Readings → ℕ → List Item
 front_share options readings place =
-    if is_vacant place (qualifiers_at options place) readings.given then take 1 (drop (vacant_count false 0 (take place options) readings.given) readings.plain) else []
+    if is_vacant place (option_qualifiers options place) readings.given then take 1 (drop (vacant_count false 0 (take place options) readings.given) readings.plain) else []
 
 -- the plain words of the /M: all except those of the options before it, and of the vacant /A options after it
 abbrev pub middle_share : List TemplateOption → Readings → ℕ → List Item
@@ -37,7 +37,7 @@ abbrev pub back_share : List TemplateOption → Readings → ℕ → ℕ → Lis
 back_share options readings middle place =
     let front = vacant_count false 0 (take middle options) readings.given in
     let behind = vacant_count true (place + 1) (drop (place + 1) options) readings.given in
-    if is_vacant place (qualifiers_at options place) readings.given && ((qualifiers_at options place).required && nat_lt behind (length readings.plain - front))
+    if is_vacant place (option_qualifiers options place) readings.given && ((option_qualifiers options place).required && nat_lt behind (length readings.plain - front))
     then take 1 (drop (length readings.plain - 1 - behind) readings.plain) else []
 
 -- the plain words that the option at a place takes

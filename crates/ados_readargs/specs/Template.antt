@@ -29,9 +29,9 @@ if_qualifiers next None = None
 if_qualifiers next (Some q) = next q
 
 -- the qualifiers with those of the pieces
-abbrev pub qualifiers_from : Qualifiers → List Bytes → Option Qualifiers
-qualifiers_from q [] = Some q
-qualifiers_from q (piece ∷ pieces) = if_qualifiers (λ more. qualifiers_from more pieces) (with_piece piece q)
+abbrev pub parsed_qualifiers : Qualifiers → List Bytes → Option Qualifiers
+parsed_qualifiers q [] = Some q
+parsed_qualifiers q (piece ∷ pieces) = if_qualifiers (λ more. parsed_qualifiers more pieces) (with_piece piece q)
 
 -- /S and /T occur with no other qualifier
 abbrev pub qualifiers_if_alone : ℕ → Qualifiers → Option Qualifiers
@@ -39,7 +39,7 @@ qualifiers_if_alone count q = if (q.switch || q.toggle) && nat_lt 1 count then N
 
 -- the qualifiers that the pieces of an option say
 abbrev pub qualifiers_of_pieces : List Bytes → Option Qualifiers
-qualifiers_of_pieces pieces = if_qualifiers (qualifiers_if_alone (length pieces)) (qualifiers_from no_qualifiers pieces)
+qualifiers_of_pieces pieces = if_qualifiers (qualifiers_if_alone (length pieces)) (parsed_qualifiers no_qualifiers pieces)
 
 -- the two bytes are equal
 abbrev pub is_byte : ℕ → ℕ → Bool
@@ -69,9 +69,9 @@ options_with next done None = None
 options_with next done (Some option) = next (done ++ option ∷ [])
 
 -- the options of the texts, after those so far
-abbrev pub options_from : List TemplateOption → List Bytes → Option (List TemplateOption)
-options_from done [] = Some done
-options_from done (text ∷ texts) = options_with (λ more. options_from more texts) done (option_of text)
+abbrev pub parsed_options : List TemplateOption → List Bytes → Option (List TemplateOption)
+parsed_options done [] = Some done
+parsed_options done (text ∷ texts) = options_with (λ more. parsed_options more texts) done (option_of text)
 
 -- the name is not empty, and is among the names or in one of the options
 abbrev pub occurs_again : Text → List Text → List TemplateOption → Bool
@@ -105,7 +105,7 @@ checked_options (Some options) = if is_template options then Some options else N
 -- The options of a template's text, which commas separate; none if the text is not a template.
 abbrev pub template_of : Text → Option (List TemplateOption)
 template_of [] = Some []
-template_of (c ∷ cs) = checked_options (options_from [] (slice_split (is_byte 44) (c ∷ cs)))
+template_of (c ∷ cs) = checked_options (parsed_options [] (slice_split (is_byte 44) (c ∷ cs)))
 
 -- the options of a template, if there is one
 abbrev pub options_or_none : Option (List TemplateOption) → List TemplateOption

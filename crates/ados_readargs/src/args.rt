@@ -1,10 +1,10 @@
 ghost use Rattle.std.specs.Prelude.{◌≡◌, [], Ok, false, length, get_or, slice_get, IfOk, IfErr, IfSome, OnOk};
 ghost use Rattle.std.specs.Option.{option_map};
 ghost use Rattle.ados_text.specs.Text.{IsText};
-ghost use Rattle.ados_readargs.specs.Args.{is_on, text_at, texts_at, number_at};
+ghost use Rattle.ados_readargs.specs.Args.{has_switch, option_text, option_texts, option_number};
 ghost use Rattle.ados_readargs.specs.Checks.{has_bad};
 ghost use Rattle.ados_readargs.specs.Faults.{IsFaultOf};
-ghost use Rattle.ados_readargs.specs.Fill.{args_for, LosesNoWord};
+ghost use Rattle.ados_readargs.specs.Fill.{parsed_args, LosesNoWord};
 ghost use Rattle.ados_readargs.specs.Phrases.{IsFilled};
 
 use crate::errors::ArgFault;
@@ -77,15 +77,15 @@ impl Args {
     }
 
     /// The switch or toggle at a place is on.
-    pub fn is_on(&self, place: usize) -> bool
-        ensures { result ≡ is_on self.now place }
+    pub fn has_switch(&self, place: usize) -> bool
+        ensures { result ≡ has_switch self.now place }
     {
-        self.slots.is_on(place)
+        self.slots.has_switch(place)
     }
 
     /// The text of the option without `/M` at a place; `None` if it was given none.
     pub fn text(&self, place: usize) -> Option<&[u8]>
-        ensures value { option_map (λ t. t.now) result ≡ text_at self.now place }
+        ensures value { option_map (λ t. t.now) result ≡ option_text self.now place }
         ensures ascii { IfSome result (λ t. IsText t.now) }
     {
         self.slots.text(place)
@@ -93,14 +93,14 @@ impl Args {
 
     /// How many texts the option at a place was given.
     pub fn texts_len(&self, place: usize) -> usize
-        ensures { result ≡ length (texts_at self.now place) }
+        ensures { result ≡ length (option_texts self.now place) }
     {
         self.slots.texts_len(place)
     }
 
     /// The text with an index, from 0, of the option at a place; the empty text past its last.
     pub fn text_of(&self, place: usize, number: usize) -> &[u8]
-        ensures value { result.now ≡ get_or (texts_at self.now place) number [] }
+        ensures value { result.now ≡ get_or (option_texts self.now place) number [] }
         ensures ascii { IsText result.now }
     {
         self.slots.text_of(place, number)
@@ -109,7 +109,7 @@ impl Args {
     /// The number of the option without `/M` at a place; `None` if it was given none, or if
     /// its text is not a number: with `/N` it always is one.
     pub fn number(&self, place: usize) -> Option<i32>
-        ensures { result ≡ number_at self.now place }
+        ensures { result ≡ option_number self.now place }
     {
         number_in(self.text(place)?)
     }
@@ -117,7 +117,7 @@ impl Args {
     /// The text of the option without `/M` at a place, owned, for a value that outlives the line; `None`
     /// if it was given none. `NoMemory` only if an allocation fails.
     pub fn made_text(&self, alloc: Global, place: usize) -> Result<Option<Text>, NoMemory>
-        ensures { IfOk result (λ text. text ≡ text_at self.now place) }
+        ensures { IfOk result (λ text. text ≡ option_text self.now place) }
     {
         self.slots.made_text(alloc, place)
     }
@@ -125,7 +125,7 @@ impl Args {
     /// The texts of the option at a place, in order, owned, for values that outlive the line; none if it
     /// was given none. `NoMemory` only if an allocation fails.
     pub fn made_texts(&self, alloc: Global, place: usize) -> Result<Texts, NoMemory>
-        ensures { IfOk result (λ texts. texts ≡ texts_at self.now place) }
+        ensures { IfOk result (λ texts. texts ≡ option_texts self.now place) }
     {
         self.slots.made_texts(alloc, place)
     }
@@ -133,11 +133,11 @@ impl Args {
     /// Replaces the arguments by what a line gives to the options. After a fault the contents are
     /// unspecified.
     pub fn refill(&mut self, options: &OptionList, line: &[u8]) -> Result<(), ArgFault>
-        ensures ok { OnOk result (args_for options.now line.now ≡ Ok self.new) }
+        ensures ok { OnOk result (parsed_args options.now line.now ≡ Ok self.new) }
         ensures numbers { OnOk result (has_bad options.now self.new ≡ false) }
         ensures taken { OnOk result (LosesNoWord options.now line.now) }
         ensures said { OnOk result (IsFilled options.now line.now self.new) }
-        ensures fault { IfErr result (λ e. IsFaultOf (args_for options.now line.now) e) }
+        ensures fault { IfErr result (λ e. IsFaultOf (parsed_args options.now line.now) e) }
     {
         read(options, line, &mut self.readings)?;
         args_read(options, line, &self.readings, &mut self.slots)

@@ -1,6 +1,6 @@
 ghost use Rattle.std.specs.Prelude.{◌≡◌, length, slice_get};
 ghost use Rattle.std.specs.List.{list_any};
-ghost use Rattle.ados_readargs.specs.Args.{or_absent, texts_at};
+ghost use Rattle.ados_readargs.specs.Args.{or_absent, option_texts};
 ghost use Rattle.ados_readargs.specs.Checks.{is_lacking, lacks, is_bad_text, is_bad, has_bad};
 
 use crate::option_list::OptionList;
@@ -43,7 +43,7 @@ fn is_bad_text(text: &[u8]) -> bool
 
 // Whether a text of the option at a place is not a number.
 fn has_bad_text(args: &Slots, place: usize) -> bool
-    ensures { result ≡ list_any is_bad_text (texts_at args.now place) }
+    ensures { result ≡ list_any is_bad_text (option_texts args.now place) }
 {
     for number in 0..args.texts_len(place) {
         if is_bad_text(args.text_of(place, number)) {

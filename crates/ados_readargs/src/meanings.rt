@@ -5,7 +5,7 @@ ghost use Rattle.ados_readargs.specs.declared.meanings.Pending.TheVariants.{Free
 use crate::errors::ArgFault;
 use crate::keywords::{keyword_of, trimmed_len};
 use crate::option_list::OptionList;
-use crate::options::{Qualifiers, TemplateOption, qualifiers_at};
+use crate::options::{Qualifiers, TemplateOption, option_qualifiers};
 use crate::readings::{Reading, first_vacant, is_filled};
 use crate::words::LineWord;
 use ados_items::Item;
@@ -119,7 +119,7 @@ fn word_meaning(
     match keyword {
         None => plain_meaning(vacant, word),
         Some(place) => keyword_meaning(
-            qualifiers_at(options, place),
+            option_qualifiers(options, place),
             is_filled(given, place),
             place,
             word,
@@ -183,7 +183,7 @@ fn free_meaning(
     ensures { result ≡ free_meaning options.now line.now given.now word vacant }
 {
     match vacant {
-        Some(place) if qualifiers_at(options, place).rest => {
+        Some(place) if option_qualifiers(options, place).rest => {
             Meaning::Stop(Reading::Given(place, rest_of(line, word)))
         }
         _ => next_meaning(options, line, given, word, vacant),
@@ -210,7 +210,7 @@ pub fn meaning_of(
             free_meaning(items, line, given, word, vacant)
         }
         Pending::Value { option, equal } => {
-            let full = is_full(qualifiers_at(items, option), is_filled(given, option));
+            let full = is_full(option_qualifiers(items, option), is_filled(given, option));
             value_meaning(full, option, equal, word)
         }
     }

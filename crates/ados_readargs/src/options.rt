@@ -1,6 +1,6 @@
 ghost use Rattle.std.specs.Prelude.{◌≡◌};
 ghost use Rattle.ados_text.specs.Text.{is_same};
-ghost use Rattle.ados_readargs.specs.Options.{has_name, is_plain, takes_value, no_qualifiers, qualifiers_at, is_rest};
+ghost use Rattle.ados_readargs.specs.Options.{has_name, is_plain, takes_value, no_qualifiers, option_qualifiers, is_rest};
 ghost use Rattle.std.specs.List.{list_any};
 
 use ados_text::Texts;
@@ -84,8 +84,8 @@ impl TemplateOption {
 }
 
 /// The qualifiers of the option at a place; past the last option there are none.
-pub fn qualifiers_at(options: &[TemplateOption], place: usize) -> Qualifiers
-    ensures { result ≡ qualifiers_at options.now place }
+pub fn option_qualifiers(options: &[TemplateOption], place: usize) -> Qualifiers
+    ensures { result ≡ option_qualifiers options.now place }
 {
     match options.get(place) {
         Some(option) => option.qualifiers,

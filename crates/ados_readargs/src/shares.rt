@@ -2,7 +2,7 @@ ghost use Rattle.std.specs.Prelude.{◌≡◌, ◌≤◌, ◌<◌, true, false, 
 ghost use Rattle.ados_readargs.specs.Shares.{vacant_count, middle_of, front_share, middle_share, back_share, option_share, is_left, TakesAll};
 
 use crate::option_list::OptionList;
-use crate::options::{TemplateOption, qualifiers_at};
+use crate::options::{TemplateOption, option_qualifiers};
 use crate::readings::{Reading, Readings, is_vacant};
 use ados_items::Item;
 
@@ -47,7 +47,7 @@ fn front_share<'a>(options: &[TemplateOption], readings: &'a Readings, place: us
     ensures { result.now ≡ front_share options.now readings.now place }
 {
     let given = readings.given.as_slice();
-    if is_vacant(place, qualifiers_at(options, place), given) {
+    if is_vacant(place, option_qualifiers(options, place), given) {
         let front = front_count(options, given, place);
         piece(readings.plain.as_slice(), front, 1)
     } else {
@@ -98,7 +98,7 @@ fn back_share<'a>(
     let plain = readings.plain.as_slice();
     let front = front_count(options, given, middle);
     let behind = vacant_count(true, place + 1, options, given);
-    let q = qualifiers_at(options, place);
+    let q = option_qualifiers(options, place);
     if is_vacant(place, q, given) && q.required && behind < plain.len().saturating_sub(front) {
         piece(plain, plain.len() - 1 - behind, 1)
     } else {

@@ -2,7 +2,7 @@ ghost use Rattle.std.specs.Prelude.{◌≡◌, ◌++◌, ◌≤◌, [], ◌∷�
 ghost use Rattle.std.specs.Option.{option_map};
 ghost use Rattle.ados_text.specs.Text.{IsText};
 ghost use Rattle.ados_items.specs.Items.{value_of};
-ghost use Rattle.ados_readargs.specs.Args.{is_on, switch_arg, or_absent, text_at, texts_at, value_arg};
+ghost use Rattle.ados_readargs.specs.Args.{has_switch, switch_arg, or_absent, option_text, option_texts, value_arg};
 ghost use Rattle.ados_readargs.specs.Checks.{is_absent};
 ghost use Rattle.ados_readargs.specs.Readings.{given_items};
 ghost use Rattle.ados_readargs.specs.Slots.{slot_of, switch_slot};
@@ -77,15 +77,15 @@ impl Slots {
     }
 
     /// The switch or toggle at a place is on.
-    pub fn is_on(&self, place: usize) -> bool
-        ensures { result ≡ is_on self.now place }
+    pub fn has_switch(&self, place: usize) -> bool
+        ensures { result ≡ has_switch self.now place }
     {
         matches!(slot_at(self.slots.as_slice(), place), Some(Slot::On))
     }
 
     /// The text of the option without `/M` at a place; `None` if it was given none.
     pub fn text(&self, place: usize) -> Option<&[u8]>
-        ensures value { option_map (λ t. t.now) result ≡ text_at self.now place }
+        ensures value { option_map (λ t. t.now) result ≡ option_text self.now place }
         ensures ascii { IfSome result (λ t. IsText t.now) }
     {
         match slot_at(self.slots.as_slice(), place) {
@@ -96,7 +96,7 @@ impl Slots {
 
     /// How many texts the option at a place was given.
     pub fn texts_len(&self, place: usize) -> usize
-        ensures { result ≡ length (texts_at self.now place) }
+        ensures { result ≡ length (option_texts self.now place) }
     {
         match slot_at(self.slots.as_slice(), place) {
             Some(Slot::One(_)) => 1,
@@ -107,7 +107,7 @@ impl Slots {
 
     /// The text with an index, from 0, of the option at a place; the empty text past its last.
     pub fn text_of(&self, place: usize, number: usize) -> &[u8]
-        ensures value { result.now ≡ get_or (texts_at self.now place) number [] }
+        ensures value { result.now ≡ get_or (option_texts self.now place) number [] }
         ensures ascii { IsText result.now }
     {
         match slot_at(self.slots.as_slice(), place) {
@@ -159,7 +159,7 @@ impl Slots {
 
     /// The text of the option without `/M` at a place, owned.
     pub fn made_text(&self, alloc: Global, place: usize) -> Result<Option<Text>, NoMemory>
-        ensures { IfOk result (λ text. text ≡ text_at self.now place) }
+        ensures { IfOk result (λ text. text ≡ option_text self.now place) }
     {
         match self.text(place) {
             None => Ok(None),
@@ -169,7 +169,7 @@ impl Slots {
 
     /// The texts of the option at a place, in order, owned.
     pub fn made_texts(&self, alloc: Global, place: usize) -> Result<Texts, NoMemory>
-        ensures { IfOk result (λ texts. texts ≡ texts_at self.now place) }
+        ensures { IfOk result (λ texts. texts ≡ option_texts self.now place) }
     {
         let mut texts = Texts::new(alloc);
         for number in 0..self.texts_len(place) {

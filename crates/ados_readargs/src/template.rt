@@ -6,7 +6,7 @@ ghost use Rattle.ados_readargs.specs.Checks.{has_bad};
 ghost use Rattle.ados_readargs.specs.Fill.{fill_of, LosesNoWord};
 ghost use Rattle.ados_readargs.specs.Faults.{IsFaultOf, IsBadTemplate};
 ghost use Rattle.ados_readargs.specs.Phrases.{IsFilled};
-ghost use Rattle.ados_readargs.specs.Template.{IsTemplate, with_letter, with_piece, qualifiers_from, qualifiers_of_pieces, is_byte, names_of, option_of, options_from, is_many, occurs_again, is_twice, has_twice, is_template, template_of, options_of};
+ghost use Rattle.ados_readargs.specs.Template.{IsTemplate, with_letter, with_piece, parsed_qualifiers, qualifiers_of_pieces, is_byte, names_of, option_of, parsed_options, is_many, occurs_again, is_twice, has_twice, is_template, template_of, options_of};
 
 use crate::args::Args;
 use crate::errors::ArgFault;
@@ -138,7 +138,7 @@ fn with_piece(piece: &[u8], q: Qualifiers) -> Option<Qualifiers>
     }
 }
 
-fn qualifiers_from(pieces: &[&[u8]]) -> Option<Qualifiers>
+fn parsed_qualifiers(pieces: &[&[u8]]) -> Option<Qualifiers>
     ensures { result ≡ qualifiers_of_pieces (map (λ p. p.now) pieces.now) }
 {
     let q = letters_of(pieces)?;
@@ -149,7 +149,7 @@ fn qualifiers_from(pieces: &[&[u8]]) -> Option<Qualifiers>
 }
 
 fn letters_of(pieces: &[&[u8]]) -> Option<Qualifiers>
-    ensures { result ≡ qualifiers_from no_qualifiers (map (λ p. p.now) pieces.now) }
+    ensures { result ≡ parsed_qualifiers no_qualifiers (map (λ p. p.now) pieces.now) }
 {
     let mut q = Qualifiers::none();
     for piece in pieces {
@@ -190,7 +190,7 @@ fn option_of(alloc: Global, text: &[u8]) -> Result<Option<TemplateOption>, NoMem
     let pieces = pieces_at(alloc, b'/', text)?;
     match pieces.as_slice() {
         [] => Ok(None),
-        [names, rest @ ..] => match qualifiers_from(rest) {
+        [names, rest @ ..] => match parsed_qualifiers(rest) {
             None => Ok(None),
             Some(qualifiers) => Ok(Some(TemplateOption {
                 names: names_of(alloc, names)?,
@@ -200,9 +200,9 @@ fn option_of(alloc: Global, text: &[u8]) -> Result<Option<TemplateOption>, NoMem
     }
 }
 
-fn options_from(alloc: Global, texts: &[&[u8]]) -> Result<Vec<TemplateOption>, ArgFault>
-    ensures ok { IfOk result (λ options. options_from [] (map (λ p. p.now) texts.now) ≡ Some options.items) }
-    ensures bad { IfErr result (IsBadTemplate (options_from [] (map (λ p. p.now) texts.now))) }
+fn parsed_options(alloc: Global, texts: &[&[u8]]) -> Result<Vec<TemplateOption>, ArgFault>
+    ensures ok { IfOk result (λ options. parsed_options [] (map (λ p. p.now) texts.now) ≡ Some options.items) }
+    ensures bad { IfErr result (IsBadTemplate (parsed_options [] (map (λ p. p.now) texts.now))) }
 {
     let mut options = Vec::new(alloc);
     for text in texts {
@@ -287,7 +287,7 @@ fn parse_options(alloc: Global, text: &[u8]) -> Result<Vec<TemplateOption>, ArgF
     if text.is_empty() {
         return Ok(Vec::new(alloc));
     }
-    let options = options_from(alloc, pieces_at(alloc, b',', text)?.as_slice())?;
+    let options = parsed_options(alloc, pieces_at(alloc, b',', text)?.as_slice())?;
     if !is_template(options.as_slice()) {
         return Err(ArgFault::BadTemplate);
     }
