@@ -20,7 +20,7 @@ use Rattle.ados_find.specs.Views.{View}
 use Rattle.ados_find.specs.Effects.{codes_effect, if_found, if_given}
 use Rattle.ados_find.specs.Paths.{place_of}
 use Rattle.ados_files.specs.declared.jobs.Job.{Job}
-use Rattle.ados_files.specs.Copy.{middle_directories, ensure_directory, make_missing, copy_fault, copy_written, copy_unless, copy_entry, copy_one, one_entry, directory_for, copy_into, is_onto, copy_found, copy_to_place, copy_into_target, copy_by_texts, copy_row}
+use Rattle.ados_files.specs.Copy.{middle_directories, ensure_directory, make_missing, copy_fault, copy_written, copy_unless, copy_entry, copy_one, one_entry, target_directory, copy_into, is_onto, copy_found, copy_to_place, copy_into_target, copy_by_texts, copy_row}
 use Rattle.ados_files.specs.Jobs.{all_jobs, target_jobs, sources_of}
 use Rattle.ados_files.specs.MakeDir.{make_one}
 use Rattle.ados_files.specs.Names.{FoundPlaces}
@@ -85,14 +85,14 @@ all-free (x ∷ xs) = (tt, all-free xs)
 jobs-stay : (view : View) (quiet : Bool) (to : Place) (done : Done) (jobs : List Job) → Stay (is_at_or_below (key_of to)) done.shared (act_on_each (copy_one view quiet to) done jobs).shared
 jobs-stay view quiet to done jobs = kept-each (stay-kept (is_at_or_below (key_of to))) (copy_one view quiet to) (λ _. Unit {0}) (one-stays view quiet to) done jobs (all-free jobs)
 
-directory-stays : (one : Bool) (to : Place) (done : Done) (there : Option Entry) → Stay (is_at_or_below (key_of to)) done.shared (directory_for one to done there).shared
+directory-stays : (one : Bool) (to : Place) (done : Done) (there : Option Entry) → Stay (is_at_or_below (key_of to)) done.shared (target_directory one to done there).shared
 directory-stays true to done there = at-stays to done to there (itself to)
 directory-stays false to done None = λ key out. refl
 directory-stays false to done (Some e) = at-stays to done to (Some e) (itself to)
 
 into-stays : (view : View) (all quiet : Bool) (found : FoundPlaces) (done : Done) (to : Place) → Stay (is_at_or_below (key_of to)) done.shared (copy_into view all quiet found done to).shared
 into-stays view all quiet found done to =
-    let ready = directory_for (is_some_directory (one_entry done.shared.files found)) to done (map.get done.shared.files (key_of to)) in
+    let ready = target_directory (is_some_directory (one_entry done.shared.files found)) to done (map.get done.shared.files (key_of to)) in
     let jobs = all_jobs all done.shared.files found.places in
     (stay-kept (is_at_or_below (key_of to))).joined done.shared ready.shared (act_on_each (copy_one view quiet to) ready jobs).shared
     (directory-stays (is_some_directory (one_entry done.shared.files found)) to done (map.get done.shared.files (key_of to)))

@@ -18,15 +18,15 @@ has_name files [] name = false
 has_name files (base ∷ bases) name = is_some (map.get files (key_of (base ++ name ∷ []))) || has_name files bases name
 
 -- those of the places whose names are new: none of the directories has an object of the name
-abbrev pub new_in : Files → List Place → List Place → List Place
-new_in files before [] = []
-new_in files before (place ∷ places) = if has_name files before (last_name place) then new_in files before places else place ∷ new_in files before places
+abbrev pub new_places : Files → List Place → List Place → List Place
+new_places files before [] = []
+new_places files before (place ∷ places) = if has_name files before (last_name place) then new_places files before places else place ∷ new_places files before places
 
 -- the objects in directories after others, each name only if none of the directories before has it, with case ignored
 abbrev pub further_children : Files → List Place → List Place → List Place
 further_children files before [] = []
 further_children files before (base ∷ bases) =
-    new_in files before (children (key_of base) (map.entries files)) ++ further_children files (before ++ base ∷ []) bases
+    new_places files before (children (key_of base) (map.entries files)) ++ further_children files (before ++ base ∷ []) bases
 
 -- the objects in directories, in their order, each name only at its first, with case ignored
 abbrev pub all_children : Files → List Place → List Place

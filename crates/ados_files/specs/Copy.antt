@@ -85,15 +85,15 @@ abbrev pub one_entry : Files → FoundPlaces → Option Entry
 one_entry files found = if found.literal then first_entry files found.places else None
 
 -- TO has to be a directory: a missing one is created only for a single directory, and otherwise refused, as is a file
-abbrev pub directory_for : Bool → Place → Done → Option Entry → Done
-directory_for true to done there = ensure_directory done to there
-directory_for false to done None = refused_or (Some DIRECTORY_NOT_FOUND) done done
-directory_for false to done (Some e) = ensure_directory done to (Some e)
+abbrev pub target_directory : Bool → Place → Done → Option Entry → Done
+target_directory true to done there = ensure_directory done to there
+target_directory false to done None = refused_or (Some DIRECTORY_NOT_FOUND) done done
+target_directory false to done (Some e) = ensure_directory done to (Some e)
 
 -- files are copied into a directory; the list of them is made before the first write
 abbrev pub copy_into : View → Bool → Bool → FoundPlaces → Done → Place → Done
 copy_into view all quiet found done to = (let files = done.shared.files in
-    act_on_each (copy_one view quiet to) (directory_for (is_some_directory (one_entry files found)) to done (map.get files (key_of to))) (all_jobs all files found.places))
+    act_on_each (copy_one view quiet to) (target_directory (is_some_directory (one_entry files found)) to done (map.get files (key_of to))) (all_jobs all files found.places))
 
 -- just one file, and a TO that is not a directory: TO itself is written
 abbrev pub is_onto : Files → FoundPlaces → Place → Bool

@@ -5,7 +5,7 @@ use Rattle.ados_text.specs.Text.{Text}
 use Rattle.ados_ram.specs.Place.{Place, key_of}
 use Rattle.ados_ram.specs.Entry.{is_directory}
 use Rattle.ados_ram.specs.Files.{Files}
-use Rattle.ados_ram.specs.Contents.{files_below}
+use Rattle.ados_ram.specs.Contents.{directory_files}
 use Rattle.ados_ram.specs.Written.{written_place}
 use Rattle.ados_ram.specs.declared.entries.Entry.{Entry}
 use Rattle.ados_find.specs.declared.codes.Codes.{Codes}
@@ -44,7 +44,7 @@ directory_jobs files directory (place ∷ places) = directory_job files director
 abbrev pub source_jobs : Bool → Files → Place → Option Entry → List Job
 source_jobs all files place None = []
 source_jobs all files place (Some e) =
-    cond (is_directory e) (directory_jobs files place (files_below all (key_of place) (map.entries files)))
+    cond (is_directory e) (directory_jobs files place (directory_files all (key_of place) (map.entries files)))
     (record { source = place; names = e.name ∷ [] } ∷ [])
 
 -- the files that sources stand for

@@ -20,9 +20,9 @@ abbrev pub keeps : Bool → Bool → Bool
 keeps own other = own || not other
 
 -- the lines of the entries at places, in order
-abbrev pub lines_by : (Option Entry → Bytes) → Files → List Place → Bytes
-lines_by line files [] = []
-lines_by line files (place ∷ places) = line (map.get files (key_of place)) ++ lines_by line files places
+abbrev pub entry_lines : (Option Entry → Bytes) → Files → List Place → Bytes
+entry_lines line files [] = []
+entry_lines line files (place ∷ places) = line (map.get files (key_of place)) ++ entry_lines line files places
 
 abbrev pub size_text : Body → Bytes
 size_text Directory = codes "Dir"

@@ -19,7 +19,7 @@ use Rattle.ados_find.specs.Done.{Done, fresh_work, stop_with_codes, refused_or, 
 use Rattle.ados_pattern.specs.Matching.{is_match}
 use Rattle.ados_files.specs.Bases.{all_children, entry_at}
 use Rattle.ados_files.specs.Names.{FoundPlaces, pattern_of, named_bases}
-use Rattle.ados_files.specs.Lines.{keeps, lines_by, list_line}
+use Rattle.ados_files.specs.Lines.{keeps, entry_lines, list_line}
 use Rattle.ados_files.specs.declared.listing.Shape.{Shape}
 
 -- PAT keeps names that match
@@ -53,7 +53,7 @@ abbrev pub listed_places : Files → FoundPlaces → List Place
 listed_places files found = if found.literal then entries_of files found.places (entry_at files found.places) else found.places
 
 abbrev pub list_places : Shape → Done → List Place → Done
-list_places shape done places = record done { output = done.output ++ lines_by (line_by_shape shape) done.shared.files places }
+list_places shape done places = record done { output = done.output ++ entry_lines (line_by_shape shape) done.shared.files places }
 
 abbrev pub list_found : Shape → Done → FoundPlaces → Done
 list_found shape done found = list_places shape done (listed_places done.shared.files found)
@@ -62,14 +62,14 @@ abbrev pub list_text : Shape → View → Done → Text → Done
 list_text shape view done text = if_found (stop_with_codes done) (named_bases done.shared view.parts.directory text) (list_found shape done)
 
 -- the objects in a directory
-abbrev pub list_at : Shape → Done → Place → Done
-list_at shape done place =
+abbrev pub list_directory : Shape → Done → Place → Done
+list_directory shape done place =
     refused_or (list_fault (map.get done.shared.files (key_of place))) done
     (list_places shape done (children (key_of place) (map.entries done.shared.files)))
 
 -- without arguments the current directory
 abbrev pub list_texts : Shape → View → Done → List Text → Done
-list_texts shape view done [] = list_at shape done view.parts.directory
+list_texts shape view done [] = list_directory shape done view.parts.directory
 list_texts shape view done (text ∷ texts) = act_on_each (list_text shape view) done (text ∷ texts)
 
 -- the pattern of PAT, if it is given

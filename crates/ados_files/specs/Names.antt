@@ -58,9 +58,9 @@ some_matches [] = Err (warning_codes OBJECT_NOT_FOUND)
 some_matches (place ∷ places) = Ok (record { literal = false; places = place ∷ places })
 
 -- the objects in directories that match, in order
-abbrev pub matches_in : Form → Files → List Place → Option Entry → Result FoundPlaces Codes
-matches_in form files bases None = Err (error_codes DIRECTORY_NOT_FOUND)
-matches_in form files bases (Some e) =
+abbrev pub directory_matches : Form → Files → List Place → Option Entry → Result FoundPlaces Codes
+directory_matches form files bases None = Err (error_codes DIRECTORY_NOT_FOUND)
+directory_matches form files bases (Some e) =
     cond (is_directory e) (some_matches (matching_places form files (all_children files bases))) (Err (error_codes WRONG_TYPE))
 
 -- the one object, if it exists
@@ -70,14 +70,14 @@ the_one place (Some e) = Ok (record { literal = true; places = place ∷ [] })
 
 -- the same, given the directories for which a path stands, and the place to which it leads
 abbrev pub matches_at : Form → Files → List Place → Result FoundPlaces Codes
-matches_at form files bases = matches_in form files bases (entry_at files bases)
+matches_at form files bases = directory_matches form files bases (entry_at files bases)
 
-abbrev pub one_at : Files → Place → Result FoundPlaces Codes
-one_at files place = the_one place (map.get files (key_of place))
+abbrev pub single_match : Files → Place → Result FoundPlaces Codes
+single_match files place = the_one place (map.get files (key_of place))
 
 -- a literal piece is a name after the path before it; a pattern stands for its matches in the directories of that path
 abbrev pub places_by_form : SharedState → Place → Text → Form → Option Text → Result FoundPlaces Codes
-places_by_form shared directory head form (Some name) = if_found Err (place_of shared directory (head ++ name)) (one_at shared.files)
+places_by_form shared directory head form (Some name) = if_found Err (place_of shared directory (head ++ name)) (single_match shared.files)
 places_by_form shared directory head form None = if_found Err (bases_of shared directory head) (matches_at form shared.files)
 
 abbrev pub places_by_meaning : SharedState → Place → Text → Meaning → Result FoundPlaces Codes

@@ -95,13 +95,13 @@ changed_bits change old =
     }
 
 -- the bits of the object at a place; those of a new object if there is none
-abbrev pub bits_at : Option Entry → Bits
-bits_at None = fresh_bits
-bits_at (Some e) = e.bits
+abbrev pub object_bits : Option Entry → Bits
+object_bits None = fresh_bits
+object_bits (Some e) = e.bits
 
 -- the bits of one object are changed
 abbrev pub protect_one : Change → Done → Place → Done
-protect_one change done place = (let bits = changed_bits change (bits_at (map.get done.shared.files (key_of place))) in
+protect_one change done place = (let bits = changed_bits change (object_bits (map.get done.shared.files (key_of place))) in
     refused_or (protect_fault done.shared.files (key_of place)) done
     (record done { shared = with_files done.shared (protect_of done.shared.files (key_of place) bits) }))
 

@@ -4,7 +4,7 @@ use Rattle.std.specs.FinMap as map
 use Rattle.ados_readargs.specs.declared.args.Arg.{Arg}
 use Rattle.ados_readargs.specs.Args.{option_texts}
 use Rattle.ados_ram.specs.Place.{Place, key_of}
-use Rattle.ados_ram.specs.Files.{bytes_at}
+use Rattle.ados_ram.specs.Files.{entry_bytes}
 use Rattle.ados_ram.specs.InUse.{is_output}
 use Rattle.ados_ram.specs.FileOperations.{read_fault}
 use Rattle.ados_find.specs.Shared.{SharedState}
@@ -17,7 +17,7 @@ use Rattle.ados_files.specs.Acts.{at_names}
 abbrev pub type_one : View → Done → Place → Done
 type_one view done place =
     refused_or (read_fault (is_output view.busy (key_of place)) (map.get done.shared.files (key_of place))) done
-    (record done { output = done.output ++ bytes_at (map.get done.shared.files (key_of place)) })
+    (record done { output = done.output ++ entry_bytes (map.get done.shared.files (key_of place)) })
 
 abbrev pub type_row : SharedState → View → List Arg → Effect
 type_row shared view args = end_effect (act_on_each (at_names (type_one view) view) (fresh_work shared) (option_texts args 0))

@@ -1,7 +1,7 @@
 // The objects in the directories for which a path stands.
 ghost use Rattle.std.specs.Prelude.{◌≡◌, ◌≤◌, ◌++◌, take, drop, length, IfOk, OnOk};
 ghost use Rattle.std.specs.Option.{option_copied};
-ghost use Rattle.ados_files.specs.Bases.{all_children, entry_at, further_children, has_name, new_in};
+ghost use Rattle.ados_files.specs.Bases.{all_children, entry_at, further_children, has_name, new_places};
 
 use ados_ram::{Entry, Place, Ram};
 use ados_text::{Name, NoMemory};
@@ -54,7 +54,7 @@ fn push_new(
     before: &[Place],
     places: &[Place],
 ) -> Result<(), NoMemory>
-    ensures { OnOk result (out.new.items ≡ out.old.items ++ new_in ram.now before.now places.now) }
+    ensures { OnOk result (out.new.items ≡ out.old.items ++ new_places ram.now before.now places.now) }
 {
     for place in places {
         if !has_name(ram, before, &place.last_name()?)? {

@@ -6,7 +6,7 @@ ghost use Rattle.ados_ram.specs.Files.{is_some_file};
 ghost use Rattle.ados_find.specs.Done.{done_of};
 ghost use Rattle.ados_find.specs.Shared.{version};
 ghost use Rattle.ados_find.specs.Effects.{effect_of};
-ghost use Rattle.ados_files.specs.Copy.{directory_for, copy_into, is_onto, one_entry, copy_found, copy_into_target, copy_row};
+ghost use Rattle.ados_files.specs.Copy.{target_directory, copy_into, is_onto, one_entry, copy_found, copy_into_target, copy_row};
 
 use crate::acts::done_with;
 use crate::copy_one::{Copying, make_missing};
@@ -136,7 +136,7 @@ fn copy_into(copy: &Copy, shared: &Shared, work: &mut Work, to: &Place) -> Resul
     let ram = &current(shared, &work.shared).ram;
     let jobs = all_jobs(alloc, copy.all, ram, copy.found.places())?;
     let one = is_directory(one_entry(ram, &copy.found));
-    directory_for(one, to, shared, work)?;
+    target_directory(one, to, shared, work)?;
     let act = Copying {
         view: copy.view,
         quiet: copy.quiet,
@@ -146,9 +146,9 @@ fn copy_into(copy: &Copy, shared: &Shared, work: &mut Work, to: &Place) -> Resul
 }
 
 // Makes sure that TO is a directory: a missing one is created only for a single directory.
-fn directory_for(one: bool, to: &Place, shared: &Shared, work: &mut Work) -> Result<(), NoMemory>
+fn target_directory(one: bool, to: &Place, shared: &Shared, work: &mut Work) -> Result<(), NoMemory>
     ensures { OnOk result (done_of shared.now work.new ≡
-        directory_for one to.now (done_of shared.now work.old) (map.get (version shared.now work.old.shared).files (key_of to.now))) }
+        target_directory one to.now (done_of shared.now work.old) (map.get (version shared.now work.old.shared).files (key_of to.now))) }
 {
     if !one && current(shared, &work.shared).ram.look(to).is_none() {
         work.stopped = Some(Codes::erred(Result2::DIRECTORY_NOT_FOUND));

@@ -3,7 +3,7 @@ ghost use Rattle.std.specs.Option.{option_copied};
 ghost use Rattle.ados_find.specs.Effects.{effect_of};
 ghost use Rattle.ados_find.specs.Paths.{Gives};
 ghost use Rattle.ados_files.specs.Bases.{all_children};
-ghost use Rattle.ados_files.specs.Dir.{directory_line, file_line, directories_text, files_text, dir_text, dir_at, directories_given, dir_row};
+ghost use Rattle.ados_files.specs.Dir.{directory_line, file_line, directories_text, files_text, dir_text, dir_effect, directories_given, dir_row};
 
 use crate::bases::{all_children, entry_at};
 use crate::lines::{Line, keeps, push_lines, put_between};
@@ -26,7 +26,7 @@ pub fn show_directory(
     let directory = args.made_text(alloc, 0)?;
     match directories_given(alloc, shared, view, directory.as_ref()) {
         Err(refusal) => Ok(Outcome::answering(alloc, refusal.codes()?)),
-        Ok(bases) => dir_at(
+        Ok(bases) => dir_effect(
             alloc,
             shared,
             args.has_switch(1),
@@ -51,14 +51,14 @@ fn directories_given(
     }
 }
 
-fn dir_at(
+fn dir_effect(
     alloc: Global,
     shared: &Shared,
     dirs: bool,
     files: bool,
     bases: &[Place],
 ) -> Result<Outcome, NoMemory>
-    ensures { IfOk result (λ outcome. effect_of shared.now outcome ≡ dir_at shared.now dirs files bases.now) }
+    ensures { IfOk result (λ outcome. effect_of shared.now outcome ≡ dir_effect shared.now dirs files bases.now) }
 {
     match list_refusal(entry_at(&shared.ram, bases)) {
         Some(fault) => Ok(Outcome::answering(alloc, Codes::erred(fault))),

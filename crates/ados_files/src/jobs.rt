@@ -81,7 +81,7 @@ fn push_jobs(jobs: &mut Vec<Job>, all: bool, ram: &Ram, place: &Place) -> Result
     match ram.look(place) {
         None => Ok(()),
         Some(entry) if entry.is_directory() => {
-            push_below(jobs, ram, place, &ram.files_below(place, all)?)
+            push_below(jobs, ram, place, &ram.directory_files(place, all)?)
         }
         Some(entry) => push_named(jobs, place, entry),
     }

@@ -5,7 +5,7 @@ ghost use Rattle.ados_text.specs.Columns.{right_aligned_text};
 ghost use Rattle.ados_ram.specs.Entry.{bits_text};
 ghost use Rattle.ados_ram.specs.Written.{full_path};
 ghost use Rattle.ados_ram.specs.declared.entries.Entry.{Entry};
-ghost use Rattle.ados_files.specs.Lines.{say, keeps, lines_by, size_text, comment_line, list_line};
+ghost use Rattle.ados_files.specs.Lines.{say, keeps, entry_lines, size_text, comment_line, list_line};
 
 use ados_ram::{Bits, Body, Entry, Place, Ram};
 use ados_text::{NoMemory, push_left, push_right};
@@ -60,7 +60,7 @@ pub fn push_lines<L: Line>(
     ram: &Ram,
     places: &[Place],
 ) -> Result<(), NoMemory>
-    ensures { OnOk result (output.new.items ≡ output.old.items ++ lines_by (L.line line.now) ram.now places.now) }
+    ensures { OnOk result (output.new.items ≡ output.old.items ++ entry_lines (L.line line.now) ram.now places.now) }
 {
     for place in places {
         line.push(output, ram.look(place))?;

@@ -27,7 +27,7 @@ pub struct Shape {
 }
 
 ghost use Rattle.ados_files.specs.Listing.{passes, is_kept, shown_line, kept_line, line_by_shape, entries_of, listed_places};
-ghost use Rattle.ados_files.specs.Listing.{list_text, list_at, list_texts, pattern_given, list_row};
+ghost use Rattle.ados_files.specs.Listing.{list_text, list_directory, list_texts, pattern_given, list_row};
 
 /// List shows lines of objects, and of what is in directories.
 pub fn list(
@@ -128,16 +128,21 @@ pub struct ListingAt<'a> {
 }
 
 impl<'a> Act<Place> for ListingAt<'a> {
-    ghost act = { λ s. list_at s.shape.now };
+    ghost act = { λ s. list_directory s.shape.now };
 
     fn act(&self, shared: &Shared, work: &mut Work, item: &Place) -> Result<(), NoMemory> {
-        list_at(self.shape, shared, work, item)
+        list_directory(self.shape, shared, work, item)
     }
 }
 
 // Lists a directory.
-fn list_at(shape: &Shape, shared: &Shared, work: &mut Work, place: &Place) -> Result<(), NoMemory>
-    ensures { OnOk result (done_of shared.now work.new ≡ list_at shape.now (done_of shared.now work.old) place.now) }
+fn list_directory(
+    shape: &Shape,
+    shared: &Shared,
+    work: &mut Work,
+    place: &Place,
+) -> Result<(), NoMemory>
+    ensures { OnOk result (done_of shared.now work.new ≡ list_directory shape.now (done_of shared.now work.old) place.now) }
 {
     let ram = &current(shared, &work.shared).ram;
     match list_refusal(ram.look(place)) {

@@ -29,7 +29,7 @@ impl Model for Found {
     ghost view = { λ n. record { literal = n.literal; places = n.places.items } };
 }
 
-ghost use Rattle.ados_files.specs.Names.{pattern_of, matches_form, matching_places, some_matches, matches_in, matches_at, the_one, one_at, bases_at, places_by_form, head_of, piece_of, named_places, named_bases};
+ghost use Rattle.ados_files.specs.Names.{pattern_of, matches_form, matching_places, some_matches, directory_matches, matches_at, the_one, single_match, bases_at, places_by_form, head_of, piece_of, named_places, named_bases};
 
 impl Found {
     /// Several objects.
@@ -132,7 +132,7 @@ fn named_by(
     ensures { Gives result (places_by_form shared.now directory.now head.now pattern.now.form pattern.now.name) }
 {
     match pattern.literal() {
-        Some(name) => one_at(alloc, shared, directory, &head.join(name)?),
+        Some(name) => single_match(alloc, shared, directory, &head.join(name)?),
         None => matches_at(alloc, shared, directory, head, pattern),
     }
 }
@@ -148,7 +148,7 @@ fn matches_at(
     ensures { Gives result (if_found Err (bases_of shared.now directory.now head.now) (matches_at pattern.now.form shared.now.files)) }
 {
     let bases = bases_of(alloc, shared, directory, head)?;
-    matches_in(alloc, pattern, &shared.ram, bases.as_slice())
+    directory_matches(alloc, pattern, &shared.ram, bases.as_slice())
 }
 
 // The directories for which a path stands, or the one place to which it leads.
@@ -171,8 +171,13 @@ fn bases_at(
 }
 
 // The one object to which a path leads.
-fn one_at(alloc: Global, shared: &Shared, directory: &Place, path: &Text) -> Result<Found, Refusal>
-    ensures { Gives result (if_found Err (place_of shared.now directory.now path.now) (one_at shared.now.files)) }
+fn single_match(
+    alloc: Global,
+    shared: &Shared,
+    directory: &Place,
+    path: &Text,
+) -> Result<Found, Refusal>
+    ensures { Gives result (if_found Err (place_of shared.now directory.now path.now) (single_match shared.now.files)) }
 {
     let place = place_of(alloc, shared, directory, path)?;
     the_one(alloc, &place, shared.ram.look(&place))
@@ -211,13 +216,13 @@ pub fn push_places(out: &mut Vec<Place>, places: &[Place]) -> Result<(), NoMemor
 }
 
 // The objects in directories that match.
-fn matches_in(
+fn directory_matches(
     alloc: Global,
     pattern: &Pattern,
     ram: &Ram,
     bases: &[Place],
 ) -> Result<Found, Refusal>
-    ensures { Gives result (matches_in pattern.now.form ram.now bases.now (entry_at ram.now bases.now)) }
+    ensures { Gives result (directory_matches pattern.now.form ram.now bases.now (entry_at ram.now bases.now)) }
 {
     match entry_at(ram, bases) {
         None => Err(Refusal::Stopped(Codes::erred(Result2::DIRECTORY_NOT_FOUND))),

@@ -26,7 +26,7 @@ pub struct Change {
 }
 
 ghost use Rattle.ados_files.specs.Protect.{begins_with, letters_of, has_letter, bits_of, is_letter, are_letters, way_of, change_of};
-ghost use Rattle.ados_files.specs.Protect.{changed_bit, changed_bits, bits_at, protect_one, protect_all, protect_row};
+ghost use Rattle.ados_files.specs.Protect.{changed_bit, changed_bits, object_bits, protect_one, protect_all, protect_row};
 ghost use Rattle.ados_files.specs.Texts.{text_or_empty};
 
 /// Protect changes the bits of objects.
@@ -186,8 +186,8 @@ fn changed_bits(change: Change, old: Bits) -> Bits
 }
 
 // The bits of the object at a place.
-fn bits_at(there: Option<&Entry>) -> Bits
-    ensures { result ≡ bits_at (option_copied there.entry) }
+fn object_bits(there: Option<&Entry>) -> Bits
+    ensures { result ≡ object_bits (option_copied there.entry) }
 {
     match there {
         None => Bits::FRESH,
@@ -219,7 +219,7 @@ fn protect_one(
     ensures { OnOk result (done_of shared.now work.new ≡ protect_one change (done_of shared.now work.old) place.now) }
 {
     let now = current(shared, &work.shared);
-    let bits = changed_bits(change, bits_at(now.ram.look(place)));
+    let bits = changed_bits(change, object_bits(now.ram.look(place)));
     let protected = now.ram.protect(place, bits);
     go_on(shared, work, protected)
 }

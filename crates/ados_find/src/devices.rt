@@ -8,7 +8,7 @@ ghost use Rattle.ados_find.specs.Search.{device_named};
 
 use crate::routes::Route;
 use crate::shared::Shared;
-use ados_assign::device_in;
+use ados_assign::device_prefix;
 use ados_text::{Name, NoMemory, Text};
 use std::alloc::Global;
 
@@ -18,7 +18,7 @@ impl Shared {
     pub fn push_device_of(&self, used: &mut Vec<Name>, text: &Text) -> Result<(), NoMemory>
         ensures { OnOk result (used.new.items ≡ used.old.items ++ flat_map (reached_devices self.now.assigns) (device_named text.now)) }
     {
-        match device_in(text)? {
+        match device_prefix(text)? {
             None => Ok(()),
             Some(device) => self.assigns.push_reached(used, device),
         }

@@ -3,7 +3,7 @@ use Rattle.std.proofs.Common.{List, [], Option, Some, None, Result, Ok, Err, ap,
 use Rattle.std.specs.Prelude.{unwrap_or}
 use Rattle.ados_text.specs.Text.{Bytes, Text}
 use Rattle.ados_text.specs.declared.codes.Result2.{Result2}
-use Rattle.ados_ram.specs.FileOperations.{read_at}
+use Rattle.ados_ram.specs.FileOperations.{read_result}
 use Rattle.ados_ram.specs.Place.{Place}
 use Rattle.ados_readargs.specs.declared.args.Arg.{Arg}
 use Rattle.ados_readargs.specs.Args.{has_switch, option_text}
@@ -51,7 +51,7 @@ read-ignores shared place args (Ok bytes) = λ view names uses. refl
 
 pub script-ignores : (shared : SharedState) (place : Place) (args : Text) → IgnoresShells (λ view. script_row shared view place args)
 unfolding script_row
-script-ignores shared place args = λ view names uses. read-ignores shared place args (read_at shared.files view.busy.outputs place) view names uses
+script-ignores shared place args = λ view names uses. read-ignores shared place args (read_result shared.files view.busy.outputs place) view names uses
 
 at-ignores : (shared : SharedState) (args : Text) (place : Result Place Codes) → IgnoresShells (λ view. if_found (codes_action shared) place (script_at shared view args))
 at-ignores shared args (Err codes) = λ view names uses. refl

@@ -8,7 +8,7 @@ use Rattle.ados_text.specs.declared.codes.Result2.{Result2}
 use Rattle.ados_text.specs.declared.codes.TheConstants.Result2.{NO_FREE_STORE}
 use Rattle.ados_text.specs.declared.errors.NoMemory.{NoMemory}
 use Rattle.ados_ram.specs.Place.{Place, key_of}
-use Rattle.ados_ram.specs.FileOperations.{read_at}
+use Rattle.ados_ram.specs.FileOperations.{read_result}
 use Rattle.ados_ram.specs.Written.{full_path}
 use Rattle.ados_readargs.specs.declared.args.Arg.{Arg}
 use Rattle.ados_readargs.specs.Args.{option_text}
@@ -45,7 +45,7 @@ script_read shared view place args (Ok bytes) = call_of_lines shared (full_path 
 
 -- the call of the script at a place, with these arguments: it is read, and its arguments are put in
 unfoldable pub script_row : SharedState → View → Place → Text → Action
-script_row shared view place args = script_read shared view place args (read_at shared.files view.busy.outputs place)
+script_row shared view place args = script_read shared view place args (read_result shared.files view.busy.outputs place)
 
 -- the script of a word that leads to a place
 abbrev pub script_at : SharedState → View → Text → Place → Action

@@ -14,7 +14,7 @@ use Rattle.ados_ram.specs.declared.entries.Entry.{Entry}
 use Rattle.ados_ram.specs.Place.{Key, key_of, place_cmp, place_cmp_total, is_same_key, is_below, is_child}
 use Rattle.ados_ram.specs.Entry.{is_directory}
 use Rattle.ados_ram.specs.Files.{Files, Rows, is_some_file}
-use Rattle.ados_ram.specs.Contents.{children, contents, is_within, files_below, contents_cmp, ListsJust}
+use Rattle.ados_ram.specs.Contents.{children, contents, is_within, directory_files, contents_cmp, ListsJust}
 use Rattle.ados_ram.proofs.FilesLemmas.{same, clash}
 use Rattle.ados_ram.proofs.ContentsLemmas.{here, there, cases, none, all-at, both-first, both-second, less, self, contents-sorted, contents-only, contents-told}
 
@@ -85,7 +85,7 @@ children-with : (d : Key) (es : Rows) → children d es ≡ places_with (in_dire
 children-with d [] = refl
 children-with d (e ∷ es) = ap (λ ps. cond (is_child d e.0) (e.0 ∷ ps) ps) (children-with d es)
 
-files-with : (all : Bool) (d : Key) (es : Rows) → files_below all d es ≡ places_with (is_file_in all d) es
+files-with : (all : Bool) (d : Key) (es : Rows) → directory_files all d es ≡ places_with (is_file_in all d) es
 files-with all d [] = refl
 files-with all d (e ∷ es) = ap (λ ps. cond (is_within all d e.0 && not (is_directory e.1)) (e.0 ∷ ps) ps) (files-with all d es)
 
@@ -121,7 +121,7 @@ children-law files d =
     subst (ListsJust files (is_child d) place_cmp) (sym (children-with d (map.entries files)))
     (with-law files (in_directory d) (is_child d) (λ q. child-there d q (map.get files q)))
 
-pub files-law : (files : Files) (all : Bool) (directory : Key) → ListsJust files (λ place. is_within all directory place && is_some_file (map.get files place)) place_cmp (files_below all directory (map.entries files))
+pub files-law : (files : Files) (all : Bool) (directory : Key) → ListsJust files (λ place. is_within all directory place && is_some_file (map.get files place)) place_cmp (directory_files all directory (map.entries files))
 files-law files all d =
     subst (ListsJust files (λ place. is_within all d place && is_some_file (map.get files place)) place_cmp) (sym (files-with all d (map.entries files)))
     (with-law files (is_file_in all d) (λ place. is_within all d place && is_some_file (map.get files place)) (λ q. file-there all d q (map.get files q)))

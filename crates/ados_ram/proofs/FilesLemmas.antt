@@ -15,8 +15,8 @@ use Rattle.ados_text.specs.Name.{name_cmp_total}
 use Rattle.ados_ram.specs.declared.entries.Entry.{Entry}
 use Rattle.ados_ram.specs.Place.{place_cmp, place_cmp_total, place_cmp_exact, is_same_key, is_root, path_below, has_names, is_below}
 use Rattle.ados_ram.specs.Entry.{is_directory, is_directory_body, bytes_of_body, fresh_bits, size_of, file_entry, file_entry_with_bits, new_directory}
-use Rattle.ados_ram.specs.Files.{Files, Rows, IsTree, is_some_directory, is_some_file, bytes_at, total_of, file_limit, bytes_limit, objects_limit}
-use Rattle.ados_ram.specs.FileOperations.{fault_above, way_fault, write_target_fault, full_fault, limit_fault, write_of, write_fault, write_as_of, append_of, is_put, put_open_of, put_open_fault, free_fault, make_dir_of, make_dir_fault, any_below, delete_target_fault, delete_fault}
+use Rattle.ados_ram.specs.Files.{Files, Rows, IsTree, is_some_directory, is_some_file, entry_bytes, total_of, file_limit, bytes_limit, objects_limit}
+use Rattle.ados_ram.specs.FileOperations.{fault_above, way_fault, write_target_fault, full_fault, limit_fault, write_of, write_fault, write_as_of, append_of, is_put, put_open_of, put_open_fault, free_fault, make_dir_of, make_dir_fault, has_descendants, delete_target_fault, delete_fault}
 use Rattle.ados_ram.specs.InUse.{InUse, is_in_use}
 use Rattle.ados_ram.specs.declared.entries.Bits.{Bits}
 use Rattle.ados_ram.specs.Rows.{other_rows}
@@ -83,8 +83,8 @@ put_files {m} key new files clear keeps size total count = record {
         | true ↦ λ t g. clear place name rest (same (place ++ name ∷ rest) key t)
         | false ↦ λ t g. files.above place name rest g
       ] refl (subst (λ (o : Option Entry). IsSome o) (get-insert place_cmp_total m key new (place ++ name ∷ rest)) h));
-  each_file = λ place. subst (λ (o : Option Entry). length (bytes_at o) ≤ file_limit) (sym (get-insert place_cmp_total m key new place))
-      (elim (is_same_key place key) as (λ b. length (bytes_at (cond b (Some new) (map.get m place))) ≤ file_limit) [
+  each_file = λ place. subst (λ (o : Option Entry). length (entry_bytes o) ≤ file_limit) (sym (get-insert place_cmp_total m key new place))
+      (elim (is_same_key place key) as (λ b. length (entry_bytes (cond b (Some new) (map.get m place))) ≤ file_limit) [
         | true ↦ size
         | false ↦ files.each_file place
       ]);
@@ -173,13 +173,13 @@ there (Some e) more h = refl
 -- after bytes were appended to an open output, if that is not refused
 pub put_open_files : {m : Files} (key : List (List ℕ)) (name bytes : List ℕ) → IsTree m → put_open_fault m key name bytes ≡ None → IsTree (put_open_of m key name bytes)
 put_open_files {m} key name bytes files e =
-    elim (is_put (map.get m key) bytes) as (λ b. is_put (map.get m key) bytes ≡ b → cond b (full_fault (length (bytes_at (map.get m key) ++ bytes)) (append_of m key name bytes)) None ≡ None → IsTree (cond b (append_of m key name bytes) m)) [
+    elim (is_put (map.get m key) bytes) as (λ b. is_put (map.get m key) bytes ≡ b → cond b (full_fault (length (entry_bytes (map.get m key) ++ bytes)) (append_of m key name bytes)) None ≡ None → IsTree (cond b (append_of m key name bytes) m)) [
       | true ↦ λ t g.
           let within = no_limit_fault _ _ _ g in
-          put_files key (file_entry (map.get m key) name (bytes_at (map.get m key) ++ bytes)) files
+          put_files key (file_entry (map.get m key) name (entry_bytes (map.get m key) ++ bytes)) files
           (λ place n more p. files.above place n more (subst (λ (q : List (List ℕ)). IsSome (map.get m q)) (sym p) (there (map.get m key) _ t)))
           (λ d. absurd (a_file (map.get m key) _ t d))
-          (subst (λ (n : ℕ). n ≤ file_limit) (sym (size-written fresh_bits (map.get m key) name (bytes_at (map.get m key) ++ bytes))) within.size)
+          (subst (λ (n : ℕ). n ≤ file_limit) (sym (size-written fresh_bits (map.get m key) name (entry_bytes (map.get m key) ++ bytes))) within.size)
           within.total within.count
       | false ↦ λ t g. files
     ] refl e
@@ -200,7 +200,7 @@ changed_files {m} key change e files found body =
     let r = own_rows m in
     let there : find place_cmp key (map.entries m) ≡ Some e = sym (get-entries m key) ∙ found in
     let size : size_of (change e) ≡ size_of e = ap (λ b. length (bytes_of_body b)) body in
-    let small : size_of e ≤ file_limit = subst (λ (o : Option Entry). length (bytes_at o) ≤ file_limit) found (files.each_file key) in
+    let small : size_of e ≤ file_limit = subst (λ (o : Option Entry). length (entry_bytes o) ≤ file_limit) found (files.each_file key) in
     let all = files.all_bytes in
     let count = files.objects in
     let total : total_of (map.entries (map.insert m key (change e))) ≡ size_of (change e) + total_of (other_rows key (map.entries m)) = total-insert m key (change e) in
@@ -213,12 +213,12 @@ changed_files {m} key change e files found body =
     (omega (arith, length-found key e (map.entries m) there, len-entries m))
 
 -- if none of the rows is below a place, nothing is found below it
-any_below-there : (key q : List (List ℕ)) (es : Rows) → any_below key es ≡ false → is_below key q ≡ true → find place_cmp q es ≡ None
-any_below-there key q [] h b = refl
-any_below-there key q (e ∷ es) h b =
+has_descendants-there : (key q : List (List ℕ)) (es : Rows) → has_descendants key es ≡ false → is_below key q ≡ true → find place_cmp q es ≡ None
+has_descendants-there key q [] h b = refl
+has_descendants-there key q (e ∷ es) h b =
     elim (is_same_key q e.0) as (λ t. is_same_key q e.0 ≡ t → cond t (Some e.1) (find place_cmp q es) ≡ None) [
-      | true ↦ λ t. absurd (both_false (is_below key e.0) (any_below key es) h (subst (λ (k : List (List ℕ)). is_below key k ≡ true) (same q e.0 t) b))
-      | false ↦ λ t. any_below-there key q es (second_false (is_below key e.0) (any_below key es) h) b
+      | true ↦ λ t. absurd (both_false (is_below key e.0) (has_descendants key es) h (subst (λ (k : List (List ℕ)). is_below key k ≡ true) (same q e.0 t) b))
+      | false ↦ λ t. has_descendants-there key q es (second_false (is_below key e.0) (has_descendants key es) h) b
     ] refl
   where
     both_false : (x y : Bool) → (x || y) ≡ false → x ≡ true → ⊥
@@ -233,13 +233,13 @@ no_root_left : (m : Files) (key : List (List ℕ)) → is_root key ≡ false →
 no_root_left m [] h d = clash (sym h)
 no_root_left m (n ∷ ns) h d = d
 
-nothing_in : (m : Files) (key place : List (List ℕ)) (name : List ℕ) (rest : List (List ℕ)) → any_below key (map.entries m) ≡ false → place ≡ key → IsSome (map.get m (place ++ name ∷ rest)) → ⊥
+nothing_in : (m : Files) (key place : List (List ℕ)) (name : List ℕ) (rest : List (List ℕ)) → has_descendants key (map.entries m) ≡ false → place ≡ key → IsSome (map.get m (place ++ name ∷ rest)) → ⊥
 nothing_in m key place name rest empty t g =
     let way : is_below place (place ++ name ∷ rest) ≡ true = ap has_names (behind-append place (name ∷ rest)) in
     let below : is_below key (place ++ name ∷ rest) ≡ true = subst (λ (k : List (List ℕ)). is_below k (place ++ name ∷ rest) ≡ true) t way in
-    clash (subst (λ (o : Option Entry). IsSome o) (get-entries m (place ++ name ∷ rest) ∙ any_below-there key (place ++ name ∷ rest) (map.entries m) empty below) g)
+    clash (subst (λ (o : Option Entry). IsSome o) (get-entries m (place ++ name ∷ rest) ∙ has_descendants-there key (place ++ name ∷ rest) (map.entries m) empty below) g)
 
-above_left : {m : Files} (key place : List (List ℕ)) (name : List ℕ) (rest : List (List ℕ)) → IsTree m → any_below key (map.entries m) ≡ false → IsSome (cond (is_same_key (place ++ name ∷ rest) key) nothing (map.get m (place ++ name ∷ rest))) → IsTrue (is_some_directory (cond (is_same_key place key) nothing (map.get m place)))
+above_left : {m : Files} (key place : List (List ℕ)) (name : List ℕ) (rest : List (List ℕ)) → IsTree m → has_descendants key (map.entries m) ≡ false → IsSome (cond (is_same_key (place ++ name ∷ rest) key) nothing (map.get m (place ++ name ∷ rest))) → IsTrue (is_some_directory (cond (is_same_key place key) nothing (map.get m place)))
 above_left {m} key place name rest files empty =
     elim (is_same_key (place ++ name ∷ rest) key) as (λ b. IsSome (cond b nothing (map.get m (place ++ name ∷ rest))) → IsTrue (is_some_directory (cond (is_same_key place key) nothing (map.get m place)))) [
       | true ↦ λ g. clash g
@@ -250,7 +250,7 @@ above_left {m} key place name rest files empty =
     ]
 
 -- after an object with nothing below it was removed
-pub removed_files : {m : Files} (key : List (List ℕ)) → IsTree m → is_root key ≡ false → any_below key (map.entries m) ≡ false → IsTree (map.remove m key)
+pub removed_files : {m : Files} (key : List (List ℕ)) → IsTree m → is_root key ≡ false → has_descendants key (map.entries m) ≡ false → IsTree (map.remove m key)
 removed_files {m} key files not_root empty =
     let r : AreRowsOf (other_rows key (map.entries m)) (map.remove m key) = deleted_rows key (own_rows m) refl in
     let left : map.entries (map.remove m key) ≡ other_rows key (map.entries m) = entries_rows (other_rows key (map.entries m)) r in
@@ -260,22 +260,22 @@ removed_files {m} key files not_root empty =
       root = subst (λ (o : Option Entry). IsTrue (is_some_directory o)) (sym (get-remove place_cmp_total m key [])) (no_root_left m key not_root files.root);
       above = λ place name rest h. subst (λ (o : Option Entry). IsTrue (is_some_directory o)) (sym (get-remove place_cmp_total m key place))
           (above_left key place name rest files empty (subst (λ (o : Option Entry). IsSome o) (get-remove place_cmp_total m key (place ++ name ∷ rest)) h));
-      each_file = λ place. subst (λ (o : Option Entry). length (bytes_at o) ≤ file_limit) (sym (get-remove place_cmp_total m key place))
-          (elim (is_same_key place key) as (λ b. length (bytes_at (cond b nothing (map.get m place))) ≤ file_limit) [ true ↦ omega arith | false ↦ files.each_file place ]);
+      each_file = λ place. subst (λ (o : Option Entry). length (entry_bytes o) ≤ file_limit) (sym (get-remove place_cmp_total m key place))
+          (elim (is_same_key place key) as (λ b. length (entry_bytes (cond b nothing (map.get m place))) ≤ file_limit) [ true ↦ omega arith | false ↦ files.each_file place ]);
       all_bytes = subst (λ (es : Rows). total_of es ≤ bytes_limit) (sym left) (omega (arith, total-without key (map.entries m)));
       objects = subst (λ (n : ℕ). n ≤ objects_limit) (sym (len-entries _ ∙ ap length left)) (omega (arith, length-without key (map.entries m), len-entries m));
     }
 
 pub record CanDelete (key : List (List ℕ)) (es : Rows) : Type 0 where
   pub not_root : is_root key ≡ false
-  pub empty : any_below key es ≡ false
+  pub empty : has_descendants key es ≡ false
 
 pub can_delete : (busy : InUse) (key : List (List ℕ)) (es : Rows) (o : Option Entry) → delete_target_fault busy es key o ≡ None → CanDelete key es
 can_delete busy key es None h = cc
-can_delete busy key es (Some e) h = by_tests (is_in_use busy key) (is_root key) e.bits.delete (any_below key es) h refl refl
+can_delete busy key es (Some e) h = by_tests (is_in_use busy key) (is_root key) e.bits.delete (has_descendants key es) h refl refl
   where
     by_tests : (used root delete below : Bool) → cond (used || root) (Some OBJECT_IN_USE) (cond delete (cond below (Some DIRECTORY_NOT_EMPTY) None) (Some DELETE_PROTECTED)) ≡ None
-        → is_root key ≡ root → any_below key es ≡ below → CanDelete key es
+        → is_root key ≡ root → has_descendants key es ≡ below → CanDelete key es
     by_tests true root delete below h a b = cc
     by_tests false true delete below h a b = cc
     by_tests false false true true h a b = cc

@@ -5,7 +5,7 @@ use Rattle.std.specs.FinMap.{get-insert, get-from_entries, len-entries}
 use Rattle.ados_ram.specs.declared.entries.Entry.{Entry}
 use Rattle.ados_ram.specs.Place.{key_of, place_cmp, place_cmp_total, is_same_key}
 use Rattle.ados_ram.specs.Entry.{new_directory}
-use Rattle.ados_ram.specs.Files.{Files, Rows, IsTree, is_some_directory, bytes_at, total_of, directory_row, first_files, file_limit, bytes_limit, objects_limit}
+use Rattle.ados_ram.specs.Files.{Files, Rows, IsTree, is_some_directory, entry_bytes, total_of, directory_row, first_files, file_limit, bytes_limit, objects_limit}
 use Rattle.ados_ram.specs.Rows.{first_rows}
 use Rattle.ados_ram.specs.Tree.{rows_of, first_kids}
 use Rattle.ados_ram.proofs.RowsLemmas.{sorted_of, sorted_of_rows, entries_rows}
@@ -35,8 +35,8 @@ root_files = record {
   root = subst (λ (o : Option Entry). IsTrue (is_some_directory o)) (sym (at_root [])) refl;
   above = λ place name rest h.
       clash (subst (λ (b : Bool). IsSome (cond b (Some (new_directory [])) nothing)) (no_root place name rest) (subst (λ (o : Option Entry). IsSome o) (at_root (place ++ name ∷ rest)) h));
-  each_file = λ place. subst (λ (o : Option Entry). length (bytes_at o) ≤ file_limit) (sym (at_root place))
-      (elim (is_same_key place []) as (λ b. length (bytes_at (cond b (Some (new_directory [])) nothing)) ≤ file_limit) [ true ↦ omega arith | false ↦ omega arith ]);
+  each_file = λ place. subst (λ (o : Option Entry). length (entry_bytes o) ≤ file_limit) (sym (at_root place))
+      (elim (is_same_key place []) as (λ b. length (entry_bytes (cond b (Some (new_directory [])) nothing)) ≤ file_limit) [ true ↦ omega arith | false ↦ omega arith ]);
   all_bytes = total_rows root_rows (omega arith);
   objects = count_rows root_rows (omega arith);
 }

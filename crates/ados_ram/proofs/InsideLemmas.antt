@@ -7,7 +7,7 @@ use Rattle.ados_ram.specs.declared.entries.Entry.{Entry}
 use Rattle.ados_ram.specs.Place.{Key, place_cmp_total, is_same_key, is_root, path_below, has_names, is_below, is_at_or_below}
 use Rattle.ados_ram.specs.InUse.{InUse}
 use Rattle.ados_ram.specs.Files.{Files, IsTree, is_some_directory}
-use Rattle.ados_ram.specs.FileOperations.{way_fault, write_target_fault, write_fault, free_fault, make_dir_fault, any_below, delete_target_fault, delete_fault, rename_target_fault, rename_fault}
+use Rattle.ados_ram.specs.FileOperations.{way_fault, write_target_fault, write_fault, free_fault, make_dir_fault, has_descendants, delete_target_fault, delete_fault, rename_target_fault, rename_fault}
 use Rattle.ados_ram.specs.Tree.{key_above, MayMove}
 use Rattle.ados_ram.proofs.FilesLemmas.{same, clash, or_first, or_second, way_clear, behind-append, no_directory, CanDelete, can_delete}
 use Rattle.ados_ram.proofs.RenameLemmas.{CanMove, false_of, behind-exact}
@@ -62,7 +62,7 @@ made-inside m key name files e =
 pub record MayGo (m : Files) (key : Key) : Type 0 where
   pub root : is_root key ≡ false
   pub inside : IsSome (map.get m (key_above key))
-  pub empty : any_below key (map.entries m) ≡ false
+  pub empty : has_descendants key (map.entries m) ≡ false
 
 pub may_go : (busy : InUse) (m : Files) (key : Key) → IsTree m → delete_fault busy m key ≡ None → MayGo m key
 may_go busy m key files e =

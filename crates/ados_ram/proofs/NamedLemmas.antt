@@ -12,7 +12,7 @@ use Rattle.ados_ram.specs.declared.entries.Bits.{Bits}
 use Rattle.ados_ram.specs.declared.entries.Entry.{Entry}
 use Rattle.ados_ram.specs.Place.{Key, Place, path_below, is_at_or_below, is_same_key, key_of, last_name, place_cmp, place_cmp_total}
 use Rattle.ados_ram.specs.Entry.{new_directory, file_entry_with_bits, with_bits, with_comment}
-use Rattle.ados_ram.specs.Files.{AreNamed, Files, IsNamedBy, IsTree, Rows, bytes_at, directory_row, first_files}
+use Rattle.ados_ram.specs.Files.{AreNamed, Files, IsNamedBy, IsTree, Rows, entry_bytes, directory_row, first_files}
 use Rattle.ados_ram.specs.FileOperations.{append_of, with_entry_changed, comment_of, is_put, make_dir_of, protect_of, put_open_of, rename_fault, rename_of, write_as_of, write_of}
 use Rattle.ados_ram.specs.InUse.{InUse}
 use Rattle.ados_ram.specs.Renames.{HasMoved, entry_with_name}
@@ -61,7 +61,7 @@ pub write-as-named : (files : Files) (place : Place) (bytes : Bytes) (bits : Bit
 write-as-named files place bytes bits are = insert-named files (key_of place) _ are (written-named files place bits bytes (map.get files (key_of place)) are refl)
 
 pub append-named : (files : Files) (place : Place) (bytes : Bytes) → AreNamed files → AreNamed (append_of files (key_of place) (last_name place) bytes)
-append-named files place bytes = write-named files place (bytes_at (map.get files (key_of place)) ++ bytes)
+append-named files place bytes = write-named files place (entry_bytes (map.get files (key_of place)) ++ bytes)
 
 pub put-named : (files : Files) (place : Place) (bytes : Bytes) → AreNamed files → AreNamed (put_open_of files (key_of place) (last_name place) bytes)
 put-named files place bytes are =

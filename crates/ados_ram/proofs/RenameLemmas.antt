@@ -9,7 +9,7 @@ use Rattle.ados_text.specs.Name.{name_cmp, name_cmp_exact}
 use Rattle.ados_ram.specs.declared.entries.Entry.{Entry}
 use Rattle.ados_ram.specs.Place.{place_cmp, place_cmp_total, is_same_key, is_root, path_below, is_below, is_at_or_below}
 use Rattle.ados_ram.specs.Entry.{size_of, renamed_entry}
-use Rattle.ados_ram.specs.Files.{Files, Rows, is_some_directory, bytes_at, total_of}
+use Rattle.ados_ram.specs.Files.{Files, Rows, is_some_directory, entry_bytes, total_of}
 use Rattle.ados_ram.specs.FileOperations.{moved_row, moved_rows, rename_of}
 use Rattle.ados_ram.proofs.FilesLemmas.{equal, same, clash, nothing, behind-append}
 
@@ -117,7 +117,7 @@ size-renamed : (name : List ℕ) (way : List (List ℕ)) (e : Entry) → size_of
 size-renamed name [] e = refl
 size-renamed name (n ∷ ns) e = refl
 
-pub bytes-renamed : (name : List ℕ) (way : List (List ℕ)) (o : Option Entry) → length (bytes_at (option_map (renamed_entry name way) o)) ≡ length (bytes_at o)
+pub bytes-renamed : (name : List ℕ) (way : List (List ℕ)) (o : Option Entry) → length (entry_bytes (option_map (renamed_entry name way) o)) ≡ length (entry_bytes o)
 bytes-renamed name way None = refl
 bytes-renamed name way (Some e) = size-renamed name way e
 

@@ -10,7 +10,7 @@ use Rattle.ados_text.specs.Name.{name_cmp, name_cmp_total}
 use Rattle.ados_ram.specs.declared.entries.Entry.{Entry}
 use Rattle.ados_ram.specs.Place.{is_same_key, is_root, path_below, has_names, is_below, is_at_or_below}
 use Rattle.ados_ram.specs.InUse.{InUse, holds_output}
-use Rattle.ados_ram.specs.Files.{Files, Rows, IsTree, is_some_directory, bytes_at, total_of, file_limit, bytes_limit, objects_limit}
+use Rattle.ados_ram.specs.Files.{Files, Rows, IsTree, is_some_directory, entry_bytes, total_of, file_limit, bytes_limit, objects_limit}
 use Rattle.ados_ram.specs.FileOperations.{way_fault, moved_rows, rename_of, rename_target_fault, rename_fault}
 use Rattle.ados_ram.proofs.RowsLemmas.{sorted_of, AreRowsOf, own_rows, entries_rows, renamed_rows, total-sorted_of, length-sorted_of}
 use Rattle.ados_ram.proofs.FilesLemmas.{same, way_clear, or_first, or_second, clash, nothing, behind-append}
@@ -137,16 +137,16 @@ root_stays m [] to name files can = clash (sym can.not_root)
 root_stays m (x ∷ xs) [] name files can = clash (can.free (some_of (map.get m []) files.root))
 root_stays m (x ∷ xs) (n ∷ ns) name files can = dir_out m (x ∷ xs) (n ∷ ns) name [] refl refl files.root
 
-sizes_stay : (m : Files) (from to : List (List ℕ)) (name : List ℕ) (place : List (List ℕ)) → IsTree m → Within to from (map.entries m) → length (bytes_at (map.get (rename_of m from to name) place)) ≤ file_limit
+sizes_stay : (m : Files) (from to : List (List ℕ)) (name : List ℕ) (place : List (List ℕ)) → IsTree m → Within to from (map.entries m) → length (entry_bytes (map.get (rename_of m from to name) place)) ≤ file_limit
 sizes_stay m from to name place files within =
-    elim (path_below to place) as (λ o. path_below to place ≡ o → length (bytes_at (map.get (rename_of m from to name) place)) ≤ file_limit) [
+    elim (path_below to place) as (λ o. path_below to place ≡ o → length (entry_bytes (map.get (rename_of m from to name) place)) ≤ file_limit) [
       | Some w ↦ λ p.
-          let e : length (bytes_at (map.get (rename_of m from to name) place)) ≡ length (bytes_at (map.get m (from ++ w))) =
-          ap (λ q. length (bytes_at (map.get (rename_of m from to name) q))) (behind-exact to place w p)
-          ∙ ap (λ o. length (bytes_at o)) (get-moved_in m from to name w within) ∙ bytes-renamed name w (map.get m (from ++ w)) in
+          let e : length (entry_bytes (map.get (rename_of m from to name) place)) ≡ length (entry_bytes (map.get m (from ++ w))) =
+          ap (λ q. length (entry_bytes (map.get (rename_of m from to name) q))) (behind-exact to place w p)
+          ∙ ap (λ o. length (entry_bytes o)) (get-moved_in m from to name w within) ∙ bytes-renamed name w (map.get m (from ++ w)) in
           subst (λ (k : ℕ). k ≤ file_limit) (sym e) (files.each_file (from ++ w))
-      | None ↦ λ p. subst (λ (o : Option Entry). length (bytes_at o) ≤ file_limit) (sym (get-moved_out m from to name place p))
-          (elim (is_at_or_below from place) as (λ b. length (bytes_at (cond b nothing (map.get m place))) ≤ file_limit) [ true ↦ omega arith | false ↦ files.each_file place ])
+      | None ↦ λ p. subst (λ (o : Option Entry). length (entry_bytes o) ≤ file_limit) (sym (get-moved_out m from to name place p))
+          (elim (is_at_or_below from place) as (λ b. length (entry_bytes (cond b nothing (map.get m place))) ≤ file_limit) [ true ↦ omega arith | false ↦ files.each_file place ])
     ] refl
 
 -- after a rename that is not refused

@@ -11,7 +11,7 @@ use Rattle.ados_ram.specs.declared.entries.Entry.{Entry}
 use Rattle.ados_ram.specs.declared.entries.Bits.{Bits}
 use Rattle.ados_ram.specs.Place.{place_cmp, place_cmp_total, place_cmp_exact, is_same_key}
 use Rattle.ados_ram.specs.Entry.{file_entry_with_bits, size_of}
-use Rattle.ados_ram.specs.Files.{Files, Rows, bytes_at, total_of}
+use Rattle.ados_ram.specs.Files.{Files, Rows, entry_bytes, total_of}
 use Rattle.ados_ram.specs.FileOperations.{moved_rows, rename_of}
 use Rattle.ados_ram.specs.Rows.{other_rows}
 
@@ -129,10 +129,10 @@ sorted_of_rows (e ∷ es) =
     }
 
 -- the entry at a place and the others are all entries
-pub total-rest : (k : List (List ℕ)) (es : Rows) → T (is_sorted place_cmp es) → length (bytes_at (find place_cmp k es)) + total_of (other_rows k es) ≡ total_of es
+pub total-rest : (k : List (List ℕ)) (es : Rows) → T (is_sorted place_cmp es) → length (entry_bytes (find place_cmp k es)) + total_of (other_rows k es) ≡ total_of es
 total-rest k [] h = refl
 total-rest k (e ∷ es) h =
-    elim (place_cmp k e.0) as (λ r. place_cmp k e.0 ≡ r → length (bytes_at (cond (is_eq r) (Some e.1) (find place_cmp k es))) + total_of (cond (is_eq r) (other_rows k es) (e ∷ other_rows k es)) ≡ size_of e.1 + total_of es) [
+    elim (place_cmp k e.0) as (λ r. place_cmp k e.0 ≡ r → length (entry_bytes (cond (is_eq r) (Some e.1) (find place_cmp k es))) + total_of (cond (is_eq r) (other_rows k es) (e ∷ other_rows k es)) ≡ size_of e.1 + total_of es) [
       | Less ↦ λ p. omega (arith, total-rest k es (second _ _ h))
       | Equal ↦ λ p. ap (λ (xs : Rows). size_of e.1 + total_of xs) (tied_all k e.0 es p (first _ _ h))
       | Greater ↦ λ p. omega (arith, total-rest k es (second _ _ h))
@@ -188,18 +188,18 @@ pub len-insert : (m : Files) (key : List (List ℕ)) (new : Entry) → map.len (
 len-insert m key new = len-entries _ ∙ ap length (entries-insert place_cmp_total m key new) ∙ length-put_without key new (map.entries m) (entries_sorted m)
 
 -- the same, by the old entry
-pub total-beside : {m : Files} (es : Rows) (key : List (List ℕ)) (new : Entry) → AreRowsOf es m → total_of (map.entries (map.insert m key new)) ≡ size_of new + (total_of es - length (bytes_at (map.get m key)))
+pub total-beside : {m : Files} (es : Rows) (key : List (List ℕ)) (new : Entry) → AreRowsOf es m → total_of (map.entries (map.insert m key new)) ≡ size_of new + (total_of es - length (entry_bytes (map.get m key)))
 total-beside {m} es key new r =
     let all = entries_rows es r in
-    let rest : length (bytes_at (find place_cmp key es)) + total_of (other_rows key es) ≡ total_of es = total-rest key es (holds _ r.sorted) in
-    let found : length (bytes_at (map.get m key)) ≡ length (bytes_at (find place_cmp key es)) = ap (λ (o : Option Entry). length (bytes_at o)) (get_rows es key r.is r.sorted) in
+    let rest : length (entry_bytes (find place_cmp key es)) + total_of (other_rows key es) ≡ total_of es = total-rest key es (holds _ r.sorted) in
+    let found : length (entry_bytes (map.get m key)) ≡ length (entry_bytes (find place_cmp key es)) = ap (λ (o : Option Entry). length (entry_bytes o)) (get_rows es key r.is r.sorted) in
     let sum : total_of (map.entries (map.insert m key new)) ≡ size_of new + total_of (other_rows key es) = total-insert m key new ∙ ap (λ (xs : Rows). size_of new + total_of (other_rows key xs)) all in
     omega arith
 
-pub bytes-within : {m : Files} (es : Rows) (key : List (List ℕ)) → AreRowsOf es m → length (bytes_at (map.get m key)) ≤ total_of es
+pub bytes-within : {m : Files} (es : Rows) (key : List (List ℕ)) → AreRowsOf es m → length (entry_bytes (map.get m key)) ≤ total_of es
 bytes-within {m} es key r =
-    let rest : length (bytes_at (find place_cmp key es)) + total_of (other_rows key es) ≡ total_of es = total-rest key es (holds _ r.sorted) in
-    let found : length (bytes_at (map.get m key)) ≡ length (bytes_at (find place_cmp key es)) = ap (λ (o : Option Entry). length (bytes_at o)) (get_rows es key r.is r.sorted) in
+    let rest : length (entry_bytes (find place_cmp key es)) + total_of (other_rows key es) ≡ total_of es = total-rest key es (holds _ r.sorted) in
+    let found : length (entry_bytes (map.get m key)) ≡ length (entry_bytes (find place_cmp key es)) = ap (λ (o : Option Entry). length (entry_bytes o)) (get_rows es key r.is r.sorted) in
     omega arith
 
 pub len-beside : {m : Files} (es : Rows) (key : List (List ℕ)) (new : Entry) → AreRowsOf es m → one_if (is_some (map.get m key)) + map.len (map.insert m key new) ≡ 1 + length es

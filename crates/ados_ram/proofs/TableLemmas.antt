@@ -8,7 +8,7 @@ use Rattle.ados_ram.specs.declared.entries.Entry.{Entry}
 use Rattle.ados_ram.specs.Place.{Key, place_cmp, place_cmp_total, place_cmp_exact, is_same_key, path_below, has_names, is_below, is_at_or_below}
 use Rattle.ados_ram.specs.Entry.{renamed_entry}
 use Rattle.ados_ram.specs.Files.{Files, Rows}
-use Rattle.ados_ram.specs.FileOperations.{any_below, rename_of, fault_above, way_fault}
+use Rattle.ados_ram.specs.FileOperations.{has_descendants, rename_of, fault_above, way_fault}
 use Rattle.ados_ram.specs.Tree.{subtree_rows, rows_way, entry_by_way, IsReplaced, IsEntryAt, IsRenamed}
 use Rattle.ados_ram.proofs.FilesLemmas.{same, clash, nothing}
 use Rattle.ados_ram.proofs.RenameLemmas.{behind-exact, same_behind, at_or_below, false_of, Within, get-moved_in, get-moved_out}
@@ -38,12 +38,12 @@ inserted {m} key entry sub old new is sorted r there = same_map place_cmp_total 
     ∙ sym (get-insert place_cmp_total m key entry q))
 
 -- nothing is found below a place with nothing below it
-none_below : (key q : Key) (es : Rows) → any_below key es ≡ false → is_below key q ≡ true → find place_cmp q es ≡ nothing
+none_below : (key q : Key) (es : Rows) → has_descendants key es ≡ false → is_below key q ≡ true → find place_cmp q es ≡ nothing
 none_below key q [] h b = refl
 none_below key q (e ∷ es) h b =
     elim (is_same_key q e.0) as (λ t. is_same_key q e.0 ≡ t → cond t (Some e.1) (find place_cmp q es) ≡ nothing) [
-      | true ↦ λ t. clash (sym h ∙ ap (λ c. c || any_below key es) (ap (is_below key) (sym (same q e.0 t)) ∙ b))
-      | false ↦ λ t. none_below key q es (rest (is_below key e.0) (any_below key es) h) b
+      | true ↦ λ t. clash (sym h ∙ ap (λ c. c || has_descendants key es) (ap (is_below key) (sym (same q e.0 t)) ∙ b))
+      | false ↦ λ t. none_below key q es (rest (is_below key e.0) (has_descendants key es) h) b
     ] refl
   where
     rest : (a c : Bool) → (a || c) ≡ false → c ≡ false
@@ -51,7 +51,7 @@ none_below key q (e ∷ es) h b =
     rest false c h = h
 
 -- the object at a place removed, with nothing below it
-pub removed : {m : Files} (key : Key) (old new : Rows) → map.from_sorted old ≡ m → IsTrue (is_sorted place_cmp old) → any_below key old ≡ false → IsReplaced key [] old new → map.from_sorted new ≡ map.remove m key
+pub removed : {m : Files} (key : Key) (old new : Rows) → map.from_sorted old ≡ m → IsTrue (is_sorted place_cmp old) → has_descendants key old ≡ false → IsReplaced key [] old new → map.from_sorted new ≡ map.remove m key
 removed {m} key old new is sorted empty r = same_map place_cmp_total place_cmp_exact _ _ (λ q.
     get-from_sorted place_cmp new q (holds _ r.whole.sorted) ∙ r.found q
     ∙ elim (path_below key q) as (λ o. path_below key q ≡ o → entry_by_way o [] (find place_cmp q old) ≡ cond (is_same_key q key) nothing (map.get m q)) [

@@ -6,9 +6,9 @@ use Rattle.std.specs.FinMap.Entries.{below_all}
 use Rattle.ados_ram.specs.declared.entries.Entry.{Entry}
 use Rattle.ados_ram.specs.Place.{Key, place_cmp, is_child, path_below, is_one_name, has_names}
 use Rattle.ados_ram.specs.Files.{Rows}
-use Rattle.ados_ram.specs.FileOperations.{any_below, names_in}
+use Rattle.ados_ram.specs.FileOperations.{has_descendants, names_in}
 use Rattle.ados_ram.specs.Entry.{is_directory}
-use Rattle.ados_ram.specs.Contents.{is_within, children, files_below}
+use Rattle.ados_ram.specs.Contents.{is_within, children, directory_files}
 use Rattle.ados_ram.specs.Rows.{inner_rows}
 use Rattle.ados_ram.specs.Tree.{Kid, Kids, IsSubtree, AllSubtrees, rows_under_name, flatten, rows_of, rows_by_root, subtree_rows, with_way}
 use Rattle.ados_ram.proofs.RowsLemmas.{first, none_above}
@@ -44,11 +44,11 @@ rows-below all key (e ∷ es) =
           ∙ ap (λ b. rows_by_root key (cond b ((w, e.1) ∷ inner_rows all [] (subtree_rows key es)) (inner_rows all [] (subtree_rows key es)))) (sym (within-way all [] w))
     ] refl
 
-pub any-below : (key : Key) (es : Rows) → any_below key es ≡ any_below [] (subtree_rows key es)
+pub any-below : (key : Key) (es : Rows) → has_descendants key es ≡ has_descendants [] (subtree_rows key es)
 any-below key [] = refl
 any-below key (e ∷ es) =
     let next = any-below key es in
-    elim (path_below key e.0) as (λ o. has_names o || any_below key es ≡ any_below [] (with_way o e.1 (subtree_rows key es))) [
+    elim (path_below key e.0) as (λ o. has_names o || has_descendants key es ≡ has_descendants [] (with_way o e.1 (subtree_rows key es))) [
       | None ↦ next
       | Some w ↦ ap (λ b. has_names (Some w) || b) next
     ]
@@ -107,13 +107,13 @@ kid-within false p k e ks f s =
     ∙ ap (λ (r : Rows). (p ++ k.0 ∷ [], e) ∷ rows_by_root p r) (shallow k.0 t.rest (flatten ks) t.low)
 
 -- there is something in a directory that has objects
-pub any-in : (entry : Entry) (ks : Kids) → AllSubtrees ks → any_below [] (rows_of entry ks) ≡ not (length ks == 0)
+pub any-in : (entry : Entry) (ks : Kids) → AllSubtrees ks → has_descendants [] (rows_of entry ks) ≡ not (length ks == 0)
 any-in entry [] a = refl
 any-in entry (k ∷ ks) a =
     let some : (length (k ∷ ks) == 0) ≡ false = grind (arith, nat_tests) in
     not_empty k.0 k.1 (flatten ks) a.0.top ∙ ap not (sym some)
   where
-    not_empty : (n : List ℕ) (r rest : Rows) → IsSome (find place_cmp [] r) → any_below [] (rows_under_name n r ++ rest) ≡ true
+    not_empty : (n : List ℕ) (r rest : Rows) → IsSome (find place_cmp [] r) → has_descendants [] (rows_under_name n r ++ rest) ≡ true
     not_empty n [] rest h = cc
     not_empty n (e ∷ r) rest h = refl
 
@@ -149,12 +149,12 @@ children-within key (e ∷ es) =
       | false ↦ λ t. children-within key es
     ] refl
 
-pub files-within : (all : Bool) (key : Key) (es : Rows) → files_below all key (inner_rows all key es) ≡ files_below all key es
+pub files-within : (all : Bool) (key : Key) (es : Rows) → directory_files all key (inner_rows all key es) ≡ directory_files all key es
 files-within all key [] = refl
 files-within all key (e ∷ es) =
     let rest = inner_rows all key es in
-    elim (is_within all key e.0) as (λ b. is_within all key e.0 ≡ b → files_below all key (cond b (e ∷ rest) rest) ≡ cond (b && not (is_directory e.1)) (e.0 ∷ files_below all key es) (files_below all key es)) [
-      | true ↦ λ t. ap (λ b. cond (b && not (is_directory e.1)) (e.0 ∷ files_below all key rest) (files_below all key rest)) t ∙ ap (λ (r : List Key). cond (not (is_directory e.1)) (e.0 ∷ r) r) (files-within all key es)
+    elim (is_within all key e.0) as (λ b. is_within all key e.0 ≡ b → directory_files all key (cond b (e ∷ rest) rest) ≡ cond (b && not (is_directory e.1)) (e.0 ∷ directory_files all key es) (directory_files all key es)) [
+      | true ↦ λ t. ap (λ b. cond (b && not (is_directory e.1)) (e.0 ∷ directory_files all key rest) (directory_files all key rest)) t ∙ ap (λ (r : List Key). cond (not (is_directory e.1)) (e.0 ∷ r) r) (files-within all key es)
       | false ↦ λ t. files-within all key es
     ] refl
 

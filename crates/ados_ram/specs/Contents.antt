@@ -32,10 +32,10 @@ is_within true directory place = is_below directory place
 is_within false directory place = is_child directory place
 
 -- the places of the files below a directory, or of those directly in it, in order
-abbrev pub files_below : Bool → Key → Rows → List Key
-files_below all directory [] = []
-files_below all directory (e ∷ es) =
-    cond (is_within all directory e.0 && not (is_directory e.1)) (e.0 ∷ files_below all directory es) (files_below all directory es)
+abbrev pub directory_files : Bool → Key → Rows → List Key
+directory_files all directory [] = []
+directory_files all directory (e ∷ es) =
+    cond (is_within all directory e.0 && not (is_directory e.1)) (e.0 ∷ directory_files all directory es) (directory_files all directory es)
 
 -- the order of contents: like that of places, but a directory comes after what is in it
 abbrev pub contents_cmp : Key → Key → Ordering

@@ -9,7 +9,7 @@ use Rattle.ados_text.specs.Text.{Text, Bytes}
 use Rattle.ados_text.specs.Name.{Name}
 use Rattle.ados_ram.specs.Place.{Place, Key, key_of, any_same, is_root, is_same_key, path_below, is_below, is_child}
 use Rattle.ados_ram.specs.Entry.{is_directory, new_directory, file_entry, file_entry_with_bits, with_bits, with_comment, renamed_entry}
-use Rattle.ados_ram.specs.Files.{Files, Rows, is_some_file, bytes_at, total_of, file_limit, bytes_limit, objects_limit}
+use Rattle.ados_ram.specs.Files.{Files, Rows, is_some_file, entry_bytes, total_of, file_limit, bytes_limit, objects_limit}
 use Rattle.ados_ram.specs.InUse.{InUse, is_in_use, holds_output}
 use Rattle.ados_ram.specs.declared.entries.Bits.{Bits}
 use Rattle.ados_ram.specs.declared.entries.Entry.{Entry}
@@ -43,9 +43,9 @@ bytes_unless None bytes = Ok bytes
 bytes_unless (Some fault) bytes = Err fault
 
 -- the bytes of the file at a place, or why they can't be read, with these outputs open
-abbrev pub read_at : Files → List Place → Place → Result Bytes Result2
-read_at m outputs place =
-    (let entry = map.get m (key_of place) in bytes_unless (read_fault (any_same outputs (key_of place)) entry) (bytes_at entry))
+abbrev pub read_result : Files → List Place → Place → Result Bytes Result2
+read_result m outputs place =
+    (let entry = map.get m (key_of place) in bytes_unless (read_fault (any_same outputs (key_of place)) entry) (entry_bytes entry))
 
 -- List
 abbrev pub list_fault : Option Entry → Option Result2
@@ -77,10 +77,10 @@ write_as_of m key name bytes bits = map.insert m key (file_entry_with_bits bits 
 
 -- Append: write the old bytes followed by the new ones
 abbrev pub append_of : Files → Key → Name → Bytes → Files
-append_of m key name bytes = write_of m key name (bytes_at (map.get m key) ++ bytes)
+append_of m key name bytes = write_of m key name (entry_bytes (map.get m key) ++ bytes)
 
 abbrev pub append_fault : Bool → Files → Key → Name → Bytes → Option Result2
-append_fault is_open m key name bytes = write_fault is_open m key name (bytes_at (map.get m key) ++ bytes)
+append_fault is_open m key name bytes = write_fault is_open m key name (entry_bytes (map.get m key) ++ bytes)
 
 -- Append to an open output, whatever its bits say, if there is one byte or more and there is a file. Only the limits
 -- refuse it
@@ -92,7 +92,7 @@ put_open_of m key name bytes = cond (is_put (map.get m key) bytes) (append_of m 
 
 abbrev pub put_open_fault : Files → Key → Name → Bytes → Option Result2
 put_open_fault m key name bytes =
-    cond (is_put (map.get m key) bytes) (full_fault (length (bytes_at (map.get m key) ++ bytes)) (append_of m key name bytes)) None
+    cond (is_put (map.get m key) bytes) (full_fault (length (entry_bytes (map.get m key) ++ bytes)) (append_of m key name bytes)) None
 
 -- Make a directory: the only limit that it can exceed is the number of objects
 abbrev pub make_dir_of : Files → Key → Name → Files
@@ -107,15 +107,15 @@ make_dir_fault m key name =
     option_or (way_fault m [] key) (option_or (free_fault (map.get m key)) (full_fault 0 (make_dir_of m key name)))
 
 -- Delete: the files without a place
-abbrev pub any_below : Key → Rows → Bool
-any_below key [] = false
-any_below key (e ∷ es) = is_below key e.0 || any_below key es
+abbrev pub has_descendants : Key → Rows → Bool
+has_descendants key [] = false
+has_descendants key (e ∷ es) = is_below key e.0 || has_descendants key es
 
 abbrev pub delete_target_fault : InUse → Rows → Key → Option Entry → Option Result2
 delete_target_fault busy es key None = Some OBJECT_NOT_FOUND
 delete_target_fault busy es key (Some e) =
     cond (is_in_use busy key || is_root key) (Some OBJECT_IN_USE)
-    (cond e.bits.delete (cond (any_below key es) (Some DIRECTORY_NOT_EMPTY) None) (Some DELETE_PROTECTED))
+    (cond e.bits.delete (cond (has_descendants key es) (Some DIRECTORY_NOT_EMPTY) None) (Some DELETE_PROTECTED))
 
 abbrev pub delete_fault : InUse → Files → Key → Option Result2
 delete_fault busy m key = delete_target_fault busy (map.entries m) key (map.get m key)

@@ -31,9 +31,9 @@ is_some_file None = false
 is_some_file (Some e) = not (is_directory e)
 
 -- the bytes of the file; none if there is no file
-abbrev pub bytes_at : Option Entry → Bytes
-bytes_at None = []
-bytes_at (Some e) = bytes_of e
+abbrev pub entry_bytes : Option Entry → Bytes
+entry_bytes None = []
+entry_bytes (Some e) = bytes_of e
 
 -- the sizes of all files together
 abbrev pub total_of : Rows → ℕ
@@ -58,7 +58,7 @@ objects_limit = 1025
 pub record IsTree (m : Files) : Type 0 where
   pub root : IsTrue (is_some_directory (map.get m []))
   pub above : (place : Key) (name : Name) (rest : Key) → IsSome (map.get m (place ++ name ∷ rest)) → IsTrue (is_some_directory (map.get m place))
-  pub each_file : (place : Key) → length (bytes_at (map.get m place)) ≤ file_limit
+  pub each_file : (place : Key) → length (entry_bytes (map.get m place)) ≤ file_limit
   pub all_bytes : total_of (map.entries m) ≤ bytes_limit
   pub objects : map.len m ≤ objects_limit
 

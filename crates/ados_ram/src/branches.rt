@@ -7,7 +7,7 @@ ghost use Rattle.ados_ram.specs.Place.{key_of, place_cmp, is_root};
 ghost use Rattle.ados_ram.specs.Tree.{AreKids, IsReplaced, MayStand, branch_rows, subtree_rows, rows_of, rows_by_root, rows_way, rows_written, places_of_ways, with_flat, IsEntryAt};
 ghost use Rattle.ados_ram.specs.Contents.{contents};
 ghost use Rattle.ados_ram.specs.Rows.{inner_rows};
-ghost use Rattle.ados_ram.specs.FileOperations.{any_below};
+ghost use Rattle.ados_ram.specs.FileOperations.{has_descendants};
 
 use crate::children::Children;
 use crate::entries::Entry;
@@ -159,7 +159,7 @@ impl Branch {
 
     /// Whether something is in it.
     pub fn is_parent(&self) -> bool
-        ensures { result ≡ any_below [] self.now.1 }
+        ensures { result ≡ has_descendants [] self.now.1 }
     {
         !self.node.kids.is_empty()
     }

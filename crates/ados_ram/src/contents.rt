@@ -2,7 +2,7 @@
 ghost use Rattle.std.specs.Prelude.{◌≡◌, IfOk};
 ghost use Rattle.ados_ram.specs.Place.{key_of};
 ghost use Rattle.ados_ram.specs.FileOperations.{names_in};
-ghost use Rattle.ados_ram.specs.Contents.{children, is_within, files_below};
+ghost use Rattle.ados_ram.specs.Contents.{children, is_within, directory_files};
 
 use crate::places::Place;
 use crate::rows::Row;
@@ -36,13 +36,13 @@ pub fn children(alloc: Global, rows: &[Row], directory: &[Name]) -> Result<Vec<P
 }
 
 /// The places of the files directly in a directory, or of all that are below it, in order.
-pub fn files_below(
+pub fn directory_files(
     alloc: Global,
     rows: &[Row],
     directory: &[Name],
     all: bool,
 ) -> Result<Vec<Place>, NoMemory>
-    ensures { IfOk result (λ places. places.items ≡ files_below all (key_of directory.now) rows.now) }
+    ensures { IfOk result (λ places. places.items ≡ directory_files all (key_of directory.now) rows.now) }
 {
     let mut places = Vec::new(alloc);
     for row in rows {

@@ -3,16 +3,16 @@ ghost use Rattle.std.specs.Option.{option_copied};
 ghost use Rattle.std.specs.Result.{result_err};
 ghost use Rattle.std.specs.FinMap as map;
 ghost use Rattle.ados_ram.specs.Place.{key_of, last_name};
-ghost use Rattle.ados_ram.specs.Files.{AreFiles, bytes_at, first_files};
+ghost use Rattle.ados_ram.specs.Files.{AreFiles, entry_bytes, first_files};
 ghost use Rattle.ados_ram.specs.InUse.{is_output};
 ghost use Rattle.ados_ram.specs.FileOperations.{read_fault, list_fault, names_in, write_of, write_fault, write_as_of, append_of, append_fault, put_open_of, put_open_fault};
 ghost use Rattle.ados_text.specs.Stop.{Answers};
 ghost use Rattle.ados_ram.specs.FileOperations.{make_dir_of, make_dir_fault, delete_fault, rename_of, rename_fault, protect_of, protect_fault, comment_of, comment_fault};
-ghost use Rattle.ados_ram.specs.Contents.{children, contents, files_below};
+ghost use Rattle.ados_ram.specs.Contents.{children, contents, directory_files};
 ghost use Rattle.ados_ram.specs.Tree.{subtree_rows};
 ghost use Rattle.ados_ram.specs.Written.{written_place, full_path};
 
-use crate::contents::{children, files_below, names_in};
+use crate::contents::{children, directory_files, names_in};
 use crate::cursors::Cursor;
 use crate::entries::{Bits, COMMENT_LIMIT, Entry};
 use crate::in_use::Busy;
@@ -21,7 +21,7 @@ use crate::refusals::{
     changeable, delete_refusal, list_refusal, make_dir_refusal, put_refusal, read_refusal,
     rename_refusal,
 };
-use crate::table::{Table, bytes_at};
+use crate::table::{Table, entry_bytes};
 use ados_text::{Name, NoMemory, Result2, Stop, Text};
 use std::alloc::Global;
 use std::marker::Model;
@@ -78,13 +78,13 @@ impl Ram {
     /// 205 (object not found) if there is nothing, 212 (wrong type of object) for a directory, 202 (object in use)
     /// for an open output, 224 (read protected) without bit r.
     pub fn read(&self, busy: &Busy, place: &Place) -> Result<&[u8], Result2>
-        ensures ok { IfOk result (λ bytes. bytes.now ≡ bytes_at (map.get self.now (key_of place.now))) }
+        ensures ok { IfOk result (λ bytes. bytes.now ≡ entry_bytes (map.get self.now (key_of place.now))) }
         ensures fault { result_err result ≡ read_fault (is_output busy.now (key_of place.now)) (map.get self.now (key_of place.now)) }
     {
         let entry = self.table.find(place.names());
         match read_refusal(busy.is_output(place.names()), entry) {
             Some(fault) => Err(fault),
-            None => Ok(bytes_at(entry)),
+            None => Ok(entry_bytes(entry)),
         }
     }
 
@@ -146,7 +146,7 @@ impl Ram {
         self.put(
             busy,
             place,
-            bytes_at(self.table.find(place.names())),
+            entry_bytes(self.table.find(place.names())),
             bytes,
             Bits::FRESH,
         )
@@ -267,11 +267,11 @@ impl Ram {
     }
 
     /// The places of the files directly in a directory, or of all that are below it, in lower case and in order.
-    pub fn files_below(&self, place: &Place, all: bool) -> Result<Vec<Place>, NoMemory>
-        ensures { IfOk result (λ places. places.items ≡ files_below all (key_of place.now) (map.entries self.now)) }
+    pub fn directory_files(&self, place: &Place, all: bool) -> Result<Vec<Place>, NoMemory>
+        ensures { IfOk result (λ places. places.items ≡ directory_files all (key_of place.now) (map.entries self.now)) }
     {
         let rows = self.table.rows_below(place, all)?;
-        files_below(self.alloc, &rows, place.names(), all)
+        directory_files(self.alloc, &rows, place.names(), all)
     }
 
     /// A place with its names as they are written in the files; names that are not there stay as they are given.

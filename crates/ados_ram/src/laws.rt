@@ -10,7 +10,7 @@ ghost use Rattle.ados_ram.specs.Place.{Key, Place, key_of, last_name, place_cmp,
 ghost use Rattle.ados_ram.specs.Files.{AreNamed, Files, IsTree, first_files, is_some_file, OthersStay};
 ghost use Rattle.ados_ram.specs.FileOperations.{write_of, write_as_of, append_of, put_open_of, make_dir_of, rename_fault, rename_of, protect_of, comment_of};
 ghost use Rattle.ados_ram.specs.Renames.{RenamesMove};
-ghost use Rattle.ados_ram.specs.Contents.{children, contents, is_within, files_below, contents_cmp, ListsJust};
+ghost use Rattle.ados_ram.specs.Contents.{children, contents, is_within, directory_files, contents_cmp, ListsJust};
 
 /// The lists of a directory hold just what they are to hold, each once: its contents are the places below it, each
 /// directory after all that is in it, and otherwise in the order of names; its children are the places directly in it,
@@ -18,7 +18,7 @@ ghost use Rattle.ados_ram.specs.Contents.{children, contents, is_within, files_b
 pub fn contents_in_order()
     ensures contents { (files : Files) (directory : Key) → ListsJust files (is_below directory) contents_cmp (contents directory (map.entries files)) }
     ensures children { (files : Files) (directory : Key) → ListsJust files (is_child directory) place_cmp (children directory (map.entries files)) }
-    ensures files { (files : Files) (all : Bool) (directory : Key) → ListsJust files (λ place. is_within all directory place && is_some_file (map.get files place)) place_cmp (files_below all directory (map.entries files)) }
+    ensures files { (files : Files) (all : Bool) (directory : Key) → ListsJust files (λ place. is_within all directory place && is_some_file (map.get files place)) place_cmp (directory_files all directory (map.entries files)) }
     ensures inside { (place : Key) (name : Name) (way : Key) → contents_cmp (place ++ name ∷ way) place ≡ Less }
     ensures beside { (place : Key) (one other : Name) (way rest : Key) → name_cmp one other ≡ Less → contents_cmp (place ++ one ∷ way) (place ++ other ∷ rest) ≡ Less }
 {}

@@ -3,7 +3,7 @@ ghost use Rattle.std.specs.Prelude.{◌≡◌, ◌++◌, false, IfOk};
 ghost use Rattle.std.specs.Option.{option_copied};
 ghost use Rattle.std.specs.FinMap as map;
 ghost use Rattle.ados_ram.specs.Place.{key_of, is_root, last_name};
-ghost use Rattle.ados_ram.specs.Files.{AreFiles, bytes_at};
+ghost use Rattle.ados_ram.specs.Files.{AreFiles, entry_bytes};
 ghost use Rattle.ados_ram.specs.InUse.{is_output};
 ghost use Rattle.ados_ram.specs.FileOperations.{write_fault, write_as_of, put_open_of};
 ghost use Rattle.ados_text.specs.Stop.{Answers};
@@ -14,7 +14,7 @@ use crate::files::Ram;
 use crate::in_use::Busy;
 use crate::places::Place;
 use crate::refusals::{is_put, write_refusal};
-use crate::table::bytes_at;
+use crate::table::entry_bytes;
 use ados_text::{NoMemory, Stop};
 
 impl Ram {
@@ -45,7 +45,7 @@ impl Ram {
     {
         let old = self.table.find(place.names());
         if is_put(old, bytes) {
-            self.with_bytes(place, old, bytes_at(old), bytes, Bits::FRESH)
+            self.with_bytes(place, old, entry_bytes(old), bytes, Bits::FRESH)
         } else {
             self.copy()
         }

@@ -11,7 +11,7 @@ ghost use Rattle.ados_ram.specs.FileOperations.{read_fault, list_fault, write_ta
 use crate::entries::Entry;
 use crate::in_use::Busy;
 use crate::places::{is_below, is_same};
-use crate::table::{Table, bytes_at};
+use crate::table::{Table, entry_bytes};
 use ados_text::{Name, Result2};
 
 /// The most bytes of a file.
@@ -84,7 +84,7 @@ pub fn put_refusal(table: &Table, names: &[Name], bytes: &[u8]) -> Option<Result
 {
     let entry = table.find(names);
     if is_put(entry, bytes) {
-        limits(table, names, bytes_at(entry).len(), bytes.len())
+        limits(table, names, entry_bytes(entry).len(), bytes.len())
     } else {
         None
     }
@@ -113,7 +113,7 @@ pub fn delete_refusal(busy: &Busy, table: &Table, names: &[Name]) -> Option<Resu
     if !entry.bits.delete {
         return Some(Result2::DELETE_PROTECTED);
     }
-    if table.any_below(names) {
+    if table.has_descendants(names) {
         return Some(Result2::DIRECTORY_NOT_EMPTY);
     }
     None

@@ -6,8 +6,8 @@ ghost use Rattle.ados_text.specs.Text.{to_ascii};
 ghost use Rattle.ados_ram.specs.declared.entries.Entry.{Entry};
 ghost use Rattle.ados_ram.specs.Place.{key_of, place_cmp, is_root, last_name};
 ghost use Rattle.ados_ram.specs.Entry.{size_of};
-ghost use Rattle.ados_ram.specs.Files.{IsTree, bytes_at, total_of, bytes_limit, first_files};
-ghost use Rattle.ados_ram.specs.FileOperations.{any_below, rename_of, way_fault};
+ghost use Rattle.ados_ram.specs.Files.{IsTree, entry_bytes, total_of, bytes_limit, first_files};
+ghost use Rattle.ados_ram.specs.FileOperations.{has_descendants, rename_of, way_fault};
 ghost use Rattle.ados_ram.specs.Contents.{contents};
 ghost use Rattle.ados_ram.specs.Rows.{inner_rows};
 ghost use Rattle.ados_ram.specs.Written.{written_place};
@@ -92,8 +92,8 @@ impl Table {
     }
 
     /// Whether something is below a place.
-    pub fn any_below(&self, names: &[Name]) -> bool
-        ensures { result ≡ any_below (key_of names.now) (map.entries self.now) }
+    pub fn has_descendants(&self, names: &[Name]) -> bool
+        ensures { result ≡ has_descendants (key_of names.now) (map.entries self.now) }
     {
         match self.root.at(names) {
             None => false,
@@ -130,7 +130,7 @@ impl Table {
         ensures total { (new : Entry) → total_of (map.entries (map.insert self.now (key_of names.now) new)) ≡ size_of new + result }
         ensures fits { result ≤ bytes_limit }
     {
-        self.total - bytes_at(self.find(names)).len()
+        self.total - entry_bytes(self.find(names)).len()
     }
 
     /// The number of objects if there is one at this place.
@@ -165,7 +165,7 @@ impl Table {
     pub fn without(&self, names: &[Name]) -> Result<Table, NoMemory>
         requires root { is_root (key_of names.now) ≡ false }
         requires inside { IsSome (map.get self.now (key_above (key_of names.now))) }
-        requires empty { any_below (key_of names.now) (map.entries self.now) ≡ false }
+        requires empty { has_descendants (key_of names.now) (map.entries self.now) ≡ false }
         ensures { IfOk result (λ new. new ≡ map.remove self.now (key_of names.now)) }
     {
         Ok(Table {
@@ -208,8 +208,8 @@ impl Table {
 }
 
 /// The bytes of an entry; none if there is no file.
-pub fn bytes_at(entry: Option<&Entry>) -> &[u8]
-    ensures { result.now ≡ bytes_at (option_copied entry.entry) }
+pub fn entry_bytes(entry: Option<&Entry>) -> &[u8]
+    ensures { result.now ≡ entry_bytes (option_copied entry.entry) }
 {
     match entry {
         None => &[],

@@ -72,7 +72,7 @@ impl Internal {
 }
 
 // The internal command with a name.
-pub fn internal_in(internals: &[Internal], name: &Text) -> Option<Internal>
+pub fn resident_internal(internals: &[Internal], name: &Text) -> Option<Internal>
     ensures { result ≡ first_with_name (λ internal. internal_name internal.command) name.now internals.now }
 {
     for internal in internals {

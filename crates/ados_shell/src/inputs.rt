@@ -3,7 +3,7 @@ ghost use Rattle.std.specs.Prelude.{◌≡◌};
 ghost use Rattle.ados_items.specs.Items.{IsWithin};
 ghost use Rattle.ados_machine.specs.Prompts.{asks, is_question, is_end, lines_in};
 ghost use Rattle.ados_find.specs.Targets.{read_by, target_of};
-ghost use Rattle.ados_ram.specs.FileOperations.{read_at};
+ghost use Rattle.ados_ram.specs.FileOperations.{read_result};
 ghost use Rattle.ados_text.specs.Stop.{Gives};
 
 use ados_find::{Shared, Target, target_of};
@@ -39,7 +39,7 @@ fn lines_at(
     busy: &Busy,
     place: &Place,
 ) -> Result<Option<Texts>, Stop>
-    ensures { Gives result (lines_in (read_at shared.now.files busy.now.outputs place.now)) }
+    ensures { Gives result (lines_in (read_result shared.now.files busy.now.outputs place.now)) }
 {
     match shared.ram.read(busy, place) {
         Err(fault) => Err(Stop::Refused(fault)),

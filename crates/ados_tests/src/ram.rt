@@ -67,8 +67,8 @@ fn what_is_above_an_output_is_not_renamed(rt: HostRuntime) -> Result<(), Wrong> 
 }
 
 // How many files are below T.
-fn files_below(alloc: Global, ram: &Ram) -> Result<usize, NoMemory> {
-    Ok(ram.files_below(&at(alloc, "t")?, true)?.len())
+fn directory_files(alloc: Global, ram: &Ram) -> Result<usize, NoMemory> {
+    Ok(ram.directory_files(&at(alloc, "t")?, true)?.len())
 }
 
 // The files after a rename of S to `T/n`.
@@ -78,7 +78,7 @@ fn moved(alloc: Global, old: &Ram) -> Result<Ram, Stop> {
 
 // One more file is below T after the rename, and none before it.
 fn is_moved(alloc: Global, old: &Ram, new: &Ram) -> Result<bool, NoMemory> {
-    Ok(files_below(alloc, new)? == 1 && files_below(alloc, old)? == 0)
+    Ok(directory_files(alloc, new)? == 1 && directory_files(alloc, old)? == 0)
 }
 
 #[test]

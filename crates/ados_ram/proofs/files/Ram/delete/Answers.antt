@@ -2,7 +2,7 @@ use Rattle.std.proofs.Common.{◌≡◌, ℕ, List, None, IsSome, false, sym, ap
 use Rattle.std.specs.FinMap as map
 use Rattle.ados_ram.specs.Place.{key_of, is_root}
 use Rattle.ados_ram.specs.Files.{AreFiles}
-use Rattle.ados_ram.specs.FileOperations.{any_below, delete_fault}
+use Rattle.ados_ram.specs.FileOperations.{has_descendants, delete_fault}
 use Rattle.ados_ram.specs.Tree.{key_above}
 use Rattle.ados_ram.proofs.FilesLemmas.{deleted_files}
 use Rattle.ados_ram.proofs.InsideLemmas.{may_go}
@@ -36,4 +36,4 @@ pub without-requires-clause-empty : goal.without-requires-clause-empty
 without-requires-clause-empty c =
     let m = c.self.inside.table in
     let free : delete_fault c.args.busy.now m (key_of c.args.place.now) ≡ None = ap (λ (k : List (List ℕ)). delete_fault c.args.busy.now m (key_of k)) (sym c.names.ensures) ∙ sym c.delete_refusal.ensures ∙ c.in-None.is in
-    subst (λ (k : List (List ℕ)). any_below (key_of k) (map.entries m) ≡ false) (sym c.names-in-None.ensures) (may_go c.args.busy.now m (key_of c.args.place.now) c.self.invariant.tree free).empty
+    subst (λ (k : List (List ℕ)). has_descendants (key_of k) (map.entries m) ≡ false) (sym c.names-in-None.ensures) (may_go c.args.busy.now m (key_of c.args.place.now) c.self.invariant.tree free).empty

@@ -5,7 +5,7 @@ use Rattle.ados_ram.specs.Rows.{other_rows}
 use Rattle.ados_ram.specs.declared.entries.Entry.{Entry}
 use Rattle.ados_ram.specs.Place.{key_of}
 use Rattle.ados_ram.specs.Files.{Rows, total_of}
-use Rattle.ados_ram.specs.FileOperations.{any_below}
+use Rattle.ados_ram.specs.FileOperations.{has_descendants}
 use Rattle.ados_ram.specs.Tree.{key_above}
 use Rattle.ados_ram.proofs.RowsLemmas.{get_rows, own_rows, entries_rows, deleted_rows, total-insert, len-insert, length-without}
 use Rattle.ados_ram.proofs.TableLemmas.{removed}
@@ -27,7 +27,7 @@ pub invariant_of-result : goal.invariant_of-result
 invariant_of-result c =
     let key = key_of c.args.names.now in
     let new = c.in_ok-with.field-0.1 in
-    let empty : any_below key c.self.inside.root.1 ≡ false = subst (λ (es : Rows). any_below key es ≡ false) (entries_rows c.self.inside.root.1 (record { is = c.self.view_is; sorted = c.self.invariant.sorted })) c.requires.empty in
+    let empty : has_descendants key c.self.inside.root.1 ≡ false = subst (λ (es : Rows). has_descendants key es ≡ false) (entries_rows c.self.inside.root.1 (record { is = c.self.view_is; sorted = c.self.invariant.sorted })) c.requires.empty in
     let is : map.from_sorted new ≡ map.remove c.args.self.now key = removed key c.self.inside.root.1 new c.self.view_is c.self.invariant.sorted empty c.in_ok-with.ensures.rows in
     let rows : map.entries (map.remove c.args.self.now key) ≡ new = entries_rows new (record { is = is; sorted = c.in_ok-with.ensures.rows.whole.sorted }) in
     let left : map.entries (map.remove c.args.self.now key) ≡ other_rows key (map.entries c.args.self.now) = entries_rows (other_rows key (map.entries c.args.self.now)) (deleted_rows key (own_rows c.args.self.now) refl) in
@@ -47,5 +47,5 @@ invariant_of-result c =
 
 pub returns : goal.returns
 returns c =
-    let empty : any_below (key_of c.args.names.now) c.self.inside.root.1 ≡ false = subst (λ (es : Rows). any_below (key_of c.args.names.now) es ≡ false) (entries_rows c.self.inside.root.1 (record { is = c.self.view_is; sorted = c.self.invariant.sorted })) c.requires.empty in
+    let empty : has_descendants (key_of c.args.names.now) c.self.inside.root.1 ≡ false = subst (λ (es : Rows). has_descendants (key_of c.args.names.now) es ≡ false) (entries_rows c.self.inside.root.1 (record { is = c.self.view_is; sorted = c.self.invariant.sorted })) c.requires.empty in
     removed (key_of c.args.names.now) c.self.inside.root.1 c.in_ok-with.field-0.1 c.self.view_is c.self.invariant.sorted empty c.in_ok-with.ensures.rows
