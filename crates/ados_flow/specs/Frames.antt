@@ -67,9 +67,9 @@ abbrev pub is_over : FrameState → Bool
 is_over frame = nat_le (length frame.lines) frame.position
 
 -- how many of the frames are scripts
-abbrev pub scripts_in : List FrameState → ℕ
-scripts_in [] = 0
-scripts_in (frame ∷ frames) = if is_script frame.kind then suc (scripts_in frames) else scripts_in frames
+abbrev pub script_count : List FrameState → ℕ
+script_count [] = 0
+script_count (frame ∷ frames) = if is_script frame.kind then suc (script_count frames) else script_count frames
 
 -- a shell begins with limit 10, and it is 10 again once no script is left
 abbrev pub first_limit : Code
@@ -83,7 +83,7 @@ limit_above_scripts (suc n) limit = limit
 
 -- the same with these frames below it
 abbrev pub limit_above_frames : List FrameState → Code → Code
-limit_above_frames frames limit = limit_above_scripts (scripts_in frames) limit
+limit_above_frames frames limit = limit_above_scripts (script_count frames) limit
 
 -- the line at which the command began; 0 on the console
 abbrev pub current_line : List FrameState → ℕ

@@ -78,8 +78,8 @@ order_if_both by_value (Some left) None = Err (fail_codes ARGUMENT_MISSING)
 order_if_both by_value (Some left) (Some right) = order_of by_value left right
 
 -- the order of the unnamed word and the value of the option at a place
-abbrev pub order_at : List Arg → ℕ → Result Ordering Codes
-order_at args place = order_if_both (has_switch args 8) (option_text args 4) (option_text args place)
+abbrev pub argument_order : List Arg → ℕ → Result Ordering Codes
+argument_order args place = order_if_both (has_switch args 8) (option_text args 4) (option_text args place)
 
 abbrev pub place_exists : SharedState → Result Place Codes → Bool
 place_exists shared (Err codes) = false
@@ -99,9 +99,9 @@ abbrev pub holds : SharedState → View → List Arg → Test → Result Bool Co
 holds shared view args Warn = Ok (code_reaches WARN view)
 holds shared view args Error = Ok (code_reaches ERROR view)
 holds shared view args Fail = Ok (code_reaches FAIL view)
-holds shared view args Equal = order_result is_equal (order_at args 5)
-holds shared view args Greater = order_result is_greater (order_at args 6)
-holds shared view args GreaterOrEqual = order_result is_not_less (order_at args 7)
+holds shared view args Equal = order_result is_equal (argument_order args 5)
+holds shared view args Greater = order_result is_greater (argument_order args 6)
+holds shared view args GreaterOrEqual = order_result is_not_less (argument_order args 7)
 holds shared view args Exists = Ok (exists shared view (option_text args 9))
 
 -- the one test that is asked for holds, or what If answers if that can't be decided

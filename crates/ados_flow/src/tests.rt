@@ -6,7 +6,7 @@ ghost use Rattle.ados_text.specs.Text.{folded_text};
 ghost use Rattle.ados_find.specs.Codes.{fail_codes};
 ghost use Rattle.ados_find.specs.Paths.{Gives, place_of};
 ghost use Rattle.ados_readargs.specs.Args.{option_text};
-ghost use Rattle.ados_flow.specs.Tests.{exists, code_reaches, is_given, place_exists, single_test, order_at, order_if_both, order_of, if_test};
+ghost use Rattle.ados_flow.specs.Tests.{exists, code_reaches, is_given, place_exists, single_test, argument_order, order_if_both, order_of, if_test};
 
 use crate::code_rule::is_reached;
 use ados_find::{Codes, Refusal, Shared, ShellView, place_of};
@@ -88,9 +88,9 @@ impl Test {
             Test::Warn => Ok(code_reaches(Code::WARN, view)),
             Test::Error => Ok(code_reaches(Code::ERROR, view)),
             Test::Fail => Ok(code_reaches(Code::FAIL, view)),
-            Test::Equal => Ok(order_at(args, 5)?.is_eq()),
-            Test::Greater => Ok(order_at(args, 6)?.is_gt()),
-            Test::GreaterOrEqual => Ok(order_at(args, 7)?.is_ge()),
+            Test::Equal => Ok(argument_order(args, 5)?.is_eq()),
+            Test::Greater => Ok(argument_order(args, 6)?.is_gt()),
+            Test::GreaterOrEqual => Ok(argument_order(args, 7)?.is_ge()),
             Test::Exists => Ok(exists(alloc, shared, view, args)?),
         }
     }
@@ -132,8 +132,8 @@ fn code_reaches(level: Code, view: &ShellView) -> bool
 }
 
 // The order of the unnamed word and the value of the option at a place.
-fn order_at(args: &Args, place: usize) -> Result<Ordering, Refusal>
-    ensures { Gives result (order_at args.now place) }
+fn argument_order(args: &Args, place: usize) -> Result<Ordering, Refusal>
+    ensures { Gives result (argument_order args.now place) }
 {
     order_by(args.has_switch(8), args.text(4), args.text(place))
 }

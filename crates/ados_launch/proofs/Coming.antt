@@ -9,7 +9,7 @@ use Rattle.ados_machine.specs.World.{WorldState, shell_at}
 use Rattle.ados_launch.specs.declared.schedule.Next as found
 use Rattle.ados_launch.specs.declared.schedule.Next.TheVariants.{Break as BreakFound, Due as DueFound}
 use Rattle.ados_launch.specs.Rounds.{due_place, IsRunning}
-use Rattle.ados_launch.specs.Schedule.{Next, AtBreak, AtLine, AtTurn, AtStart, AtFurther, IsInRound, MayCome, ScheduleState, schedule_state_after_place, breaks_left, first_due_break, is_passed, found_next, next_at, break_or_due, next_in, passed_schedule_state, place_of, following_schedule_state}
+use Rattle.ados_launch.specs.Schedule.{Next, AtBreak, AtLine, AtTurn, AtStart, AtFurther, IsInRound, MayCome, ScheduleState, schedule_state_after_place, breaks_left, first_due_break, is_passed, found_next, next_at, break_or_due, scheduled_next, passed_schedule_state, place_of, following_schedule_state}
 use Rattle.ados_launch.proofs.Places.{behind_in_round, due_below, due_comes}
 
 -- the place of what is due at a place
@@ -68,7 +68,7 @@ due-by : (s : ScheduleState) (w : WorldState) (f : ℕ → Next) (next : Next) (
 due-by s w f next None is e = cc
 due-by s w f next (Some k) is e = record { place = k; due_is = is }
 
-pub next-running : (s : ScheduleState) (w : WorldState) (next : Next) → s.round.place ≤ 61 → next_in s w ≡ Some next → IsRunning w
+pub next-running : (s : ScheduleState) (w : WorldState) (next : Next) → s.round.place ≤ 61 → scheduled_next s w ≡ Some next → IsRunning w
 next-running s w next in_round e =
     let d = due-by s w (break_or_due (first_due_break (s.taken + 1) (breaks_left s w))) next (due_place s.round w) refl e in
     let low : d.place < 61 = due_below s.round d.place w in_round d.due_is in
@@ -89,7 +89,7 @@ none-due f None e = refl
 none-due f (Some k) e = cc
 
 -- if nothing comes next, nothing is due
-pub next-none : (s : ScheduleState) (w : WorldState) → next_in s w ≡ None → None ≡ due_place s.round w
+pub next-none : (s : ScheduleState) (w : WorldState) → scheduled_next s w ≡ None → None ≡ due_place s.round w
 next-none s w e = sym (none-due (break_or_due (first_due_break (s.taken + 1) (breaks_left s w))) (due_place s.round w) e)
 
 -- the same, by testing whether something is due

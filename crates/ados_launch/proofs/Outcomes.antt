@@ -17,7 +17,7 @@ use Rattle.ados_launch.specs.Intake.{TakesNextItem}
 use Rattle.ados_launch.specs.Lines.{bytes_ahead, IsUnreadable, IfKnown}
 use Rattle.ados_launch.specs.NoFurther.{TakesPartAt}
 use Rattle.ados_launch.specs.Rounds.{IsIdle, IsRunning}
-use Rattle.ados_launch.specs.Schedule.{Next, AtLine, ScheduleState, next_in}
+use Rattle.ados_launch.specs.Schedule.{Next, AtLine, ScheduleState, scheduled_next}
 use Rattle.ados_launch.specs.Session.{AreDropped, Moment, SessionProgress}
 use Rattle.ados_launch.proofs.Coming.{next-running}
 use Rattle.ados_launch.proofs.Over.{calls-over, over}
@@ -52,7 +52,7 @@ stops-turns turns n breaks before now standing held d count few running reads wr
     })
 
 pub stops-memory : (turns n : ℕ) (breaks : List BreakAt) (before mid now : Moment) (standing : ScheduleState) (rest : Option (List ℕ)) (held : List ℕ) (next : Next) (dropped : List Call) → Driven before mid breaks n standing rest → n < turns
-    → standing.round.place ≤ 61 → next_in standing mid.world ≡ Some next → (mid.is_full ≡ true → now.is_full ≡ true) → now.world ≡ mid.world → now.contents ≡ mid.contents → now.calls ≡ mid.calls ++ dropped
+    → standing.round.place ≤ 61 → scheduled_next standing mid.world ≡ Some next → (mid.is_full ≡ true → now.is_full ≡ true) → now.world ≡ mid.world → now.contents ≡ mid.contents → now.calls ≡ mid.calls ++ dropped
     → AreDropped mid.world (Some next) dropped → length held < 4096 → IfKnown rest (λ bytes. TakesPartAt next bytes (bytes_ahead held now.left)) → ReadsWell before now → WritesWell before now
     → StopsAtMemory turns breaks before now
 stops-memory turns n breaks before mid now standing rest held next dropped d few in_round here stays world written calls one less part reads writes = record {
@@ -68,7 +68,7 @@ stops-memory turns n breaks before mid now standing rest held next dropped d few
 }
 
 pub stops-read : (turns n : ℕ) (breaks : List BreakAt) (before mid now : Moment) (standing : ScheduleState) (rest : Option (List ℕ)) (held : List ℕ) → Driven before mid breaks n standing rest → n < turns
-    → next_in standing mid.world ≡ Some AtLine → (mid.is_full ≡ true → now.is_full ≡ true) → now.world ≡ mid.world → now.contents ≡ mid.contents → now.calls ≡ mid.calls → length held < 4096
+    → scheduled_next standing mid.world ≡ Some AtLine → (mid.is_full ≡ true → now.is_full ≡ true) → now.world ≡ mid.world → now.contents ≡ mid.contents → now.calls ≡ mid.calls → length held < 4096
     → ReadsWell before mid → IsUnreadable mid.read_faults now.read_faults rest (bytes_ahead held now.left)
     → WritesWell before now → StopsAtRead turns breaks before now
 stops-read turns n breaks before mid now standing rest held d few here stays world written calls less reads cause writes = record {
@@ -81,7 +81,7 @@ stops-read turns n breaks before mid now standing rest held d few here stays wor
 }
 
 pub stops-write : (turns n m : ℕ) (breaks : List BreakAt) (before mid now : Moment) (standing : ScheduleState) (rest later : Option (List ℕ)) (next : Next) (out : List ℕ) → Driven before mid breaks n standing rest → n < turns
-    → next_in standing mid.world ≡ Some next → (mid.is_full ≡ true → now.is_full ≡ true) → TakesNextItem mid.world rest now.is_full mid.calls next now.world later now.calls out → Agrees now.world now.calls
+    → scheduled_next standing mid.world ≡ Some next → (mid.is_full ≡ true → now.is_full ≡ true) → TakesNextItem mid.world rest now.is_full mid.calls next now.world later now.calls out → Agrees now.world now.calls
     → m < length out → Appends mid.contents now.contents (take m out) → ReadsWell before now
     → ((now.write_faults ≡ before.write_faults + 1) × (now.stalls ≡ before.stalls)) ⊎ ((now.write_faults ≡ before.write_faults) × (now.stalls ≡ one_more before.stalls))
     → StopsAtWrite turns breaks before now

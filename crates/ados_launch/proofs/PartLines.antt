@@ -9,7 +9,7 @@ use Rattle.ados_launch.specs.declared.lines.LineKind.{LineKind}
 use Rattle.ados_launch.specs.declared.lines.LineKind.TheVariants.{Overlong}
 use Rattle.ados_launch.specs.Lines.{bytes_ahead, kind_of, IfKnown, line_of, rest_of, TakesLine}
 use Rattle.ados_launch.specs.NoFurther.{ReadsOnlyDueLine, TakesPart, TakesPartAt}
-use Rattle.ados_launch.specs.Schedule.{AtLine, Next, ScheduleState, next_after_taken, next_in}
+use Rattle.ados_launch.specs.Schedule.{AtLine, Next, ScheduleState, next_after_taken, scheduled_next}
 use Rattle.ados_launch.specs.Session.{Moment}
 use Rattle.ados_launch.specs.Taken.{rest_after_items}
 use Rattle.ados_launch.proofs.Scanning.{Scanned, overlong_kind}
@@ -70,7 +70,7 @@ part-at-none next bytes now e = record { part = part-none bytes now e; none = λ
 
 -- for what comes next nothing was read past the line that is due
 pub no-further : (before mid : Moment) (breaks : List BreakAt) (n : ℕ) (standing : ScheduleState) (rest : Option (List ℕ)) (next : Next) (held : List ℕ) (left : Option (List ℕ)) (d : Driven before mid breaks n standing rest)
-    → next_in standing mid.world ≡ Some next → length held < 4096 → IfKnown rest (λ bytes. TakesPartAt next bytes (bytes_ahead held left))
+    → scheduled_next standing mid.world ≡ Some next → length held < 4096 → IfKnown rest (λ bytes. TakesPartAt next bytes (bytes_ahead held left))
     → IfKnown before.left (λ bytes. ReadsOnlyDueLine (next_after_taken breaks before.world d.taken mid.world) (rest_after_items bytes d.taken) left)
 no-further before mid breaks n standing rest next held left d here less part bytes e =
     let at : TakesPartAt next (rest_after_items bytes d.taken) (bytes_ahead held left) = part (rest_after_items bytes d.taken) (d.left_is bytes e) in

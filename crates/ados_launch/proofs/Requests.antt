@@ -5,7 +5,7 @@ use Rattle.std.proofs.lemmas.Grind.{common_steps}
 use Rattle.ados_machine.specs.declared.events.BreakAt.{BreakAt}
 use Rattle.ados_machine.specs.World.{WorldState, pending_of}
 use Rattle.ados_launch.specs.Rounds.{due_place}
-use Rattle.ados_launch.specs.Schedule.{ScheduleState, breaks_left, first_due_break, next_at, break_or_due, next_in, place_due}
+use Rattle.ados_launch.specs.Schedule.{ScheduleState, breaks_left, first_due_break, next_at, break_or_due, scheduled_next, place_due}
 use Rattle.ados_launch.specs.Steps.{next_request}
 
 at-none : (w : WorldState) (f : Option BreakAt) (d : Option ℕ) → (if is_some f then None else d) ≡ None → next_request w (option_map (break_or_due f) d) ≡ None
@@ -34,13 +34,13 @@ place_none s w place e none = e ∙ by-first (first_due_break (s.taken + 1) (bre
     by-first (Some at) = refl
 
 -- nothing is due, or a break comes first
-pub request_none : (s : ScheduleState) (w : WorldState) → None ≡ place_due s w → next_request w (next_in s w) ≡ None
+pub request_none : (s : ScheduleState) (w : WorldState) → None ≡ place_due s w → next_request w (scheduled_next s w) ≡ None
 request_none s w e = at-none w (first_due_break (s.taken + 1) (breaks_left s w)) (due_place s.round w) (sym e)
 
 -- a line or a turn
-pub request_low : (s : ScheduleState) (w : WorldState) (k : ℕ) → Some k ≡ place_due s w → k < 21 → next_request w (next_in s w) ≡ None
+pub request_low : (s : ScheduleState) (w : WorldState) (k : ℕ) → Some k ≡ place_due s w → k < 21 → next_request w (scheduled_next s w) ≡ None
 request_low s w k e below = at-some w (first_due_break (s.taken + 1) (breaks_left s w)) (due_place s.round w) k (sym e) ∙ low w k below
 
 -- an answer
-pub request_high : (s : ScheduleState) (w : WorldState) (k : ℕ) → Some k ≡ place_due s w → 21 ≤ k → k < 61 → next_request w (next_in s w) ≡ pending_of w (if nat_lt k 41 then k - 20 else k - 40)
+pub request_high : (s : ScheduleState) (w : WorldState) (k : ℕ) → Some k ≡ place_due s w → 21 ≤ k → k < 61 → next_request w (scheduled_next s w) ≡ pending_of w (if nat_lt k 41 then k - 20 else k - 40)
 request_high s w k e above below = at-some w (first_due_break (s.taken + 1) (breaks_left s w)) (due_place s.round w) k (sym e) ∙ high w k above below

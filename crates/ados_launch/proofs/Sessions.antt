@@ -15,7 +15,7 @@ use Rattle.ados_launch.specs.Drives.{HasDriveResult, TakesSession}
 use Rattle.ados_launch.specs.Intake.{TakesNextItem}
 use Rattle.ados_launch.specs.Lines.{bytes_ahead, IsUnreadable, IfKnown}
 use Rattle.ados_launch.specs.Taken.{TakenItem, bytes_of, written_bytes, rest_after_items}
-use Rattle.ados_launch.specs.Schedule.{Next, ScheduleState, first_schedule_state, next_after_taken, next_in, next_of, final_schedule_state, following_schedule_state}
+use Rattle.ados_launch.specs.Schedule.{Next, ScheduleState, first_schedule_state, next_after_taken, scheduled_next, next_of, final_schedule_state, following_schedule_state}
 use Rattle.ados_launch.specs.Session.{AreDropped, LeavesOverlong, Moment, Session, SessionProgress, CutSessionProgress}
 use Rattle.ados_launch.proofs.Taken.{run-more, order-more, standing-more, along-full, along-more, asked-more, asked-full, lines-more, left-more, written-more, count-more}
 
@@ -48,7 +48,7 @@ calls-more calls mid now listed more e f = f ∙ (ap (λ xs. xs ++ more) e ∙ a
 
 -- one more was taken
 session-more : (before mid now : Moment) (breaks : List BreakAt) (n : ℕ) (standing : ScheduleState) (rest later : Option (List ℕ)) (next : Next) (out : List ℕ)
-    → (d : Driven before mid breaks n standing rest) → next_in standing mid.world ≡ Some next → (mid.is_full ≡ true → now.is_full ≡ true)
+    → (d : Driven before mid breaks n standing rest) → scheduled_next standing mid.world ≡ Some next → (mid.is_full ≡ true → now.is_full ≡ true)
     → (t : TakesNextItem mid.world rest now.is_full mid.calls next now.world later now.calls out) → Agrees now.world now.calls
     → Session before.world before.left breaks before.calls now.is_full (d.listed ++ t.listed) (d.taken ++ t.item ∷ []) now.world
 session-more before mid now breaks n standing rest later next out d here stays t agrees = record {
@@ -63,7 +63,7 @@ session-more before mid now breaks n standing rest later next out d here stays t
 }
 
 pub driven-more : (before mid now : Moment) (breaks : List BreakAt) (n : ℕ) (standing behind : ScheduleState) (rest later : Option (List ℕ)) (next : Next) (out : List ℕ)
-    → Driven before mid breaks n standing rest → next_in standing mid.world ≡ Some next → (mid.is_full ≡ true → now.is_full ≡ true)
+    → Driven before mid breaks n standing rest → scheduled_next standing mid.world ≡ Some next → (mid.is_full ≡ true → now.is_full ≡ true)
     → TakesNextItem mid.world rest now.is_full mid.calls next now.world later now.calls out → Agrees now.world now.calls → Appends mid.contents now.contents out → behind ≡ following_schedule_state standing mid.world next
     → Driven before now breaks (n + 1) behind later
 driven-more before mid now breaks n standing behind rest later next out d here stays t agrees grown is = record {
@@ -80,7 +80,7 @@ driven-more before mid now breaks n standing behind rest later next out d here s
 
 -- a prefix of the last one's bytes was written
 pub driven-cut : (before mid now : Moment) (breaks : List BreakAt) (n m : ℕ) (standing : ScheduleState) (rest later : Option (List ℕ)) (next : Next) (out : List ℕ)
-    → Driven before mid breaks n standing rest → next_in standing mid.world ≡ Some next → (mid.is_full ≡ true → now.is_full ≡ true)
+    → Driven before mid breaks n standing rest → scheduled_next standing mid.world ≡ Some next → (mid.is_full ≡ true → now.is_full ≡ true)
     → TakesNextItem mid.world rest now.is_full mid.calls next now.world later now.calls out → Agrees now.world now.calls → m < length out → Appends mid.contents now.contents (take m out)
     → CutSessionProgress before now breaks (n + 1)
 driven-cut before mid now breaks n m standing rest later next out d here stays t agrees some front = record {
@@ -132,12 +132,12 @@ why-read before mid breaks n standing rest d faults old new held later same few 
 
 -- after what was taken this comes next
 pub next-is : (before mid : Moment) (breaks : List BreakAt) (n : ℕ) (standing : ScheduleState) (rest : Option (List ℕ)) (next : Next) (d : Driven before mid breaks n standing rest)
-    → next_in standing mid.world ≡ Some next → next_after_taken breaks before.world d.taken mid.world ≡ Some next
-next-is before mid breaks n standing rest next d here = subst (λ s. next_in s mid.world ≡ Some next) d.standing_is here
+    → scheduled_next standing mid.world ≡ Some next → next_after_taken breaks before.world d.taken mid.world ≡ Some next
+next-is before mid breaks n standing rest next d here = subst (λ s. scheduled_next s mid.world ≡ Some next) d.standing_is here
 
 -- the call whose answer was not taken is for what comes next after what was taken
 pub next-dropped : (before mid : Moment) (breaks : List BreakAt) (n : ℕ) (standing : ScheduleState) (rest : Option (List ℕ)) (next : Next) (dropped : List Call) (d : Driven before mid breaks n standing rest)
-    → next_in standing mid.world ≡ Some next → AreDropped mid.world (Some next) dropped → AreDropped mid.world (next_after_taken breaks before.world d.taken mid.world) dropped
+    → scheduled_next standing mid.world ≡ Some next → AreDropped mid.world (Some next) dropped → AreDropped mid.world (next_after_taken breaks before.world d.taken mid.world) dropped
 next-dropped before mid breaks n standing rest next dropped d here one =
     subst (λ found. AreDropped mid.world found dropped) (sym (next-is before mid breaks n standing rest next d here)) one
 

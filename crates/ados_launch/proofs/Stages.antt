@@ -7,7 +7,7 @@ use Rattle.std.proofs.lemmas.Bool.{cases_lt}
 use Rattle.std.proofs.lemmas.Grind.{common_steps}
 use Rattle.ados_machine.specs.declared.requests.Request.{Request}
 use Rattle.ados_machine.specs.World.{WorldState, is_ready, pending_of, wants_line}
-use Rattle.ados_world.specs.Due.{first_from}
+use Rattle.ados_world.specs.Due.{first_number}
 use Rattle.ados_world.proofs.FirstLemmas.{IsFirst, IsNowhere, is-none, is-some, none-is, some-is}
 use Rattle.ados_launch.specs.Rounds.{asks_read_or_wait, asks_start, has_event, is_due, is_further_due}
 use Rattle.ados_launch.proofs.Places.{comes-late, comes-start, comes-turn}
@@ -22,7 +22,7 @@ at-place due p s j stage low high =
     ap due (sym same) ∙ stage (j - s) (omega (arith, low)) (omega (arith, low, high))
 
 stage-none : (due p : ℕ → Bool) (s place from : ℕ) → IsStage due p s → from + s ≡ max (s + 1) (min place (s + 21))
-    → first_from from p ≡ None → IsNowhere due place (s + 1) → IsNowhere due place (s + 21)
+    → first_number from p ≡ None → IsNowhere due place (s + 1) → IsNowhere due place (s + 21)
 stage-none due p s place from stage clamped e earlier j low high =
     elim (cases_lt s j) [
       | inl here ↦ at-place due p s j stage here high ∙ none-is p from 21 e (j - s) (omega (arith, clamped, low, here, high)) (omega (arith, high, here))
@@ -30,7 +30,7 @@ stage-none due p s place from stage clamped e earlier j low high =
     ]
 
 stage-some : (due p : ℕ → Bool) (s place from k : ℕ) → IsStage due p s → from + s ≡ max (s + 1) (min place (s + 21))
-    → first_from from p ≡ Some k → IsNowhere due place (s + 1) → IsFirst due place (s + 21) (k + s)
+    → first_number from p ≡ Some k → IsNowhere due place (s + 1) → IsFirst due place (s + 21) (k + s)
 stage-some due p s place from k stage clamped e earlier =
     let first = some-is p from 21 k (omega (arith, clamped)) e in
     let low = first.low in
@@ -104,40 +104,40 @@ no-line w answered place e j low high =
 
 -- then a turn is the first
 pub turn-first : (w : WorldState) (answered : List Bool) (place from k : ℕ) → from ≡ max 1 (min place 21)
-    → IsNowhere (is_due w answered) place 1 → Some k ≡ first_from from (is_ready w) → Some k ≡ find (is_due w answered) (range_with_len place (61 - place))
+    → IsNowhere (is_due w answered) place 1 → Some k ≡ first_number from (is_ready w) → Some k ≡ find (is_due w answered) (range_with_len place (61 - place))
 turn-first w answered place from k clamped earlier e =
     let whole : k + 0 ≡ k = omega arith in
     sym (ap (λ n. Some n) whole) ∙ in-round (is_due w answered) place 21 (k + 0) (omega arith)
     (stage-some (is_due w answered) (is_ready w) 0 place from k (turns w answered) (omega (arith, clamped)) (sym e) earlier)
 
 pub no-turn : (w : WorldState) (answered : List Bool) (place from : ℕ) → from ≡ max 1 (min place 21)
-    → IsNowhere (is_due w answered) place 1 → None ≡ first_from from (is_ready w) → IsNowhere (is_due w answered) place 21
+    → IsNowhere (is_due w answered) place 1 → None ≡ first_number from (is_ready w) → IsNowhere (is_due w answered) place 21
 no-turn w answered place from clamped earlier e =
     stage-none (is_due w answered) (is_ready w) 0 place from (turns w answered) (omega (arith, clamped)) (sym e) earlier
 
 -- or a start
 pub start-first : (w : WorldState) (answered : List Bool) (place clamped k : ℕ) → clamped ≡ max 21 (min place 41)
-    → IsNowhere (is_due w answered) place 21 → Some k ≡ first_from (clamped - 20) (λ n. asks_start (pending_of w n))
+    → IsNowhere (is_due w answered) place 21 → Some k ≡ first_number (clamped - 20) (λ n. asks_start (pending_of w n))
     → Some (k + 20) ≡ find (is_due w answered) (range_with_len place (61 - place))
 start-first w answered place clamped k e_clamped earlier e =
     in-round (is_due w answered) place 41 (k + 20) (omega arith)
     (stage-some (is_due w answered) (λ n. asks_start (pending_of w n)) 20 place (clamped - 20) k (starts w answered) (omega (arith, e_clamped)) (sym e) earlier)
 
 pub no-start : (w : WorldState) (answered : List Bool) (place clamped : ℕ) → clamped ≡ max 21 (min place 41)
-    → IsNowhere (is_due w answered) place 21 → None ≡ first_from (clamped - 20) (λ n. asks_start (pending_of w n)) → IsNowhere (is_due w answered) place 41
+    → IsNowhere (is_due w answered) place 21 → None ≡ first_number (clamped - 20) (λ n. asks_start (pending_of w n)) → IsNowhere (is_due w answered) place 41
 no-start w answered place clamped e_clamped earlier e =
     stage-none (is_due w answered) (λ n. asks_start (pending_of w n)) 20 place (clamped - 20) (starts w answered) (omega (arith, e_clamped)) (sym e) earlier
 
 -- or a read or a wait; or nothing is due in the round
 pub further-first : (w : WorldState) (answered : List Bool) (place clamped k : ℕ) → clamped ≡ max 41 (min place 61)
-    → IsNowhere (is_due w answered) place 41 → Some k ≡ first_from (clamped - 40) (is_further_due w answered)
+    → IsNowhere (is_due w answered) place 41 → Some k ≡ first_number (clamped - 40) (is_further_due w answered)
     → Some (k + 40) ≡ find (is_due w answered) (range_with_len place (61 - place))
 further-first w answered place clamped k e_clamped earlier e =
     in-round (is_due w answered) place 61 (k + 40) (omega arith)
     (stage-some (is_due w answered) (is_further_due w answered) 40 place (clamped - 40) k (furthers w answered) (omega (arith, e_clamped)) (sym e) earlier)
 
 pub nothing : (w : WorldState) (answered : List Bool) (place clamped : ℕ) → clamped ≡ max 41 (min place 61)
-    → IsNowhere (is_due w answered) place 41 → None ≡ first_from (clamped - 40) (is_further_due w answered)
+    → IsNowhere (is_due w answered) place 41 → None ≡ first_number (clamped - 40) (is_further_due w answered)
     → None ≡ find (is_due w answered) (range_with_len place (61 - place))
 nothing w answered place clamped e_clamped earlier e =
     sym (is-none (is_due w answered) place 61

@@ -10,7 +10,7 @@ use Rattle.ados_launcher.specs.declared.calls.Call.TheVariants.{Start as Starts,
 use Rattle.ados_launch.specs.Asked.{AreAsked, AreNoStarts, HasCall, IsAsked, ListsOf}
 use Rattle.ados_launch.specs.Taken.{TakenItem, Given, LongLine, taken_events, taken_outs, bytes_of, written_bytes, world_after_item, IsAccepted, IsNext, rest_after_item, AreRead, rest_after_items}
 use Rattle.ados_launch.specs.Agreement.{Agrees}
-use Rattle.ados_launch.specs.Schedule.{ScheduleState, InOrder, next_in, next_of, final_schedule_state, following_schedule_state}
+use Rattle.ados_launch.specs.Schedule.{ScheduleState, InOrder, scheduled_next, next_of, final_schedule_state, following_schedule_state}
 use Rattle.ados_launch.specs.Session.{AgreesThroughout}
 
 pub run-more : (w : WorldState) (taken : List TakenItem) (mid : WorldState) (item : TakenItem) → Runs w (taken_events taken) (taken_outs taken) mid → IsAccepted mid item
@@ -21,7 +21,7 @@ run-more w (Given event out ∷ taken) mid item run ok = (run.0, run-more (world
 run-more w (LongLine ∷ taken) mid item run ok = run-more w taken mid item run ok
 
 pub order-more : (s : ScheduleState) (w : WorldState) (taken : List TakenItem) (last : WorldState) (item : TakenItem) → InOrder s w taken → Runs w (taken_events taken) (taken_outs taken) last
-    → next_in (final_schedule_state s w taken) last ≡ Some (next_of item) → InOrder s w (taken ++ item ∷ [])
+    → scheduled_next (final_schedule_state s w taken) last ≡ Some (next_of item) → InOrder s w (taken ++ item ∷ [])
 order-more s w [] last item ordered run next = (rw run at next, tt)
 order-more s w (Given event out ∷ taken) last item ordered run next =
     (ordered.0, order-more (following_schedule_state s w (next_of (Given event out))) (world_after_item w (Given event out)) taken last item ordered.1 run.1 next)

@@ -66,8 +66,8 @@ break_or_due None place = next_at place
 break_or_due (Some at) place = AtBreak at.shell at.kind
 
 -- what comes next: if nothing is due no break comes either
-abbrev pub next_in : ScheduleState → WorldState → Option Next
-next_in s w = option_map (break_or_due (first_due_break (s.taken + 1) (breaks_left s w))) (due_place s.round w)
+abbrev pub scheduled_next : ScheduleState → WorldState → Option Next
+scheduled_next s w = option_map (break_or_due (first_due_break (s.taken + 1) (breaks_left s w))) (due_place s.round w)
 
 -- the place of what comes next, if it is not a break
 abbrev pub place_due : ScheduleState → WorldState → Option ℕ
@@ -119,7 +119,7 @@ next_of LongLine = AtLine
 -- from here on, in this world, each was the next to come
 abbrev pub InOrder : ScheduleState → WorldState → List TakenItem → Type 0
 InOrder s w [] = Unit {0}
-InOrder s w (item ∷ taken) = (next_in s w ≡ Some (next_of item)) × InOrder (following_schedule_state s w (next_of item)) (world_after_item w item) taken
+InOrder s w (item ∷ taken) = (scheduled_next s w ≡ Some (next_of item)) × InOrder (following_schedule_state s w (next_of item)) (world_after_item w item) taken
 
 -- the schedule after all of it
 abbrev pub final_schedule_state : ScheduleState → WorldState → List TakenItem → ScheduleState
@@ -128,7 +128,7 @@ final_schedule_state s w (item ∷ taken) = final_schedule_state (following_sche
 
 -- what comes next after what was taken from a world
 abbrev pub next_after_taken : List BreakAt → WorldState → List TakenItem → WorldState → Option Next
-next_after_taken breaks w taken now = next_in (final_schedule_state (first_schedule_state breaks) w taken) now
+next_after_taken breaks w taken now = scheduled_next (final_schedule_state (first_schedule_state breaks) w taken) now
 
 -- a line comes next
 abbrev pub IsReading : List BreakAt → WorldState → List TakenItem → WorldState → Type 0

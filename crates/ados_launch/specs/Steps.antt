@@ -6,7 +6,7 @@ use Rattle.ados_machine.specs.World.{WorldState, pending_of}
 use Rattle.ados_launch.specs.Drives.{ReadsWell, WritesWell}
 use Rattle.ados_launch.specs.Intake.{TakesNextItem}
 use Rattle.ados_launch.specs.Lines.{bytes_ahead}
-use Rattle.ados_launch.specs.Schedule.{Next, AtBreak, AtLine, AtTurn, AtStart, AtFurther, ScheduleState, next_in, following_schedule_state}
+use Rattle.ados_launch.specs.Schedule.{Next, AtBreak, AtLine, AtTurn, AtStart, AtFurther, ScheduleState, scheduled_next, following_schedule_state}
 use Rattle.ados_launch.specs.Session.{Moment}
 
 -- the state of a session: its schedule, the bytes that were read ahead, and which children are open, by number
@@ -27,7 +27,7 @@ next_request w None = None
 -- What came next was taken, its bytes were written, and the schedule went on.
 pub record TakesOne (was now : SessionState) (before behind : Moment) : Type 0 where
   pub next : Next
-  pub next_is : next_in was.standing before.world ≡ Some next
+  pub next_is : scheduled_next was.standing before.world ≡ Some next
   pub bytes : List ℕ
   pub takes : TakesNextItem before.world (bytes_ahead was.held before.left) behind.is_full before.calls next behind.world (bytes_ahead now.held behind.left) behind.calls bytes
   pub standing_is : now.standing ≡ following_schedule_state was.standing before.world next

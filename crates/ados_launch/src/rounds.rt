@@ -1,7 +1,7 @@
 // The rounds in which events come.
 ghost use Rattle.std.specs.Prelude.{◌≡◌, ◌<◌, ◌≤◌, ◌&&◌, get_or, false, true, nat_lt, option_map, IfSome, if◌then◌else◌};
 ghost use Rattle.ados_machine.specs.World.{pending_of, wants_line};
-ghost use Rattle.ados_world.specs.Due.{first_from};
+ghost use Rattle.ados_world.specs.Due.{first_number};
 ghost use Rattle.ados_launch.specs.Rounds.{
   asks_start,
   asks_read_or_wait,
@@ -106,7 +106,7 @@ impl Round {
     // round.
     fn first_further(&self, world: &World, from: u8) -> Option<u8>
         requires { from ≤ 21 }
-        ensures number { result ≡ first_from from (is_further_due world.now self.now.answered) }
+        ensures number { result ≡ first_number from (is_further_due world.now self.now.answered) }
         ensures high { IfSome result (λ number. number ≤ 20) }
     {
         let number = world.first_pending(from)?;
@@ -166,7 +166,7 @@ fn first_due(world: &World) -> Option<Due>
 // The first shell from a number on that asks for a program's start.
 fn first_start(world: &World, from: u8) -> Option<u8>
     requires { from ≤ 21 }
-    ensures number { result ≡ first_from from (λ k. asks_start (pending_of world.now k)) }
+    ensures number { result ≡ first_number from (λ k. asks_start (pending_of world.now k)) }
     ensures high { IfSome result (λ number. number ≤ 20) }
 {
     let number = world.first_pending(from)?;

@@ -8,7 +8,7 @@ ghost use Rattle.ados_launch.specs.Schedule.{
   first_schedule_state,
   is_passed,
   found_next,
-  next_in,
+  scheduled_next,
   passed_schedule_state,
   place_due,
   following_schedule_state,
@@ -65,7 +65,7 @@ impl<'a> Schedule<'a> {
     pub fn next(&mut self, world: &World) -> Option<Next>
         requires round { self.old.round.place ≤ 61 }
         requires count { self.old.taken < 2 ^ 64 - 1 }
-        ensures next { option_map found_next result ≡ next_in self.old world.now }
+        ensures next { option_map found_next result ≡ scheduled_next self.old world.now }
         ensures round { self.new.round ≡ self.old.round }
         ensures taken { self.new.taken ≡ self.old.taken }
         ensures may_come { IfSome result (λ next. MayCome world.now next) }

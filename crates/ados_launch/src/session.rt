@@ -5,7 +5,7 @@ ghost use Rattle.ados_machine.specs.World.{codes_at, pending_of};
 ghost use Rattle.ados_launch.specs.Agreement.{Agrees, AreOver, IsOpenTable, WaitsForOpen};
 ghost use Rattle.ados_launch.specs.Leads.{Reaches};
 ghost use Rattle.ados_launch.specs.Rounds.{asks_read_or_wait, due_place};
-ghost use Rattle.ados_launch.specs.Schedule.{first_schedule_state, next_in};
+ghost use Rattle.ados_launch.specs.Schedule.{first_schedule_state, scheduled_next};
 ghost use Rattle.ados_launch.specs.Steps.{TakesOne, next_request};
 
 use crate::children::{open_children, wait_for_open};
@@ -60,7 +60,7 @@ impl<'a> Session<'a> {
     #[tactic(auto, using(crate::proofs::Requests::request_none, crate::proofs::Requests::request_low, crate::proofs::Requests::request_high))]
     pub fn request<'w>(&self, world: &'w World) -> Option<&'w Request>
         requires count { self.now.standing.taken < 2 ^ 64 - 1 }
-        ensures { option_copied result ≡ next_request world.now (next_in self.now.standing world.now) }
+        ensures { option_copied result ≡ next_request world.now (scheduled_next self.now.standing world.now) }
     {
         let place = self.schedule.place(world)?;
         if place < 21 {
@@ -90,7 +90,7 @@ impl<'a> Session<'a> {
             (record { world = world.old; left = S.left reader.old; read_faults = S.faults reader.old; contents = K.contents writer.old; write_faults = K.faults writer.old; stalls = K.stalls writer.old; calls = L.calls launcher.old; is_full = L.is_full launcher.old })
             (record { world = world.new; left = S.left reader.new; read_faults = S.faults reader.new; contents = K.contents writer.new; write_faults = K.faults writer.new; stalls = K.stalls writer.new; calls = L.calls launcher.new; is_full = L.is_full launcher.new })) }
         // Nothing comes.
-        ensures over { IfOk result (λ is_taken. is_taken ≡ false → (next_in self.old.standing world.old ≡ None) × (world.new ≡ world.old)) }
+        ensures over { IfOk result (λ is_taken. is_taken ≡ false → (scheduled_next self.old.standing world.old ≡ None) × (world.new ≡ world.old)) }
         // However it ends, what happened is that the machine accepted an event, or nothing.
         ensures leads { Reaches world.old world.new }
         ensures unmoved { (IsErrOf result DriveFault.Read ⊎ IsErrOf result DriveFault.Memory) → world.new ≡ world.old }

@@ -11,7 +11,7 @@ use Rattle.ados_find.specs.Codes.{fail_codes}
 use Rattle.ados_flow.specs.declared.kinds.Kind.{Kind}
 use Rattle.ados_flow.specs.declared.kinds.Kind.TheVariants.{Script, Tick}
 use Rattle.ados_flow.specs.CodeRule.{is_reached}
-use Rattle.ados_flow.specs.Frames.{FrameState, new_frame, frame_limit, is_over, is_script, frame_at_line, advanced_frame, scripts_in, limit_above_frames, last_codes, answered_frame}
+use Rattle.ados_flow.specs.Frames.{FrameState, new_frame, frame_limit, is_over, is_script, frame_at_line, advanced_frame, script_count, limit_above_frames, last_codes, answered_frame}
 use Rattle.ados_machine.specs.declared.answers.Answer.{Answer as Reply}
 use Rattle.ados_machine.specs.declared.phases.Parted.{Parted}
 use Rattle.ados_machine.specs.declared.phases.Phase.TheVariants.{GoingOn, Waiting}
@@ -35,7 +35,7 @@ passed-agrees : (k gas : ℕ) → AgreesAt k gas →
     (n : ℕ) (answers : List Reply) (common : Common) (frame : FrameState) (frames : List FrameState) → n < gas →
     AgreesBy n (go_by k (exec k n answers) common (pass_line (frame ∷ frames) common.said))
     (lines k gas n answers common (at_of k frame frames) None)
-    (ended k frame frames) (breaking k frame frames) (scripts_in (frame ∷ frames))
+    (ended k frame frames) (breaking k frame frames) (script_count (frame ∷ frames))
 passed-agrees k gas ih n answers common frame frames lt =
     elim (cases_Bool (is_over frame)) [
       | inl e ↦ rw (e, lines-over k gas n answers common (at_of k frame frames) lt e) (omega arith, refl)
@@ -48,7 +48,7 @@ answer-agrees : (k gas : ℕ) → AgreesAt k gas →
     (word : Text) (answer : Codes) (quits : Bool) → n < gas →
     AgreesBy n (go_by k (exec k n answers) common (finish word answer quits (frame ∷ frames) common.said))
     (after_answer (lines k gas) n answers common (at_of k frame frames) word answer quits)
-    (ended k frame frames) (breaking k frame frames) (scripts_in (frame ∷ frames))
+    (ended k frame frames) (breaking k frame frames) (script_count (frame ∷ frames))
 answer-agrees k gas ih n answers common frame frames word answer quits lt =
     elim (cases_Bool (is_over frame)) [
       | inl e ↦ rw (e, lines-over k gas n answers (says word answer common) (record (at_of k frame frames) { last = Some (record_at (at_of k frame frames) answer common) }) lt e)
@@ -64,7 +64,7 @@ answer-agrees k gas ih n answers common frame frames word answer quits lt =
         AgreesBy n (ended k frame frames n answers (Some (record_at (at_of k frame frames) answer common)) (says word answer common))
         (if early then Done n answers (Some (record_at (at_of k frame frames) answer common)) (says word answer common)
         else Done n answers (Some (record_at (at_of k frame frames) answer common)) (says word answer common))
-        (ended k frame frames) (breaking k frame frames) (scripts_in (frame ∷ frames))
+        (ended k frame frames) (breaking k frame frames) (script_count (frame ∷ frames))
     over true = (omega arith, refl)
     over false = (omega arith, refl)
 
@@ -73,7 +73,7 @@ finished-agrees : (k gas : ℕ) → AgreesAt k gas →
     (word : Text) (answer : Codes) (quits : Bool) → n < gas →
     AgreesBy n (go_by k (exec k n answers) common (finish_with_fault word answer quits (frame ∷ frames) common.said))
     (after_own_answer (lines k gas) n answers common (at_of k frame frames) word answer quits)
-    (ended k frame frames) (breaking k frame frames) (scripts_in (frame ∷ frames))
+    (ended k frame frames) (breaking k frame frames) (script_count (frame ∷ frames))
 finished-agrees k gas ih n answers common frame frames word answer quits lt =
     answer-agrees k gas ih n answers (record common { said = with_fault_line word answer.result2 common.said }) frame frames word answer quits lt
 
@@ -83,7 +83,7 @@ jumped-agrees : (k gas : ℕ) → AgreesAt k gas →
     (word : Text) (answer : Codes) (line : ℕ) → n < gas →
     AgreesBy n (go_by k (exec k n answers) common (finish_with_fault word answer false (frames_at_line line (frame ∷ frames)) common.said))
     (after_own_answer (lines k gas) n answers common (at_of k (frame_at_line line frame) frames) word answer false)
-    (ended k frame frames) (breaking k frame frames) (scripts_in (frame ∷ frames))
+    (ended k frame frames) (breaking k frame frames) (script_count (frame ∷ frames))
 jumped-agrees k gas ih n answers common frame frames word answer line lt =
     finished-agrees k gas ih n answers common (frame_at_line line frame) frames word answer false lt
 
@@ -98,20 +98,20 @@ some-script (suc m) e = (m, refl)
 
 turn-agrees : (k n : ℕ) (answers : List Reply) (common : Common) (frame : FrameState) (frames : List FrameState)
     (work : Common → Lone) (meaning : Common → Whole) →
-    AgreesBy (suc n) (work (common_without_flag common)) (meaning (common_without_flag common)) (ended k frame frames) (breaking k frame frames) (scripts_in (frame ∷ frames)) →
-    AgreesBy (suc n) (turn_event k (exec k n answers) (frame ∷ frames) common work) (turn_at n answers common (at_of k frame frames) meaning) (ended k frame frames) (breaking k frame frames) (scripts_in (frame ∷ frames))
+    AgreesBy (suc n) (work (common_without_flag common)) (meaning (common_without_flag common)) (ended k frame frames) (breaking k frame frames) (script_count (frame ∷ frames)) →
+    AgreesBy (suc n) (turn_event k (exec k n answers) (frame ∷ frames) common work) (turn_at n answers common (at_of k frame frames) meaning) (ended k frame frames) (breaking k frame frames) (script_count (frame ∷ frames))
 turn-agrees k n answers common frame frames work meaning h =
     elim (cases_Bool (common.flagged && has_script (frame ∷ frames))) [
-      | inl e ↦ rw e (omega arith, some-script (scripts_in (frame ∷ frames)) (and_parts common.flagged (has_script (frame ∷ frames)) e).1, refl)
+      | inl e ↦ rw e (omega arith, some-script (script_count (frame ∷ frames)) (and_parts common.flagged (has_script (frame ∷ frames)) e).1, refl)
       | inr e ↦ rw e h
     ]
 
 -- after a script that ended at a break
 break-agrees : (k gas : ℕ) → AgreesAt k gas → (m n : ℕ) (answers : List Reply) (common : Common) (frame : FrameState) (frames : List FrameState)
-    (name word : Text) (limit : Code) → n < gas → scripts_in (frame ∷ frames) ≡ m →
+    (name word : Text) (limit : Code) → n < gas → script_count (frame ∷ frames) ≡ m →
     AgreesBy n (go_by k (exec k n answers) common (after_break m (Script name word) limit (end_at_break (frame ∷ frames) common.said) (frame ∷ frames) common.said))
     (after_broken (lines k gas) n answers common (at_of k frame frames) limit word m)
-    (ended k frame frames) (breaking k frame frames) (scripts_in (frame ∷ frames))
+    (ended k frame frames) (breaking k frame frames) (script_count (frame ∷ frames))
 break-agrees k gas ih zero n answers common frame frames name word limit lt e =
     let limited : Common = record common { said = with_limit (limit_above_frames (frame ∷ frames) limit) common.said } in
     answer-agrees k gas ih n answers limited frame frames word broken_codes false lt
@@ -120,17 +120,17 @@ break-agrees k gas ih (suc m) n answers common frame frames name word limit lt e
 -- after a script
 call-agrees : (k gas : ℕ) → AgreesAt k gas → (n : ℕ) (exec : Lone) (meaning : Whole) (frame : FrameState) (frames : List FrameState)
     (name word : Text) (commands : List Text) (limit : Code) (output : Option Target) → n < gas →
-    AgreesBy n exec meaning (ended k (new_frame (Script name word) commands limit output) (frame ∷ frames)) (breaking k (new_frame (Script name word) commands limit output) (frame ∷ frames)) (scripts_in (new_frame (Script name word) commands limit output ∷ frame ∷ frames)) →
-    AgreesBy n exec (after_call (lines k gas) (at_of k frame frames) limit name word meaning) (ended k frame frames) (breaking k frame frames) (scripts_in (frame ∷ frames))
+    AgreesBy n exec meaning (ended k (new_frame (Script name word) commands limit output) (frame ∷ frames)) (breaking k (new_frame (Script name word) commands limit output) (frame ∷ frames)) (script_count (new_frame (Script name word) commands limit output ∷ frame ∷ frames)) →
+    AgreesBy n exec (after_call (lines k gas) (at_of k frame frames) limit name word meaning) (ended k frame frames) (breaking k frame frames) (script_count (frame ∷ frames))
 call-agrees k gas ih n exec (Late answers) frame frames name word commands limit output lt h = h
 call-agrees k gas ih n exec Short frame frames name word commands limit output lt h = h
 call-agrees k gas ih n exec (Broken left answers last common) frame frames name word commands limit output lt h =
-    rw h.2 (weaker left n _ (after_broken (lines k gas) left answers (with_report (report_broken k name last) common) (at_of k frame frames) limit word (scripts_in (frame ∷ frames))) (ended k frame frames) (breaking k frame frames) (scripts_in (frame ∷ frames))
-    h.0 (break-agrees k gas ih (scripts_in (frame ∷ frames)) left answers (with_report (report_broken k name last) common) frame frames name word limit (omega (arith, h.0)) refl))
+    rw h.2 (weaker left n _ (after_broken (lines k gas) left answers (with_report (report_broken k name last) common) (at_of k frame frames) limit word (script_count (frame ∷ frames))) (ended k frame frames) (breaking k frame frames) (script_count (frame ∷ frames))
+    h.0 (break-agrees k gas ih (script_count (frame ∷ frames)) left answers (with_report (report_broken k name last) common) frame frames name word limit (omega (arith, h.0)) refl))
 call-agrees k gas ih n exec (Done left answers last common) frame frames name word commands limit output lt h =
     let limited : Common = record (with_report (report_of k name last) common) { said = with_limit (limit_above_frames (frame ∷ frames) limit) common.said } in
     rw h.1 (weaker left n _ (after_answer (lines k gas) left answers limited (at_of k frame frames) word (last_codes last) false)
-    (ended k frame frames) (breaking k frame frames) (scripts_in (frame ∷ frames)) h.0
+    (ended k frame frames) (breaking k frame frames) (script_count (frame ∷ frames)) h.0
     (answer-agrees k gas ih left answers limited frame frames word (last_codes last) false (omega (arith, h.0))))
 
 after-some : (n m : ℕ) (kind : Kind) (limit : Code) (further : RuleResult) (frames : List FrameState) (said : RuleState) → n ≡ suc m →
@@ -140,25 +140,25 @@ after-some n m kind limit further frames said e = rw e refl
 -- after a command substitution the line that waits for it continues
 tick-agrees : (k gas : ℕ) → AgreesAt k gas → (n : ℕ) (exec : Lone) (meaning : Whole) (frame : FrameState) (frames : List FrameState)
     (before after : Text) (commands : List Text) (limit : Code) → n < gas →
-    AgreesBy n exec meaning (ended k (new_frame (Tick before after) commands limit None) (frame ∷ frames)) (breaking k (new_frame (Tick before after) commands limit None) (frame ∷ frames)) (scripts_in (new_frame (Tick before after) commands limit None ∷ frame ∷ frames)) →
-    AgreesBy n exec (after_tick (lines k gas) (at_of k frame frames) before after meaning) (ended k frame frames) (breaking k frame frames) (scripts_in (frame ∷ frames))
+    AgreesBy n exec meaning (ended k (new_frame (Tick before after) commands limit None) (frame ∷ frames)) (breaking k (new_frame (Tick before after) commands limit None) (frame ∷ frames)) (script_count (new_frame (Tick before after) commands limit None ∷ frame ∷ frames)) →
+    AgreesBy n exec (after_tick (lines k gas) (at_of k frame frames) before after meaning) (ended k frame frames) (breaking k frame frames) (script_count (frame ∷ frames))
 tick-agrees k gas ih n exec (Late answers) frame frames before after commands limit lt h = h
 tick-agrees k gas ih n exec Short frame frames before after commands limit lt h = h
 tick-agrees k gas ih n exec (Broken left answers last common) frame frames before after commands limit lt h = (
   h.0,
   h.1,
   h.2 ∙ ap (go_by k (exec_of k left answers) common)
-      (after-some (scripts_in (frame ∷ frames)) h.1.0 (Tick before after) limit (end_at_break (frame ∷ frames) (common_without_tick common).said) (frame ∷ frames) common.said h.1.1),
+      (after-some (script_count (frame ∷ frames)) h.1.0 (Tick before after) limit (end_at_break (frame ∷ frames) (common_without_tick common).said) (frame ∷ frames) common.said h.1.1),
 )
 tick-agrees k gas ih n exec (Done left answers last common) frame frames before after commands limit lt h =
     let parted : Parted = record { before = before; output = newest_kept common.said.kept; after = after } in
-    rw h.1 (weaker left n _ (lines k gas left answers (common_without_tick common) (at_of k frame frames) (Some parted)) (ended k frame frames) (breaking k frame frames) (scripts_in (frame ∷ frames)) h.0
+    rw h.1 (weaker left n _ (lines k gas left answers (common_without_tick common) (at_of k frame frames) (Some parted)) (ended k frame frames) (breaking k frame frames) (script_count (frame ∷ frames)) h.0
     (ih left answers (common_without_tick common) frame frames (Some parted) (omega (arith, h.0)) tt))
 
 -- what the shell waits for
 abbrev WaitsAgree : ℕ → ℕ → List Reply → FrameState → List FrameState → (Common → Wait → Whole) → Type 0
 WaitsAgree k n answers frame frames further = (common : Common) (wait : Wait) →
-    AgreesBy n (exec k n answers (frame ∷ frames) (Waiting wait) common) (further common wait) (ended k frame frames) (breaking k frame frames) (scripts_in (frame ∷ frames))
+    AgreesBy n (exec k n answers (frame ∷ frames) (Waiting wait) common) (further common wait) (ended k frame frames) (breaking k frame frames) (script_count (frame ∷ frames))
 
 -- what any completion does
 completion-agrees : (k gas : ℕ) → AgreesAt k gas →
@@ -166,7 +166,7 @@ completion-agrees : (k gas : ℕ) → AgreesAt k gas →
     (further : Common → Wait → Whole) (completion : Completion) → n < gas → WaitsAgree k n answers frame frames further →
     AgreesBy n (go_by k (exec k n answers) common (code_rule_of completion (frame ∷ frames) common.said))
     (after_completion further (lines k gas) n answers common (at_of k frame frames) completion)
-    (ended k frame frames) (breaking k frame frames) (scripts_in (frame ∷ frames))
+    (ended k frame frames) (breaking k frame frames) (script_count (frame ∷ frames))
 completion-agrees k gas ih n answers common frame frames further (Passes course) lt waits =
     passed-agrees k gas ih n answers common frame frames lt
 completion-agrees k gas ih n answers common frame frames further (Answers word answer quits course) lt waits =
@@ -196,10 +196,10 @@ event-agrees : (k gas : ℕ) → AgreesAt k gas →
     (further : Common → Wait → Whole) (completion : Completion) → n < gas → WaitsAgree k n answers frame frames further →
     AgreesBy (suc n) (does k (exec k n answers) (frame ∷ frames) common completion)
     (completion_of further (lines k gas) n answers common (at_of k frame frames) completion)
-    (ended k frame frames) (breaking k frame frames) (scripts_in (frame ∷ frames))
+    (ended k frame frames) (breaking k frame frames) (script_count (frame ∷ frames))
 event-agrees k gas ih n answers common frame frames further completion lt waits =
     let behind = common_after_event common (course_of completion) in
-    weaker n (suc n) _ (after_completion further (lines k gas) n answers behind (at_of k frame frames) completion) (ended k frame frames) (breaking k frame frames) (scripts_in (frame ∷ frames))
+    weaker n (suc n) _ (after_completion further (lines k gas) n answers behind (at_of k frame frames) completion) (ended k frame frames) (breaking k frame frames) (script_count (frame ∷ frames))
     (omega arith) (completion-agrees k gas ih n answers behind frame frames further completion lt waits)
 
 -- an event that results in the completion of a line
@@ -208,7 +208,7 @@ work-agrees : (k gas : ℕ) → AgreesAt k gas →
     (further : Common → Wait → Whole) (work : Here → Completion) → n < gas → WaitsAgree k n answers frame frames further →
     AgreesBy (suc n) (does k (exec k n answers) (frame ∷ frames) common (work (here_of (frame ∷ frames))))
     (completion_of further (lines k gas) n answers common (at_of k frame frames) (work (here_at (at_of k frame frames))))
-    (ended k frame frames) (breaking k frame frames) (scripts_in (frame ∷ frames))
+    (ended k frame frames) (breaking k frame frames) (script_count (frame ∷ frames))
 work-agrees k gas ih n answers common frame frames further work lt waits =
     rw (here-is k frame frames)
     (event-agrees k gas ih n answers common frame frames further (work (here_at (at_of k frame frames))) lt waits)
@@ -219,7 +219,7 @@ reply-agrees : (k gas : ℕ) → AgreesAt k gas →
     (further : Common → Wait → Whole) (completion : Option Completion) → n < gas → WaitsAgree k n answers frame frames further →
     AgreesBy (suc n) (completion_event k (exec k n answers) (frame ∷ frames) common completion)
     (reply_of (completion_of further (lines k gas) n answers common (at_of k frame frames)) completion)
-    (ended k frame frames) (breaking k frame frames) (scripts_in (frame ∷ frames))
+    (ended k frame frames) (breaking k frame frames) (script_count (frame ∷ frames))
 reply-agrees k gas ih n answers common frame frames further None lt waits = refl
 reply-agrees k gas ih n answers common frame frames further (Some completion) lt waits =
     event-agrees k gas ih n answers common frame frames further completion lt waits

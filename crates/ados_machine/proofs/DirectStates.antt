@@ -6,7 +6,7 @@ use Rattle.std.proofs.lemmas.Option.{slice_get_past, slice_get-get_or}
 use Rattle.ados_text.specs.Text.{Text}
 use Rattle.ados_flow.specs.declared.kinds.Kind.{Kind}
 use Rattle.ados_flow.specs.declared.kinds.Kind.TheVariants.{Script, Lines, Tick}
-use Rattle.ados_flow.specs.Frames.{FrameState, is_over, is_script, scripts_in, kind_script_line, limit_above_frames, last_line, last_codes, is_early, maker}
+use Rattle.ados_flow.specs.Frames.{FrameState, is_over, is_script, script_count, kind_script_line, limit_above_frames, last_line, last_codes, is_early, maker}
 use Rattle.ados_machine.specs.declared.answers.Answer.{Answer as Reply}
 use Rattle.ados_machine.specs.declared.phases.Parted.{Parted}
 use Rattle.ados_machine.specs.declared.phases.Phase.{Phase}
@@ -55,7 +55,7 @@ at_of k frame frames = record {
   shell = k;
   sink = sink_in (frame ∷ frames);
   in_script = is_script frame.kind;
-  scripts = scripts_in (frame ∷ frames);
+  scripts = script_count (frame ∷ frames);
   depth = length (frame ∷ frames);
   lines = frame.lines;
   outputs = outputs_in (frame ∷ frames);
@@ -78,7 +78,7 @@ AgreesAt k gas = (n : ℕ) (answers : List Reply) (common : Common) (frame : Fra
     n < gas → HasNext parted frame →
     AgreesBy n (exec k n answers (frame ∷ frames) (phase_of parted) common)
     (lines k gas n answers common (at_of k frame frames) parted)
-    (ended k frame frames) (breaking k frame frames) (scripts_in (frame ∷ frames))
+    (ended k frame frames) (breaking k frame frames) (script_count (frame ∷ frames))
 
 -- a line of the newest frame knows just what one of these lines knows
 script-line : (kind : Kind) (frame : FrameState) →

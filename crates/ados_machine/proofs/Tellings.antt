@@ -27,7 +27,7 @@ use Rattle.ados_machine.specs.Whole.{Common, common_after_event, common_without_
 use Rattle.ados_machine.proofs.Fronts.{front, fronted, broken-front, ruled-front}
 use Rattle.ados_machine.proofs.Alone.{go_by, turn_event, shell_of, standing, start_in, Go, does, line_event, completion_event, reply_event, event_in, exec}
 use Rattle.ados_flow.specs.declared.kinds.Kind.TheVariants.{Script, Lines, Tick}
-use Rattle.ados_flow.specs.Frames.{new_frame, first_limit, scripts_in}
+use Rattle.ados_flow.specs.Frames.{new_frame, first_limit, script_count}
 use Rattle.std.proofs.lemmas.Bool.{cases_Bool, lt-leb}
 use Rattle.std.proofs.Common.{length}
 use Rattle.ados_machine.specs.declared.outs.EndReport.{EndReport}
@@ -187,7 +187,7 @@ told-exec k w (suc n) answers (frame ∷ frames) phase common stands =
 
 -- the frame of its lines is the last to end
 bottom-tells : (k n : ℕ) (frame : FrameState) (meaning : Whole) (lone : Lone) → frame.kind ≡ Lines →
-    AgreesBy n lone meaning (ended k frame []) (breaking k frame []) (scripts_in (frame ∷ [])) → TellsReports meaning (told_by lone)
+    AgreesBy n lone meaning (ended k frame []) (breaking k frame []) (script_count (frame ∷ [])) → TellsReports meaning (told_by lone)
 bottom-tells k n frame (Done left answers last common) lone lines h = rw (h.1, lines, exec-rests k left answers Ready common) refl
 bottom-tells k n frame (Late answers) lone lines h = tt
 bottom-tells k n frame Short lone lines h = tt

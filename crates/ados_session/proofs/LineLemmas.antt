@@ -7,7 +7,7 @@ use Rattle.std.proofs.lemmas.List.Concat.{flat_map-append}
 use Rattle.std.proofs.lemmas.List.Folds.{list_all-append}
 use Rattle.ados_text.specs.Text.{Text}
 use Rattle.ados_resident.specs.declared.hosts.HostEntry.{HostEntry}
-use Rattle.ados_session.specs.Hosts.{are_free, are_hosts, host_in, host_line, hosts_in, is_host_line}
+use Rattle.ados_session.specs.Hosts.{are_free, are_hosts, host_in, host_line, parsed_hosts, is_host_line}
 use Rattle.ados_session.specs.declared.recordings.Form.{Form}
 use Rattle.ados_machine.specs.declared.events.BreakAt.{BreakAt}
 use Rattle.ados_session.specs.Breaks.{are_rising, last_event, rise_from}
@@ -30,7 +30,7 @@ and_true false b = refl
 all_more : (p : Text → Bool) (done : List Text) (line : Text) (free : Bool) → list_all p done ≡ true → (list_all p (done ++ line ∷ []) && free) ≡ (p line && free)
 all_more p done line free h = rw (list_all-append p done (line ∷ []), h) (and_true (p line) free)
 
-hosts_more : (done : List Text) (line : Text) → hosts_in (done ++ line ∷ []) ≡ hosts_in done ++ hosts_in (line ∷ [])
+hosts_more : (done : List Text) (line : Text) → parsed_hosts (done ++ line ∷ []) ≡ parsed_hosts done ++ parsed_hosts (line ∷ [])
 hosts_more done line = filter_map-append (λ line. host_in (host_line line)) done (line ∷ [])
 
 records_more : (form : Form) (done : List Text) (line : Text) → session_of_lines form (done ++ line ∷ []) ≡ joined_sessions (session_of_lines form done) (session_of_lines form (line ∷ []))
@@ -43,15 +43,15 @@ records_more form done line = rw (
 
 -- a line of a file of hosts is taken
 pub host_taken : (lines : List Text) (place : ℕ) (line : Text) (old new : List HostEntry) (good : Bool) → place < length lines → line ≡ get_or lines place line
-    → are_hosts (take place lines) ≡ true → old ≡ hosts_in (take place lines)
-    → new ≡ old ++ hosts_in (line ∷ [])
+    → are_hosts (take place lines) ≡ true → old ≡ parsed_hosts (take place lines)
+    → new ≡ old ++ parsed_hosts (line ∷ [])
     → good ≡ (is_host_line (host_line line) && are_free new)
-    → (are_hosts (take (place + 1) lines) ≡ good) × (new ≡ hosts_in (take (place + 1) lines))
+    → (are_hosts (take (place + 1) lines) ≡ good) × (new ≡ parsed_hosts (take (place + 1) lines))
 host_taken lines place line old new good within is_line before is_old is_new is_good =
     let done = take place lines in
-    let all : new ≡ hosts_in (done ++ line ∷ []) = is_new ∙ ap (λ hosts. hosts ++ hosts_in (line ∷ [])) is_old ∙ sym (hosts_more done line) in
+    let all : new ≡ parsed_hosts (done ++ line ∷ []) = is_new ∙ ap (λ hosts. hosts ++ parsed_hosts (line ∷ [])) is_old ∙ sym (hosts_more done line) in
     let checked : are_hosts (done ++ line ∷ []) ≡ good =
-    all_more (λ line. is_host_line (host_line line)) done line (are_free (hosts_in (done ++ line ∷ []))) (and_left _ _ before)
+    all_more (λ line. is_host_line (host_line line)) done line (are_free (parsed_hosts (done ++ line ∷ []))) (and_left _ _ before)
     ∙ ap (λ hosts. is_host_line (host_line line) && are_free hosts) (sym all) ∙ sym is_good in
     rw (take_more lines place line within, ← is_line) (checked, all)
 
@@ -70,7 +70,7 @@ record_taken form lines place line old new good within is_line before is_old is_
     rw (take_more lines place line within, ← is_line) (checked, all)
 
 -- with the commands of lines that are good a world can be made
-pub hosts_free : (lines : List Text) (hosts : List HostEntry) → are_hosts lines ≡ true → hosts ≡ hosts_in lines → are_free hosts ≡ true
+pub hosts_free : (lines : List Text) (hosts : List HostEntry) → are_hosts lines ≡ true → hosts ≡ parsed_hosts lines → are_free hosts ≡ true
 hosts_free lines hosts good is = rw is (and_right _ _ good)
 
 pub records_free : (form : Form) (lines : List Text) (session : RecordedSession) → are_records form lines ≡ true → session ≡ session_of_lines form lines → are_free session.hosts ≡ true

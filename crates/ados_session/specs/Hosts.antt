@@ -31,8 +31,8 @@ host_in (Host host) = Some host
 host_in _ = None
 
 -- the commands that these lines say
-abbrev pub hosts_in : List Text → List HostEntry
-hosts_in lines = filter_map (λ line. host_in (host_line line)) lines
+abbrev pub parsed_hosts : List Text → List HostEntry
+parsed_hosts lines = filter_map (λ line. host_in (host_line line)) lines
 
 -- a world can be made with these commands
 abbrev pub are_free : List HostEntry → Bool
@@ -40,4 +40,4 @@ are_free hosts = is_none (hosts_fault hosts)
 
 -- each line says nothing or a command, and a world can be made with all of them
 abbrev pub are_hosts : List Text → Bool
-are_hosts lines = list_all (λ line. is_host_line (host_line line)) lines && are_free (hosts_in lines)
+are_hosts lines = list_all (λ line. is_host_line (host_line line)) lines && are_free (parsed_hosts lines)

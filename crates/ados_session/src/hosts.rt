@@ -2,7 +2,7 @@
 ghost use Rattle.std.specs.Prelude.{◌≡◌, ◌++◌, ◌∷◌, ◌&&◌, [], true, IfOk, IfErr};
 ghost use Rattle.ados_text.specs.Lines.{lines_of};
 ghost use Rattle.ados_session.specs.Faults.{IsFault};
-ghost use Rattle.ados_session.specs.Hosts.{are_hosts, are_free, host_line, hosts_in, is_comment, is_host_line};
+ghost use Rattle.ados_session.specs.Hosts.{are_hosts, are_free, host_line, parsed_hosts, is_comment, is_host_line};
 ghost use Rattle.ados_session.specs.declared.hosts.HostLine.TheVariants.{Host};
 
 use crate::faults::FileFault;
@@ -35,7 +35,7 @@ pub enum HostLine {
 /// an earlier line, or it is a 65th command.
 pub fn read_hosts(alloc: Global, bytes: &[u8]) -> Result<Vec<HostEntry>, FileFault>
     ensures good { IfOk result (λ hosts. are_hosts (lines_of bytes.now) ≡ true) }
-    ensures hosts { IfOk result (λ hosts. hosts.items ≡ hosts_in (lines_of bytes.now)) }
+    ensures hosts { IfOk result (λ hosts. hosts.items ≡ parsed_hosts (lines_of bytes.now)) }
     ensures free { IfOk result (λ hosts. are_free hosts.items ≡ true) }
     ensures fault { IfErr result (IsFault are_hosts 0 (lines_of bytes.now)) }
 {
@@ -46,7 +46,7 @@ pub fn read_hosts(alloc: Global, bytes: &[u8]) -> Result<Vec<HostEntry>, FileFau
 // The commands that lines name.
 fn hosts_of(alloc: Global, lines: &[Text]) -> Result<Vec<HostEntry>, FileFault>
     ensures good { IfOk result (λ hosts. are_hosts lines.now ≡ true) }
-    ensures hosts { IfOk result (λ hosts. hosts.items ≡ hosts_in lines.now) }
+    ensures hosts { IfOk result (λ hosts. hosts.items ≡ parsed_hosts lines.now) }
     ensures free { IfOk result (λ hosts. are_free hosts.items ≡ true) }
     ensures fault { IfErr result (IsFault are_hosts 0 lines.now) }
 {
@@ -63,7 +63,7 @@ fn hosts_of(alloc: Global, lines: &[Text]) -> Result<Vec<HostEntry>, FileFault>
 fn take_line(alloc: Global, line: &Text, hosts: &mut Vec<HostEntry>) -> Result<bool, NoMemory>
     requires { are_free hosts.old.items ≡ true }
     ensures good { IfOk result (λ is_good. is_good ≡ (is_host_line (host_line line.now) && are_free hosts.new.items)) }
-    ensures hosts { IfOk result (λ _. hosts.new.items ≡ hosts.old.items ++ hosts_in (line.now ∷ [])) }
+    ensures hosts { IfOk result (λ _. hosts.new.items ≡ hosts.old.items ++ parsed_hosts (line.now ∷ [])) }
 {
     match host_line(alloc, line)? {
         HostLine::Nothing => Ok(true),

@@ -6,7 +6,7 @@ use Rattle.std.specs.Result.{OnErr}
 use Rattle.ados_text.specs.declared.codes.Code.{Code}
 use Rattle.ados_flow.specs.declared.kinds.Kind.{Kind}
 use Rattle.ados_flow.specs.declared.kinds.Kind.TheVariants.{Script, Lines, Tick}
-use Rattle.ados_flow.specs.Frames.{FrameState, last_line, limit_above_frames, maker, scripts_in}
+use Rattle.ados_flow.specs.Frames.{FrameState, last_line, limit_above_frames, maker, script_count}
 use Rattle.ados_machine.specs.declared.phases.Phase.{Phase}
 use Rattle.ados_machine.specs.declared.phases.Phase.TheVariants.{Ready, GoingOn, Waiting}
 use Rattle.ados_machine.specs.declared.phases.Wait.TheVariants.{ForAnswer, ForLines, ForStart, ForPiece, ForEnd}
@@ -134,7 +134,7 @@ break-deeper scene before popped reported mid after frame frames there s f r scr
     ∙ ap (λ c. turn_by_rule c (end_at_break frames (said_of c))) handed in
     let whole : end_at_break (frames_of scene before) (said_of course) ≡ with_items_first (item ∷ []) further =
     ap (λ fs. end_at_break fs (said_of course)) there
-    ∙ ap (with_items_first (item ∷ [])) (deeper-is (scripts_in frames) frame.kind frame.limit further frames (said_of course) (ap has_script (sym left) ∙ scripts)) in
+    ∙ ap (with_items_first (item ∷ [])) (deeper-is (script_count frames) frame.kind frame.limit further frames (said_of course) (ap has_script (sym left) ∙ scripts)) in
     goes-on scene before mid after (turn_by_rule (course_of scene mid) (end_at_break (frames_of scene mid) (said_in scene mid)))
     (turn_by_rule course (end_at_break (frames_of scene before) (said_of course))) (reports_of scene.number (item ∷ []))
     (u.reports ∙ r.reports (suc (length frames)) ∙ ap (λ x. x ++ reports_of scene.number (item ∷ [])) s.reports)
@@ -166,7 +166,7 @@ break-ends scene before popped reported after limit frame frames there s f r scr
     ∙ ap (λ c. with_limit (limit_above_frames (frames_of scene reported) frame.limit) (said_of c)) same in
     step-ruled scene before mid after (reports_of scene.number items) items _ _
     (ap (λ fs. end_at_break fs said) there
-    ∙ ap (with_items_first items) (ends-is (scripts_in frames) frame.kind frame.limit _ frames said (ap has_script (sym left) ∙ scripts)
+    ∙ ap (with_items_first items) (ends-is (script_count frames) frame.kind frame.limit _ frames said (ap has_script (sym left) ∙ scripts)
     ∙ ap (λ fs. finish (maker frame.kind) broken_codes false fs (with_limit (limit_above_frames fs frame.limit) said)) (sym left)
     ∙ ap (λ x. finish (maker frame.kind) broken_codes false (frames_of scene reported) x) (sym back)))
     (λ log. first-report scene.number (suc (length frames)) (last_line frame.last) frame.kind log)

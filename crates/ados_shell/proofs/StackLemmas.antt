@@ -7,7 +7,7 @@ use Rattle.std.specs.Option.{option_map}
 use Rattle.ados_text.specs.declared.codes.Code.{Code}
 use Rattle.ados_flow.specs.declared.kinds.Kind.{Kind}
 use Rattle.ados_flow.specs.declared.kinds.Kind.TheVariants.{Script, Lines, Tick}
-use Rattle.ados_flow.specs.Frames.{FrameState, first_limit, is_script, limit_above_frames, limit_above_scripts, scripts_in, untaken_lines}
+use Rattle.ados_flow.specs.Frames.{FrameState, first_limit, is_script, limit_above_frames, limit_above_scripts, script_count, untaken_lines}
 use Rattle.ados_machine.specs.Breaks.{has_script}
 use Rattle.ados_machine.specs.Sinks.{Console, sink_by, sink_in}
 use Rattle.ados_shell.specs.Stacks.{sink_above, skipped_frames}
@@ -20,7 +20,7 @@ some-run scripts = lt-ltb 0 (suc scripts) (omega arith)
 
 -- at a script's end the limit of its beginning is restored if a script is left
 pub limit_is : (frames : List FrameState) (limit : Code) → limit_above_frames frames limit ≡ (if has_script frames then limit else first_limit)
-limit_is frames limit = limit-of (scripts_in frames)
+limit_is frames limit = limit-of (script_count frames)
   where
     limit-of : (scripts : ℕ) → limit_above_scripts scripts limit ≡ (if nat_lt 0 scripts then limit else first_limit)
     limit-of zero = refl
@@ -30,8 +30,8 @@ limit_is frames limit = limit-of (scripts_in frames)
 pub script_first : (frame : FrameState) (frames : List FrameState) → has_script (frame ∷ frames) ≡ (is_script frame.kind || has_script frames)
 script_first frame frames = by-kind frame.kind
   where
-    by-kind : (kind : Kind) → nat_lt 0 (if is_script kind then suc (scripts_in frames) else scripts_in frames) ≡ (is_script kind || has_script frames)
-    by-kind (Script name command) = some-run (scripts_in frames)
+    by-kind : (kind : Kind) → nat_lt 0 (if is_script kind then suc (script_count frames) else script_count frames) ≡ (is_script kind || has_script frames)
+    by-kind (Script name command) = some-run (script_count frames)
     by-kind Lines = refl
     by-kind (Tick before after) = refl
 

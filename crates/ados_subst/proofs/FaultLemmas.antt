@@ -21,7 +21,7 @@ use Rattle.ados_subst.specs.Faults.{args_fault}
 use Rattle.ados_subst.specs.FirstFault.{NamesNone, IsDirectiveFault, unknown, second_template, not_filled, no_option, no_character, Leads, here, directive, other, FaultBelow, IsFirstFault}
 use Rattle.ados_subst.specs.Lines.{substituted_line}
 use Rattle.ados_subst.specs.References.{reference_value}
-use Rattle.ados_subst.specs.Scripts.{directive_in, with_line, lines_after_directive, lines_from_line, lines_below, is_dotted, script_of}
+use Rattle.ados_subst.specs.Scripts.{directive_text, with_line, lines_after_directive, lines_from_line, substituted_lines, is_dotted, script_of}
 use Rattle.ados_subst.specs.Slots.{is_named, with_default_in, with_default}
 use Rattle.ados_items.specs.Parts.{first_word, rest_of}
 
@@ -169,14 +169,14 @@ with-line-fault line (Err found) fault e = e
 
 -- the fault of lines is one below what holds above them
 abbrev Goes : Bytes → Text → ℕ → List Text → Type 0
-Goes args process number lines = (above : Above) (fault : SubstFault) → lines_below args process above number lines ≡ Err fault → FaultBelow args above number lines fault
+Goes args process number lines = (above : Above) (fault : SubstFault) → substituted_lines args process above number lines ≡ Err fault → FaultBelow args above number lines fault
 
 directive-fault : (args : Bytes) (process : Text) (above : Above) (number : ℕ) (line body : Text) (lines : List Text) (made : Result Above SubstFault) (fault : SubstFault) →
-    Goes args process (number + 1) lines → directive_in above.marks.dot line ≡ Some body → directive_result above args number body ≡ made →
-    lines_after_directive (λ next. lines_below args process next (number + 1) lines) made ≡ Err fault → FaultBelow args above number (line ∷ lines) fault
+    Goes args process (number + 1) lines → directive_text above.marks.dot line ≡ Some body → directive_result above args number body ≡ made →
+    lines_after_directive (λ next. substituted_lines args process next (number + 1) lines) made ≡ Err fault → FaultBelow args above number (line ∷ lines) fault
 directive-fault args process above number line body lines (Ok next) fault goes some made e =
     extend args above next number line lines fault (λ front end led. directive above next end number line body front some made led)
-    (goes next fault (with-line-fault [] (lines_below args process next (number + 1) lines) fault e))
+    (goes next fault (with-line-fault [] (substituted_lines args process next (number + 1) lines) fault e))
 directive-fault args process above number line body lines (Err found) fault goes some made e =
     let same : found ≡ fault = cc in
     let bad : directive_result above args number body ≡ Err fault = made ∙ ap Err same in
@@ -196,36 +196,36 @@ directive-fault args process above number line body lines (Err found) fault goes
     }
 
 line-fault : (args : Bytes) (process : Text) (above : Above) (number : ℕ) (line : Text) (lines : List Text) (body : Option Text) (fault : SubstFault) →
-    Goes args process (number + 1) lines → directive_in above.marks.dot line ≡ body →
-    lines_from_line (λ next. lines_below args process next (number + 1) lines) args process above number line body ≡ Err fault →
+    Goes args process (number + 1) lines → directive_text above.marks.dot line ≡ body →
+    lines_from_line (λ next. substituted_lines args process next (number + 1) lines) args process above number line body ≡ Err fault →
     FaultBelow args above number (line ∷ lines) fault
 line-fault args process above number line lines None fault goes none e =
     extend args above above number line lines fault (λ front end led. other above end number line front none led)
-    (goes above fault (with-line-fault (substituted_line above.marks (reference_value above process) line) (lines_below args process above (number + 1) lines) fault e))
+    (goes above fault (with-line-fault (substituted_line above.marks (reference_value above process) line) (substituted_lines args process above (number + 1) lines) fault e))
 line-fault args process above number line lines (Some body) fault goes some e =
     directive-fault args process above number line body lines (directive_result above args number body) fault goes some refl e
 
 lines-fault : (args : Bytes) (process : Text) (number : ℕ) (lines : List Text) → Goes args process number lines
 lines-fault args process number [] above fault e = cc
 lines-fault args process number (line ∷ lines) above fault e =
-    line-fault args process above number line lines (directive_in above.marks.dot line) fault (lines-fault args process (number + 1) lines) refl e
+    line-fault args process above number line lines (directive_text above.marks.dot line) fault (lines-fault args process (number + 1) lines) refl e
 
 -- and a fault below it is the fault of the lines
 led-fault : (args : Bytes) (process : Text) {above there : Above} {number : ℕ} {front : List Text} → Leads args above number front there →
-    (line : Text) (rest : List Text) (body : Text) (fault : SubstFault) → directive_in there.marks.dot line ≡ Some body →
-    directive_result there args (number + length front) body ≡ Err fault → lines_below args process above number (front ++ line ∷ rest) ≡ Err fault
+    (line : Text) (rest : List Text) (body : Text) (fault : SubstFault) → directive_text there.marks.dot line ≡ Some body →
+    directive_result there args (number + length front) body ≡ Err fault → substituted_lines args process above number (front ++ line ∷ rest) ≡ Err fault
 led-fault args process (here above number) line rest body fault some bad =
     let place : number ≡ number + 0 = omega arith in
-    ap (lines_from_line (λ next. lines_below args process next (number + 1) rest) args process above number line) some
-    ∙ ap (lines_after_directive (λ next. lines_below args process next (number + 1) rest)) (ap (λ n. directive_result above args n body) place ∙ bad)
+    ap (lines_from_line (λ next. substituted_lines args process next (number + 1) rest) args process above number line) some
+    ∙ ap (lines_after_directive (λ next. substituted_lines args process next (number + 1) rest)) (ap (λ n. directive_result above args n body) place ∙ bad)
 led-fault args process (directive above next end number first its lines has made led) line rest body fault some bad =
     let place : number + 1 + length lines ≡ number + length (first ∷ lines) = omega arith in
-    ap (lines_from_line (λ other. lines_below args process other (number + 1) (lines ++ line ∷ rest)) args process above number first) has
-    ∙ (ap (lines_after_directive (λ other. lines_below args process other (number + 1) (lines ++ line ∷ rest))) made
+    ap (lines_from_line (λ other. substituted_lines args process other (number + 1) (lines ++ line ∷ rest)) args process above number first) has
+    ∙ (ap (lines_after_directive (λ other. substituted_lines args process other (number + 1) (lines ++ line ∷ rest))) made
     ∙ ap (with_line []) (led-fault args process led line rest body fault some (ap (λ n. directive_result end args n body) place ∙ bad)))
 led-fault args process (other above end number first lines none led) line rest body fault some bad =
     let place : number + 1 + length lines ≡ number + length (first ∷ lines) = omega arith in
-    ap (lines_from_line (λ next. lines_below args process next (number + 1) (lines ++ line ∷ rest)) args process above number first) none
+    ap (lines_from_line (λ next. substituted_lines args process next (number + 1) (lines ++ line ∷ rest)) args process above number first) none
     ∙ ap (with_line (substituted_line above.marks (reference_value above process) first)) (led-fault args process led line rest body fault some (ap (λ n. directive_result end args n body) place ∙ bad))
 
 pub first-directive : (lines : List Text) (args : Bytes) (process : Text) (fault : SubstFault) →
@@ -235,12 +235,12 @@ first-directive lines args process fault = (stands, λ it. is it.0 it.1)
     stands : script_of lines args process ≡ Err fault → (is_dotted lines ≡ true) × IsFirstFault args lines fault
     stands =
         let P : Result (List Text) SubstFault → Type 0 = λ r. r ≡ Err fault → (is_dotted lines ≡ true) × IsFirstFault args lines fault in
-        cond_both (is_dotted lines) (lines_below args process initial_above 1 lines) (Ok lines) P
+        cond_both (is_dotted lines) (substituted_lines args process initial_above 1 lines) (Ok lines) P
         (λ dotted e. (dotted, lines-fault args process 1 lines initial_above fault e)) (λ plain e. cc)
 
     is : is_dotted lines ≡ true → IsFirstFault args lines fault → script_of lines args process ≡ Err fault
     is dotted it =
-        ap (λ b. if b then lines_below args process initial_above 1 lines else Ok lines) dotted
-        ∙ (ap (lines_below args process initial_above 1) it.joined
+        ap (λ b. if b then substituted_lines args process initial_above 1 lines else Ok lines) dotted
+        ∙ (ap (substituted_lines args process initial_above 1) it.joined
         ∙ led-fault args process it.led it.line it.rest it.body fault it.directive
         (fault-directed it.there args (1 + length it.front) it.body fault it.no_remark it.bad))

@@ -8,7 +8,7 @@ use Rattle.ados_subst.specs.Directives.{directive_result}
 use Rattle.ados_subst.specs.Faults.{Gives}
 use Rattle.ados_subst.specs.Lines.{substituted_line}
 use Rattle.ados_subst.specs.References.{reference_value}
-use Rattle.ados_subst.specs.Scripts.{LinesBecome, directive, ended, other, ScriptBecomes, lines_after_directive, directive_in, is_dotted, lines_from_line, lines_below, script_of, with_line}
+use Rattle.ados_subst.specs.Scripts.{LinesBecome, directive, ended, other, ScriptBecomes, lines_after_directive, directive_text, is_dotted, lines_from_line, substituted_lines, script_of, with_line}
 use Rattle.ados_subst.proofs.ReferenceLemmas.{line-becomes}
 
 -- these lines before others, if there are others
@@ -25,30 +25,30 @@ parted line (Err fault) texts e = cc
 -- what is given for lines is what they become
 abbrev Goes : Bytes → Text → ℕ → List Text → Type 0
 Goes args process number lines = (above : Above) (texts : List Text)
-    → lines_below args process above number lines ≡ Ok texts → LinesBecome args process above number lines texts
+    → substituted_lines args process above number lines ≡ Ok texts → LinesBecome args process above number lines texts
 
 -- a directive, and the lines after it
 below-becomes : (args : Bytes) (process : Text) (above : Above) (number : ℕ) (line body : Text)
     (lines texts : List Text) (made : Result Above SubstFault) → Goes args process (number + 1) lines
-    → directive_in above.marks.dot line ≡ Some body → directive_result above args number body ≡ made
-    → lines_after_directive (λ next. lines_below args process next (number + 1) lines) made ≡ Ok texts
+    → directive_text above.marks.dot line ≡ Some body → directive_result above args number body ≡ made
+    → lines_after_directive (λ next. substituted_lines args process next (number + 1) lines) made ≡ Ok texts
     → LinesBecome args process above number (line ∷ lines) texts
 below-becomes args process above number line body lines texts (Err fault) goes some made e = cc
 below-becomes args process above number line body lines texts (Ok next) goes some made e =
-    let it = parted [] (lines_below args process next (number + 1) lines) texts e in
+    let it = parted [] (substituted_lines args process next (number + 1) lines) texts e in
     let P : List Text → Type 0 = λ all. LinesBecome args process above number (line ∷ lines) all in
     subst P it.2 (directive above next number line body lines it.0 some made (goes next it.0 it.1))
 
 -- any line, and those after it
 from-becomes : (args : Bytes) (process : Text) (above : Above) (number : ℕ) (line : Text) (lines texts : List Text)
-    (body : Option Text) → Goes args process (number + 1) lines → directive_in above.marks.dot line ≡ body
-    → lines_from_line (λ next. lines_below args process next (number + 1) lines) args process above number line body
+    (body : Option Text) → Goes args process (number + 1) lines → directive_text above.marks.dot line ≡ body
+    → lines_from_line (λ next. substituted_lines args process next (number + 1) lines) args process above number line body
     ≡ Ok texts
     → LinesBecome args process above number (line ∷ lines) texts
 from-becomes args process above number line lines texts None goes none e =
     let m = above.marks in
     let r = reference_value above process in
-    let it = parted (substituted_line m r line) (lines_below args process above (number + 1) lines) texts e in
+    let it = parted (substituted_line m r line) (substituted_lines args process above (number + 1) lines) texts e in
     let P : List Text → Type 0 = λ all. LinesBecome args process above number (line ∷ lines) all in
     subst P it.2
     (other above number line (substituted_line m r line) lines it.0 none (line-becomes m r line) (goes above it.0 it.1))
@@ -62,7 +62,7 @@ lines-become args process number [] above texts e =
     subst P same (ended above number)
 lines-become args process number (line ∷ lines) above texts e =
     let rest = lines-become args process (number + 1) lines in
-    from-becomes args process above number line lines texts (directive_in above.marks.dot line) rest refl e
+    from-becomes args process above number line lines texts (directive_text above.marks.dot line) rest refl e
 
 script-becomes : (lines texts : List Text) (args : Bytes) (process : Text) → script_of lines args process ≡ Ok texts
     → ScriptBecomes lines args process texts

@@ -10,7 +10,7 @@ use Rattle.ados_text.specs.Text.{Text}
 use Rattle.ados_readargs.specs.declared.options.TemplateOption.{TemplateOption}
 use Rattle.ados_readargs.specs.declared.args.Arg.{Arg}
 use Rattle.ados_subst.specs.declared.slots.Slot.{Slot}
-use Rattle.ados_subst.specs.Slots.{with_default, is_named, slot_for, slots_of, with_default_in}
+use Rattle.ados_subst.specs.Slots.{with_default, is_named, new_slot, slots_of, with_default_in}
 
 -- the first option with the name
 first-at : (name text : Text) (slots : List Slot) (i : ℕ) (d : Slot)
@@ -57,7 +57,7 @@ slots-nil (option ∷ options) = refl
 pub slots-more : (whole done new : List Slot) (slot : Slot) (options : List TemplateOption) (args : List Arg)
     (place : ℕ) (option : TemplateOption) (arg : Arg)
     → place < length options → option ≡ get_or options place option → slice_get args place ≡ Some arg
-    → slot ≡ slot_for option arg → new ≡ done ++ slot ∷ []
+    → slot ≡ new_slot option arg → new ≡ done ++ slot ∷ []
     → whole ≡ done ++ slots_of (drop place options) (drop place args)
     → whole ≡ new ++ slots_of (drop (place + 1) options) (drop (place + 1) args)
 slots-more whole done new slot options args place option arg lt own given made grown e =

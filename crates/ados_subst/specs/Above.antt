@@ -11,5 +11,5 @@ abbrev pub initial_above : Above
 initial_above = record { marks = first_marks; slots = None }
 
 -- the option with a name; above the template there is none
-abbrev pub slot_in : Above → Text → Option Slot
-slot_in above name = slot_of (unwrap_or above.slots []) name
+abbrev pub named_slot : Above → Text → Option Slot
+named_slot above name = slot_of (unwrap_or above.slots []) name

@@ -12,7 +12,7 @@ use Rattle.ados_subst.specs.declared.slots.Slot.{Slot}
 use Rattle.ados_subst.specs.Above.{initial_above}
 use Rattle.ados_subst.specs.Directives.{directive_result, directive_named, is_remark}
 use Rattle.ados_subst.specs.Faults.{args_fault}
-use Rattle.ados_subst.specs.Scripts.{directive_in}
+use Rattle.ados_subst.specs.Scripts.{directive_text}
 use Rattle.ados_subst.specs.Slots.{slot_of}
 use Rattle.ados_items.specs.Parts.{first_word, rest_of}
 
@@ -37,9 +37,9 @@ pub data IsDirectiveFault (above : Above) (args : Bytes) (number : ℕ) (body : 
 pub data Leads (args : Bytes) : Above → ℕ → List Text → Above → Type 0 where
   here : (above : Above) (number : ℕ) → Leads args above number [] above
   directive : (above next end : Above) (number : ℕ) (line body : Text) (lines : List Text)
-      → directive_in above.marks.dot line ≡ Some body → directive_result above args number body ≡ Ok next
+      → directive_text above.marks.dot line ≡ Some body → directive_result above args number body ≡ Ok next
       → Leads args next (number + 1) lines end → Leads args above number (line ∷ lines) end
-  other : (above end : Above) (number : ℕ) (line : Text) (lines : List Text) → directive_in above.marks.dot line ≡ None
+  other : (above end : Above) (number : ℕ) (line : Text) (lines : List Text) → directive_text above.marks.dot line ≡ None
       → Leads args above (number + 1) lines end → Leads args above number (line ∷ lines) end
 
 -- a fault is in a directive among lines, the first of which has a number, and no line before that has one
@@ -51,7 +51,7 @@ pub record FaultBelow (args : Bytes) (above : Above) (number : ℕ) (lines : Lis
   pub there : Above
   pub joined : lines ≡ front ++ line ∷ rest
   pub led : Leads args above number front there
-  pub directive : directive_in there.marks.dot line ≡ Some body
+  pub directive : directive_text there.marks.dot line ≡ Some body
   pub no_remark : is_remark body ≡ false
   pub bad : IsDirectiveFault there args (number + length front) body fault
 

@@ -9,9 +9,9 @@ use Rattle.ados_subst.specs.Lines.{LineBecomes, substituted_line}
 use Rattle.ados_subst.specs.References.{reference_value}
 
 -- what follows the dot, if the line is a directive
-abbrev pub directive_in : ℕ → Text → Option Text
-directive_in dot [] = None
-directive_in dot (c ∷ cs) = if c == dot then Some cs else None
+abbrev pub directive_text : ℕ → Text → Option Text
+directive_text dot [] = None
+directive_text dot (c ∷ cs) = if c == dot then Some cs else None
 
 -- a line before others, if there are others
 abbrev pub with_line : Text → Result (List Text) SubstFault → Result (List Text) SubstFault
@@ -34,32 +34,32 @@ lines_from_line below args process above number line None =
 lines_from_line below args process above number line (Some body) = lines_after_directive below (directive_result above args number body)
 
 -- the lines by what holds above them, the first with this number
-abbrev pub lines_below : Bytes → Text → Above → ℕ → List Text → Result (List Text) SubstFault
-lines_below args process above number [] = Ok []
-lines_below args process above number (line ∷ lines) =
-    (let below = λ (next : Above). lines_below args process next (number + 1) lines in
-    lines_from_line below args process above number line (directive_in above.marks.dot line))
+abbrev pub substituted_lines : Bytes → Text → Above → ℕ → List Text → Result (List Text) SubstFault
+substituted_lines args process above number [] = Ok []
+substituted_lines args process above number (line ∷ lines) =
+    (let below = λ (next : Above). substituted_lines args process next (number + 1) lines in
+    lines_from_line below args process above number line (directive_text above.marks.dot line))
 
 -- the first line begins with a `.`
 abbrev pub is_dotted : List Text → Bool
 is_dotted [] = false
-is_dotted (line ∷ lines) = is_some (directive_in 46 line)
+is_dotted (line ∷ lines) = is_some (directive_text 46 line)
 
 -- The lines of a script, or the fault of its first directive that has one; those of a script whose first line does
 -- not begin with `.` stay.
 abbrev pub script_of : List Text → Bytes → Text → Result (List Text) SubstFault
-script_of lines args process = if is_dotted lines then lines_below args process initial_above 1 lines else Ok lines
+script_of lines args process = if is_dotted lines then substituted_lines args process initial_above 1 lines else Ok lines
 
 -- Lines become texts, below what holds above them: a directive becomes an empty line, and changes what holds above
 -- the next one; another line becomes a text by what holds above it.
 pub data LinesBecome (args : Bytes) (process : Text) : Above → ℕ → List Text → List Text → Type 0 where
   ended : (above : Above) (number : ℕ) → LinesBecome args process above number [] []
   directive : (above next : Above) (number : ℕ) (line body : Text) (lines texts : List Text)
-      → directive_in above.marks.dot line ≡ Some body → directive_result above args number body ≡ Ok next
+      → directive_text above.marks.dot line ≡ Some body → directive_result above args number body ≡ Ok next
       → LinesBecome args process next (number + 1) lines texts
       → LinesBecome args process above number (line ∷ lines) ([] ∷ texts)
   other : (above : Above) (number : ℕ) (line text : Text) (lines texts : List Text)
-      → directive_in above.marks.dot line ≡ None → LineBecomes above.marks (reference_value above process) line text
+      → directive_text above.marks.dot line ≡ None → LineBecomes above.marks (reference_value above process) line text
       → LinesBecome args process above (number + 1) lines texts
       → LinesBecome args process above number (line ∷ lines) (text ∷ texts)
 

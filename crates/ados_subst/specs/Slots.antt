@@ -17,14 +17,14 @@ given_text names (One text) = Some text
 given_text names (Many texts) = Some (join_with_byte 32 texts)
 
 -- an option and its argument; it has no default yet
-abbrev pub slot_for : TemplateOption → Arg → Slot
-slot_for option arg = record { names = option.names; given = given_text option.names arg; default = None }
+abbrev pub new_slot : TemplateOption → Arg → Slot
+new_slot option arg = record { names = option.names; given = given_text option.names arg; default = None }
 
 -- the options and their arguments, side by side
 abbrev pub slots_of : List TemplateOption → List Arg → List Slot
 slots_of [] args = []
 slots_of (option ∷ options) [] = []
-slots_of (option ∷ options) (arg ∷ args) = slot_for option arg ∷ slots_of options args
+slots_of (option ∷ options) (arg ∷ args) = new_slot option arg ∷ slots_of options args
 
 -- the option has the name
 abbrev pub is_named : Text → Slot → Bool

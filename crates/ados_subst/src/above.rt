@@ -14,7 +14,7 @@ pub struct Above {
 }
 
 impl Above {
-    ghost use Rattle.ados_subst.specs.Above.{initial_above, slot_in};
+    ghost use Rattle.ados_subst.specs.Above.{initial_above, named_slot};
 
     /// What holds above the first line, before any directive.
     pub fn first() -> Above
@@ -28,7 +28,7 @@ impl Above {
 
     /// The option with a name; `None` if there has been no template yet.
     pub fn slot(&self, name: &[u8]) -> Option<&Slot>
-        ensures { option_copied result ≡ slot_in self.now name.now }
+        ensures { option_copied result ≡ named_slot self.now name.now }
     {
         match &self.slots {
             None => None,

@@ -5,7 +5,7 @@ ghost use Rattle.ados_text.specs.Lines.{lines_of};
 ghost use Rattle.ados_text.specs.Text.{IsText};
 ghost use Rattle.ados_subst.specs.Above.{initial_above};
 ghost use Rattle.ados_subst.specs.Faults.{Gives};
-ghost use Rattle.ados_subst.specs.Scripts.{ScriptBecomes, directive_in, is_dotted, lines_below, script_of};
+ghost use Rattle.ados_subst.specs.Scripts.{ScriptBecomes, directive_text, is_dotted, substituted_lines, script_of};
 
 use crate::above::Above;
 use crate::directives::directed;
@@ -31,7 +31,7 @@ pub fn script(alloc: Global, bytes: &[u8], args: &[u8], process: u8) -> Result<T
     if !is_dotted(lines.as_slice()) {
         return Ok(lines);
     }
-    lines_below(alloc, args, &digits(alloc, process)?, lines.as_slice())
+    substituted_lines(alloc, args, &digits(alloc, process)?, lines.as_slice())
 }
 
 // The first line begins with a dot.
@@ -40,15 +40,15 @@ fn is_dotted(lines: &[Text]) -> bool
 {
     match lines.first() {
         None => false,
-        Some(line) => directive_in(b'.', line.as_bytes()).is_some(),
+        Some(line) => directive_text(b'.', line.as_bytes()).is_some(),
     }
 }
 
 // What follows the dot, if the line is a directive.
 #[tactic(auto, using(ados_text::proofs::TextLemmas::parts))]
-fn directive_in(dot: u8, line: &[u8]) -> Option<&[u8]>
+fn directive_text(dot: u8, line: &[u8]) -> Option<&[u8]>
     requires { IsText line.now }
-    ensures value { option_copied result ≡ directive_in dot line.now }
+    ensures value { option_copied result ≡ directive_text dot line.now }
     ensures ascii { IfSome result (λ body. IsText body.now) }
 {
     match line {
@@ -58,19 +58,19 @@ fn directive_in(dot: u8, line: &[u8]) -> Option<&[u8]>
 }
 
 // The lines of a script with directives.
-fn lines_below(
+fn substituted_lines(
     alloc: Global,
     args: &[u8],
     process: &Text,
     lines: &[Text],
 ) -> Result<Texts, SubstFault>
-    ensures { Gives result (lines_below args.now process.now initial_above 1 lines.now) }
+    ensures { Gives result (substituted_lines args.now process.now initial_above 1 lines.now) }
 {
     let mut above = Above::first();
     let mut texts = Texts::new(alloc);
     for place in 0..lines.len() {
         let line = lines[place].as_bytes();
-        match directive_in(above.marks.dot, line) {
+        match directive_text(above.marks.dot, line) {
             None => texts.push(substituted(alloc, &above, process, line)?)?,
             Some(body) => {
                 above = directed(alloc, above, args, place + 1, body)?;

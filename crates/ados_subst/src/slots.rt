@@ -3,7 +3,7 @@ ghost use Rattle.std.specs.List.{find, join_with_byte, list_any};
 ghost use Rattle.std.specs.Option.{option_copied};
 ghost use Rattle.ados_text.specs.Text.{IsText, is_same};
 ghost use Rattle.ados_readargs.specs.Template.{options_of};
-ghost use Rattle.ados_subst.specs.Slots.{with_default, given_text, is_named, slot_for, slots_of};
+ghost use Rattle.ados_subst.specs.Slots.{with_default, given_text, is_named, new_slot, slots_of};
 
 use ados_readargs::{Arg, Args, Template, TemplateOption};
 use ados_text::{NoMemory, Text, Texts};
@@ -26,7 +26,7 @@ impl Slot {
 
     // The slot of an option and its argument; it has no default yet.
     fn new(alloc: Global, option: &TemplateOption, arg: Arg) -> Result<Slot, NoMemory>
-        ensures { IfOk result (λ slot. slot ≡ slot_for option.now arg) }
+        ensures { IfOk result (λ slot. slot ≡ new_slot option.now arg) }
     {
         Ok(Slot {
             names: option.names.copy()?,

@@ -24,7 +24,7 @@ use Rattle.ados_shell.specs.declared.scenes.Scene.{Scene}
 use Rattle.ados_shell.specs.declared.turnings.Turning.TheVariants as turn
 use Rattle.ados_shell.specs.Turnings.{IsTurning, MayWantMemory}
 use Rattle.ados_world.specs.Scenes.{Shows}
-use Rattle.ados_world.specs.Steps.{step_answer, drafted_out, world_after_turn}
+use Rattle.ados_world.specs.Steps.{step_answer, draft_out, world_after_turn}
 use Rattle.ados_world.proofs.StepLemmas.{start_in, Accepts, goes}
 
 -- the machine's answering of a shell, by what the scene shows
@@ -45,7 +45,7 @@ as-turning scene queue draft (turning.Takes rest turn_response) t = t
 -- an answer by which the shell went on
 pub answer-goes : (w : WorldState) (k : ℕ) (shell : ShellState) (scene : Scene) (answer : Reply) (draft : Draft) → Shows w k shell scene
     → IsAnswering scene (input_of w k).queue reply.Goes draft (scene_answering scene (input_of w k) answer)
-    → Accepts (answered_of w k answer (shell_at w k)) (world_after_turn k draft w) (drafted_out (shell_at w k) draft)
+    → Accepts (answered_of w k answer (shell_at w k)) (world_after_turn k draft w) (draft_out (shell_at w k) draft)
 answer-goes w k shell scene answer draft s t =
     (let P : turning.Turning → Type 0 = λ x. IsAnswering scene (input_of w k).queue reply.Goes draft x in
     let accepts = goes w k shell scene draft _ s (as-turning scene _ draft _ (subst P (answering-is w k shell scene answer s) t)) in

@@ -8,7 +8,7 @@ use lib.Bits.{bit_and}
 use Rattle.std.proofs.lemmas.Bool.{cases_eq}
 use Rattle.std.proofs.lemmas.Nat.{shr-shr, shr_le}
 use Rattle.std.proofs.lemmas.Nat.Bits.{bit_at-zero, bit_at-trailing_zeros, bit_at_set_same, bit_at_set_other, bit_at_clear_same, bit_at_clear_other}
-use Rattle.ados_world.specs.Due.{first_from, is_set}
+use Rattle.ados_world.specs.Due.{first_number, is_set}
 use Rattle.ados_world.proofs.FirstLemmas.{IsNowhere, is-none, is-some}
 
 pub set-same : (n k : ℕ) → k < 32 → is_set (bit_or n (1 * 2 ^ k % 4294967296)) k ≡ true
@@ -54,7 +54,7 @@ set-there word from below few =
     shr-bit word from i = ap (λ n. n % 2) (shr-shr word from i)
 
 pub found-set : (word from : ℕ) → word < 2 ^ 32 → from + count_trailing_zeros 32 (word / 2 ^ from) ≤ 20
-    → Some (from + count_trailing_zeros 32 (word / 2 ^ from)) ≡ first_from from (is_set word)
+    → Some (from + count_trailing_zeros 32 (word / 2 ^ from)) ≡ first_number from (is_set word)
 found-set word from below within =
     sym (is-some (is_set word) from 21 (from + count_trailing_zeros 32 (word / 2 ^ from)) (record {
       low = omega arith;
@@ -63,6 +63,6 @@ found-set word from below within =
       before = unset-before word from below;
     }))
 
-pub none-set : (word from : ℕ) → word < 2 ^ 32 → 20 < from + count_trailing_zeros 32 (word / 2 ^ from) → None ≡ first_from from (is_set word)
+pub none-set : (word from : ℕ) → word < 2 ^ 32 → 20 < from + count_trailing_zeros 32 (word / 2 ^ from) → None ≡ first_number from (is_set word)
 none-set word from below past =
     sym (is-none (is_set word) from 21 (λ k low high. unset-before word from below k low (omega (arith, high, past))))

@@ -6,7 +6,7 @@ use Rattle.std.proofs.lemmas.List.{append-nil}
 use Rattle.ados_find.specs.declared.codes.Codes.{Codes}
 use Rattle.ados_flow.specs.declared.kinds.Kind.{Kind}
 use Rattle.ados_flow.specs.declared.kinds.Kind.TheVariants.{Script, Lines, Tick}
-use Rattle.ados_flow.specs.Frames.{FrameState, is_script, last_line, scripts_in}
+use Rattle.ados_flow.specs.Frames.{FrameState, is_script, last_line, script_count}
 use Rattle.ados_machine.specs.declared.events.Event.{Event}
 use Rattle.ados_machine.specs.declared.events.Event.TheVariants.{Typed, EndOfInput, Turn, Answer, Break}
 use Rattle.ados_machine.specs.declared.outs.Out.{Out}
@@ -64,7 +64,7 @@ broken-told k (frame ∷ frames) said e =
     elim (cases_Bool (is_script frame.kind)) [
       | inl script ↦ told-first k (suc (length frames)) frame.kind (last_line frame.last) _ script
       | inr other ↦ (let some : has_script frames ≡ true = rw other at e in
-          below-told k (suc (length frames)) frame frames said (scripts_in frames) (end_at_break frames inner) some (broken-told k frames inner some))
+          below-told k (suc (length frames)) frame frames said (script_count frames) (end_at_break frames inner) some (broken-told k frames inner some))
     ]
 
 -- so a turn that finds a flag reports it, if frames end

@@ -2,7 +2,7 @@
 use Rattle.std.proofs.Common.{◌≡◌, ℕ, zero, suc, ◌+◌, ◌-◌, ◌<◌, ◌≤◌, Option, Some, None, Bool, true, false, arith, refl, ap, inl, inr}
 use Rattle.std.specs.List.{find, range_with_len}
 use Rattle.std.proofs.lemmas.Bool.{cases_Bool, cases_eq, cases_lt}
-use Rattle.ados_world.specs.Due.{first_from}
+use Rattle.ados_world.specs.Due.{first_number}
 
 -- it is true of no number from one on, and below another
 abbrev pub IsNowhere : (ℕ → Bool) → ℕ → ℕ → Type 0
@@ -92,7 +92,7 @@ same-in p q (suc n) a same =
     let later = same-in p q n (a + 1) (λ k low high. same k (omega (arith, low)) (omega (arith, high))) in
     rw (here, later) refl
 
-pub first-same : (p q : ℕ → Bool) (a : ℕ) → ((k : ℕ) → k ≤ 20 → p k ≡ q k) → first_from a p ≡ first_from a q
+pub first-same : (p q : ℕ → Bool) (a : ℕ) → ((k : ℕ) → k ≤ 20 → p k ≡ q k) → first_number a p ≡ first_number a q
 first-same p q a same = same-in p q (21 - a) a (λ k low high. same k (omega (arith, low, high)))
 
 -- each of which the one is true is one of which the other is
@@ -104,15 +104,15 @@ off-within p q k within off =
     ]
 
 -- so there is none if there is none of the others; the first of these is the first; or it is the first of those after it
-pub first-nowhere : (p q : ℕ → Bool) (a : ℕ) → ((k : ℕ) → p k ≡ true → q k ≡ true) → first_from a q ≡ None → first_from a p ≡ None
+pub first-nowhere : (p q : ℕ → Bool) (a : ℕ) → ((k : ℕ) → p k ≡ true → q k ≡ true) → first_number a q ≡ None → first_number a p ≡ None
 first-nowhere p q a within e = is-none p a 21 (λ k low high. off-within p q k (within k) (none-is q a 21 e k low high))
 
-pub first-here : (p q : ℕ → Bool) (a k : ℕ) → a ≤ 21 → ((k : ℕ) → p k ≡ true → q k ≡ true) → first_from a q ≡ Some k → p k ≡ true → first_from a p ≡ Some k
+pub first-here : (p q : ℕ → Bool) (a k : ℕ) → a ≤ 21 → ((k : ℕ) → p k ≡ true → q k ≡ true) → first_number a q ≡ Some k → p k ≡ true → first_number a p ≡ Some k
 first-here p q a k h within e on =
     let first = some-is q a 21 k h e in
     is-some p a 21 k (record { low = first.low; high = first.high; here = on; before = λ j low high. off-within p q j (within j) (first.before j low high) })
 
-before-later : (p q : ℕ → Bool) (a k m : ℕ) → a ≤ 21 → ((k : ℕ) → p k ≡ true → q k ≡ true) → first_from a q ≡ Some k → p k ≡ false
+before-later : (p q : ℕ → Bool) (a k m : ℕ) → a ≤ 21 → ((k : ℕ) → p k ≡ true → q k ≡ true) → first_number a q ≡ Some k → p k ≡ false
     → IsNowhere p (k + 1) m → IsNowhere p a m
 before-later p q a k m h within e off none j low high =
     let first = some-is q a 21 k h e in
@@ -124,8 +124,8 @@ before-later p q a k m h within e off none j low high =
       ]
     ]
 
-later : (p q : ℕ → Bool) (a k : ℕ) (r : Option ℕ) → a ≤ 21 → ((k : ℕ) → p k ≡ true → q k ≡ true) → first_from a q ≡ Some k → p k ≡ false
-    → first_from (k + 1) p ≡ r → first_from a p ≡ r
+later : (p q : ℕ → Bool) (a k : ℕ) (r : Option ℕ) → a ≤ 21 → ((k : ℕ) → p k ≡ true → q k ≡ true) → first_number a q ≡ Some k → p k ≡ false
+    → first_number (k + 1) p ≡ r → first_number a p ≡ r
 later p q a k None h within e off e_later =
     is-none p a 21 (before-later p q a k 21 h within e off (none-is p (k + 1) 21 e_later))
 later p q a k (Some m) h within e off e_later =
@@ -136,6 +136,6 @@ later p q a k (Some m) h within e off e_later =
     let above = first.low in
     is-some p a 21 m (record { low = omega (arith, low, above); high = first.high; here = first.here; before = before-later p q a k m h within e off first.before })
 
-pub first-later : (p q : ℕ → Bool) (a k : ℕ) → a ≤ 21 → ((k : ℕ) → p k ≡ true → q k ≡ true) → first_from a q ≡ Some k → p k ≡ false
-    → first_from a p ≡ first_from (k + 1) p
-first-later p q a k h within e off = later p q a k (first_from (k + 1) p) h within e off refl
+pub first-later : (p q : ℕ → Bool) (a k : ℕ) → a ≤ 21 → ((k : ℕ) → p k ≡ true → q k ≡ true) → first_number a q ≡ Some k → p k ≡ false
+    → first_number a p ≡ first_number (k + 1) p
+first-later p q a k h within e off = later p q a k (first_number (k + 1) p) h within e off refl

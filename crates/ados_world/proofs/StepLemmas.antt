@@ -28,7 +28,7 @@ use Rattle.ados_shell.specs.Drafts.{start_of}
 use Rattle.ados_shell.specs.declared.scenes.Input.{Input}
 use Rattle.ados_shell.specs.Turnings.{IsTurning, MayWantMemory, scene_turning}
 use Rattle.ados_world.specs.Scenes.{Shows}
-use Rattle.ados_world.specs.Steps.{step_answer, drafted_out, ended_world, world_after_turn}
+use Rattle.ados_world.specs.Steps.{step_answer, draft_out, ended_world, world_after_turn}
 use Rattle.ados_world.proofs.MemoryLemmas.{turn-may}
 use Rattle.ados_world.proofs.TakenLemmas.{behind_turn, gives, taken-is}
 
@@ -72,7 +72,7 @@ Accepts response world given = (items : List (ℕ × Item)) × response ≡ Acce
 pub goes : (w : WorldState) (k : ℕ) (shell : ShellState) (scene : Scene) (draft : Draft) (turning : turning.Turning)
     → Shows w k shell scene
     → IsTurning scene (input_of w k).queue turn.Goes draft turning
-    → Accepts (turning_response w k shell.parts.codes turning) (world_after_turn k draft w) (drafted_out (shell_at w k) draft)
+    → Accepts (turning_response w k shell.parts.codes turning) (world_after_turn k draft w) (draft_out (shell_at w k) draft)
 goes w k shell scene draft (turning.Refuses why) s t = absurd t
 goes w k shell scene draft turning.Ends s t = absurd t
 goes w k shell scene draft (turning.Takes rest turn_response) s t =
@@ -89,7 +89,7 @@ goes w k shell scene draft (turning.Takes rest turn_response) s t =
 takes : (w : WorldState) (k : ℕ) (shell : ShellState) (scene : Scene) (draft : Draft) (turning : turning.Turning)
     → Shows w k shell scene
     → IsTurning scene (input_of w k).queue turn.Takes draft turning
-    → Accepts (turning_response w k shell.parts.codes turning) (record (world_after_turn k draft w) { queue = queue_after_event k w.queue (drop 1 w.queue) }) (drafted_out (shell_at w k) draft)
+    → Accepts (turning_response w k shell.parts.codes turning) (record (world_after_turn k draft w) { queue = queue_after_event k w.queue (drop 1 w.queue) }) (draft_out (shell_at w k) draft)
 takes w k shell scene draft (turning.Refuses why) s t = absurd t
 takes w k shell scene draft turning.Ends s t = absurd t
 takes w k shell scene draft (turning.Takes rest turn_response) s t =
@@ -171,7 +171,7 @@ to-turned w world k given shell here (items, e) = (items, ap (turn_response w k)
 pub turn-goes : (w : WorldState) (k : ℕ) (shell : ShellState) (scene : Scene) (input : Input) (draft : Draft)
     → Shows w k shell scene → input.is_ended ≡ (input_of w k).is_ended
     → IsTurning scene (input_of w k).queue turn.Goes draft (scene_turning scene input (input_of w k).queue)
-    → Accepts (turn_response w k (shell_at w k)) (world_after_turn k draft w) (drafted_out (shell_at w k) draft)
+    → Accepts (turn_response w k (shell_at w k)) (world_after_turn k draft w) (draft_out (shell_at w k) draft)
 turn-goes w k shell scene input draft s e t =
     (let P : turning.Turning → Type 0 = λ x. IsTurning scene (input_of w k).queue turn.Goes draft x in
     to-turned w _ k _ shell s.here (goes w k shell scene draft _ s (subst P (turning-is w k shell scene input s e) t)))
@@ -179,7 +179,7 @@ turn-goes w k shell scene input draft s e t =
 pub turn-takes : (w : WorldState) (k : ℕ) (shell : ShellState) (scene : Scene) (input : Input) (draft : Draft)
     → Shows w k shell scene → input.is_ended ≡ (input_of w k).is_ended
     → IsTurning scene (input_of w k).queue turn.Takes draft (scene_turning scene input (input_of w k).queue)
-    → Accepts (turn_response w k (shell_at w k)) (record (world_after_turn k draft w) { queue = queue_after_event k w.queue (drop 1 w.queue) }) (drafted_out (shell_at w k) draft)
+    → Accepts (turn_response w k (shell_at w k)) (record (world_after_turn k draft w) { queue = queue_after_event k w.queue (drop 1 w.queue) }) (draft_out (shell_at w k) draft)
 turn-takes w k shell scene input draft s e t =
     (let P : turning.Turning → Type 0 = λ x. IsTurning scene (input_of w k).queue turn.Takes draft x in
     to-turned w _ k _ shell s.here (takes w k shell scene draft _ s (subst P (turning-is w k shell scene input s e) t)))

@@ -22,7 +22,7 @@ use Rattle.ados_world.specs.Scenes.{Shows}
 use Rattle.ados_world.specs.Endings.{final_codes, recorded_codes, remaining_shells}
 use Rattle.ados_world.specs.NewShells.{joined_shells, new_shell}
 use Rattle.ados_world.specs.Shells.{shells_after_draft}
-use Rattle.ados_world.specs.Steps.{drafted_out, shells_with_begun, shells_after_turn, world_after_turn}
+use Rattle.ados_world.specs.Steps.{draft_out, shells_with_begun, shells_after_turn, world_after_turn}
 use Rattle.ados_world.proofs.NewShellLemmas.{begun-behind, codes-left, codes_of_end, ended-left, joined-is, shells-left}
 use Rattle.ados_machine.specs.Breaks.{shells_after_break}
 use Rattle.ados_world.specs.Breaks.{shells_with_broken}
@@ -138,9 +138,9 @@ taken-is w k shell scene draft t s d =
 
 -- what is given by an event that a draft holds
 pub gives : (w : WorldState) (k : ℕ) (shell : ShellState) (scene : Scene) (draft : Draft) (t : TurnResult) → Shows w k shell scene → IsDrafted scene draft t
-    → drafted_out (shell_at w k) draft ≡ out_with t.course.printed (request_of t.course.parts.number t.phase) (reports_of k t.log)
+    → draft_out (shell_at w k) draft ≡ out_with t.course.printed (request_of t.course.parts.number t.phase) (reports_of k t.log)
 gives w k shell scene draft t s d =
-    ap (λ o. drafted_out o draft) s.here
+    ap (λ o. draft_out o draft) s.here
     ∙ ap (λ b. out_with b (request_of shell.parts.number (drafted_phase draft.shell)) draft.reports.items) d.printed_is
     ∙ ap (λ (x : ShellState). out_with t.course.printed (request_of x.parts.number x.phase) draft.reports.items) (ap (drafted_shell draft.shell) (sym s.shell_is) ∙ d.shell_is)
     ∙ ap (λ r. out_with t.course.printed (request_of t.course.parts.number t.phase) r) (d.reports_are ∙ ap (λ n. reports_of n t.log) s.number_is)

@@ -7,8 +7,8 @@ use Rattle.ados_machine.specs.World.{at_number, can_turn, flatten, request_of_sh
 use Rattle.ados_world.specs.declared.due.DueShells.{DueShells}
 
 -- the first number from this one on, up to 20, of which something is true
-abbrev pub first_from : ℕ → (ℕ → Bool) → Option ℕ
-first_from from is_so = find is_so (range_with_len from (21 - from))
+abbrev pub first_number : ℕ → (ℕ → Bool) → Option ℕ
+first_number from is_so = find is_so (range_with_len from (21 - from))
 
 -- the bit of a number is set in a word
 abbrev pub is_set : ℕ → ℕ → Bool

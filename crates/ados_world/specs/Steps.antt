@@ -39,9 +39,9 @@ world_after_turn number draft w =
     })
 
 -- what an event gives by a draft that changes a shell: it asks for what the shell waits for then
-abbrev pub drafted_out : Option ShellState → Draft → Out
-drafted_out None draft = out_of draft
-drafted_out (Some shell) draft = out_with draft.printed.items (request_of shell.parts.number (drafted_phase draft.shell)) draft.reports.items
+abbrev pub draft_out : Option ShellState → Draft → Out
+draft_out None draft = out_of draft
+draft_out (Some shell) draft = out_with draft.printed.items (request_of shell.parts.number (drafted_phase draft.shell)) draft.reports.items
 
 -- the world after the end of a shell, whose codes are kept
 abbrev pub ended_world : ℕ → Codes → WorldState → WorldState

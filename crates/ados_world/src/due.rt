@@ -2,7 +2,7 @@
 ghost use Rattle.std.specs.Prelude.{◌≡◌, ◌≢◌, ◌<◌, ◌≤◌, ℕ, false, IfSome};
 ghost use Rattle.std.specs.Option.{option_copied};
 ghost use Rattle.ados_machine.specs.World.{at_number, flatten};
-ghost use Rattle.ados_world.specs.Due.{asks_now, first_from, is_set, takes_turns};
+ghost use Rattle.ados_world.specs.Due.{asks_now, first_number, is_set, takes_turns};
 ghost use Rattle.ados_world.specs.Shells.{IsShellNumber};
 
 use crate::shells::find_shell;
@@ -46,7 +46,7 @@ impl DueShells {
 /// The first number from one on, up to 20, whose bit is set.
 pub fn first_set(word: u32, from: u8) -> Option<u8>
     requires { from ≤ 21 }
-    ensures number { result ≡ first_from from (is_set word) }
+    ensures number { result ≡ first_number from (is_set word) }
     ensures low { IfSome result (λ number. from ≤ number) }
     ensures high { IfSome result (λ number. number ≤ 20) }
 {

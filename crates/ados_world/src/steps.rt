@@ -14,7 +14,7 @@ ghost use Rattle.ados_world.specs.Binding.{BindsWhatItUsed};
 ghost use Rattle.ados_machine.specs.Starts.{FailedStart};
 ghost use Rattle.ados_world.specs.Laws.{reports_break};
 ghost use Rattle.ados_world.specs.Shells.{IsShellNumber};
-ghost use Rattle.ados_world.specs.Steps.{step_answer, drafted_out, ended_world, world_after_turn};
+ghost use Rattle.ados_world.specs.Steps.{step_answer, draft_out, ended_world, world_after_turn};
 
 use crate::breaks::{break_other, breaks_by};
 use crate::carrying::moved_by;
@@ -153,7 +153,7 @@ impl World {
         requires number { IsShellNumber number }
         requires runs { is_some (shell_at self.old number) ≡ true }
         requires sane { IsSane (world_after_turn number draft.old self.old) }
-        ensures out { OnOk result (out_of draft.new ≡ drafted_out (shell_at self.old number) draft.old) }
+        ensures out { OnOk result (out_of draft.new ≡ draft_out (shell_at self.old number) draft.old) }
         ensures world { OnOk result (self.new ≡ record (world_after_turn number draft.old self.old) { queue = queue_after_event number self.old.queue (drop 1 self.old.queue) }) }
         ensures refusal { IfErr result (λ why. why ≡ WantOfMemory) }
         ensures unchanged { OnErr result (self.new ≡ self.old) }
@@ -171,7 +171,7 @@ impl World {
         requires number { IsShellNumber number }
         requires runs { is_some (shell_at self.old number) ≡ true }
         requires sane { IsSane (world_after_turn number draft.old self.old) }
-        ensures out { OnOk result (out_of draft.new ≡ drafted_out (shell_at self.old number) draft.old) }
+        ensures out { OnOk result (out_of draft.new ≡ draft_out (shell_at self.old number) draft.old) }
         ensures world { OnOk result (self.new ≡ world_after_turn number draft.old self.old) }
         ensures refusal { IfErr result (λ why. why ≡ WantOfMemory) }
         ensures unchanged { OnErr result (self.new ≡ self.old) }
@@ -204,7 +204,7 @@ impl World {
 
     /// The launcher is asked for what the shell of this number waits for after the event.
     fn ask(&self, number: u8, draft: &mut Draft) -> Result<(), NoMemory>
-        ensures out { OnOk result (out_of draft.new ≡ drafted_out (shell_at self.now number) draft.old) }
+        ensures out { OnOk result (out_of draft.new ≡ draft_out (shell_at self.now number) draft.old) }
         ensures same { OnOk result (draft.new ≡ record draft.old { request = draft.new.request }) }
     {
         match self.shell(number) {

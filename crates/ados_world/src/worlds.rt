@@ -1,7 +1,7 @@
 // A world, and what it shows.
 ghost use Rattle.std.specs.Prelude.{◌≡◌, ◌≤◌, Some, IfOk, IfSome, OnSome};
 ghost use Rattle.std.specs.Option.{option_copied};
-ghost use Rattle.ados_world.specs.Due.{first_from};
+ghost use Rattle.ados_world.specs.Due.{first_number};
 ghost use Rattle.ados_world.specs.Hosts.{Answers, hosts_fault};
 ghost use Rattle.ados_world.specs.Scenes.{Shows};
 ghost use Rattle.ados_world.specs.Shells.{IsShellNumber};
@@ -135,7 +135,7 @@ impl World {
     /// The first number from this one on, up to 20, whose shell can take a turn, as [`ready`](World::ready) says.
     pub fn first_ready(&self, from: u8) -> Option<u8>
         requires { from ≤ 21 }
-        ensures number { result ≡ first_from from (is_ready self.now) }
+        ensures number { result ≡ first_number from (is_ready self.now) }
         ensures low { IfSome result (λ number. from ≤ number) }
         ensures high { IfSome result (λ number. number ≤ 20) }
     {
@@ -151,7 +151,7 @@ impl World {
     /// [`pending`](World::pending) says.
     pub fn first_pending(&self, from: u8) -> Option<u8>
         requires { from ≤ 21 }
-        ensures number { result ≡ first_from from (asks self.now) }
+        ensures number { result ≡ first_number from (asks self.now) }
         ensures low { IfSome result (λ number. from ≤ number) }
         ensures high { IfSome result (λ number. number ≤ 20) }
     {

@@ -5,7 +5,7 @@ use Rattle.ados_launch.proofs.Places.{idle, running}
 use Rattle.ados_launch.proofs.Sessions.{driven-more, driven-none}
 use Rattle.ados_launch.specs.Lines.{bytes_ahead}
 use Rattle.ados_launch.specs.Rounds.{due_place, IsIdle}
-use Rattle.ados_launch.specs.Schedule.{found_next, next_in, following_schedule_state}
+use Rattle.ados_launch.specs.Schedule.{found_next, scheduled_next, following_schedule_state}
 use Rattle.ados_launch.specs.declared.faults.IntakeFault.TheVariants.{NoMemory, Read as Unread}
 use Rattle.ados_launch.proofs.driver.Drive.run_schedule.Goals as goal
 
@@ -31,7 +31,7 @@ pub loop-events-preserved : goal.loop-events-preserved
 loop-events-preserved g c =
     let i = c.loop-events.invariant in
     let may = c.in-Some.ensures.may_come in
-    let here : next_in c.loop-events.schedule c.loop-events.world ≡ Some (found_next c.in-Some.next) = sym c.in-Some.ensures.next in
+    let here : scheduled_next c.loop-events.schedule c.loop-events.world ≡ Some (found_next c.in-Some.next) = sym c.in-Some.ensures.next in
     let behind : c.pass.new.self ≡ following_schedule_state c.loop-events.schedule c.loop-events.world (found_next c.in-Some.next) = c.pass.ensures ∙ c.in-Some.ensures.passed in
     record {
       reader = c.in_ok-take.ensures.honest ∙ i.reader;
@@ -51,7 +51,7 @@ loop-events-preserved g c =
 pub returns-in_err-take-clause-comes_to : goal.returns-in_err-take-clause-comes_to
 returns-in_err-take-clause-comes_to g c =
     let i = c.loop-events.invariant in
-    let here : next_in c.loop-events.schedule c.loop-events.world ≡ Some (found_next c.in-Some.next) = sym c.in-Some.ensures.next in
+    let here : scheduled_next c.loop-events.schedule c.loop-events.world ≡ Some (found_next c.in-Some.next) = sym c.in-Some.ensures.next in
     comes-by c.args.self.now.turns c.args.self.now.breaks.now _ _ c.from_residual.result _ c.from_residual.ensures.1
     (λ is.
     let failed : IsErrOf c.take.result NoMemory = search rules in
@@ -69,7 +69,7 @@ returns-in_err-take-clause-comes_to g c =
 pub returns-in_err-write_whole-clause-comes_to : goal.returns-in_err-write_whole-clause-comes_to
 returns-in_err-write_whole-clause-comes_to g c =
     let i = c.loop-events.invariant in
-    let here : next_in c.loop-events.schedule c.loop-events.world ≡ Some (found_next c.in-Some.next) = sym c.in-Some.ensures.next in
+    let here : scheduled_next c.loop-events.schedule c.loop-events.world ≡ Some (found_next c.in-Some.next) = sym c.in-Some.ensures.next in
     let front = c.in_err-write_whole.ensures.front in
     comes-by c.args.self.now.turns c.args.self.now.breaks.now _ _ c.from_residual-in_err-write_whole.result _ c.from_residual-in_err-write_whole.ensures.1
     (λ is. cc)
