@@ -3,7 +3,7 @@ use Rattle.std.proofs.Common.{◌≡◌, ◌∙◌, ℕ, zero, suc, ◌≤◌, �
 use Rattle.std.proofs.lemmas.Bool.{and_parts}
 use Rattle.std.proofs.lemmas.Grind.{common_steps}
 use Rattle.std.specs.List.{list_any}
-use Rattle.ados_machine.specs.World.{WorldState, shell_at, is_ready, wants_input, wants_line, is_over, has_input, input_of, flatten}
+use Rattle.ados_machine.specs.World.{WorldState, numbered_shell, is_ready, wants_input, wants_line, is_over, has_input, input_of, flatten}
 use Rattle.ados_machine.specs.Shells.{ShellState}
 use Rattle.ados_machine.specs.Step.{break_response, is_accepted, step_of}
 use Rattle.ados_machine.specs.declared.events.Event.TheVariants.{Typed, EndOfInput, Turn, Break}
@@ -17,7 +17,7 @@ any_some (Some shell ∷ shells) i e = refl
 any_some (None ∷ shells) zero e = cc
 any_some (None ∷ shells) (suc i) e = any_some shells i e
 
-runs-on : (w : WorldState) (k : ℕ) → is_some (shell_at w k) ≡ true → is_over w ≡ false
+runs-on : (w : WorldState) (k : ℕ) → is_some (numbered_shell w k) ≡ true → is_over w ≡ false
 runs-on w zero e = cc
 runs-on w (suc k) e = ap not (any_some w.shells k e)
 
@@ -26,11 +26,11 @@ wanted-runs None e = cc
 wanted-runs (Some shell) e = refl
 
 runs-where_wanted : (w : WorldState) → wants_line w ≡ true → is_over w ≡ false
-runs-where_wanted w e = runs-on w 1 (wanted-runs (shell_at w 1) (and_parts (wants_input (shell_at w 1)) (not (has_input (input_of w 1))) e).0)
+runs-where_wanted w e = runs-on w 1 (wanted-runs (numbered_shell w 1) (and_parts (wants_input (numbered_shell w 1)) (not (has_input (input_of w 1))) e).0)
 
 -- if a line is wanted nothing is there to take
 nothing-to-take : (w : WorldState) → wants_line w ≡ true → has_input (input_of w 1) ≡ false
-nothing-to-take w e = opposite (has_input (input_of w 1)) (and_parts (wants_input (shell_at w 1)) (not (has_input (input_of w 1))) e).1
+nothing-to-take w e = opposite (has_input (input_of w 1)) (and_parts (wants_input (numbered_shell w 1)) (not (has_input (input_of w 1))) e).1
   where
     opposite : (b : Bool) → not b ≡ true → b ≡ false
     opposite true h = cc
@@ -59,7 +59,7 @@ broken-accepted w k kind None e = cc
 broken-accepted w k kind (Some shell) e = refl
 
 -- a break of a shell that runs is accepted
-pub break-accepted : (w : WorldState) (k : ℕ) (kind : Kind) → is_some (shell_at w k) ≡ true → is_accepted (step_of w (Break k kind)) ≡ true
+pub break-accepted : (w : WorldState) (k : ℕ) (kind : Kind) → is_some (numbered_shell w k) ≡ true → is_accepted (step_of w (Break k kind)) ≡ true
 break-accepted w k kind e =
     let left : is_over w ≡ false = runs-on w k e in
-    rw left (broken-accepted w k kind (shell_at w k) e)
+    rw left (broken-accepted w k kind (numbered_shell w k) e)

@@ -12,11 +12,11 @@ use Rattle.ados_machine.specs.Alone.{AreOf, exec_alone, bytes_in}
 use Rattle.ados_machine.specs.Children.{child_of_shell, child_in}
 use Rattle.ados_machine.specs.Numbers.{free_number}
 use Rattle.ados_machine.specs.Requests.{request_of}
-use Rattle.ados_machine.specs.Runs.{IsAnswer, Runs, world_after}
+use Rattle.ados_machine.specs.Runs.{IsAnswer, Runs, resulting_world}
 use Rattle.ados_machine.specs.Shells.{ShellState}
 use Rattle.ados_machine.specs.Step.{Response, Accepted, Refused, is_accepted, step_of}
 use Rattle.ados_machine.specs.LoneShell.{world_with_opened, opened_shell}
-use Rattle.ados_machine.specs.World.{WorldState, shell_at, request_of_shell, pending_of}
+use Rattle.ados_machine.specs.World.{WorldState, numbered_shell, request_of_shell, pending_of}
 use Rattle.ados_machine.proofs.Loops.{IsTaken, alone-turn, alone-reply, pending-hosted, turn-taken}
 use Rattle.ados_machine.proofs.Shells.{IsFree, found, found-set_other, free-number}
 use Rattle.ados_machine.proofs.Systems.{opened-stands}
@@ -55,17 +55,17 @@ accepted-of : (response : Response) → IsTaken response → is_accepted respons
 accepted-of (Refused why) taken = absurd taken
 accepted-of (Accepted world out items) taken = refl
 
-turn-by : (w : WorldState) (k : ℕ) (o : Option ShellState) → 2 ≤ k → shell_at w k ≡ o → is_some o ≡ true → request_of_shell o ≡ None → is_accepted (step_of w (Turn k)) ≡ true
+turn-by : (w : WorldState) (k : ℕ) (o : Option ShellState) → 2 ≤ k → numbered_shell w k ≡ o → is_some o ≡ true → request_of_shell o ≡ None → is_accepted (step_of w (Turn k)) ≡ true
 turn-by w k None above runs some asks = cc
 turn-by w k (Some shell) above runs some asks =
     accepted-of (step_of w (Turn k)) (turn-taken w k shell above runs (sym (pending-hosted shell.parts.number shell.phase) ∙ ap is_some asks))
 
 -- a background shell that asks for nothing can take a turn
-pub turn-on : (w : WorldState) (k : ℕ) → 2 ≤ k → is_some (shell_at w k) ≡ true → pending_of w k ≡ None → is_accepted (step_of w (Turn k)) ≡ true
-turn-on w k above runs asks = turn-by w k (shell_at w k) above refl runs asks
+pub turn-on : (w : WorldState) (k : ℕ) → 2 ≤ k → is_some (numbered_shell w k) ≡ true → pending_of w k ≡ None → is_accepted (step_of w (Turn k)) ≡ true
+turn-on w k above runs asks = turn-by w k (numbered_shell w k) above refl runs asks
 
 pub turn-takes : (w now : WorldState) (k : ℕ) (is_full : Bool) (calls : List Call) (out : Out) → pending_of w k ≡ None →
-    IsAnswer (Turn k) (Ok out) (step_of w (Turn k)) → now ≡ world_after w (Ok out) (step_of w (Turn k)) → TakesNext k w is_full calls now calls out
+    IsAnswer (Turn k) (Ok out) (step_of w (Turn k)) → now ≡ resulting_world w (Ok out) (step_of w (Turn k)) → TakesNext k w is_full calls now calls out
 turn-takes w now k is_full calls out asks answer world = record {
   event = Turn k;
   listed = [];
@@ -79,7 +79,7 @@ turn-takes w now k is_full calls out asks answer world = record {
 
 pub answer-takes : (w now : WorldState) (k : ℕ) (was_full is_full : Bool) (calls calls_now : List Call) (request : Request) (reply : Reply) (out : Out) →
     pending_of w k ≡ Some request → Asks request reply was_full is_full calls calls_now →
-    IsAnswer (Answer k reply) (Ok out) (step_of w (Answer k reply)) → now ≡ world_after w (Ok out) (step_of w (Answer k reply)) →
+    IsAnswer (Answer k reply) (Ok out) (step_of w (Answer k reply)) → now ≡ resulting_world w (Ok out) (step_of w (Answer k reply)) →
     TakesNext k w is_full calls now calls_now out
 answer-takes w now k was_full is_full calls calls_now request reply out asked asks answer world = record {
   event = Answer k reply;
@@ -154,9 +154,9 @@ answer-next None k j reply is = absurd is
 answer-next (Some request) k j reply is = (refl, is)
 
 -- one more event of the shell that runs alone
-steps-by : (k n : ℕ) (w : WorldState) (event : Event) (out : Out) (printed : Bytes) (shell : ShellState) → shell_at w k ≡ Some shell →
+steps-by : (k n : ℕ) (w : WorldState) (event : Event) (out : Out) (printed : Bytes) (shell : ShellState) → numbered_shell w k ≡ Some shell →
     IsNextOf k (request_of shell.parts.number shell.phase) event → IsAnswer event (Ok out) (step_of w event) → (rest : List Reply) →
-    exec_alone k (suc n) (replies_in event ++ rest) w printed ≡ exec_alone k n rest (world_after w (Ok out) (step_of w event)) (printed ++ out.bytes)
+    exec_alone k (suc n) (replies_in event ++ rest) w printed ≡ exec_alone k n rest (resulting_world w (Ok out) (step_of w event)) (printed ++ out.bytes)
 steps-by k n w (Turn j) out printed shell runs is accepted rest =
     let next = turn-next (request_of shell.parts.number shell.phase) k j is in
     rw next.1 (alone-turn k n rest w printed shell out runs
@@ -169,9 +169,9 @@ steps-by k n w (Typed line) out printed shell runs is accepted rest = absurd (ty
 steps-by k n w EndOfInput out printed shell runs is accepted rest = absurd (end-next (request_of shell.parts.number shell.phase) k is)
 steps-by k n w (Break j kind) out printed shell runs is accepted rest = absurd (break-next (request_of shell.parts.number shell.phase) k j kind is)
 
-pub steps-on : (k n : ℕ) (w : WorldState) (event : Event) (out : Out) (printed : Bytes) (o : Option ShellState) → shell_at w k ≡ o → is_some o ≡ true →
+pub steps-on : (k n : ℕ) (w : WorldState) (event : Event) (out : Out) (printed : Bytes) (o : Option ShellState) → numbered_shell w k ≡ o → is_some o ≡ true →
     IsNextOf k (request_of_shell o) event → IsAnswer event (Ok out) (step_of w event) → (rest : List Reply) →
-    exec_alone k (suc n) (replies_in event ++ rest) w printed ≡ exec_alone k n rest (world_after w (Ok out) (step_of w event)) (printed ++ out.bytes)
+    exec_alone k (suc n) (replies_in event ++ rest) w printed ≡ exec_alone k n rest (resulting_world w (Ok out) (step_of w event)) (printed ++ out.bytes)
 steps-on k n w event out printed None runs some is accepted rest = cc
 steps-on k n w event out printed (Some shell) runs some is accepted rest = steps-by k n w event out printed shell runs is accepted rest
 

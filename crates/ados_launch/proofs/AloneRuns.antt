@@ -8,7 +8,7 @@ use Rattle.ados_machine.specs.Alone.{exec_alone, bytes_in}
 use Rattle.ados_machine.specs.Numbers.{free_number}
 use Rattle.ados_machine.specs.Shells.{ShellState}
 use Rattle.ados_machine.specs.LoneShell.{world_with_opened}
-use Rattle.ados_machine.specs.World.{WorldState, shell_at, pending_of, codes_at}
+use Rattle.ados_machine.specs.World.{WorldState, numbered_shell, pending_of, codes_at}
 use Rattle.ados_machine.proofs.Systems.{system-ended, system-late}
 use Rattle.ados_world.specs.Opened.{opening_fault}
 use Rattle.ados_launcher.specs.declared.calls.Call.{Call}
@@ -21,7 +21,7 @@ use Rattle.ados_launch.proofs.AloneLemmas.{replies_in, Going, steps-on, are-more
 
 abbrev pub going-more : (k : ℕ) (w : WorldState) (line : Text) (turns n : ℕ) (was_full is_full : Bool) (world next : WorldState) (before mid last : Bytes)
     (calls mid_calls calls_now : List Call) (out : Out) →
-    Going k w line turns n was_full world before mid calls mid_calls → (was_full ≡ true → is_full ≡ true) → is_some (shell_at world k) ≡ true →
+    Going k w line turns n was_full world before mid calls mid_calls → (was_full ≡ true → is_full ≡ true) → is_some (numbered_shell world k) ≡ true →
     TakesNext k world is_full mid_calls next calls_now out → last ≡ mid ++ out.bytes → Going k w line turns (n + 1) is_full next before last calls calls_now
 going-more k w line turns n was_full is_full world next before mid last calls mid_calls calls_now out g stays runs t grown = record {
   taken = g.taken ++ Given t.event out ∷ [];
@@ -37,7 +37,7 @@ going-more k w line turns n was_full is_full world next before mid last calls mi
   steps = λ left all rest.
       ap (λ answers. exec_alone k turns answers (world_with_opened w k (line ∷ [])) before) (append_assoc g.answers (replies_in t.event) rest)
       ∙ (g.steps (suc left) (omega (arith, all)) (replies_in t.event ++ rest)
-      ∙ rw (t.world_is, grown) (steps-on k left world t.event out mid (shell_at world k) refl runs t.is_next t.accepted rest));
+      ∙ rw (t.world_is, grown) (steps-on k left world t.event out mid (numbered_shell world k) refl runs t.is_next t.accepted rest));
 }
 
 none-behind : (calls now listed : List Call) → now ≡ calls ++ listed → now ≡ calls ++ (listed ++ [])
@@ -58,7 +58,7 @@ runs-line k w line turns n was_full is_full world before now calls mid_calls cal
 
 pub going-ended : (k : ℕ) (w : WorldState) (line : Text) (turns n left : ℕ) (is_full : Bool) (world : WorldState) (before now : Bytes) (calls calls_now : List Call) (codes : Codes) →
     Going k w line turns n is_full world before now calls calls_now → opening_fault w line ≡ None → free_number w.shells ≡ Some k → k ≤ length w.ended → left + n ≡ turns →
-    shell_at world k ≡ None → codes ≡ codes_at world k → EndedAs w line turns is_full world before now calls calls_now codes
+    numbered_shell world k ≡ None → codes ≡ codes_at world k → EndedAs w line turns is_full world before now calls calls_now codes
 going-ended k w line turns n left is_full world before now calls calls_now codes g good free room all gone told =
     let e = system-ended turns k w line g.answers before now left world free room (g.steps left all) gone in
     record {
@@ -74,7 +74,7 @@ going-ended k w line turns n left is_full world before now calls calls_now codes
     }
 
 pub going-late : (k : ℕ) (w : WorldState) (line : Text) (turns : ℕ) (is_full : Bool) (world : WorldState) (before now : Bytes) (calls calls_now : List Call) (shell : ShellState) →
-    Going k w line turns turns is_full world before now calls calls_now → opening_fault w line ≡ None → free_number w.shells ≡ Some k → shell_at world k ≡ Some shell →
+    Going k w line turns turns is_full world before now calls calls_now → opening_fault w line ≡ None → free_number w.shells ≡ Some k → numbered_shell world k ≡ Some shell →
     RunsOn w line turns is_full world before now calls calls_now k
 going-late k w line turns is_full world before now calls calls_now shell g good free runs =
     let e = system-late turns k w line g.answers before now 0 world shell free (g.steps 0 (omega arith)) refl runs in
@@ -89,7 +89,7 @@ going-late k w line turns is_full world before now calls calls_now shell g good 
 
 -- if an event was not taken
 pub stands-untaken : (k : ℕ) (w : WorldState) (line : Text) (turns n : ℕ) (was_full is_full : Bool) (world : WorldState) (before now : Bytes) (calls mid_calls calls_now : List Call) (fault : SystemFault) →
-    Going k w line turns n was_full world before now calls mid_calls → opening_fault w line ≡ None → free_number w.shells ≡ Some k → (was_full ≡ true → is_full ≡ true) → is_some (shell_at world k) ≡ true → n < turns →
+    Going k w line turns n was_full world before now calls mid_calls → opening_fault w line ≡ None → free_number w.shells ≡ Some k → (was_full ≡ true → is_full ≡ true) → is_some (numbered_shell world k) ≡ true → n < turns →
     (others : List Call) × IsUntaken is_full world k fault.answer others × (calls_now ≡ mid_calls ++ others) →
     fault.refusal ≡ NoMemory → fault.events ≡ n → fault.unwritten ≡ [] → LineProgress w line turns is_full fault world before now calls calls_now k
 stands-untaken k w line turns n was_full is_full world before now calls mid_calls calls_now fault g good free stays runs within untaken why count none = record {
@@ -106,7 +106,7 @@ stands-untaken k w line turns n was_full is_full world before now calls mid_call
 -- if there was no room for what the last event printed
 pub stands-unwritten : (k : ℕ) (w : WorldState) (line : Text) (turns n : ℕ) (was_full is_full : Bool) (world next : WorldState) (before mid : Bytes)
     (calls mid_calls calls_now : List Call) (out : Out) (fault : SystemFault) →
-    Going k w line turns n was_full world before mid calls mid_calls → opening_fault w line ≡ None → free_number w.shells ≡ Some k → (was_full ≡ true → is_full ≡ true) → is_some (shell_at world k) ≡ true → n < turns →
+    Going k w line turns n was_full world before mid calls mid_calls → opening_fault w line ≡ None → free_number w.shells ≡ Some k → (was_full ≡ true → is_full ≡ true) → is_some (numbered_shell world k) ≡ true → n < turns →
     TakesNext k world is_full mid_calls next calls_now out → fault.refusal ≡ NoMemory → fault.events ≡ n + 1 → fault.answer ≡ None → fault.unwritten ≡ out.bytes → 0 < length fault.unwritten →
     LineProgress w line turns is_full fault next before mid calls calls_now k
 stands-unwritten k w line turns n was_full is_full world next before mid calls mid_calls calls_now out fault g good free stays runs within t why count none bytes some =

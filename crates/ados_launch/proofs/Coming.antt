@@ -5,7 +5,7 @@ use Rattle.std.specs.List.{prefix_len}
 use Rattle.std.proofs.lemmas.Bool.{cases_Bool}
 use Rattle.std.proofs.lemmas.Grind.{common_steps}
 use Rattle.ados_machine.specs.declared.events.BreakAt.{BreakAt}
-use Rattle.ados_machine.specs.World.{WorldState, shell_at}
+use Rattle.ados_machine.specs.World.{WorldState, numbered_shell}
 use Rattle.ados_launch.specs.declared.schedule.Next as found
 use Rattle.ados_launch.specs.declared.schedule.Next.TheVariants.{Break as BreakFound, Due as DueFound}
 use Rattle.ados_launch.specs.Rounds.{due_place, IsRunning}
@@ -28,8 +28,8 @@ pub behind_next : (s : ScheduleState) (w : WorldState) (place : ℕ) → followi
 behind_next s w place = behind-at s w (next_at place) place refl
 
 -- the first break that is not passed over is one of a shell that runs
-stays-runs : (number : ℕ) (w : WorldState) (at : BreakAt) → is_passed number w at ≡ false → nat_le at.event number ≡ true → is_some (shell_at w at.shell) ≡ true
-stays-runs number w at off early = runs (is_some (shell_at w at.shell)) (rw early at off)
+stays-runs : (number : ℕ) (w : WorldState) (at : BreakAt) → is_passed number w at ≡ false → nat_le at.event number ≡ true → is_some (numbered_shell w at.shell) ≡ true
+stays-runs number w at off early = runs (is_some (numbered_shell w at.shell)) (rw early at off)
   where
     runs : (b : Bool) → not b ≡ false → b ≡ true
     runs true e = refl
@@ -42,7 +42,7 @@ first-is number at other breaks e =
       | inr late ↦ (let x = rw late at e in cc)
     ]
 
-pub first_runs : (number : ℕ) (w : WorldState) (breaks : List BreakAt) (at : BreakAt) → first_due_break number (drop (prefix_len (is_passed number w) breaks) breaks) ≡ Some at → is_some (shell_at w at.shell) ≡ true
+pub first_runs : (number : ℕ) (w : WorldState) (breaks : List BreakAt) (at : BreakAt) → first_due_break number (drop (prefix_len (is_passed number w) breaks) breaks) ≡ Some at → is_some (numbered_shell w at.shell) ≡ true
 first_runs number w [] at e = cc
 first_runs number w (first ∷ breaks) at e =
     elim (cases_Bool (is_passed number w first)) [

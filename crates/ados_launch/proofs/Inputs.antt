@@ -7,21 +7,21 @@ use Rattle.ados_find.specs.declared.codes.Codes.{Codes}
 use Rattle.ados_find.specs.declared.outcomes.Renamed.{Renamed}
 use Rattle.ados_flow.specs.Frames.{FrameState}
 use Rattle.ados_machine.specs.Requests.{request_of}
-use Rattle.ados_machine.specs.World.{WorldState, shell_at, can_take, can_turn, has_input, is_ready, request_of_shell, pending_of, takes_input as phase_takes, wants_input, wants_line, is_over, input_of, flatten}
+use Rattle.ados_machine.specs.World.{WorldState, numbered_shell, can_take, can_turn, has_input, is_ready, request_of_shell, pending_of, takes_input as phase_takes, wants_input, wants_line, is_over, input_of, flatten}
 use Rattle.ados_machine.specs.Numbers.{free_number}
 use Rattle.ados_machine.specs.Settle.{TurnResult}
 use Rattle.ados_machine.specs.Shells.{ShellStart, begun_shell, ShellState}
 use Rattle.ados_machine.specs.Course.{Course}
 use Rattle.ados_find.specs.declared.outcomes.Breaking.{Breaking}
 use Rattle.ados_find.specs.declared.outcomes.Breaks.{Breaks}
-use Rattle.ados_machine.specs.Breaks.{breaks_by, broken_at, shells_after_break, broken_number, broken_place, has_script}
+use Rattle.ados_machine.specs.Breaks.{kind_breaks, broken_at, shells_after_break, broken_number, broken_place, has_script}
 use Rattle.ados_machine.specs.Carrying.{carried_shells}
 use Rattle.ados_machine.specs.Answers.{answered_in}
-use Rattle.ados_machine.specs.Sinks.{sink_in}
+use Rattle.ados_machine.specs.Sinks.{newest_sink}
 use Rattle.ados_machine.specs.Completions.{Completion}
 use Rattle.ados_machine.specs.Turning.{Input, Turning, Refuses, Ends, Takes, turning_at_break, turning_in_phase, console_turning, ready_turning, input_turning, turning_of_completion}
 use Rattle.ados_machine.specs.Step.{break_response, step_of, turn_response, turning_response, shell_after_turn, start, moved_at_turn, answer_response, course_without_flag, with_begun}
-use Rattle.ados_machine.specs.Runs.{world_after}
+use Rattle.ados_machine.specs.Runs.{resulting_world}
 use Rattle.ados_machine.specs.declared.answers.Answer.{Answer as Reply}
 use Rattle.ados_machine.specs.declared.outs.Out.{Out}
 use Rattle.ados_machine.specs.declared.phases.Phase.{Phase}
@@ -83,7 +83,7 @@ first-unset (found ∷ shells) zero some = absurd (some refl)
 first-unset (found ∷ shells) (suc i) some = refl
 
 -- a typed line leaves the shells and the input's end unchanged
-pub typed-takes : (w : WorldState) (out : Out) (line : List ℕ) → takes_input w ≡ true → takes_input (world_after w (Ok out) (step_of w (Typed line))) ≡ true
+pub typed-takes : (w : WorldState) (out : Out) (line : List ℕ) → takes_input w ≡ true → takes_input (resulting_world w (Ok out) (step_of w (Typed line))) ≡ true
 typed-takes w out line e = grind (arith, common_steps)
 
 console-ends : (queue : List (List ℕ)) (is_ended : Bool) (course : Course) → console_turning queue is_ended course ≡ Ends → is_ended ≡ true
@@ -121,11 +121,11 @@ flagged-ends : (b : Bool) (input : Input) (frames : List FrameState) (course : C
 flagged-ends true input frames course phase e = turning-ends input frames course phase (placed-ends (turning_in_phase input frames course phase) input frames course e)
 flagged-ends false input frames course phase e = turning-ends input frames course phase e
 
-applied-takes : (w : WorldState) (out : Out) (k : ℕ) (codes : Codes) (t : Turning) → (t ≡ Ends → k ≢ 1) → k ≢ 0 → takes_input w ≡ true → takes_input (world_after w (Ok out) (turning_response w k codes t)) ≡ true
+applied-takes : (w : WorldState) (out : Out) (k : ℕ) (codes : Codes) (t : Turning) → (t ≡ Ends → k ≢ 1) → k ≢ 0 → takes_input w ≡ true → takes_input (resulting_world w (Ok out) (turning_response w k codes t)) ≡ true
 applied-takes w out k codes (Refuses why) ends some e = e
 applied-takes w out k codes Ends ends some e = rw (first-unset w.shells (k - 1) (omega (arith, some, ends refl))) e
 applied-takes w out k codes (Takes queue turn_response) ends some e =
-    let parts = and_parts (is_some (shell_at w 1)) (not w.input_ended) e in
+    let parts = and_parts (is_some (numbered_shell w 1)) (not w.input_ended) e in
     let moved = moved_at_turn w turn_response in
     let carried = first-carried moved w.shells parts.0 in
     let begun = first-begun turn_response.course.begun (free_number w.shells) (carried_shells moved w.shells) carried in
@@ -136,10 +136,10 @@ applied-takes w out k codes (Takes queue turn_response) ends some e =
       parts.1,
     ) refl
 
-turned-takes : (w : WorldState) (out : Out) (k : ℕ) (found : Option ShellState) → shell_at w k ≡ found → takes_input w ≡ true → takes_input (world_after w (Ok out) (turn_response w k found)) ≡ true
+turned-takes : (w : WorldState) (out : Out) (k : ℕ) (found : Option ShellState) → numbered_shell w k ≡ found → takes_input w ≡ true → takes_input (resulting_world w (Ok out) (turn_response w k found)) ≡ true
 turned-takes w out k None at e = e
 turned-takes w out k (Some shell) at e =
-    let unended : not w.input_ended ≡ true = (and_parts (is_some (shell_at w 1)) (not w.input_ended) e).1 in
+    let unended : not w.input_ended ≡ true = (and_parts (is_some (numbered_shell w 1)) (not w.input_ended) e).1 in
     applied-takes w out k shell.parts.codes _
     (λ ends one.
     let ended : (input_of w k).is_ended ≡ true = flagged-ends (shell.flagged && has_script shell.frames) (input_of w k) shell.frames (course_without_flag (start w shell)) shell.phase ends in
@@ -149,11 +149,11 @@ turned-takes w out k (Some shell) at e =
     e
 
 -- a turn leaves the input unchanged, and shell 1 ends only if it has ended
-pub turn-takes : (w : WorldState) (out : Out) (k : ℕ) → takes_input w ≡ true → takes_input (world_after w (Ok out) (step_of w (Turn k))) ≡ true
+pub turn-takes : (w : WorldState) (out : Out) (k : ℕ) → takes_input w ≡ true → takes_input (resulting_world w (Ok out) (step_of w (Turn k))) ≡ true
 turn-takes w out k e =
     elim (cases_Bool (is_over w)) [
       | inl over ↦ rw over e
-      | inr running ↦ rw running (turned-takes w out k (shell_at w k) refl e)
+      | inr running ↦ rw running (turned-takes w out k (numbered_shell w k) refl e)
     ]
 
 -- only a background shell ends by an answer
@@ -161,34 +161,34 @@ replied-never : (input : Input) (frames : List FrameState) (completion : Option 
 replied-never input frames None e = cc
 replied-never input frames (Some completion) e = cc
 
-answered-takes : (w : WorldState) (out : Out) (k : ℕ) (reply : Reply) (found : Option ShellState) → shell_at w k ≡ found → takes_input w ≡ true →
-    takes_input (world_after w (Ok out) (answer_response w k reply found)) ≡ true
+answered-takes : (w : WorldState) (out : Out) (k : ℕ) (reply : Reply) (found : Option ShellState) → numbered_shell w k ≡ found → takes_input w ≡ true →
+    takes_input (resulting_world w (Ok out) (answer_response w k reply found)) ≡ true
 answered-takes w out k reply None at e = e
 answered-takes w out k reply (Some shell) at e =
     applied-takes w out k shell.parts.codes _
-    (λ ends. absurd (replied-never (input_of w k) shell.frames (answered_in (sink_in shell.frames) (start w shell) shell.phase reply) ends))
+    (λ ends. absurd (replied-never (input_of w k) shell.frames (answered_in (newest_sink shell.frames) (start w shell) shell.phase reply) ends))
     (λ none. let nothing : None ≡ Some shell = rw none at at in cc)
     e
 
-pub answer-takes : (w : WorldState) (out : Out) (k : ℕ) (reply : Reply) → takes_input w ≡ true → takes_input (world_after w (Ok out) (step_of w (Answer k reply))) ≡ true
+pub answer-takes : (w : WorldState) (out : Out) (k : ℕ) (reply : Reply) → takes_input w ≡ true → takes_input (resulting_world w (Ok out) (step_of w (Answer k reply))) ≡ true
 answer-takes w out k reply e =
     elim (cases_Bool (is_over w)) [
       | inl over ↦ rw over e
-      | inr running ↦ rw running (answered-takes w out k reply (shell_at w k) refl e)
+      | inr running ↦ rw running (answered-takes w out k reply (numbered_shell w k) refl e)
     ]
 
-broken-takes : (w : WorldState) (out : Out) (k : ℕ) (kind : Kind) (found : Option ShellState) → takes_input w ≡ true → takes_input (world_after w (Ok out) (break_response w k kind found)) ≡ true
+broken-takes : (w : WorldState) (out : Out) (k : ℕ) (kind : Kind) (found : Option ShellState) → takes_input w ≡ true → takes_input (resulting_world w (Ok out) (break_response w k kind found)) ≡ true
 broken-takes w out k kind None e = e
 broken-takes w out k kind (Some shell) e =
-    let parts = and_parts (is_some (shell_at w 1)) (not w.input_ended) e in
-    rw (first-numbered (breaks_by kind) k w.shells parts.0, parts.1) refl
+    let parts = and_parts (is_some (numbered_shell w 1)) (not w.input_ended) e in
+    rw (first-numbered (kind_breaks kind) k w.shells parts.0, parts.1) refl
 
 -- no shell ends by a break
-pub break-takes : (w : WorldState) (out : Out) (k : ℕ) (kind : Kind) → takes_input w ≡ true → takes_input (world_after w (Ok out) (step_of w (Break k kind))) ≡ true
+pub break-takes : (w : WorldState) (out : Out) (k : ℕ) (kind : Kind) → takes_input w ≡ true → takes_input (resulting_world w (Ok out) (step_of w (Break k kind))) ≡ true
 break-takes w out k kind e =
     elim (cases_Bool (is_over w)) [
       | inl over ↦ rw over e
-      | inr running ↦ rw running (broken-takes w out k kind (shell_at w k) e)
+      | inr running ↦ rw running (broken-takes w out k kind (numbered_shell w k) e)
     ]
 
 -- if shell 1 takes input and does not wait for a launcher, a line is wanted or shell 1 is ready
@@ -212,5 +212,5 @@ pub takes-due : (w : WorldState) → pending_of w 1 ≡ None → takes_input w �
 takes-due w none e =
     elim (cases_Bool (is_ready w 1)) [
       | inl ready ↦ inr ready
-      | inr unready ↦ inl (found-due (input_of w 1) (shell_at w 1) (and_parts (is_some (shell_at w 1)) (not w.input_ended) e).0 none unready)
+      | inr unready ↦ inl (found-due (input_of w 1) (numbered_shell w 1) (and_parts (is_some (numbered_shell w 1)) (not w.input_ended) e).0 none unready)
     ]

@@ -2,7 +2,7 @@
 use Rattle.std.proofs.Common.{◌≡◌, ℕ, Bool, List, [], ◌∷◌, ◌++◌, Option, Some, None, Ok, subst}
 use Rattle.ados_text.specs.Text.{Text}
 use Rattle.ados_machine.specs.Numbers.{free_number}
-use Rattle.ados_machine.specs.Runs.{Runs, world_after}
+use Rattle.ados_machine.specs.Runs.{Runs, resulting_world}
 use Rattle.ados_machine.specs.Step.{step_of}
 use Rattle.ados_machine.specs.LoneShell.{world_with_opened}
 use Rattle.ados_machine.specs.World.{WorldState}
@@ -20,7 +20,7 @@ leads_none w now same = ([], same)
 led_append : (w mid last : WorldState) (acts more : List Act) → ActsLead w acts mid → ActsLead mid more last → ActsLead w (acts ++ more) last
 led_append w mid last [] more led after = subst (λ v. ActsLead v more last) led after
 led_append w mid last (Takes event out ∷ acts) more led after =
-    (led.0, led_append (world_after w (Ok out) (step_of w event)) mid last acts more led.1 after)
+    (led.0, led_append (resulting_world w (Ok out) (step_of w event)) mid last acts more led.1 after)
 led_append w mid last (Opens k line ∷ acts) more led after =
     (led.0, led.1, led_append (world_with_opened w k (line ∷ [])) mid last acts more led.2 after)
 
@@ -40,7 +40,7 @@ leads_at w left is_full calls next now rest calls_now bytes t = leads_taken w no
 pub leads_run : (w last : WorldState) (taken : List TakenItem) → Runs w (taken_events taken) (taken_outs taken) last → Reaches w last
 leads_run w last [] run = ([], run)
 leads_run w last (Given event out ∷ taken) run =
-    let more = leads_run (world_after w (Ok out) (step_of w event)) last taken run.1 in
+    let more = leads_run (resulting_world w (Ok out) (step_of w event)) last taken run.1 in
     (Takes event out ∷ more.0, (run.0, more.1))
 leads_run w last (LongLine ∷ taken) run = leads_run w last taken run
 

@@ -8,7 +8,7 @@ use Rattle.std.proofs.lemmas.Grind.{common_steps}
 use Rattle.ados_flow.specs.Frames.{FrameState}
 use Rattle.ados_machine.specs.Requests.{request_of}
 use Rattle.ados_machine.specs.Children.{child_of_shell}
-use Rattle.ados_machine.specs.World.{WorldState, shell_at, can_take, can_turn, flatten, has_input, input_of, is_over, request_of_shell, running_numbers, takes_input, wants_input}
+use Rattle.ados_machine.specs.World.{WorldState, numbered_shell, can_take, can_turn, flatten, has_input, input_of, is_over, request_of_shell, running_numbers, takes_input, wants_input}
 use Rattle.ados_machine.specs.Shells.{ShellState}
 use Rattle.ados_machine.specs.Turning.{Input}
 use Rattle.ados_machine.specs.declared.phases.Phase.{Phase}
@@ -58,12 +58,12 @@ first-found input None wants ready none = refl
 first-found input (Some shell) wants ready none = absurd (first-phase input shell.parts.number shell.frames shell.phase none wants ready)
 
 -- if nothing may come no shell is left at a number from 1 to 20
-none-left : (w : WorldState) (k : ℕ) → IsIdle w → k ≤ 20 → shell_at w k ≡ None
+none-left : (w : WorldState) (k : ℕ) → IsIdle w → k ≤ 20 → numbered_shell w k ≡ None
 none-left w zero idle h = refl
 none-left w (suc zero) idle h =
-    first-found (input_of w 1) (shell_at w 1) (idle-line w idle) (idle-turn w 1 idle (omega arith) (omega arith)) (idle-pending w 1 idle (omega arith) (omega arith))
+    first-found (input_of w 1) (numbered_shell w 1) (idle-line w idle) (idle-turn w 1 idle (omega arith) (omega arith)) (idle-pending w 1 idle (omega arith) (omega arith))
 none-left w (suc (suc k)) idle h =
-    idle-found w (suc (suc k)) (shell_at w (suc (suc k))) (λ e. omega (arith, e)) (idle-turn w (suc (suc k)) idle (omega arith) h) (idle-pending w (suc (suc k)) idle (omega arith) h)
+    idle-found w (suc (suc k)) (numbered_shell w (suc (suc k))) (λ e. omega (arith, e)) (idle-turn w (suc (suc k)) idle (omega arith) h) (idle-pending w (suc (suc k)) idle (omega arith) h)
 
 past-end : (shells : List (Option ShellState)) (i : ℕ) → length shells ≤ i → slice_get shells i ≡ None
 past-end [] i h = refl
@@ -71,7 +71,7 @@ past-end (found ∷ shells) zero h = absurd (omega (arith, h))
 past-end (found ∷ shells) (suc i) h = past-end shells i (omega (arith, h))
 
 -- nor at any other
-pub none-there : (w : WorldState) (k : ℕ) → length w.shells ≡ 20 → IsIdle w → shell_at w k ≡ None
+pub none-there : (w : WorldState) (k : ℕ) → length w.shells ≡ 20 → IsIdle w → numbered_shell w k ≡ None
 none-there w zero size idle = refl
 none-there w (suc i) size idle =
     elim (cases_Bool (nat_lt i 20)) [
@@ -94,7 +94,7 @@ none-in (None ∷ shells) zero none = refl
 none-in (None ∷ shells) (suc i) none = none-in shells i none
 none-in (Some shell ∷ shells) i none = cc
 
-over-none : (w : WorldState) (k : ℕ) → is_over w ≡ true → shell_at w k ≡ None
+over-none : (w : WorldState) (k : ℕ) → is_over w ≡ true → numbered_shell w k ≡ None
 over-none w zero over = refl
 over-none w (suc i) over = none-in w.shells i (unset (list_any is_some w.shells) over)
   where

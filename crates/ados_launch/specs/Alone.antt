@@ -11,10 +11,10 @@ use Rattle.ados_machine.specs.declared.refusals.Refusal.TheVariants.{NoMemory}
 use Rattle.ados_machine.specs.declared.requests.Request.{Request}
 use Rattle.ados_machine.specs.Alone.{AreOf, IsEnd, IsLate, bytes_in}
 use Rattle.ados_machine.specs.Numbers.{free_number}
-use Rattle.ados_machine.specs.Runs.{IsAnswer, Runs, world_after}
+use Rattle.ados_machine.specs.Runs.{IsAnswer, Runs, resulting_world}
 use Rattle.ados_machine.specs.Step.{step_of}
 use Rattle.ados_machine.specs.LoneShell.{world_with_opened, whole}
-use Rattle.ados_machine.specs.World.{WorldState, pending_of, shell_at}
+use Rattle.ados_machine.specs.World.{WorldState, pending_of, numbered_shell}
 use Rattle.ados_world.specs.Opened.{Refuses, opening_fault}
 use Rattle.ados_launcher.specs.declared.calls.Call.{Call}
 use Rattle.ados_launch.specs.declared.alone.SystemEnd.{SystemEnd}
@@ -36,7 +36,7 @@ pub record TakesNext (k : ℕ) (w : WorldState) (is_full : Bool) (calls : List C
   pub listed : List Call
   pub is_next : IsNextOf k (pending_of w k) event
   pub accepted : IsAnswer event (Ok out) (step_of w event)
-  pub world_is : now ≡ world_after w (Ok out) (step_of w event)
+  pub world_is : now ≡ resulting_world w (Ok out) (step_of w event)
   pub asked : IsAsked is_full w (Given event out) listed
   pub when_full : is_full ≡ true → AreNoStarts listed
   pub calls_are : calls_now ≡ calls ++ listed
@@ -50,7 +50,7 @@ IsUntaken is_full w k (Some reply) others = ListsOf is_full (pending_of w k) rep
 abbrev pub AgreesOnceTaken : WorldState → ℕ → Option Reply → List Call → Type 0
 AgreesOnceTaken w k None calls = Agrees w calls
 AgreesOnceTaken w k (Some reply) calls = (out : Out) → IsAnswer (Answer k reply) (Ok out) (step_of w (Answer k reply)) →
-    Agrees (world_after w (Ok out) (step_of w (Answer k reply))) calls
+    Agrees (resulting_world w (Ok out) (step_of w (Answer k reply))) calls
 
 -- whether a shell was opened or not
 abbrev pub AgreesAfterOpening : WorldState → Option ℕ → Option Reply → List Call → Type 0
@@ -98,7 +98,7 @@ AreOfLast bytes taken = (front : List TakenItem) × (event : Event) × (out : Ou
 -- is handed back.
 abbrev pub StopsAtEvent : Bool → ℕ → SystemFault → WorldState → ℕ → List Call → Type 0
 StopsAtEvent is_full turns fault w k others =
-    (is_some (shell_at w k) ≡ true) × (fault.events < turns) × IsUntaken is_full w k fault.answer others × (fault.unwritten ≡ [])
+    (is_some (numbered_shell w k) ≡ true) × (fault.events < turns) × IsUntaken is_full w k fault.answer others × (fault.unwritten ≡ [])
 
 -- There was no room for what the last event printed, which is handed back; nothing was asked for another one.
 abbrev pub StopsAtBytes : ℕ → SystemFault → List TakenItem → List Call → Type 0

@@ -7,7 +7,7 @@ use Rattle.ados_machine.specs.declared.events.Event.{Event}
 use Rattle.ados_machine.specs.declared.events.Event.TheVariants.{Typed, EndOfInput, Turn, Answer, Break}
 use Rattle.ados_machine.specs.declared.events.Kind.{Kind}
 use Rattle.ados_machine.specs.Children.{answers_start}
-use Rattle.ados_machine.specs.World.{WorldState, shell_at}
+use Rattle.ados_machine.specs.World.{WorldState, numbered_shell}
 use Rattle.ados_launch.specs.declared.rounds.Round.{Round}
 use Rattle.ados_launch.specs.declared.schedule.Next as found
 use Rattle.ados_launch.specs.declared.schedule.Next.TheVariants.{Break as BreakFound, Due as DueFound}
@@ -49,7 +49,7 @@ place_of (AtFurther shell) = shell + 40
 
 -- a break whose shell does not run is passed over before the event with its number, for good
 abbrev pub is_passed : ℕ → WorldState → BreakAt → Bool
-is_passed number w at = nat_le at.event number && not (is_some (shell_at w at.shell))
+is_passed number w at = nat_le at.event number && not (is_some (numbered_shell w at.shell))
 
 -- the breaks that are left before the next event
 abbrev pub breaks_left : ScheduleState → WorldState → List BreakAt
@@ -95,7 +95,7 @@ passed_schedule_state s (DueFound due_at) = record s { round = passed_round s.ro
 
 -- it may come: a break of a shell that runs, or what may come at a place
 abbrev pub MayCome : WorldState → found.Next → Type 0
-MayCome w (BreakFound at) = is_some (shell_at w at.shell) ≡ true
+MayCome w (BreakFound at) = is_some (numbered_shell w at.shell) ≡ true
 MayCome w (DueFound due_at) = (due_at.place < 61) × (has_event w due_at.place ≡ true)
 
 -- what is due has a place in the round
@@ -136,4 +136,4 @@ IsReading breaks w taken now = next_after_taken breaks w taken now ≡ Some AtLi
 
 -- shell 1 runs, and its input has not ended
 abbrev pub takes_input : WorldState → Bool
-takes_input w = is_some (shell_at w 1) && not w.input_ended
+takes_input w = is_some (numbered_shell w 1) && not w.input_ended

@@ -7,7 +7,7 @@ use Rattle.ados_machine.specs.declared.outs.Out.{Out}
 use Rattle.ados_machine.specs.declared.refusals.Refusal.{Refusal}
 use Rattle.ados_machine.specs.World.{WorldState}
 use Rattle.ados_machine.specs.Step.{step_of}
-use Rattle.ados_machine.specs.Runs.{IsAnswer, world_after}
+use Rattle.ados_machine.specs.Runs.{IsAnswer, resulting_world}
 use Rattle.ados_launch.specs.declared.lines.LineKind.TheVariants.{End, Short, Long}
 use Rattle.ados_launch.specs.Lines.{line_of, rest_of, kind_of}
 
@@ -44,7 +44,7 @@ written_bytes (item ∷ taken) = bytes_of item ++ written_bytes taken
 
 -- the world after it; a long line leaves it unchanged
 abbrev pub world_after_item : WorldState → TakenItem → WorldState
-world_after_item w (Given event out) = world_after w (Ok out) (step_of w event)
+world_after_item w (Given event out) = resulting_world w (Ok out) (step_of w event)
 world_after_item w LongLine = w
 
 -- the machine accepts it, and gives exactly this

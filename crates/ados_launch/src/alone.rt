@@ -1,7 +1,7 @@
 // A line that runs alone, in a shell that is opened for it.
 ghost use Rattle.std.specs.Prelude.{◌≡◌, ◌<◌, ◌≤◌, ◌++◌, List, length, Ok, None, true, is_some, IfErr, IfSome, OnOk, OnErr};
 ghost use Rattle.ados_machine.specs.Numbers.{free_number};
-ghost use Rattle.ados_machine.specs.World.{shell_at};
+ghost use Rattle.ados_machine.specs.World.{numbered_shell};
 ghost use Rattle.ados_world.specs.Opened.{opening_fault};
 ghost use Rattle.ados_shell.specs.Drafts.{out_of};
 ghost use Rattle.ados_launcher.specs.declared.calls.Call.{Call};
@@ -167,7 +167,7 @@ fn next_event<L: Launcher>(
 ) -> Result<(), Option<Answer>>
     requires number { 2 ≤ number }
     requires last { number < 21 }
-    requires runs { is_some (shell_at world.old number) ≡ true }
+    requires runs { is_some (numbered_shell world.old number) ≡ true }
     requires agrees { Agrees world.old (L.calls launcher.old) }
     ensures event { OnOk result (TakesNext number world.old (L.is_full launcher.new)
         (L.calls launcher.old) world.new (L.calls launcher.new) (out_of draft.new)) }

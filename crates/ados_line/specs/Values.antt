@@ -23,8 +23,8 @@ Variables = Text → Option Text
 abbrev pub variables_of : Pairs → AssignMap → Files → Variables
 variables_of locals assigns files name = option_or (value_in locals name) (global_of assigns files name)
 
-abbrev pub variables_in : Scope → Variables
-variables_in scope = variables_of (shown_pairs scope.locals.now scope.code scope.result2) scope.assigns.now scope.ram.now
+abbrev pub visible_variables : Scope → Variables
+visible_variables scope = variables_of (shown_pairs scope.locals.now scope.code scope.result2) scope.assigns.now scope.ram.now
 
 -- a digit, a letter or `_`
 abbrev pub is_name_byte : ℕ → Bool

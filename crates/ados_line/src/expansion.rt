@@ -4,7 +4,7 @@ ghost use Rattle.ados_line.specs.Answers.{Gives};
 ghost use Rattle.ados_line.specs.Alias.{with_alias};
 ghost use Rattle.ados_line.specs.Comment.{without_comment, IsUpToComment};
 ghost use Rattle.ados_line.specs.Expansion.{expand_raw_line, expanded_line, read_rest_of_text, read_resumed_text, resume_line, newline_to_space, without_newline, tick_text, IsMade, IsResumed};
-ghost use Rattle.ados_line.specs.Values.{variables_in};
+ghost use Rattle.ados_line.specs.Values.{visible_variables};
 
 use crate::aliases::replace_alias;
 use crate::comments::without_comment;
@@ -28,10 +28,10 @@ use std::alloc::Global;
 /// back-tick; the other faults are those of the cut: the first one in the text.
 #[tactic(auto, unfolding(crate::specs::Expansion::expand_raw_line))]
 pub fn expand(scope: &Scope, raw: &Text) -> Result<Expanded, LineFault>
-    ensures value { Gives result (expand_raw_line scope.now.aliases.now (variables_in scope.now) raw.now) }
+    ensures value { Gives result (expand_raw_line scope.now.aliases.now (visible_variables scope.now) raw.now) }
     ensures long { 512 < length raw.now → result ≡ Err LineFault.LineTooLong }
     ensures comment { IsUpToComment raw.now (without_comment raw.now) }
-    ensures made { IfOk result (IsMade (variables_in scope.now) (with_alias scope.now.aliases.now (without_comment raw.now))) }
+    ensures made { IfOk result (IsMade (visible_variables scope.now) (with_alias scope.now.aliases.now (without_comment raw.now))) }
 {
     let bytes = raw.as_bytes();
     if bytes.len() > LINE_BYTES {
@@ -69,7 +69,7 @@ pub fn resume(
 #[tactic(auto, using(crate::proofs::UnmarkedLemmas::plain_values))]
 fn put_and_read(scope: &Scope, line: &[u8]) -> Result<Expanded, LineFault>
     requires { IsText line.now }
-    ensures { Gives result (expanded_line (variables_in scope.now) line.now) }
+    ensures { Gives result (expanded_line (visible_variables scope.now) line.now) }
 {
     if line.contains(&b'$') {
         let text = put_values(scope, &read_letters(scope.alloc, line)?)?;

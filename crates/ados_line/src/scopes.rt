@@ -1,5 +1,5 @@
 ghost use Rattle.std.specs.Prelude.{◌≡◌, IfOk};
-ghost use Rattle.ados_line.specs.Values.{variables_in};
+ghost use Rattle.ados_line.specs.Values.{visible_variables};
 
 use ados_assign::Assigns;
 use ados_ram::Ram;
@@ -29,7 +29,7 @@ pub struct Scope<'a> {
 impl<'a> Scope<'a> {
     /// The value of a variable: of a local one, or else of a global one.
     pub fn value(&self, name: Text) -> Result<Option<Text>, NoMemory>
-        ensures { IfOk result (λ value. value ≡ variables_in self.now name) }
+        ensures { IfOk result (λ value. value ≡ visible_variables self.now name) }
     {
         let name = Name::new(name);
         match self.locals.get(&name, self.code, self.result2)? {

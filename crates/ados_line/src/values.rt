@@ -1,6 +1,6 @@
 ghost use Rattle.std.specs.Prelude.{◌≡◌, ◌++◌, IfOk};
 ghost use Rattle.ados_line.specs.Answers.{within_line_limit, Gives};
-ghost use Rattle.ados_line.specs.Values.{variables_in, first_segment, later_letter_count, text_of_segment, values};
+ghost use Rattle.ados_line.specs.Values.{visible_variables, first_segment, later_letter_count, text_of_segment, values};
 
 use crate::faults::LineFault;
 use crate::letters::Letter;
@@ -11,7 +11,7 @@ use ados_text::{LINE_BYTES, NoMemory, Text};
 
 /// The text that the characters stand for, with the values of their variables.
 pub fn put_values(scope: &Scope, letters: &[Letter]) -> Result<Text, LineFault>
-    ensures { Gives result (within_line_limit (values (variables_in scope.now) 0 letters.now)) }
+    ensures { Gives result (within_line_limit (values (visible_variables scope.now) 0 letters.now)) }
 {
     let mut text = Text::new(scope.alloc);
     let mut taken = 0;
@@ -35,7 +35,7 @@ fn push_segment(
     rest: &[Letter],
     text: &mut Text,
 ) -> Result<usize, NoMemory>
-    ensures { let segment = first_segment (variables_in scope.now) letter rest.now in
+    ensures { let segment = first_segment (visible_variables scope.now) letter rest.now in
         IfOk result (λ count. (count ≡ later_letter_count segment) × (text.new ≡ text.old ++ text_of_segment segment)) }
 {
     if is_plain(letter, b'$') {

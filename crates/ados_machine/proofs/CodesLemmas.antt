@@ -13,19 +13,19 @@ use Rattle.ados_machine.specs.declared.events.Event.{Event}
 use Rattle.ados_machine.specs.declared.outs.Out.{Out}
 use Rattle.ados_machine.specs.declared.refusals.Refusal.{Refusal}
 use Rattle.ados_machine.specs.declared.events.Kind.{Kind}
-use Rattle.ados_machine.specs.Breaks.{breaks_by, shells_after_break}
+use Rattle.ados_machine.specs.Breaks.{kind_breaks, shells_after_break}
 use Rattle.ados_machine.specs.Carrying.{carried_shells, carried_or_same}
 use Rattle.ados_machine.specs.Items.{Item, Began, Answered, Ended, Broke}
 use Rattle.ados_machine.specs.Limits.{IsSane}
 use Rattle.ados_machine.specs.Numbers.{free_number}
-use Rattle.ados_machine.specs.Runs.{world_after}
+use Rattle.ados_machine.specs.Runs.{resulting_world}
 use Rattle.ados_machine.specs.Settle.{TurnResult}
 use Rattle.ados_machine.specs.Shells.{ShellStart, begun_shell, ShellState}
 use Rattle.ados_machine.specs.Stacks.{Entry, new_entry, with_last, stack_of, Standing, standing_of, codes_at as codes_begun, limit_after_end, codes_after_end}
 use Rattle.ados_machine.specs.Step.{Response, Refused, Accepted, of_shell, shell_of_turn, with_begun, begun_items, is_done, shell_after_turn, codes_of_ended, moved_at_turn, turn_taken, shell_ended, start, course_without_flag, turning_response, turn_response, answer_response, break_response, typing_response, step_of}
 use Rattle.ados_machine.specs.Trace.{items_after, own}
 use Rattle.ados_machine.specs.Turning.{Turning, Refuses, Ends, Takes, flagged_turning, turning_of_answer}
-use Rattle.ados_machine.specs.World.{WorldState, at_number, shell_at, input_of, shell_codes, codes_at}
+use Rattle.ados_machine.specs.World.{WorldState, at_number, numbered_shell, input_of, shell_codes, codes_at}
 use Rattle.ados_machine.specs.Kept.{codes_after_trace, HasAllCodes}
 use Rattle.ados_machine.proofs.Follows.{back, Follows}
 use Rattle.ados_machine.proofs.Turns.{Goes}
@@ -111,7 +111,7 @@ LeadsCodes w (Refused why) = Unit {0}
 LeadsCodes w (Accepted world given items) = (j : ℕ) → codes_at world j ≡ codes_after_trace (codes_at w j) (own j items)
 
 -- the codes of a shell after its turn, if it runs on and if it has ended
-own-codes : (w : WorldState) (k : ℕ) (shell : ShellState) (t : TurnResult) → HasAllCodes w → shell_at w k ≡ Some shell → Goes shell.parts shell.frames t →
+own-codes : (w : WorldState) (k : ℕ) (shell : ShellState) (t : TurnResult) → HasAllCodes w → numbered_shell w k ≡ Some shell → Goes shell.parts shell.frames t →
     shell_codes (shell_after_turn k (moved_at_turn w t) t) (stays_at (codes_of_ended (is_done k t.frames) k t.course.parts.codes w.ended) k) ≡ codes_after_trace (codes_at w k) t.log
 own-codes w k shell t all is goes =
     let follows = follows-codes shell.parts.limit shell.parts.codes (stack_of shell.frames) t.log (standing_of (shell_of_turn t)) goes.follows in
@@ -121,7 +121,7 @@ own-codes w k shell t all is goes =
       | inr d ↦ rw d (carried_by-codes (moved_at_turn w t) (shell_of_turn t) ∙ follows)
     ])
 
-took-codes : (w : WorldState) (k : ℕ) (shell : ShellState) (queue : List (List ℕ)) (t : TurnResult) → HasAllCodes w → shell_at w k ≡ Some shell →
+took-codes : (w : WorldState) (k : ℕ) (shell : ShellState) (queue : List (List ℕ)) (t : TurnResult) → HasAllCodes w → numbered_shell w k ≡ Some shell →
     Goes shell.parts shell.frames t → LeadsCodes w (turn_taken w k queue t)
 took-codes w k shell queue t all is goes = λ j.
     let moved = moved_at_turn w t in
@@ -150,7 +150,7 @@ took-codes w k shell queue t all is goes = λ j.
           (ap (λ o. shell_codes o (stays_at w.ended j)) (found-carried moved w.shells j) ∙ carried-codes moved (found w.shells j) (stays_at w.ended j))))
     ])
 
-ended-codes : (w : WorldState) (k : ℕ) (shell : ShellState) → HasAllCodes w → shell_at w k ≡ Some shell → LeadsCodes w (shell_ended w k shell.parts.codes)
+ended-codes : (w : WorldState) (k : ℕ) (shell : ShellState) → HasAllCodes w → numbered_shell w k ≡ Some shell → LeadsCodes w (shell_ended w k shell.parts.codes)
 ended-codes w k shell all is = λ j.
     elim (cases_eq j k) [
       | inl same ↦ rw same
@@ -162,19 +162,19 @@ ended-codes w k shell all is = λ j.
           ∙ ap (λ codes. shell_codes (found w.shells j) codes) (set-other w.ended k shell.parts.codes j differ pos))
     ]
 
-applied-codes : (w : WorldState) (k : ℕ) (shell : ShellState) (now : Turning) → HasAllCodes w → shell_at w k ≡ Some shell →
+applied-codes : (w : WorldState) (k : ℕ) (shell : ShellState) (now : Turning) → HasAllCodes w → numbered_shell w k ≡ Some shell →
     TurningGoes shell.parts shell.frames now → LeadsCodes w (turning_response w k shell.parts.codes now)
 applied-codes w k shell (Refuses why) all is goes = tt
 applied-codes w k shell Ends all is goes = ended-codes w k shell all is
 applied-codes w k shell (Takes queue t) all is goes = took-codes w k shell queue t all is goes
 
-turned-codes : (w : WorldState) (k : ℕ) (o : Option ShellState) → IsSane w → HasAllCodes w → shell_at w k ≡ o → LeadsCodes w (turn_response w k o)
+turned-codes : (w : WorldState) (k : ℕ) (o : Option ShellState) → IsSane w → HasAllCodes w → numbered_shell w k ≡ o → LeadsCodes w (turn_response w k o)
 turned-codes w k None sane all is = tt
 turned-codes w k (Some shell) sane all is =
     applied-codes w k shell (flagged_turning shell.flagged (input_of w k) shell.frames (course_without_flag (start w shell)) shell.phase) all is
     (flagged-goes shell.flagged (input_of w k) shell.frames (course_without_flag (start w shell)) shell.phase (rw is at (sane.each k)))
 
-answered-codes : (w : WorldState) (k : ℕ) (reply : Reply) (o : Option ShellState) → IsSane w → HasAllCodes w → shell_at w k ≡ o →
+answered-codes : (w : WorldState) (k : ℕ) (reply : Reply) (o : Option ShellState) → IsSane w → HasAllCodes w → numbered_shell w k ≡ o →
     LeadsCodes w (answer_response w k reply o)
 answered-codes w k reply None sane all is = tt
 answered-codes w k reply (Some shell) sane all is =
@@ -184,7 +184,7 @@ answered-codes w k reply (Some shell) sane all is =
 break-codes : (w : WorldState) (k : ℕ) (kind : Kind) (o : Option ShellState) → LeadsCodes w (break_response w k kind o)
 break-codes w k kind None = tt
 break-codes w k kind (Some shell) = λ j.
-    let breaking = Some (record { shell = k; breaks = breaks_by kind }) in
+    let breaking = Some (record { shell = k; breaks = kind_breaks kind }) in
     ap (λ o. shell_codes o (stays_at w.ended j)) (found-broken breaking w.shells j)
     ∙ broken-codes (broken_for breaking j) (found w.shells j) (stays_at w.ended j)
 
@@ -199,7 +199,7 @@ step-codes w event sane all = of-step w (λ event response. LeadsCodes w respons
 }) event
 
 pub after-codes : (w : WorldState) (out : Result Out Refusal) (r : Response) → LeadsCodes w r →
-    (j : ℕ) → codes_at (world_after w out r) j ≡ codes_after_trace (codes_at w j) (own j (items_after out r))
+    (j : ℕ) → codes_at (resulting_world w out r) j ≡ codes_after_trace (codes_at w j) (own j (items_after out r))
 after-codes w (Ok out) (Accepted world given items) leads j = leads j
 after-codes w (Ok out) (Refused why) leads j = refl
 after-codes w (Err refusal) (Accepted world given items) leads j = refl

@@ -17,7 +17,7 @@ use Rattle.ados_machine.specs.declared.phases.Parted.{Parted}
 use Rattle.ados_machine.specs.declared.phases.Phase.TheVariants.{GoingOn, Waiting}
 use Rattle.ados_machine.specs.declared.phases.Wait.{Wait}
 use Rattle.ados_machine.specs.declared.phases.Wait.TheVariants.{ForAnswer, ForLines, ForStart, ForPiece, ForEnd}
-use Rattle.ados_machine.specs.Sinks.{sink_in}
+use Rattle.ados_machine.specs.Sinks.{newest_sink}
 use Rattle.ados_machine.specs.Completions.{Here, Completion, Passes, Answers, Jumps, Calls, Ticks, Waits, course_of}
 use Rattle.ados_machine.specs.Lines.{line_completion, parted_completion, answer_completion}
 use Rattle.ados_machine.specs.NewShells.{gathered_completion}
@@ -237,10 +237,10 @@ waits-agree k gas ih (suc n) answers frame frames lt common (ForAnswer asking) =
     (waits-agree k gas ih n answers frame frames (omega arith)))
 waits-agree k gas ih (suc n) answers frame frames lt common (ForLines gathering) =
     turn-agrees k n answers common frame frames
-    (λ now. does k (exec k n answers) (frame ∷ frames) now (gathered_completion gathering (sink_in (frame ∷ frames)) (start_in k (frame ∷ frames) (Waiting (ForLines gathering)) now)))
+    (λ now. does k (exec k n answers) (frame ∷ frames) now (gathered_completion gathering (newest_sink (frame ∷ frames)) (start_in k (frame ∷ frames) (Waiting (ForLines gathering)) now)))
     (λ now. completion_of (waits k (lines k gas) (at_of k frame frames) n answers) (lines k gas) n answers now (at_of k frame frames) (gathered_completion gathering (at_of k frame frames).sink (start_at k (at_of k frame frames) (Some (ForLines gathering)) now)))
     (event-agrees k gas ih n answers (common_without_flag common) frame frames (waits k (lines k gas) (at_of k frame frames) n answers)
-    (gathered_completion gathering (sink_in (frame ∷ frames)) (start_at k (at_of k frame frames) (Some (ForLines gathering)) (common_without_flag common))) (omega arith)
+    (gathered_completion gathering (newest_sink (frame ∷ frames)) (start_at k (at_of k frame frames) (Some (ForLines gathering)) (common_without_flag common))) (omega arith)
     (waits-agree k gas ih n answers frame frames (omega arith)))
 waits-agree k gas ih (suc n) [] frame frames lt common (ForStart starting) = refl
 waits-agree k gas ih (suc n) [] frame frames lt common (ForPiece child) = refl

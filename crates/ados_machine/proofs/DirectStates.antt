@@ -11,7 +11,7 @@ use Rattle.ados_machine.specs.declared.answers.Answer.{Answer as Reply}
 use Rattle.ados_machine.specs.declared.phases.Parted.{Parted}
 use Rattle.ados_machine.specs.declared.phases.Phase.{Phase}
 use Rattle.ados_machine.specs.declared.phases.Phase.TheVariants.{Ready, GoingOn}
-use Rattle.ados_machine.specs.Sinks.{sink_in, outputs_in}
+use Rattle.ados_machine.specs.Sinks.{newest_sink, frame_outputs}
 use Rattle.ados_machine.specs.Names.{name_in}
 use Rattle.ados_machine.specs.Settled.{end_at_break, with_limit, after_end, finish}
 use Rattle.ados_machine.specs.Settle.{here_of}
@@ -53,12 +53,12 @@ AgreesBy n exec Short next breaks scripts = exec ≡ Unfed
 abbrev pub at_of : ℕ → FrameState → List FrameState → At
 at_of k frame frames = record {
   shell = k;
-  sink = sink_in (frame ∷ frames);
+  sink = newest_sink (frame ∷ frames);
   in_script = is_script frame.kind;
   scripts = script_count (frame ∷ frames);
   depth = length (frame ∷ frames);
   lines = frame.lines;
-  outputs = outputs_in (frame ∷ frames);
+  outputs = frame_outputs (frame ∷ frames);
   name = name_in (frame ∷ frames);
   position = frame.position;
   line = frame.line;

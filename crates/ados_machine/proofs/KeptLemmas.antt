@@ -13,10 +13,10 @@ use Rattle.ados_machine.specs.declared.events.Event.{Event}
 use Rattle.ados_machine.specs.declared.outs.Out.{Out}
 use Rattle.ados_machine.specs.declared.refusals.Refusal.{Refusal}
 use Rattle.ados_machine.specs.declared.events.Kind.{Kind}
-use Rattle.ados_machine.specs.Breaks.{breaks_by, broken_at, broken_number, shells_after_break}
+use Rattle.ados_machine.specs.Breaks.{kind_breaks, broken_at, broken_number, shells_after_break}
 use Rattle.ados_machine.specs.Carrying.{carried_place, carried_shells}
 use Rattle.ados_machine.specs.Numbers.{free_number}
-use Rattle.ados_machine.specs.Runs.{world_after}
+use Rattle.ados_machine.specs.Runs.{resulting_world}
 use Rattle.ados_machine.specs.Settle.{TurnResult}
 use Rattle.ados_machine.specs.Shells.{ShellStart, begun_shell, ShellState}
 use Rattle.ados_machine.specs.Step.{Response, Refused, Accepted, with_begun, is_done, shell_after_turn, codes_of_ended, moved_at_turn, start, course_without_flag, turning_response, turn_response, answer_response, break_response, typing_response, step_of}
@@ -95,7 +95,7 @@ answered-all w k reply (Some shell) all =
 
 break-all : (w : WorldState) (k : ℕ) (kind : Kind) (o : Option ShellState) → HasAllCodes w → KeepsAll (break_response w k kind o)
 break-all w k kind None all = tt
-break-all w k kind (Some shell) all = all ∙ sym (length-broken_number (breaks_by kind) k w.shells)
+break-all w k kind (Some shell) all = all ∙ sym (length-broken_number (kind_breaks kind) k w.shells)
 
 step-all : (w : WorldState) (event : Event) → HasAllCodes w → KeepsAll (step_of w event)
 step-all w event all = of-step w (λ event response. KeepsAll response) (record {
@@ -107,7 +107,7 @@ step-all w event all = of-step w (λ event response. KeepsAll response) (record 
   broken = λ k kind shell is. break-all w k kind (Some shell) all;
 }) event
 
-after-all : (w : WorldState) (out : Result Out Refusal) (r : Response) → HasAllCodes w → KeepsAll r → HasAllCodes (world_after w out r)
+after-all : (w : WorldState) (out : Result Out Refusal) (r : Response) → HasAllCodes w → KeepsAll r → HasAllCodes (resulting_world w out r)
 after-all w (Ok out) (Accepted world given items) all keeps = keeps
 after-all w (Ok out) (Refused why) all keeps = all
 after-all w (Err refusal) (Accepted world given items) all keeps = all
@@ -124,7 +124,7 @@ last-codes-stay w [] [] last run sane all k = rw run refl
 last-codes-stay w [] (out ∷ outs) last run sane all k = absurd run
 last-codes-stay w (event ∷ events) [] last run sane all k = absurd run
 last-codes-stay w (event ∷ events) (out ∷ outs) last run sane all k =
-    let mid : WorldState = world_after w out (step_of w event) in
+    let mid : WorldState = resulting_world w out (step_of w event) in
     let here = items_after out (step_of w event) in
     rw (own-append k here (trace mid events outs), behind-append (codes_at w k) (own k here) (own k (trace mid events outs)))
     (last-codes-stay mid events outs last run.1 (sane-after w event out sane) (events-keep-all w event out all) k

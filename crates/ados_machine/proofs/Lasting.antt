@@ -15,17 +15,17 @@ use Rattle.ados_machine.specs.declared.phases.Phase.TheVariants as phase
 use Rattle.ados_machine.specs.declared.phases.Wait.{Wait}
 use Rattle.ados_machine.specs.declared.phases.Wait.TheVariants.{ForAnswer, ForLines, ForStart, ForPiece, ForEnd}
 use Rattle.ados_machine.specs.Answers.{answered_in}
-use Rattle.ados_machine.specs.Breaks.{breaks_by, shells_after_break, marked_if}
+use Rattle.ados_machine.specs.Breaks.{kind_breaks, shells_after_break, marked_if}
 use Rattle.ados_machine.specs.Carrying.{carried_shells, carried_or_same}
 use Rattle.ados_machine.specs.Course.{Course}
 use Rattle.ados_machine.specs.Completions.{Completion, Passes, Answers, Jumps, Calls, Ticks, Waits}
 use Rattle.ados_machine.specs.Numbers.{free_number}
 use Rattle.ados_machine.specs.Settle.{TurnResult, frames_at_line, said_of, turn_of_completion}
 use Rattle.ados_machine.specs.Shells.{ShellStart, begun_shell, ShellState}
-use Rattle.ados_machine.specs.Sinks.{Sink, sink_in}
+use Rattle.ados_machine.specs.Sinks.{Sink, newest_sink}
 use Rattle.ados_machine.specs.Step.{Response, Refused, Accepted, shell_of_turn, with_begun, is_done, shell_after_turn, moved_at_turn, turn_taken, shell_ended, start, course_without_flag, turning_response, turn_response, answer_response, break_response, typing_response, step_of}
 use Rattle.ados_machine.specs.Turning.{Turning, Refuses, Ends, Takes, flagged_turning, turning_of_completion}
-use Rattle.ados_machine.specs.World.{WorldState, shell_at, input_of}
+use Rattle.ados_machine.specs.World.{WorldState, numbered_shell, input_of}
 use Rattle.ados_machine.proofs.AskedTurns.{flagged-refused}
 use Rattle.ados_machine.proofs.Moves.{placed-at}
 use Rattle.ados_machine.proofs.Rests.{IsIdle, passed-rests, finished-rests, called-rests, ticked-rests}
@@ -120,10 +120,10 @@ others-seen s shells k shell moved t is j differ held =
 abbrev pub Keeps : {X : Type 0} → Watch X → WorldState → Response → Type 0
 Keeps s w (Refused why) = Unit {0}
 Keeps s w (Accepted world out items) =
-    (j : ℕ) → is_held s (shell_at w j) ≡ true → is_held s (shell_at world j) ≡ true → seen_by s (shell_at world j) ≡ seen_by s (shell_at w j)
+    (j : ℕ) → is_held s (numbered_shell w j) ≡ true → is_held s (numbered_shell world j) ≡ true → seen_by s (numbered_shell world j) ≡ seen_by s (numbered_shell w j)
 
 -- so does a turn that does so of its own shell
-took-keeps : {X : Type 0} (s : Watch X) (w : WorldState) (k : ℕ) (shell : ShellState) (queue : List (List ℕ)) (t : TurnResult) → shell_at w k ≡ Some shell →
+took-keeps : {X : Type 0} (s : Watch X) (w : WorldState) (k : ℕ) (shell : ShellState) (queue : List (List ℕ)) (t : TurnResult) → numbered_shell w k ≡ Some shell →
     (s.holds shell.phase ≡ true → is_held s (shell_after_turn k (moved_at_turn w t) t) ≡ true → seen_by s (shell_after_turn k (moved_at_turn w t) t) ≡ s.look shell.frames shell.phase) →
     Keeps s w (turn_taken w k queue t)
 took-keeps s w k shell queue t is own = λ j before behind.
@@ -136,7 +136,7 @@ took-keeps s w k shell queue t is own = λ j before behind.
       | inr differ ↦ others-seen s w.shells k shell moved t is j differ before
     ]
 
-ended-keeps : {X : Type 0} (s : Watch X) (w : WorldState) (k : ℕ) (shell : ShellState) (codes : Codes) → shell_at w k ≡ Some shell → Keeps s w (shell_ended w k codes)
+ended-keeps : {X : Type 0} (s : Watch X) (w : WorldState) (k : ℕ) (shell : ShellState) (codes : Codes) → numbered_shell w k ≡ Some shell → Keeps s w (shell_ended w k codes)
 ended-keeps s w k shell codes is = λ j before behind.
     elim (cases_eq j k) [
       | inl same ↦ absurd (never (ap (is_held s) (sym (found-set_same w.shells k shell None is)) ∙ (rw same at behind)))
@@ -144,7 +144,7 @@ ended-keeps s w k shell codes is = λ j before behind.
     ]
 
 -- a shell that is not held
-applied-keeps : {X : Type 0} (s : Watch X) (w : WorldState) (k : ℕ) (shell : ShellState) (now : Turning) → shell_at w k ≡ Some shell → s.holds shell.phase ≡ false →
+applied-keeps : {X : Type 0} (s : Watch X) (w : WorldState) (k : ℕ) (shell : ShellState) (now : Turning) → numbered_shell w k ≡ Some shell → s.holds shell.phase ≡ false →
     Keeps s w (turning_response w k shell.parts.codes now)
 applied-keeps s w k shell (Refuses why) is free = tt
 applied-keeps s w k shell Ends is free = ended-keeps s w k shell shell.parts.codes is
@@ -155,7 +155,7 @@ abbrev turn_by : WorldState → ℕ → ShellState → Phase → Turning
 turn_by w k shell now = flagged_turning shell.flagged (input_of w k) shell.frames (course_without_flag (start w shell)) now
 
 -- a shell that waits for a launcher takes no turn
-by-phase : {X : Type 0} (s : Watch X) (w : WorldState) (k : ℕ) (shell : ShellState) (now : Phase) → shell_at w k ≡ Some shell → shell.phase ≡ now →
+by-phase : {X : Type 0} (s : Watch X) (w : WorldState) (k : ℕ) (shell : ShellState) (now : Phase) → numbered_shell w k ≡ Some shell → shell.phase ≡ now →
     Keeps s w (turning_response w k shell.parts.codes (turn_by w k shell now))
 by-phase s w k shell (phase.Waiting (ForStart starting)) is e =
     rw (flagged-refused shell.flagged (input_of w k) shell.frames (course_without_flag (start w shell)) (ForStart starting) refl) tt
@@ -172,7 +172,7 @@ by-phase s w k shell (phase.Waiting (ForAnswer asking)) is e =
 by-phase s w k shell (phase.Waiting (ForLines gathering)) is e =
     applied-keeps s w k shell (turn_by w k shell (phase.Waiting (ForLines gathering))) is (ap s.holds e ∙ s.for_lines gathering)
 
-turned-keeps : {X : Type 0} (s : Watch X) (w : WorldState) (k : ℕ) (o : Option ShellState) → shell_at w k ≡ o → Keeps s w (turn_response w k o)
+turned-keeps : {X : Type 0} (s : Watch X) (w : WorldState) (k : ℕ) (o : Option ShellState) → numbered_shell w k ≡ o → Keeps s w (turn_response w k o)
 turned-keeps s w k None is = tt
 turned-keeps s w k (Some shell) is = by-phase s w k shell shell.phase is refl
 
@@ -208,7 +208,7 @@ settle-keeps s k moved value (Ticks before command after course) frames keeps =
     idle-keeps s k moved value (turn_of_completion (Ticks before command after course) frames) (ticked-rests before command after frames (said_of course)).idle
 settle-keeps s k moved value (Waits wait course) frames keeps = waits-keeps s k moved value wait course frames keeps
 
-replied-keeps : {X : Type 0} (s : Watch X) (w : WorldState) (k : ℕ) (shell : ShellState) (completion : Option Completion) → shell_at w k ≡ Some shell →
+replied-keeps : {X : Type 0} (s : Watch X) (w : WorldState) (k : ℕ) (shell : ShellState) (completion : Option Completion) → numbered_shell w k ≡ Some shell →
     (s.holds shell.phase ≡ true → SeenBehind s.look shell.frames (s.look shell.frames shell.phase) completion) →
     Keeps s w (turning_response w k shell.parts.codes (turning_of_completion (input_of w k) shell.frames completion))
 replied-keeps s w k shell None is keeps = tt
@@ -217,16 +217,16 @@ replied-keeps s w k shell (Some completion) is keeps =
     took-keeps s w k shell (input_of w k).queue t is
     (λ before behind. settle-keeps s k (moved_at_turn w t) (s.look shell.frames shell.phase) completion shell.frames (keeps before) behind)
 
-answered-keeps : {X : Type 0} (s : Watch X) (w : WorldState) (k : ℕ) (reply : Reply) (o : Option ShellState) → shell_at w k ≡ o → Keeps s w (answer_response w k reply o)
+answered-keeps : {X : Type 0} (s : Watch X) (w : WorldState) (k : ℕ) (reply : Reply) (o : Option ShellState) → numbered_shell w k ≡ o → Keeps s w (answer_response w k reply o)
 answered-keeps s w k reply None is = tt
 answered-keeps s w k reply (Some shell) is =
-    replied-keeps s w k shell (answered_in (sink_in shell.frames) (start w shell) shell.phase reply) is
-    (s.answers shell.frames (sink_in shell.frames) (start w shell) shell.phase reply)
+    replied-keeps s w k shell (answered_in (newest_sink shell.frames) (start w shell) shell.phase reply) is
+    (s.answers shell.frames (newest_sink shell.frames) (start w shell) shell.phase reply)
 
 break-keeps : {X : Type 0} (s : Watch X) (w : WorldState) (k : ℕ) (kind : Kind) (o : Option ShellState) → Keeps s w (break_response w k kind o)
 break-keeps s w k kind None = tt
 break-keeps s w k kind (Some shell) = λ j before behind.
-    let breaking = Some (record { shell = k; breaks = breaks_by kind }) in
+    let breaking = Some (record { shell = k; breaks = kind_breaks kind }) in
     ap (seen_by s) (found-broken breaking w.shells j) ∙ broken-seen s (broken_for breaking j) (found w.shells j)
 
 pub step-keeps : {X : Type 0} (s : Watch X) (w : WorldState) (event : Event) → Keeps s w (step_of w event)

@@ -15,7 +15,7 @@ use Rattle.ados_machine.specs.declared.phases.Wait.TheVariants.{ForAnswer, ForEn
 use Rattle.ados_machine.specs.Items.{Item}
 use Rattle.ados_machine.specs.Numbers.{free_number}
 use Rattle.ados_machine.specs.Shells.{ShellStart, ShellState, seen_of}
-use Rattle.ados_machine.specs.Sinks.{sink_in}
+use Rattle.ados_machine.specs.Sinks.{newest_sink}
 use Rattle.ados_machine.specs.Course.{Course, shared_after_event, with_bytes_printed}
 use Rattle.ados_machine.specs.Completions.{Completion, Passes, course_of}
 use Rattle.ados_machine.specs.Lines.{line_completion, parted_completion, answer_completion}
@@ -24,7 +24,7 @@ use Rattle.ados_machine.specs.Answers.{answered_in}
 use Rattle.ados_machine.specs.Settled.{RuleState, RuleResult, end_at_break}
 use Rattle.ados_machine.specs.Settle.{TurnResult, here_of, said_of, turn_by_rule, code_rule_of, turn_of_completion}
 use Rattle.ados_machine.specs.Turning.{Input, Takes, turn_of_frame, flagged_turning, turning_in_phase, turning_of_completion}
-use Rattle.ados_machine.specs.World.{WorldState, shell_at, input_of, is_over}
+use Rattle.ados_machine.specs.World.{WorldState, numbered_shell, input_of, is_over}
 use Rattle.ados_machine.specs.Carrying.{carried_shells, carried_or_same, moved_object}
 use Rattle.ados_machine.specs.Step.{with_begun, codes_of_ended, queue_after_event, is_done, moved_at_turn, turn_taken, start, course_without_flag, turning_response, step_of}
 use Rattle.ados_machine.specs.Whole.{Common, common_after_event, carried_parts, common_without_flag}
@@ -49,10 +49,10 @@ not-first : (k : ℕ) (common : Common) → Stands k common → (k == 1) ≡ fal
 not-first k common stands = ne_eqb k 1 (λ e. omega (arith, e, stands.above))
 
 pub stands-at : (k : ℕ) (w : WorldState) (frames : List FrameState) (phase : Phase) (common : Common) → Stands k common →
-    shell_at (standing k w frames phase common) k ≡ Some (shell_of frames phase common)
+    numbered_shell (standing k w frames phase common) k ≡ Some (shell_of frames phase common)
 stands-at k w frames phase common stands = found-set_same common.shells k stands.shell (Some (shell_of frames phase common)) stands.is
 
-pub ended-at : (k : ℕ) (w : WorldState) (common : Common) → Stands k common → shell_at (world_after_lines k w common) k ≡ None
+pub ended-at : (k : ℕ) (w : WorldState) (common : Common) → Stands k common → numbered_shell (world_after_lines k w common) k ≡ None
 ended-at k w common stands = found-set_same common.shells k stands.shell None stands.is
 
 not-over : (k : ℕ) (w : WorldState) (frames : List FrameState) (phase : Phase) (common : Common) → Stands k common →
@@ -193,7 +193,7 @@ turn-is k w frames phase common stands =
 pub answer-is : (k : ℕ) (w : WorldState) (frames : List FrameState) (phase : Phase) (common : Common) (reply : Reply) → Stands k common →
     step_of (standing k w frames phase common) (Answer k reply)
     ≡ turning_response (standing k w frames phase common) k common.said.parts.codes
-    (turning_of_completion no_input frames (answered_in (sink_in frames) (start_in k frames phase common) phase reply))
+    (turning_of_completion no_input frames (answered_in (newest_sink frames) (start_in k frames phase common) phase reply))
 answer-is k w frames phase common reply stands =
     rw (
       not-over k w frames phase common stands,
@@ -251,7 +251,7 @@ reply-same k w go on frames phase common [] stands same = refl
 reply-same k w go on frames phase common (reply ∷ answers) stands same =
     rw (answer-is k w frames phase common reply stands)
     (completion-same k w (go answers) (on answers) frames phase common
-    (answered_in (sink_in frames) (start_in k frames phase common) phase reply) stands (same answers))
+    (answered_in (newest_sink frames) (start_in k frames phase common) phase reply) stands (same answers))
 
 -- an event of the shell
 event-same : (k : ℕ) (w : WorldState) (go : List Reply → Goes) (on : List Reply → Go) (n : ℕ) (answers : List Reply)
@@ -274,9 +274,9 @@ event-same k w go on n answers frame frames common (Waiting (ForAnswer asking)) 
     (took-does k w (go answers) (on answers) (frame ∷ frames) (Waiting (ForAnswer asking)) common _ (frame ∷ frames) stands (same answers))
 event-same k w go on n answers frame frames common (Waiting (ForLines gathering)) stands same =
     turn-same k w (go answers) (on answers) (frame ∷ frames) common (Waiting (ForLines gathering)) _ _
-    (λ now. does k (on answers) (frame ∷ frames) now (gathered_completion gathering (sink_in (frame ∷ frames)) (start_in k (frame ∷ frames) (Waiting (ForLines gathering)) now))) stands (same answers) refl
+    (λ now. does k (on answers) (frame ∷ frames) now (gathered_completion gathering (newest_sink (frame ∷ frames)) (start_in k (frame ∷ frames) (Waiting (ForLines gathering)) now))) stands (same answers) refl
     (took-does k w (go answers) (on answers) (frame ∷ frames) (Waiting (ForLines gathering)) common
-    (gathered_completion gathering (sink_in (frame ∷ frames)) (start_in k (frame ∷ frames) (Waiting (ForLines gathering)) (common_without_flag common)))
+    (gathered_completion gathering (newest_sink (frame ∷ frames)) (start_in k (frame ∷ frames) (Waiting (ForLines gathering)) (common_without_flag common)))
     (frame ∷ frames) stands (same answers))
 event-same k w go on n answers frame frames common (Waiting (ForStart starting)) stands same =
     reply-same k w go on (frame ∷ frames) (Waiting (ForStart starting)) common answers stands same

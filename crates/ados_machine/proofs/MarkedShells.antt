@@ -8,13 +8,13 @@ use Rattle.ados_machine.specs.declared.events.Kind as by
 use Rattle.ados_machine.specs.declared.phases.Phase.{Phase}
 use Rattle.ados_machine.specs.declared.phases.Phase.TheVariants.{Ready, GoingOn, Waiting}
 use Rattle.ados_machine.specs.declared.phases.Wait.TheVariants.{ForAnswer, ForLines, ForStart, ForPiece, ForEnd}
-use Rattle.ados_machine.specs.Breaks.{breaks_by, marked_if}
+use Rattle.ados_machine.specs.Breaks.{kind_breaks, marked_if}
 use Rattle.ados_find.specs.declared.outcomes.Breaks.{Breaks}
 use Rattle.ados_machine.specs.Laws.{KeepsWhatComes, BreaksKeepWhatComes}
 use Rattle.ados_machine.specs.Shells.{ShellState}
 use Rattle.ados_machine.specs.Step.{Response, Refused, Accepted, break_response, step_of}
 use Rattle.ados_machine.specs.Turning.{Input}
-use Rattle.ados_machine.specs.World.{WorldState, can_take, can_turn, has_input, shell_at, is_over, input_of, request_of_shell, takes_input, wants_input}
+use Rattle.ados_machine.specs.World.{WorldState, can_take, can_turn, has_input, numbered_shell, is_over, input_of, request_of_shell, takes_input, wants_input}
 use Rattle.ados_machine.proofs.CarriedChildren.{broken-pending}
 use Rattle.ados_machine.proofs.Shells.{found, broken_maybe, broken_for, found-broken}
 
@@ -56,7 +56,7 @@ KeepsBy w (Accepted world out items) = KeepsWhatComes w world
 broken-keeps : (w : WorldState) (k : ℕ) (kind : by.Kind) (o : Option ShellState) → KeepsBy w (break_response w k kind o)
 broken-keeps w k kind None = tt
 broken-keeps w k kind (Some shell) =
-    let breaking = Some (record { shell = k; breaks = breaks_by kind }) in
+    let breaking = Some (record { shell = k; breaks = kind_breaks kind }) in
     record {
       ready = λ j. ap (can_turn (input_of w j)) (found-broken breaking w.shells j) ∙ broken-turns (input_of w j) (broken_for breaking j) (found w.shells j);
       asked = λ j. ap request_of_shell (found-broken breaking w.shells j) ∙ broken-pending (broken_for breaking j) (found w.shells j);
@@ -68,7 +68,7 @@ step-keeps : (w : WorldState) (k : ℕ) (kind : by.Kind) → KeepsBy w (step_of 
 step-keeps w k kind =
     elim (cases_Bool (is_over w)) [
       | inl e ↦ rw e tt
-      | inr e ↦ rw e (broken-keeps w k kind (shell_at w k))
+      | inr e ↦ rw e (broken-keeps w k kind (numbered_shell w k))
     ]
 
 pub breaks-keep : BreaksKeepWhatComes

@@ -31,10 +31,10 @@ use Rattle.ados_machine.specs.Requests.{request_while, request_of}
 use Rattle.ados_machine.specs.Settle.{turn_by_rule, frames_at_line, said_of, turn_of_completion}
 use Rattle.ados_machine.specs.Settled.{RuleResult}
 use Rattle.ados_machine.specs.Shells.{ShellState}
-use Rattle.ados_machine.specs.Sinks.{Sink, sink_in}
+use Rattle.ados_machine.specs.Sinks.{Sink, newest_sink}
 use Rattle.ados_machine.specs.Step.{Response, Refused, Accepted, shell_of_turn, is_done, shell_after_turn, moved_at_turn, start, turning_response, answer_response, step_of}
 use Rattle.ados_machine.specs.Turning.{turning_of_completion}
-use Rattle.ados_machine.specs.World.{WorldState, flatten, shell_at, is_over, input_of, request_of_shell, pending_of}
+use Rattle.ados_machine.specs.World.{WorldState, flatten, numbered_shell, is_over, input_of, request_of_shell, pending_of}
 use Rattle.ados_machine.proofs.Shells.{found-left}
 use Rattle.ados_machine.proofs.Rests.{Rests, passed-rests, finished-rests, called-rests, ticked-rests}
 use Rattle.ados_machine.proofs.CarriedChildren.{same_some, idle-asked, carried_by-child, others-pending, others-child, left-child}
@@ -132,7 +132,7 @@ settled-child k moved (Waits wait course) frames runs = waits-child k moved wait
 
 -- what an accepted answer moves, if each background shell that is there runs a frame
 pub record Moved (k : ℕ) (request : Request) (answer : Reply) (w world : WorldState) : Type 0 where
-  own : (k ≢ 1 → RunsFrame (shell_at w k)) → child_in world k ≡ child_after_answer (is_marked w k) request answer
+  own : (k ≢ 1 → RunsFrame (numbered_shell w k)) → child_in world k ≡ child_after_answer (is_marked w k) request answer
   others : (j : ℕ) → j ≢ k → pending_of world j ≡ pending_of w j
   children : (j : ℕ) → j ≢ k → child_in world j ≡ child_in w j
 
@@ -149,7 +149,7 @@ runs-done k shell runs =
       | inr differ ↦ rw (ne_eqb k 1 differ, runs differ) refl
     ]
 
-completion-responds : (w : WorldState) (k : ℕ) (shell : ShellState) (answer : Reply) (o : Option Request) (completion : Option Completion) → shell_at w k ≡ Some shell →
+completion-responds : (w : WorldState) (k : ℕ) (shell : ShellState) (answer : Reply) (o : Option Request) (completion : Option Completion) → numbered_shell w k ≡ Some shell →
     MovesBy (mark_in shell.phase) o answer completion → Responds w k answer o (turning_response w k shell.parts.codes (turning_of_completion (input_of w k) shell.frames completion))
 completion-responds w k shell answer None None is moves = λ request e. cc
 completion-responds w k shell answer None (Some completion) is moves = cc
@@ -167,12 +167,12 @@ completion-responds w k shell answer (Some request) (Some completion) is moves =
       },
     )
 
-shell-responds : (w : WorldState) (k : ℕ) (answer : Reply) (o : Option ShellState) → shell_at w k ≡ o →
+shell-responds : (w : WorldState) (k : ℕ) (answer : Reply) (o : Option ShellState) → numbered_shell w k ≡ o →
     Responds w k answer (request_of_shell o) (answer_response w k answer o)
 shell-responds w k answer None is = λ request e. cc
 shell-responds w k answer (Some shell) is =
-    completion-responds w k shell answer (request_of shell.parts.number shell.phase) (answered_in (sink_in shell.frames) (start w shell) shell.phase answer) is
-    (phase-moves shell.parts.number (sink_in shell.frames) (start w shell) shell.phase answer)
+    completion-responds w k shell answer (request_of shell.parts.number shell.phase) (answered_in (newest_sink shell.frames) (start w shell) shell.phase answer) is
+    (phase-moves shell.parts.number (newest_sink shell.frames) (start w shell) shell.phase answer)
 
 -- if no shell is left there is none at any number
 none-left : (shells : List (Option ShellState)) (i : ℕ) → list_any is_some shells ≡ false → flatten (slice_get shells i) ≡ None
@@ -182,7 +182,7 @@ none-left (Some shell ∷ shells) i e = cc
 none-left (None ∷ shells) zero e = refl
 none-left (None ∷ shells) (suc i) e = none-left shells i e
 
-pub over-none : (w : WorldState) (k : ℕ) → is_over w ≡ true → shell_at w k ≡ None
+pub over-none : (w : WorldState) (k : ℕ) → is_over w ≡ true → numbered_shell w k ≡ None
 over-none w zero e = refl
 over-none w (suc i) e = none-left w.shells i (opposite (list_any is_some w.shells) e)
   where
@@ -194,7 +194,7 @@ pub step-responds : (w : WorldState) (k : ℕ) (answer : Reply) → Responds w k
 step-responds w k answer =
     elim (cases_Bool (is_over w)) [
       | inl e ↦ rw e (λ request asked. absurd (never request (sym (ap request_of_shell (over-none w k e)) ∙ asked)))
-      | inr e ↦ rw e (shell-responds w k answer (shell_at w k) refl)
+      | inr e ↦ rw e (shell-responds w k answer (numbered_shell w k) refl)
     ]
   where
     never : (request : Request) → None ≡ Some request → ⊥

@@ -18,7 +18,7 @@ use Rattle.ados_machine.specs.declared.phases.Phase.TheVariants as phase
 use Rattle.ados_machine.specs.declared.phases.Starting.{Starting}
 use Rattle.ados_machine.specs.declared.phases.Wait.{Wait}
 use Rattle.ados_machine.specs.declared.phases.Wait.TheVariants.{ForAnswer, ForLines, ForStart, ForPiece, ForEnd}
-use Rattle.ados_machine.specs.Answers.{child_of, next_wait, with_break, started_completion, child_after_piece, fault_in, piece_completion, is_piece, ended_completion, answered_completion, answered_in}
+use Rattle.ados_machine.specs.Answers.{child_of, next_wait, with_break, started_completion, child_after_piece, output_fault, piece_completion, is_piece, ended_completion, answered_completion, answered_in}
 use Rattle.ados_machine.specs.Breaks.{marked_if}
 use Rattle.ados_machine.specs.Children.{child_during, child_of_shell}
 use Rattle.ados_machine.specs.Course.{Course, put, with_devices_used}
@@ -27,17 +27,17 @@ use Rattle.ados_machine.specs.InUse.{outputs_seen, outputs_held, is_running, run
 use Rattle.ados_machine.specs.Opening.{OpenedOutput, line_output, output_devices}
 use Rattle.ados_machine.specs.Settle.{turn_of_completion}
 use Rattle.ados_machine.specs.Shells.{ShellState, seen_of}
-use Rattle.ados_machine.specs.Sinks.{Sink, sink_in, sink_or, outputs_in, held_while, held_in_phase}
+use Rattle.ados_machine.specs.Sinks.{Sink, newest_sink, sink_or, frame_outputs, held_while, held_in_phase}
 use Rattle.ados_machine.specs.Step.{Response, Refused, Accepted, shell_after_turn, moved_at_turn, turn_taken, start, turning_response, answer_response, step_of}
 use Rattle.ados_machine.specs.Turning.{turning_of_completion}
-use Rattle.ados_machine.specs.World.{WorldState, shell_at, is_over, input_of}
+use Rattle.ados_machine.specs.World.{WorldState, numbered_shell, is_over, input_of}
 use Rattle.ados_machine.proofs.Lasting.{Watch, SeenBehind, Keeps, seen_by, is_held, step-keeps, waits-keeps}
 use Rattle.ados_machine.proofs.Rests.{IsIdle}
 use Rattle.ados_machine.proofs.Shells.{found, found-left, shells_behind}
 
 -- the outputs that a shell holds above these frames, in a phase
 abbrev held_above : List FrameState → Phase → List Place
-held_above frames now = outputs_in frames ++ held_in_phase now
+held_above frames now = frame_outputs frames ++ held_in_phase now
 
 never : false ≡ true → ⊥
 never e = cc
@@ -81,11 +81,11 @@ put-held child None = refl
 put-held child (Some fault) = refl
 
 piece-held : (frames : List FrameState) (child : Child) (bytes : Bytes) (sink : Sink) (course : Course) (fault : Option Result2) →
-    SeenBehind held_above frames (outputs_in frames ++ open_places child.output) (Some (piece_completion child bytes sink course fault))
-piece-held frames child bytes sink course (Some fault) = ap (λ l. outputs_in frames ++ l) (next-held (with_break child) ∙ break-held child)
+    SeenBehind held_above frames (frame_outputs frames ++ open_places child.output) (Some (piece_completion child bytes sink course fault))
+piece-held frames child bytes sink course (Some fault) = ap (λ l. frame_outputs frames ++ l) (next-held (with_break child) ∙ break-held child)
 piece-held frames child bytes sink course None =
-    let fault = fault_in (put (sink_or child.output sink) bytes went_well course).codes in
-    ap (λ l. outputs_in frames ++ l) (next-held (child_after_piece (with_break child) fault) ∙ (put-held (with_break child) fault ∙ break-held child))
+    let fault = output_fault (put (sink_or child.output sink) bytes went_well course).codes in
+    ap (λ l. frame_outputs frames ++ l) (next-held (child_after_piece (with_break child) fault) ∙ (put-held (with_break child) fault ∙ break-held child))
 
 ended-held : (frames : List FrameState) (outputs : List Place) (child : Child) (codes : Codes) (course : Course) (fault : Option Result2) →
     SeenBehind held_above frames outputs (Some (ended_completion child codes course fault))
@@ -100,8 +100,8 @@ wait-held frames sink course (ForPiece child) (Piece bytes) runs =
       | inl e ↦ rw e (piece-held frames child bytes sink course child.fault)
       | inr e ↦ rw e tt
     ]
-wait-held frames sink course (ForPiece child) End runs = ap (λ l. outputs_in frames ++ l) (break-held child)
-wait-held frames sink course (ForPiece child) PipeFault runs = ap (λ l. outputs_in frames ++ l) (break-held child)
+wait-held frames sink course (ForPiece child) End runs = ap (λ l. frame_outputs frames ++ l) (break-held child)
+wait-held frames sink course (ForPiece child) PipeFault runs = ap (λ l. frame_outputs frames ++ l) (break-held child)
 wait-held frames sink course (ForEnd child) (Exit status) runs = ended-held frames _ child _ course child.fault
 wait-held frames sink course (ForEnd child) Signal runs = ended-held frames _ child _ course child.fault
 wait-held frames sink course (ForEnd child) WaitFault runs = ended-held frames _ child _ course child.fault
@@ -137,15 +137,15 @@ runs-same (Some shell) = refl
 pub outputs-stay : OutputsStayOpen
 outputs-stay w event world out items is k before behind =
     let keeps : Keeps held_outputs w (Accepted world out items) = rw is at (step-keeps held_outputs w event) in
-    outputs-same (shell_at world k)
-    ∙ (keeps k (sym (runs-same (shell_at w k)) ∙ before) (sym (runs-same (shell_at world k)) ∙ behind) ∙ sym (outputs-same (shell_at w k)))
+    outputs-same (numbered_shell world k)
+    ∙ (keeps k (sym (runs-same (numbered_shell w k)) ∙ before) (sym (runs-same (numbered_shell world k)) ∙ behind) ∙ sym (outputs-same (numbered_shell w k)))
 
 -- a shell whose program runs after an answer is seen to hold these
 abbrev HoldsBehind : ℕ → List Place → Response → Type 0
 HoldsBehind k outputs (Refused why) = Unit {0}
 HoldsBehind k outputs (Accepted world out items) = runs_program world k ≡ true → outputs_held world k ≡ outputs
 
-waits-hold : (w : WorldState) (k : ℕ) (shell : ShellState) (queue : List (List ℕ)) (wait : Wait) (course : Course) (outputs : List Place) → shell_at w k ≡ Some shell →
+waits-hold : (w : WorldState) (k : ℕ) (shell : ShellState) (queue : List (List ℕ)) (wait : Wait) (course : Course) (outputs : List Place) → numbered_shell w k ≡ Some shell →
     held_above shell.frames (phase.Waiting wait) ≡ outputs → HoldsBehind k outputs (turn_taken w k queue (turn_of_completion (Waits wait course) shell.frames))
 waits-hold w k shell queue wait course outputs is same = λ runs.
     let t = turn_of_completion (Waits wait course) shell.frames in
@@ -155,38 +155,38 @@ waits-hold w k shell queue wait course outputs is same = λ runs.
     outputs-same behind ∙ (ap (seen_by held_outputs) there
     ∙ waits-keeps held_outputs k moved outputs wait course shell.frames same (ap (is_held held_outputs) (sym there) ∙ (sym (runs-same behind) ∙ runs)))
 
-by-opening : (w : WorldState) (k : ℕ) (shell : ShellState) (starting : Starting) (opened : OpenedOutput) (result : Result OpenedOutput Result2) → shell_at w k ≡ Some shell →
+by-opening : (w : WorldState) (k : ℕ) (shell : ShellState) (starting : Starting) (opened : OpenedOutput) (result : Result OpenedOutput Result2) → numbered_shell w k ≡ Some shell →
     result ≡ Ok opened →
-    HoldsBehind k (outputs_in shell.frames ++ open_places opened.target)
+    HoldsBehind k (frame_outputs shell.frames ++ open_places opened.target)
     (turning_response w k shell.parts.codes (turning_of_completion (input_of w k) shell.frames (Some (started_completion starting (start w shell) result))))
 by-opening w k shell starting opened result is e =
     rw e
     (waits-hold w k shell (input_of w k).queue (next_wait (child_of starting opened.target None))
-    (with_devices_used (output_devices starting.output) (record (start w shell) { shared = opened.shared })) (outputs_in shell.frames ++ open_places opened.target) is
-    (ap (λ l. outputs_in shell.frames ++ l) (next-held (child_of starting opened.target None))))
+    (with_devices_used (output_devices starting.output) (record (start w shell) { shared = opened.shared })) (frame_outputs shell.frames ++ open_places opened.target) is
+    (ap (λ l. frame_outputs shell.frames ++ l) (next-held (child_of starting opened.target None))))
 
-by-phase : (w : WorldState) (k : ℕ) (shell : ShellState) (starting : Starting) (opened : OpenedOutput) (now : Phase) → shell_at w k ≡ Some shell →
+by-phase : (w : WorldState) (k : ℕ) (shell : ShellState) (starting : Starting) (opened : OpenedOutput) (now : Phase) → numbered_shell w k ≡ Some shell →
     now ≡ phase.Waiting (ForStart starting) → line_output (start w shell) starting.output ≡ Ok opened →
-    HoldsBehind k (outputs_in shell.frames ++ open_places opened.target)
-    (turning_response w k shell.parts.codes (turning_of_completion (input_of w k) shell.frames (answered_in (sink_in shell.frames) (start w shell) now Started)))
+    HoldsBehind k (frame_outputs shell.frames ++ open_places opened.target)
+    (turning_response w k shell.parts.codes (turning_of_completion (input_of w k) shell.frames (answered_in (newest_sink shell.frames) (start w shell) now Started)))
 by-phase w k shell starting opened now is waits opens =
     rw waits (by-opening w k shell starting opened (line_output (start w shell) starting.output) is opens)
 
-by-place : (w : WorldState) (k : ℕ) (shell : ShellState) (starting : Starting) (opened : OpenedOutput) (o : Option ShellState) → shell_at w k ≡ Some shell → o ≡ Some shell →
+by-place : (w : WorldState) (k : ℕ) (shell : ShellState) (starting : Starting) (opened : OpenedOutput) (o : Option ShellState) → numbered_shell w k ≡ Some shell → o ≡ Some shell →
     shell.phase ≡ phase.Waiting (ForStart starting) → line_output (start w shell) starting.output ≡ Ok opened →
-    HoldsBehind k (outputs_in shell.frames ++ open_places opened.target) (answer_response w k Started o)
+    HoldsBehind k (frame_outputs shell.frames ++ open_places opened.target) (answer_response w k Started o)
 by-place w k shell starting opened o is e waits opens = rw e (by-phase w k shell starting opened shell.phase is waits opens)
 
-started-holds : (w : WorldState) (k : ℕ) (shell : ShellState) (starting : Starting) (opened : OpenedOutput) → shell_at w k ≡ Some shell →
+started-holds : (w : WorldState) (k : ℕ) (shell : ShellState) (starting : Starting) (opened : OpenedOutput) → numbered_shell w k ≡ Some shell →
     shell.phase ≡ phase.Waiting (ForStart starting) → line_output (start w shell) starting.output ≡ Ok opened →
-    HoldsBehind k (outputs_in shell.frames ++ open_places opened.target) (step_of w (Answer k Started))
+    HoldsBehind k (frame_outputs shell.frames ++ open_places opened.target) (step_of w (Answer k Started))
 started-holds w k shell starting opened is waits opens =
     elim (cases_Bool (is_over w)) [
       | inl e ↦ rw e tt
-      | inr e ↦ rw e (by-place w k shell starting opened (shell_at w k) is is waits opens)
+      | inr e ↦ rw e (by-place w k shell starting opened (numbered_shell w k) is is waits opens)
     ]
 
 pub starts-open : StartsOpenOutputs
 starts-open w k shell starting opened world out items here waits opens is runs =
-    let holds : HoldsBehind k (outputs_in shell.frames ++ open_places opened.target) (Accepted world out items) = rw is at (started-holds w k shell starting opened here waits opens) in
+    let holds : HoldsBehind k (frame_outputs shell.frames ++ open_places opened.target) (Accepted world out items) = rw is at (started-holds w k shell starting opened here waits opens) in
     holds runs

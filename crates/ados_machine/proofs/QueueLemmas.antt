@@ -17,13 +17,13 @@ use Rattle.ados_machine.specs.Course.{Course}
 use Rattle.ados_machine.specs.Completions.{Completion}
 use Rattle.ados_machine.specs.Lines.{answer_completion}
 use Rattle.ados_machine.specs.NewShells.{gathered_completion, joined_completion}
-use Rattle.ados_machine.specs.Runs.{world_after, IsAnswer}
+use Rattle.ados_machine.specs.Runs.{resulting_world, IsAnswer}
 use Rattle.ados_machine.specs.Settle.{here_of}
 use Rattle.ados_machine.specs.Shells.{ShellState}
-use Rattle.ados_machine.specs.Sinks.{sink_in}
+use Rattle.ados_machine.specs.Sinks.{newest_sink}
 use Rattle.ados_machine.specs.Step.{Response, Refused, Accepted, start, course_without_flag, turning_response, break_response, turn_response, answer_response, typing_response, step_of}
 use Rattle.ados_machine.specs.Turning.{Input, Turning, Refuses, Ends, Takes, console_turning, input_turning, turning_in_phase, turning_at_break, flagged_turning, turning_of_completion}
-use Rattle.ados_machine.specs.World.{WorldState, shell_at, input_of, takes_input, wants_input}
+use Rattle.ados_machine.specs.World.{WorldState, numbered_shell, input_of, takes_input, wants_input}
 use Rattle.ados_machine.specs.Laws.{is_breakable}
 use Rattle.ados_machine.specs.Given.{lines_taken, lines_typed, all_lines_typed, all_lines_taken, TypedLinesAreTakenInOrder}
 use Rattle.ados_machine.proofs.StepCases.{of-step}
@@ -78,7 +78,7 @@ abbrev Queues : WorldState → Event → Response → Type 0
 Queues w event (Refused why) = Unit {0}
 Queues w event (Accepted world out items) = w.queue ++ lines_typed event ≡ lines_taken w event ++ world.queue
 
-first-queues : (w : WorldState) (shell : ShellState) (now : Turning) → shell_at w 1 ≡ Some shell →
+first-queues : (w : WorldState) (shell : ShellState) (now : Turning) → numbered_shell w 1 ≡ Some shell →
     Takes_of (not (shell.flagged && has_script shell.frames) && takes_input shell.frames shell.phase) w.queue now → Queues w (Turn 1) (turning_response w 1 shell.parts.codes now)
 first-queues w shell (Refuses why) is takes = tt
 first-queues w shell Ends is takes = append-nil w.queue ∙ (rw (ap is_breakable is, ap wants_input is) takes)
@@ -89,7 +89,7 @@ other-queues w k codes (Refuses why) ne = tt
 other-queues w k codes Ends ne = rw (ne_eqb k 1 ne) (append-nil w.queue)
 other-queues w k codes (Takes queue t) ne = rw (ne_eqb k 1 ne) (append-nil w.queue)
 
-first-turned : (w : WorldState) (o : Option ShellState) → shell_at w 1 ≡ o → Queues w (Turn 1) (turn_response w 1 o)
+first-turned : (w : WorldState) (o : Option ShellState) → numbered_shell w 1 ≡ o → Queues w (Turn 1) (turn_response w 1 o)
 first-turned w None is = tt
 first-turned w (Some shell) is =
     first-queues w shell (flagged_turning shell.flagged (input_of w 1) shell.frames (course_without_flag (start w shell)) shell.phase) is
@@ -99,11 +99,11 @@ other-turned : (w : WorldState) (k : ℕ) (o : Option ShellState) → k ≢ 1 �
 other-turned w k None ne = tt
 other-turned w k (Some shell) ne = other-queues w k shell.parts.codes (flagged_turning shell.flagged (input_of w k) shell.frames (course_without_flag (start w shell)) shell.phase) ne
 
-turned-queues : (w : WorldState) (k : ℕ) → Queues w (Turn k) (turn_response w k (shell_at w k))
+turned-queues : (w : WorldState) (k : ℕ) → Queues w (Turn k) (turn_response w k (numbered_shell w k))
 turned-queues w k =
     elim (cases_eq k 1) [
-      | inl same ↦ rw same (first-turned w (shell_at w 1) refl)
-      | inr differ ↦ other-turned w k (shell_at w k) differ
+      | inl same ↦ rw same (first-turned w (numbered_shell w 1) refl)
+      | inr differ ↦ other-turned w k (numbered_shell w k) differ
     ]
 
 replied-queues : (w : WorldState) (k : ℕ) (reply : Reply) (codes : Codes) (frames : List FrameState) (completion : Option Completion) →
@@ -118,7 +118,7 @@ replied-queues w k reply codes frames (Some completion) =
 answered-queues : (w : WorldState) (k : ℕ) (reply : Reply) (o : Option ShellState) → Queues w (Answer k reply) (answer_response w k reply o)
 answered-queues w k reply None = tt
 answered-queues w k reply (Some shell) =
-    replied-queues w k reply shell.parts.codes shell.frames (answered_in (sink_in shell.frames) (start w shell) shell.phase reply)
+    replied-queues w k reply shell.parts.codes shell.frames (answered_in (newest_sink shell.frames) (start w shell) shell.phase reply)
 
 step-queues : (w : WorldState) (event : Event) → Queues w event (step_of w event)
 step-queues w event = of-step w (Queues w) (record {
@@ -131,11 +131,11 @@ step-queues w event = of-step w (Queues w) (record {
 }) event
 
 after-queues : (w : WorldState) (event : Event) (out : Out) (r : Response) → IsAnswer event (Ok out) r → Queues w event r →
-    w.queue ++ lines_typed event ≡ lines_taken w event ++ (world_after w (Ok out) r).queue
+    w.queue ++ lines_typed event ≡ lines_taken w event ++ (resulting_world w (Ok out) r).queue
 after-queues w event out (Refused why) answer queues = absurd answer
 after-queues w event out (Accepted world given items) answer queues = queues
 
-kept-world : (w : WorldState) (why : Refusal) (r : Response) → world_after w (Err why) r ≡ w
+kept-world : (w : WorldState) (why : Refusal) (r : Response) → resulting_world w (Err why) r ≡ w
 kept-world w why (Refused other) = refl
 kept-world w why (Accepted world given items) = refl
 
@@ -146,7 +146,7 @@ lines-in-order w (event ∷ events) [] last run = absurd run
 lines-in-order w (event ∷ events) (Err why ∷ outs) last run =
     lines-in-order w events outs last (rw (kept-world w why (step_of w event)) at run.1)
 lines-in-order w (event ∷ events) (Ok out ∷ outs) last run =
-    let mid : WorldState = world_after w (Ok out) (step_of w event) in
+    let mid : WorldState = resulting_world w (Ok out) (step_of w event) in
     let typing_response = all_lines_typed events outs in
     let taken = all_lines_taken mid events outs in
     sym (append_assoc w.queue (lines_typed event) typing_response)

@@ -16,7 +16,7 @@ use Rattle.ados_machine.specs.Settle.{here_of}
 use Rattle.ados_machine.specs.Shells.{ShellState}
 use Rattle.ados_machine.specs.Step.{is_accepted, start, course_without_flag, turning_response, turn_response}
 use Rattle.ados_machine.specs.Turning.{Input, Turning, Refuses, Ends, Takes, console_turning, input_turning, turning_in_phase, turning_at_break, flagged_turning}
-use Rattle.ados_machine.specs.World.{WorldState, shell_at, is_over, input_of, can_take, can_turn}
+use Rattle.ados_machine.specs.World.{WorldState, numbered_shell, is_over, input_of, can_take, can_turn}
 use Rattle.ados_machine.specs.Given.{ReadyShellsAreTurned}
 use Rattle.ados_machine.proofs.MovedChildren.{over-none}
 
@@ -82,5 +82,5 @@ pub ready-turned : ReadyShellsAreTurned
 ready-turned w k =
     elim (cases_Bool (is_over w)) [
       | inl e ↦ rw e (sym (ap (can_turn (input_of w k)) (over-none w k e)))
-      | inr e ↦ rw e (shell-accepts w k (shell_at w k))
+      | inr e ↦ rw e (shell-accepts w k (numbered_shell w k))
     ]

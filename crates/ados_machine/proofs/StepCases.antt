@@ -9,33 +9,33 @@ use Rattle.ados_machine.specs.declared.events.Kind.{Kind}
 use Rattle.ados_machine.specs.declared.refusals.Refusal.{Refusal}
 use Rattle.ados_machine.specs.declared.refusals.Refusal.TheVariants.{Over, NoSuchShell, NotReady, QueueFull, LineTooLong}
 use Rattle.ados_machine.specs.Shells.{ShellState}
-use Rattle.ados_machine.specs.World.{WorldState, shell_at, is_over}
-use Rattle.ados_machine.specs.Step.{Response, Refused, Accepted, out_with, queue_limit, turn_response, answer_response, break_response, typing_response, end_of_input, event_response, step_of}
+use Rattle.ados_machine.specs.World.{WorldState, numbered_shell, is_over}
+use Rattle.ados_machine.specs.Step.{Response, Refused, Accepted, event_out, queue_limit, turn_response, answer_response, break_response, typing_response, end_of_input, event_response, step_of}
 
 -- what is to be shown of an event and its response: of a refusal, of what is typed, of the end of the input, and of an event of a
 -- shell that runs
 pub record Cases (w : WorldState) (P : Event → Response → Type 0) : Type 0 where
   pub refused : (event : Event) (why : Refusal) → P event (Refused why)
-  pub typed : (line : List ℕ) → P (Typed line) (Accepted (record w { queue = w.queue ++ line ∷ [] }) (out_with [] None []) [])
-  pub ended : P EndOfInput (Accepted (record w { input_ended = true }) (out_with [] None []) [])
-  pub turned : (k : ℕ) (shell : ShellState) → shell_at w k ≡ Some shell → P (Turn k) (turn_response w k (Some shell))
-  pub answered : (k : ℕ) (reply : Reply) (shell : ShellState) → shell_at w k ≡ Some shell → P (Answer k reply) (answer_response w k reply (Some shell))
-  pub broken : (k : ℕ) (kind : Kind) (shell : ShellState) → shell_at w k ≡ Some shell → P (Break k kind) (break_response w k kind (Some shell))
+  pub typed : (line : List ℕ) → P (Typed line) (Accepted (record w { queue = w.queue ++ line ∷ [] }) (event_out [] None []) [])
+  pub ended : P EndOfInput (Accepted (record w { input_ended = true }) (event_out [] None []) [])
+  pub turned : (k : ℕ) (shell : ShellState) → numbered_shell w k ≡ Some shell → P (Turn k) (turn_response w k (Some shell))
+  pub answered : (k : ℕ) (reply : Reply) (shell : ShellState) → numbered_shell w k ≡ Some shell → P (Answer k reply) (answer_response w k reply (Some shell))
+  pub broken : (k : ℕ) (kind : Kind) (shell : ShellState) → numbered_shell w k ≡ Some shell → P (Break k kind) (break_response w k kind (Some shell))
 
 either : (P : Response → Type 0) (b : Bool) (r s : Response) → P r → P s → P (if b then r else s)
 either P true r s there here = there
 either P false r s there here = here
 
-of-turn : (w : WorldState) (P : Event → Response → Type 0) → Cases w P → (k : ℕ) (o : Option ShellState) → shell_at w k ≡ o → P (Turn k) (turn_response w k o)
+of-turn : (w : WorldState) (P : Event → Response → Type 0) → Cases w P → (k : ℕ) (o : Option ShellState) → numbered_shell w k ≡ o → P (Turn k) (turn_response w k o)
 of-turn w P cases k None is = cases.refused (Turn k) NoSuchShell
 of-turn w P cases k (Some shell) is = cases.turned k shell is
 
-of-answer : (w : WorldState) (P : Event → Response → Type 0) → Cases w P → (k : ℕ) (reply : Reply) (o : Option ShellState) → shell_at w k ≡ o →
+of-answer : (w : WorldState) (P : Event → Response → Type 0) → Cases w P → (k : ℕ) (reply : Reply) (o : Option ShellState) → numbered_shell w k ≡ o →
     P (Answer k reply) (answer_response w k reply o)
 of-answer w P cases k reply None is = cases.refused (Answer k reply) NoSuchShell
 of-answer w P cases k reply (Some shell) is = cases.answered k reply shell is
 
-of-break : (w : WorldState) (P : Event → Response → Type 0) → Cases w P → (k : ℕ) (kind : Kind) (o : Option ShellState) → shell_at w k ≡ o →
+of-break : (w : WorldState) (P : Event → Response → Type 0) → Cases w P → (k : ℕ) (kind : Kind) (o : Option ShellState) → numbered_shell w k ≡ o →
     P (Break k kind) (break_response w k kind o)
 of-break w P cases k kind None is = cases.refused (Break k kind) NoSuchShell
 of-break w P cases k kind (Some shell) is = cases.broken k kind shell is
@@ -47,9 +47,9 @@ of-event w P cases (Typed line) =
     (either (P (Typed line)) (nat_lt line_limit (length line)) (Refused LineTooLong) _ (cases.refused (Typed line) LineTooLong) (cases.typed line)))
 of-event w P cases EndOfInput =
     either (P EndOfInput) w.input_ended (Refused NotReady) _ (cases.refused EndOfInput NotReady) cases.ended
-of-event w P cases (Turn k) = of-turn w P cases k (shell_at w k) refl
-of-event w P cases (Answer k reply) = of-answer w P cases k reply (shell_at w k) refl
-of-event w P cases (Break k kind) = of-break w P cases k kind (shell_at w k) refl
+of-event w P cases (Turn k) = of-turn w P cases k (numbered_shell w k) refl
+of-event w P cases (Answer k reply) = of-answer w P cases k reply (numbered_shell w k) refl
+of-event w P cases (Break k kind) = of-break w P cases k kind (numbered_shell w k) refl
 
 pub of-step : (w : WorldState) (P : Event → Response → Type 0) → Cases w P → (event : Event) → P event (step_of w event)
 of-step w P cases event = either (P event) (is_over w) (Refused Over) (event_response w event) (cases.refused event Over) (of-event w P cases event)

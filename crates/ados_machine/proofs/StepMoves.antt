@@ -7,14 +7,14 @@ use Rattle.ados_find.specs.declared.codes.Codes.{Codes}
 use Rattle.ados_machine.specs.declared.answers.Answer.{Answer as Reply}
 use Rattle.ados_machine.specs.declared.events.Event.{Event}
 use Rattle.ados_machine.specs.declared.events.Kind.{Kind}
-use Rattle.ados_machine.specs.Breaks.{breaks_by}
+use Rattle.ados_machine.specs.Breaks.{kind_breaks}
 use Rattle.ados_machine.specs.declared.outs.Out.{Out}
 use Rattle.ados_machine.specs.declared.refusals.Refusal.{Refusal}
 use Rattle.ados_machine.specs.Shells.{ShellState}
 use Rattle.ados_machine.specs.Turning.{Turning, Refuses, Ends, Takes, flagged_turning, turning_of_answer}
-use Rattle.ados_machine.specs.World.{WorldState, shell_at, input_of}
+use Rattle.ados_machine.specs.World.{WorldState, numbered_shell, input_of}
 use Rattle.ados_machine.specs.Step.{Response, Refused, Accepted, moved_at_turn, start, course_without_flag, turning_response, turn_response, answer_response, break_response, typing_response, step_of}
-use Rattle.ados_machine.specs.Runs.{world_after}
+use Rattle.ados_machine.specs.Runs.{resulting_world}
 use Rattle.ados_machine.specs.Trace.{items_after, own}
 use Rattle.ados_machine.specs.Stacks.{stack_of, standing_of}
 use Rattle.ados_machine.proofs.Turnings.{TurningGoes, flagged-goes, answering-goes}
@@ -40,18 +40,18 @@ ended-moves shells k shell j sane is none =
     ]
 
 applied-leads : (w : WorldState) (k : ℕ) (shell : ShellState) (codes : Codes) (turning : Turning) → AllSane w.shells →
-    shell_at w k ≡ Some shell → TurningGoes shell.parts shell.frames turning → Leads w (turning_response w k codes turning)
+    numbered_shell w k ≡ Some shell → TurningGoes shell.parts shell.frames turning → Leads w (turning_response w k codes turning)
 applied-leads w k shell codes (Refuses why) sane is goes = tt
 applied-leads w k shell codes Ends sane is goes = λ j. ended-moves w.shells k shell j sane is goes
 applied-leads w k shell codes (Takes queue t) sane is goes = λ j. turn-moves w.shells k shell (moved_at_turn w t) t j sane is goes
 
-turned-leads : (w : WorldState) (k : ℕ) (o : Option ShellState) → AllSane w.shells → shell_at w k ≡ o → Leads w (turn_response w k o)
+turned-leads : (w : WorldState) (k : ℕ) (o : Option ShellState) → AllSane w.shells → numbered_shell w k ≡ o → Leads w (turn_response w k o)
 turned-leads w k None sane is = tt
 turned-leads w k (Some shell) sane is =
     applied-leads w k shell shell.parts.codes (flagged_turning shell.flagged (input_of w k) shell.frames (course_without_flag (start w shell)) shell.phase) sane is
     (flagged-goes shell.flagged (input_of w k) shell.frames (course_without_flag (start w shell)) shell.phase (rw is at (sane.each k)))
 
-answered-leads : (w : WorldState) (k : ℕ) (reply : Reply) (o : Option ShellState) → AllSane w.shells → shell_at w k ≡ o → Leads w (answer_response w k reply o)
+answered-leads : (w : WorldState) (k : ℕ) (reply : Reply) (o : Option ShellState) → AllSane w.shells → numbered_shell w k ≡ o → Leads w (answer_response w k reply o)
 answered-leads w k reply None sane is = tt
 answered-leads w k reply (Some shell) sane is =
     applied-leads w k shell shell.parts.codes (turning_of_answer (input_of w k) shell.frames (start w shell) shell.phase reply) sane is
@@ -59,7 +59,7 @@ answered-leads w k reply (Some shell) sane is =
 
 broken-leads : (w : WorldState) (k : ℕ) (kind : Kind) (o : Option ShellState) → AllSane w.shells → Leads w (break_response w k kind o)
 broken-leads w k kind None sane = tt
-broken-leads w k kind (Some shell) sane = λ j. broken-moves (Some (record { shell = k; breaks = breaks_by kind })) j w.shells [] w.shells (stays w.shells j sane)
+broken-leads w k kind (Some shell) sane = λ j. broken-moves (Some (record { shell = k; breaks = kind_breaks kind })) j w.shells [] w.shells (stays w.shells j sane)
 
 step-leads : (w : WorldState) (event : Event) → AllSane w.shells → Leads w (step_of w event)
 step-leads w event sane = of-step w (λ event response. Leads w response) (record {
@@ -72,12 +72,12 @@ step-leads w event sane = of-step w (λ event response. Leads w response) (recor
 }) event
 
 after-moves : (w : WorldState) (out : Result Out Refusal) (response : Response) → AllSane w.shells → Leads w response →
-    (j : ℕ) → Moves j w.shells (own j (items_after out response)) (world_after w out response).shells
+    (j : ℕ) → Moves j w.shells (own j (items_after out response)) (resulting_world w out response).shells
 after-moves w (Ok out) (Accepted world given items) sane leads j = leads j
 after-moves w (Ok out) (Refused why) sane leads j = stays w.shells j sane
 after-moves w (Err refusal) (Accepted world given items) sane leads j = stays w.shells j sane
 after-moves w (Err refusal) (Refused why) sane leads j = stays w.shells j sane
 
 pub step-moves : (w : WorldState) (event : Event) (out : Result Out Refusal) → AllSane w.shells → (j : ℕ) →
-    Moves j w.shells (own j (items_after out (step_of w event))) (world_after w out (step_of w event)).shells
+    Moves j w.shells (own j (items_after out (step_of w event))) (resulting_world w out (step_of w event)).shells
 step-moves w event out sane j = after-moves w out (step_of w event) sane (step-leads w event sane) j

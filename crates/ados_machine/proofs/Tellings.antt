@@ -9,7 +9,7 @@ use Rattle.ados_machine.specs.declared.phases.Phase.TheVariants.{Ready, GoingOn,
 use Rattle.ados_machine.specs.declared.phases.Wait.TheVariants.{ForAnswer, ForEnd, ForLines, ForPiece, ForStart}
 use Rattle.ados_machine.specs.Items.{Item}
 use Rattle.ados_machine.specs.Shells.{ShellState}
-use Rattle.ados_machine.specs.Sinks.{sink_in}
+use Rattle.ados_machine.specs.Sinks.{newest_sink}
 use Rattle.ados_machine.specs.Completions.{Completion, Passes, course_of}
 use Rattle.ados_machine.specs.Lines.{line_completion, parted_completion, answer_completion}
 use Rattle.ados_machine.specs.NewShells.{gathered_completion}
@@ -143,7 +143,7 @@ reply-same k w go on frames phase common [] stands same = refl
 reply-same k w go on frames phase common (reply ∷ answers) stands same =
     rw (answer-is k w frames phase common reply stands)
     (completion-same k w (go answers) (on answers) frames phase common
-    (answered_in (sink_in frames) (start_in k frames phase common) phase reply) stands (same answers))
+    (answered_in (newest_sink frames) (start_in k frames phase common) phase reply) stands (same answers))
 
 -- an event of the shell
 event-same : (k : ℕ) (w : WorldState) (go : List Reply → Goes) (on : List Reply → Go) (n : ℕ) (answers : List Reply)
@@ -166,9 +166,9 @@ event-same k w go on n answers frame frames common (Waiting (ForAnswer asking)) 
     (took-does k w (go answers) (on answers) (frame ∷ frames) (Waiting (ForAnswer asking)) common _ (frame ∷ frames) stands (same answers))
 event-same k w go on n answers frame frames common (Waiting (ForLines gathering)) stands same =
     turn-same k w (go answers) (on answers) (frame ∷ frames) common (Waiting (ForLines gathering)) _ _
-    (λ now. does k (on answers) (frame ∷ frames) now (gathered_completion gathering (sink_in (frame ∷ frames)) (start_in k (frame ∷ frames) (Waiting (ForLines gathering)) now))) stands (same answers) refl
+    (λ now. does k (on answers) (frame ∷ frames) now (gathered_completion gathering (newest_sink (frame ∷ frames)) (start_in k (frame ∷ frames) (Waiting (ForLines gathering)) now))) stands (same answers) refl
     (took-does k w (go answers) (on answers) (frame ∷ frames) (Waiting (ForLines gathering)) common
-    (gathered_completion gathering (sink_in (frame ∷ frames)) (start_in k (frame ∷ frames) (Waiting (ForLines gathering)) (common_without_flag common)))
+    (gathered_completion gathering (newest_sink (frame ∷ frames)) (start_in k (frame ∷ frames) (Waiting (ForLines gathering)) (common_without_flag common)))
     (frame ∷ frames) stands (same answers))
 event-same k w go on n answers frame frames common (Waiting (ForStart starting)) stands same =
     reply-same k w go on (frame ∷ frames) (Waiting (ForStart starting)) common answers stands same

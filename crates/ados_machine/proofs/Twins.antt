@@ -6,7 +6,7 @@ use Rattle.std.proofs.lemmas.Bool.{eq-eqb, ne_eqb, cases_eq, cases_Bool}
 use Rattle.ados_line.specs.Cut.{line_limit}
 use Rattle.ados_find.specs.declared.codes.Codes.{Codes}
 use Rattle.ados_find.specs.declared.outcomes.Renamed.{Renamed}
-use Rattle.ados_machine.specs.Breaks.{breaks_by}
+use Rattle.ados_machine.specs.Breaks.{kind_breaks}
 use Rattle.ados_machine.specs.declared.answers.Answer.{Answer as Reply}
 use Rattle.ados_machine.specs.declared.events.Event.{Event}
 use Rattle.ados_machine.specs.declared.events.Event.TheVariants.{Typed, EndOfInput, Turn, Answer, Break}
@@ -19,11 +19,11 @@ use Rattle.ados_machine.specs.Shells.{ShellStart, begun_shell, ShellState}
 use Rattle.ados_machine.specs.Settle.{TurnResult}
 use Rattle.ados_machine.specs.Numbers.{free_number}
 use Rattle.ados_machine.specs.Turning.{Turning, Refuses, Ends, Takes, flagged_turning, turning_of_answer}
-use Rattle.ados_machine.specs.World.{WorldState, flatten, shell_at, is_over, seen_in, input_of}
+use Rattle.ados_machine.specs.World.{WorldState, flatten, numbered_shell, is_over, seen_shells, input_of}
 use Rattle.ados_machine.specs.Course.{shared_after_event}
 use Rattle.ados_machine.specs.Carrying.{moved_object, carried_shells}
 use Rattle.ados_machine.specs.Step.{Response, Refused, Accepted, of_shell, begun_items, with_begun, is_done, shell_after_turn, moved_at_turn, codes_of_ended, queue_after_event, queue_limit, turn_taken, start, course_without_flag, turning_response, turn_response, answer_response, break_response, typing_response, end_of_input, event_response, step_of}
-use Rattle.ados_machine.specs.Runs.{MayWantMemory, IsAnswer, world_after}
+use Rattle.ados_machine.specs.Runs.{MayWantMemory, IsAnswer, resulting_world}
 use Rattle.ados_machine.specs.Quiet.{shell_of}
 use Rattle.ados_machine.proofs.Shells.{shells_behind}
 use Rattle.ados_machine.proofs.Alike.{alike-broken, Alike, alike-get, alike-set, LooksLike, alike-seen, free-seen, any-seen, alike-carried}
@@ -45,7 +45,7 @@ Both j (Refused why) (Refused other) = other ≡ why
 Both j (Accepted world out items) (Accepted world' out' items') = (out' ≡ out) × (items' ≡ items) × Twins j world world'
 Both j _ _ = ⊥
 
-twins-seen : (j : ℕ) (a b : WorldState) → Twins j a b → seen_in b.shells ≡ seen_in a.shells
+twins-seen : (j : ℕ) (a b : WorldState) → Twins j a b → seen_shells b.shells ≡ seen_shells a.shells
 twins-seen j a b twins = alike-seen j 1 a.shells b.shells twins.shells
 
 twins-free : (j : ℕ) (a b : WorldState) → Twins j a b → free_number b.shells ≡ free_number a.shells
@@ -55,7 +55,7 @@ twins-over : (j : ℕ) (a b : WorldState) → Twins j a b → is_over b ≡ is_o
 twins-over j a b twins =
     ap not (sym (any-seen b.shells) ∙ (ap (λ s. list_any is_some s) (twins-seen j a b twins) ∙ any-seen a.shells))
 
-pub twins-found : (j : ℕ) (a b : WorldState) → Twins j a b → (k : ℕ) → k ≢ j → shell_at b k ≡ shell_at a k
+pub twins-found : (j : ℕ) (a b : WorldState) → Twins j a b → (k : ℕ) → k ≢ j → numbered_shell b k ≡ numbered_shell a k
 twins-found j a b twins zero ne = refl
 twins-found j a b twins (suc i) ne = ap flatten (alike-get LooksLike j 1 a.shells b.shells i twins.shells (λ e. ne (omega (arith, e))))
 
@@ -181,7 +181,7 @@ broken-both j a b k kind (Some shell) twins = (
   refl,
   record {
     shared = twins.shared;
-    shells = alike-broken (Some (record { shell = k; breaks = breaks_by kind })) j 1 a.shells b.shells twins.shells;
+    shells = alike-broken (Some (record { shell = k; breaks = kind_breaks kind })) j 1 a.shells b.shells twins.shells;
     ended = twins.ended;
     queue = twins.queue;
     input = twins.input;
@@ -191,9 +191,9 @@ broken-both j a b k kind (Some shell) twins = (
 happened-both : (j : ℕ) (a b : WorldState) (event : Event) → Twins j a b → shell_of event ≢ j → Both j (event_response a event) (event_response b event)
 happened-both j a b (Typed line) twins ne = typed-both j a b line twins ne
 happened-both j a b EndOfInput twins ne = end-both j a b twins ne
-happened-both j a b (Turn k) twins ne = rw (twins-found j a b twins k ne) (turned-both j a b k (shell_at a k) twins ne)
-happened-both j a b (Answer k reply) twins ne = rw (twins-found j a b twins k ne) (answered-both j a b k reply (shell_at a k) twins ne)
-happened-both j a b (Break k kind) twins ne = rw (twins-found j a b twins k ne) (broken-both j a b k kind (shell_at a k) twins)
+happened-both j a b (Turn k) twins ne = rw (twins-found j a b twins k ne) (turned-both j a b k (numbered_shell a k) twins ne)
+happened-both j a b (Answer k reply) twins ne = rw (twins-found j a b twins k ne) (answered-both j a b k reply (numbered_shell a k) twins ne)
+happened-both j a b (Break k kind) twins ne = rw (twins-found j a b twins k ne) (broken-both j a b k kind (numbered_shell a k) twins)
 
 pub step-both : (j : ℕ) (a b : WorldState) (event : Event) → Twins j a b → shell_of event ≢ j → Both j (step_of a event) (step_of b event)
 step-both j a b event twins ne =
@@ -226,7 +226,7 @@ want-both j event LineTooLong a b out out' items items' twins ne same h = h
 
 -- what was answered in the one world is an answer in the other
 pub same-answer : (j : ℕ) (a b : WorldState) (event : Event) (out : Result Out Refusal) (r s : Response) → Twins j a b → shell_of event ≢ j → Both j r s → IsAnswer event out r →
-    IsAnswer event out s × Twins j (world_after a out r) (world_after b out s)
+    IsAnswer event out s × Twins j (resulting_world a out r) (resulting_world b out s)
 same-answer j a b event (Ok out) (Refused why) s twins ne both answer = absurd answer
 same-answer j a b event (Err refusal) (Refused why) (Refused other) twins ne both answer = (answer ∙ sym both, twins)
 same-answer j a b event (Err refusal) (Refused why) (Accepted world given items) twins ne both answer = absurd both

@@ -15,7 +15,7 @@ use Rattle.ados_machine.specs.declared.phases.Phase.TheVariants as phase
 use Rattle.ados_machine.specs.declared.phases.Starting.{Starting}
 use Rattle.ados_machine.specs.declared.phases.Wait.{Wait}
 use Rattle.ados_machine.specs.declared.phases.Wait.TheVariants.{ForAnswer, ForLines, ForStart, ForPiece, ForEnd}
-use Rattle.ados_machine.specs.Answers.{child_of, next_wait, with_break, started_completion, child_after_piece, fault_in, piece_completion, is_piece, ended_completion, answered_completion, answered_in}
+use Rattle.ados_machine.specs.Answers.{child_of, next_wait, with_break, started_completion, child_after_piece, output_fault, piece_completion, is_piece, ended_completion, answered_completion, answered_in}
 use Rattle.ados_machine.specs.Breaks.{marked_if}
 use Rattle.ados_machine.specs.Course.{Course, put}
 use Rattle.ados_machine.specs.InUse.{entry_seen, EntriesStayInUse, IdleShellsUseNoEntry}
@@ -24,7 +24,7 @@ use Rattle.ados_machine.specs.Requests.{request_of}
 use Rattle.ados_machine.specs.Shells.{ShellState, seen_of, entry_while, entry_in}
 use Rattle.ados_machine.specs.Sinks.{Sink, sink_or}
 use Rattle.ados_machine.specs.Step.{Accepted}
-use Rattle.ados_machine.specs.World.{shell_at, request_of_shell}
+use Rattle.ados_machine.specs.World.{numbered_shell, request_of_shell}
 use Rattle.ados_machine.proofs.Lasting.{Watch, SeenBehind, Keeps, seen_by, is_held, step-keeps}
 use Rattle.ados_machine.proofs.Rests.{IsIdle}
 
@@ -79,7 +79,7 @@ piece-entry : (frames : List FrameState) (child : Child) (bytes : Bytes) (sink :
     SeenBehind entry_above frames child.entry (Some (piece_completion child bytes sink course fault))
 piece-entry frames child bytes sink course (Some fault) = next-entry (with_break child) ∙ break-entry child
 piece-entry frames child bytes sink course None =
-    let fault = fault_in (put (sink_or child.output sink) bytes went_well course).codes in
+    let fault = output_fault (put (sink_or child.output sink) bytes went_well course).codes in
     next-entry (child_after_piece (with_break child) fault) ∙ (put-entry (with_break child) fault ∙ break-entry child)
 
 ended-entry : (frames : List FrameState) (entry : Option Text) (child : Child) (codes : Codes) (course : Course) (fault : Option Result2) →
@@ -145,8 +145,8 @@ asks-same (Some shell) = any-number shell.parts.number shell.phase
 pub entries-stay : EntriesStayInUse
 entries-stay w event world out items is k before behind =
     let keeps : Keeps entries w (Accepted world out items) = rw is at (step-keeps entries w event) in
-    entry-same (shell_at world k)
-    ∙ (keeps k (sym (asks-same (shell_at w k)) ∙ before) (sym (asks-same (shell_at world k)) ∙ behind) ∙ sym (entry-same (shell_at w k)))
+    entry-same (numbered_shell world k)
+    ∙ (keeps k (sym (asks-same (numbered_shell w k)) ∙ before) (sym (asks-same (numbered_shell world k)) ∙ behind) ∙ sym (entry-same (numbered_shell w k)))
 
 -- if nothing is asked for
 phase-idle : (n : ℕ) (now : Phase) → request_of n now ≡ None → entry_in now ≡ None
@@ -163,4 +163,4 @@ shell-idle None idle = refl
 shell-idle (Some shell) idle = phase-idle shell.parts.number shell.phase idle
 
 pub idle-no-entry : IdleShellsUseNoEntry
-idle-no-entry w k idle = shell-idle (shell_at w k) idle
+idle-no-entry w k idle = shell-idle (numbered_shell w k) idle

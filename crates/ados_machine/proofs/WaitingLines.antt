@@ -11,7 +11,7 @@ use Rattle.ados_machine.specs.Course.{Course}
 use Rattle.ados_machine.specs.Shells.{ShellState}
 use Rattle.ados_machine.specs.Step.{start, course_without_flag, turning_response, turn_response}
 use Rattle.ados_machine.specs.Turning.{Input, Turning, Refuses, Ends, Takes, turning_in_phase, turning_at_break, flagged_turning}
-use Rattle.ados_machine.specs.World.{WorldState, shell_at, is_over}
+use Rattle.ados_machine.specs.World.{WorldState, numbered_shell, is_over}
 use Rattle.ados_machine.specs.Given.{with_lines_waiting, FurtherLinesWait}
 
 abbrev leaving : List (List ℕ) → Turning → Turning
@@ -87,7 +87,7 @@ further-lines-wait w k line lines =
     elim (cases_Bool (is_over w)) [
       | inl e ↦ rw e refl
       | inr e ↦ rw e (elim (cases_eq k 1) [
-        | inl same ↦ rw same (first-waits w line lines (shell_at w 1))
-        | inr differ ↦ other-waits w k line lines (shell_at w k) differ
+        | inl same ↦ rw same (first-waits w line lines (numbered_shell w 1))
+        | inr differ ↦ other-waits w k line lines (numbered_shell w k) differ
       ])
     ]

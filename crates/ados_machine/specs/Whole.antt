@@ -27,7 +27,7 @@ use Rattle.ados_machine.specs.Course.{Course}
 use Rattle.ados_machine.specs.Items.{broken_codes}
 use Rattle.ados_machine.specs.Completions.{Here, Completion, Passes, Answers, Jumps, Calls, Ticks, Waits, course_of}
 use Rattle.ados_machine.specs.Settled.{RuleState, with_fault_line, with_answer, with_limit, newest_kept, with_tick, without_tick}
-use Rattle.ados_machine.specs.World.{seen_in}
+use Rattle.ados_machine.specs.World.{seen_shells}
 use Rattle.ados_machine.specs.Step.{after_event}
 
 -- what lines pass on: the shells (at the shell's own number it only matters that there is one), what all share, what the shell
@@ -116,7 +116,7 @@ start_at k at wait common = record {
   parts = common.said.parts;
   kept = common.said.kept;
   shared = common.shared;
-  seen = slice_set (seen_in common.shells) (k - 1) (Some (seen_at at wait common.said.parts.directory));
+  seen = slice_set (seen_shells common.shells) (k - 1) (Some (seen_at at wait common.said.parts.directory));
   printed = [];
   renamed = None;
   begun = None;

@@ -18,8 +18,8 @@ use Rattle.ados_machine.specs.Course.{Course, put}
 use Rattle.ados_machine.specs.NewShells.{begun_put, frame_run, gathered_completion, joined_or_waiting, joined_completion, new_shell, run_at, with_command}
 use Rattle.ados_machine.specs.Numbers.{free_number}
 use Rattle.ados_machine.specs.Settle.{here_of}
-use Rattle.ados_machine.specs.Sinks.{Sink, sink_in, sink_or}
-use Rattle.ados_machine.specs.World.{seen_in}
+use Rattle.ados_machine.specs.Sinks.{Sink, newest_sink, sink_or}
+use Rattle.ados_machine.specs.World.{seen_shells}
 use Rattle.ados_shell.specs.declared.scenes.Scene.{Scene}
 use Rattle.ados_shell.specs.declared.drafts.Draft.{Draft}
 use Rattle.ados_shell.specs.Drafts.{HasBegun, Settles, course_of, next_line_place}
@@ -30,14 +30,14 @@ use Rattle.ados_shell.specs.Stacks.{drafted_frames}
 
 -- a shell was drafted that is to begin, and its number was put out
 pub begun-put : (scene : Scene) (before mid after : Draft) (codes : Codes) (number : ℕ) (commands : List Text) (output : Option Target)
-    → free_number (seen_in scene.shells.now) ≡ Some number
+    → free_number (seen_shells scene.shells.now) ≡ Some number
     → HasBegun scene before mid number commands output
     → IsPut scene mid after codes (put (sink_or output (next_line_place scene mid).sink) (number_line number) went_well (course_of scene mid))
     → IsPut scene before after codes (new_shell commands output (next_line_place scene before).sink (course_of scene before))
 begun-put scene before mid after codes number commands output n b g =
     let sink = (next_line_place scene before).sink in
     let done : put (sink_or output (next_line_place scene mid).sink) (number_line number) went_well (course_of scene mid) ≡ new_shell commands output sink (course_of scene before) =
-    ap (λ x. put (sink_or output (sink_in (drafted_frames scene.shell.now x))) (number_line number) went_well (course_of scene mid)) b.frames
+    ap (λ x. put (sink_or output (newest_sink (drafted_frames scene.shell.now x))) (number_line number) went_well (course_of scene mid)) b.frames
     ∙ ap (λ x. put (sink_or output sink) (number_line number) went_well x) b.course
     ∙ ap (λ x. begun_put x commands output sink (course_of scene before)) (sym n) in
     record {

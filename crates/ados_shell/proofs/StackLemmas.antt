@@ -9,7 +9,7 @@ use Rattle.ados_flow.specs.declared.kinds.Kind.{Kind}
 use Rattle.ados_flow.specs.declared.kinds.Kind.TheVariants.{Script, Lines, Tick}
 use Rattle.ados_flow.specs.Frames.{FrameState, first_limit, is_script, limit_above_frames, limit_above_scripts, script_count, untaken_lines}
 use Rattle.ados_machine.specs.Breaks.{has_script}
-use Rattle.ados_machine.specs.Sinks.{Console, sink_by, sink_in}
+use Rattle.ados_machine.specs.Sinks.{Console, sink_by, newest_sink}
 use Rattle.ados_shell.specs.Stacks.{sink_above, skipped_frames}
 use Rattle.ados_shell.specs.Completions.{line_after, lines_left}
 use Rattle.ados_machine.specs.Settle.{frames_at_line, lines_of_frame, newest}
@@ -47,11 +47,11 @@ script_append (frame ∷ above) below =
     or-over false b c = refl
 
 -- where the output of frames above others goes
-pub sink-append : (above below : List FrameState) → sink_in (above ++ below) ≡ sink_above above (sink_in below)
+pub sink-append : (above below : List FrameState) → newest_sink (above ++ below) ≡ sink_above above (newest_sink below)
 sink-append [] below = refl
 sink-append (frame ∷ above) below = ap (sink_by frame.kind frame.output) (sink-append above below)
 
-pub sink-alone : (frames : List FrameState) → sink_above frames Console ≡ sink_in frames
+pub sink-alone : (frames : List FrameState) → sink_above frames Console ≡ newest_sink frames
 sink-alone [] = refl
 sink-alone (frame ∷ frames) = ap (sink_by frame.kind frame.output) (sink-alone frames)
 

@@ -26,8 +26,8 @@ use Rattle.ados_machine.specs.NewShells.{with_shell_begun}
 use Rattle.ados_machine.specs.Completions.{Here, Completion}
 use Rattle.ados_machine.specs.Settled.{RuleResult, newest_kept}
 use Rattle.ados_machine.specs.Settle.{TurnResult, turn_by_rule, here_of, turn_of_completion}
-use Rattle.ados_machine.specs.Step.{out_with, shell_of_turn, course_without_flag}
-use Rattle.ados_machine.specs.World.{seen_in}
+use Rattle.ados_machine.specs.Step.{event_out, shell_of_turn, course_without_flag}
+use Rattle.ados_machine.specs.World.{seen_shells}
 use Rattle.ados_shell.specs.declared.scenes.Scene.{Scene}
 use Rattle.ados_shell.specs.declared.drafts.Draft.{Draft}
 use Rattle.ados_shell.specs.declared.drafts.ShellDraft.{ShellDraft}
@@ -65,7 +65,7 @@ drafted_shell draft shell = record {
 
 -- what is given by an event that a draft holds
 abbrev pub out_of : Draft → Out
-out_of draft = out_with draft.printed.items draft.request draft.reports.items
+out_of draft = event_out draft.printed.items draft.request draft.reports.items
 
 abbrev pub frames_of : Scene → Draft → List FrameState
 frames_of scene draft = drafted_frames scene.shell.now draft.shell.frames
@@ -84,7 +84,7 @@ start_of scene = record {
   parts = scene.shell.now.parts;
   kept = scene.shell.now.kept;
   shared = scene.shared.now;
-  seen = seen_in scene.shells.now;
+  seen = seen_shells scene.shells.now;
   printed = [];
   renamed = None;
   begun = None;
@@ -133,7 +133,7 @@ held_course scene held limit codes printed = record {
   };
   kept = unwrap_or held.kept scene.shell.now.kept;
   shared = version scene.shared.now held.shared;
-  seen = seen_in scene.shells.now;
+  seen = seen_shells scene.shells.now;
   printed = printed;
   renamed = held.renamed;
   begun = held.begun;

@@ -1,7 +1,7 @@
 // Answers of a launcher, for a shell that waits for one.
 ghost use Rattle.std.specs.Prelude.{◌≡◌, IfOk, OnErr, OnOk, is_some, true};
 ghost use Rattle.std.specs.Option.{option_copied};
-ghost use Rattle.ados_machine.specs.Answers.{answered_completion, answered_in, code_of, ended_completion, fault_in, is_piece, piece_completion, started_completion};
+ghost use Rattle.ados_machine.specs.Answers.{answered_completion, answered_in, code_of, ended_completion, output_fault, is_piece, piece_completion, started_completion};
 ghost use Rattle.std.specs.Prelude.{None};
 ghost use Rattle.ados_machine.specs.Opening.{line_output};
 ghost use Rattle.ados_text.specs.declared.codes.TheConstants.Result2.{NONE};
@@ -182,7 +182,7 @@ impl Draft {
         let output = child.output.as_ref();
         let codes = self.put(scene, output, bytes.copy()?, Codes::NONE)?;
         let child = child.copy()?.with_break();
-        let child = child.behind_piece(fault_in(codes));
+        let child = child.behind_piece(output_fault(codes));
         self.wait(scene, child.next())
     }
 
@@ -231,8 +231,8 @@ impl Draft {
 }
 
 /// The fault of what was put out, if there was one.
-fn fault_in(codes: Codes) -> Option<Result2>
-    ensures { result ≡ fault_in codes }
+fn output_fault(codes: Codes) -> Option<Result2>
+    ensures { result ≡ output_fault codes }
 {
     if codes.result2 == Result2::NONE {
         None

@@ -1,7 +1,7 @@
 // What a turn has changed so far, ready to be moved in.
 ghost use Rattle.std.specs.Prelude.{◌≡◌, [], None, false, OnOk, option_map};
 ghost use Rattle.ados_find.specs.Shared.{version};
-ghost use Rattle.ados_machine.specs.Step.{out_with};
+ghost use Rattle.ados_machine.specs.Step.{event_out};
 
 use crate::begun::Begun;
 use crate::breaks::flags_own;
@@ -104,7 +104,7 @@ impl Draft {
 
     /// A draft in which nothing is changed yet.
     pub fn new(alloc: Global) -> Draft
-        ensures { out_of result ≡ out_with [] None [] }
+        ensures { out_of result ≡ event_out [] None [] }
     {
         Draft {
             shell: ShellDraft {
@@ -154,7 +154,7 @@ impl Draft {
 
     /// Nothing is printed, nothing is asked for, and no script ended.
     pub fn give_nothing(&mut self)
-        ensures { out_of self.new ≡ out_with [] None [] }
+        ensures { out_of self.new ≡ event_out [] None [] }
     {
         self.printed.clear();
         self.request = None;

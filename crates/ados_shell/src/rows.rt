@@ -3,7 +3,7 @@ ghost use Rattle.std.specs.Prelude.{◌≡◌, None, IfOk, OnOk};
 ghost use Rattle.std.specs.Option.{option_copied, option_map};
 ghost use Rattle.ados_find.specs.Effects.{effect_of};
 ghost use Rattle.ados_flow.specs.Actions.{action_effect};
-ghost use Rattle.ados_machine.specs.Lines.{action_completion, action_in, busy_in, command_completion, names_in, view_of, with_arguments};
+ghost use Rattle.ados_machine.specs.Lines.{action_completion, action_in, busy_files, command_completion, names_in, view_of, with_arguments};
 
 use crate::completions::Completion;
 use crate::drafts::{Draft, ShellDraft};
@@ -128,7 +128,7 @@ impl Draft {
         builtin: Builtin,
         target: Option<&Target>,
     ) -> Result<Busy, NoMemory>
-        ensures { IfOk result (λ busy. ServesInUse builtin busy (busy_in (option_copied target.entry) (course_of scene.now self.now))) }
+        ensures { IfOk result (λ busy. ServesInUse builtin busy (busy_files (option_copied target.entry) (course_of scene.now self.now))) }
     {
         if reads_in_use(builtin) {
             self.in_use(scene, target)
@@ -166,7 +166,7 @@ impl Draft {
 
     /// What is in use while a command runs whose output leads there.
     pub(crate) fn in_use(&self, scene: &Scene, target: Option<&Target>) -> Result<Busy, NoMemory>
-        ensures { IfOk result (λ busy. busy ≡ busy_in (option_copied target.entry) (course_of scene.now self.now)) }
+        ensures { IfOk result (λ busy. busy ≡ busy_files (option_copied target.entry) (course_of scene.now self.now)) }
     {
         in_use(
             scene.alloc,

@@ -5,12 +5,12 @@ ghost use Rattle.std.specs.Option.{option_copied};
 ghost use Rattle.ados_assign.specs.InUse.{busy_of};
 ghost use Rattle.ados_machine.specs.Course.{directories_of, outputs_of, uses_of, with_use};
 ghost use Rattle.ados_machine.specs.Shells.{seen_of};
-ghost use Rattle.ados_machine.specs.Sinks.{held_while, outputs_in};
+ghost use Rattle.ados_machine.specs.Sinks.{held_while, frame_outputs};
 ghost use Rattle.ados_machine.specs.Lines.{name_seen};
 ghost use Rattle.ados_machine.specs.Names.{name_in, waiting_word};
-ghost use Rattle.ados_machine.specs.Numbers.{free_from, free_number};
+ghost use Rattle.ados_machine.specs.Numbers.{first_free_number, free_number};
 ghost use Rattle.ados_find.specs.Targets.{open_places};
-ghost use Rattle.ados_machine.specs.World.{seen_in};
+ghost use Rattle.ados_machine.specs.World.{seen_shells};
 
 use crate::shells::Shell;
 use ados_assign::Assigns;
@@ -34,7 +34,7 @@ pub struct Others {
 
 /// The open outputs of the shells that run, in order of their numbers; nothing else is in use.
 pub fn open_outputs(alloc: Global, shells: &[Option<Shell>; 20]) -> Result<Busy, NoMemory>
-    ensures { IfOk result (λ busy. busy ≡ record { dirs = []; outputs = outputs_of (seen_in shells.now) }) }
+    ensures { IfOk result (λ busy. busy ≡ record { dirs = []; outputs = outputs_of (seen_shells shells.now) }) }
 {
     Ok(Busy {
         dirs: Vec::new(alloc),
@@ -50,14 +50,14 @@ pub fn in_use(
     target: Option<&Target>,
     assigns: &Assigns,
 ) -> Result<Busy, NoMemory>
-    ensures { IfOk result (λ busy. busy ≡ busy_of (directories_of (seen_in shells.now)) (open_places (option_copied target.entry) ++ outputs_of (seen_in shells.now)) assigns.now) }
+    ensures { IfOk result (λ busy. busy ≡ busy_of (directories_of (seen_shells shells.now)) (open_places (option_copied target.entry) ++ outputs_of (seen_shells shells.now)) assigns.now) }
 {
     assigns.busy(directories(alloc, shells)?, outputs(alloc, shells, target)?)
 }
 
 /// The current directories of the shells that run, in order of their numbers.
 fn directories(alloc: Global, shells: &[Option<Shell>; 20]) -> Result<Vec<Place>, NoMemory>
-    ensures { IfOk result (λ places. places.items ≡ directories_of (seen_in shells.now)) }
+    ensures { IfOk result (λ places. places.items ≡ directories_of (seen_shells shells.now)) }
 {
     let mut places = Vec::new(alloc);
     for shell in shells {
@@ -75,7 +75,7 @@ fn outputs(
     shells: &[Option<Shell>; 20],
     target: Option<&Target>,
 ) -> Result<Vec<Place>, NoMemory>
-    ensures { IfOk result (λ places. places.items ≡ open_places (option_copied target.entry) ++ outputs_of (seen_in shells.now)) }
+    ensures { IfOk result (λ places. places.items ≡ open_places (option_copied target.entry) ++ outputs_of (seen_shells shells.now)) }
 {
     let mut places = Vec::new(alloc);
     push_output(&mut places, target)?;
@@ -114,7 +114,7 @@ fn push_held(places: &mut Vec<Place>, wait: &Wait) -> Result<(), NoMemory>
 
 /// The open outputs of frames, of which the newest is the last, after other places.
 fn push_outputs(places: &mut Vec<Place>, frames: &[Frame]) -> Result<(), NoMemory>
-    ensures { OnOk result (places.new.items ≡ places.old.items ++ outputs_in (reverse frames.now)) }
+    ensures { OnOk result (places.new.items ≡ places.old.items ++ frame_outputs (reverse frames.now)) }
 {
     let Some((frame, below)) = frames.split_last() else {
         return Ok(());
@@ -138,7 +138,7 @@ fn push_output(places: &mut Vec<Place>, target: Option<&Target>) -> Result<(), N
 
 /// The resident entries, by their names, of the shells that run from one, in order of their numbers.
 pub fn uses(alloc: Global, shells: &[Option<Shell>; 20]) -> Result<Texts, NoMemory>
-    ensures { IfOk result (λ uses. uses ≡ uses_of (seen_in shells.now)) }
+    ensures { IfOk result (λ uses. uses ≡ uses_of (seen_shells shells.now)) }
 {
     let mut uses = Texts::new(alloc);
     for shell in shells {
@@ -168,7 +168,7 @@ pub fn names_while(
     number: u8,
     word: &Text,
 ) -> Result<ShellNames, NoMemory>
-    ensures { IfOk result (λ names. names ≡ slice_set (map name_seen (seen_in shells.now)) (number - 1) (Some word.now)) }
+    ensures { IfOk result (λ names. names ≡ slice_set (map name_seen (seen_shells shells.now)) (number - 1) (Some word.now)) }
 {
     let mut names = names(alloc, shells)?;
     if let Some(own) = names.get_mut((number as usize).saturating_sub(1)) {
@@ -179,7 +179,7 @@ pub fn names_while(
 
 /// The names in Status of the shells that run, from number 1.
 fn names(alloc: Global, shells: &[Option<Shell>; 20]) -> Result<Vec<Option<Text>>, NoMemory>
-    ensures { IfOk result (λ names. names.items ≡ map name_seen (seen_in shells.now)) }
+    ensures { IfOk result (λ names. names.items ≡ map name_seen (seen_shells shells.now)) }
 {
     let mut names = Vec::with_capacity(alloc, 20)?;
     for shell in shells {
@@ -231,7 +231,7 @@ fn script_name(alloc: Global, frames: &[Frame]) -> Result<Text, NoMemory>
 #[tactic(auto, using(crate::proofs::NumberLemmas::free_seen))]
 pub fn free_number(shells: &[Option<Shell>; 20]) -> Option<u8>
     ensures shells { result ≡ free_number shells.now }
-    ensures seen { result ≡ free_number (seen_in shells.now) }
+    ensures seen { result ≡ free_number (seen_shells shells.now) }
 {
     free_place(shells)
 }
@@ -242,18 +242,18 @@ fn free_place(shells: &[Option<Shell>]) -> Option<u8>
 {
     match shells.split_first() {
         None => None,
-        Some((_, further)) => free_from(2, further),
+        Some((_, further)) => first_free_number(2, further),
     }
 }
 
 /// The first number without a shell, from a number upwards.
-fn free_from(number: u8, shells: &[Option<Shell>]) -> Option<u8>
+fn first_free_number(number: u8, shells: &[Option<Shell>]) -> Option<u8>
     requires { number + length shells.now ≤ 21 }
-    ensures { result ≡ free_from number shells.now }
+    ensures { result ≡ first_free_number number shells.now }
 {
     match shells.split_first() {
         None => None,
         Some((None, _)) => Some(number),
-        Some((Some(_), further)) => free_from(number + 1, further),
+        Some((Some(_), further)) => first_free_number(number + 1, further),
     }
 }

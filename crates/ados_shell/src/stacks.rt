@@ -3,7 +3,7 @@ ghost use Rattle.std.specs.Prelude.{◌≡◌, ◌∷◌, ◌++◌, [], List, le
 ghost use Rattle.std.specs.Option.{option_copied};
 ghost use Rattle.ados_flow.specs.Frames.{FrameState, frame_limit, limit_above_frames};
 ghost use Rattle.ados_machine.specs.Shells.{ShellState};
-ghost use Rattle.ados_machine.specs.Sinks.{Console, sink_in};
+ghost use Rattle.ados_machine.specs.Sinks.{Console, newest_sink};
 ghost use Rattle.ados_machine.specs.Sinks as machine;
 ghost use Rattle.ados_machine.specs.Breaks.{has_script};
 ghost use Rattle.ados_shell.specs.Stacks.{sink_above, sink_by_way, sink_of};
@@ -157,7 +157,7 @@ impl Stack {
 
     /// Where the output of the newest frame's commands goes.
     pub fn sink(&self, shell: &Shell) -> Result<Sink, NoMemory>
-        ensures { IfOk result (λ sink. sink_of sink ≡ sink_in (drafted_frames shell.now self.now)) }
+        ensures { IfOk result (λ sink. sink_of sink ≡ newest_sink (drafted_frames shell.now self.now)) }
     {
         match way_of(self.own.as_slice()) {
             Way::Below => sink_of(way_of(self.lent(shell))),

@@ -8,16 +8,16 @@ use Rattle.ados_machine.specs.declared.events.Event.TheVariants as event
 use Rattle.ados_machine.specs.declared.outs.Out.{Out}
 use Rattle.ados_machine.specs.declared.refusals.Refusal.TheVariants.{NoMemory, Over, WrongAnswer}
 use Rattle.ados_machine.specs.declared.events.Kind.{Kind}
-use Rattle.ados_machine.specs.Breaks.{breaks_by, broken_number}
+use Rattle.ados_machine.specs.Breaks.{kind_breaks, broken_number}
 use Rattle.ados_machine.specs.Shells.{ShellState}
 use Rattle.ados_machine.specs.Limits.{IsSane}
-use Rattle.ados_machine.specs.Runs.{IsAnswer, world_after}
+use Rattle.ados_machine.specs.Runs.{IsAnswer, resulting_world}
 use Rattle.ados_machine.specs.Turning as turning
-use Rattle.ados_machine.specs.World.{WorldState, input_of, is_over, shell_at}
+use Rattle.ados_machine.specs.World.{WorldState, input_of, is_over, numbered_shell}
 use Rattle.ados_machine.specs.declared.answers.Answer.{Answer as Reply}
 use Rattle.ados_shell.specs.declared.answers.Answering.TheVariants as reply
 use Rattle.ados_shell.specs.Answerings.{IsAnswering, scene_answering}
-use Rattle.ados_machine.specs.Step.{Response, Refused, Accepted, turning_response, out_with, start, turn_response, answer_response as answered_of, break_response}
+use Rattle.ados_machine.specs.Step.{Response, Refused, Accepted, turning_response, event_out, start, turn_response, answer_response as answered_of, break_response}
 use Rattle.ados_machine.proofs.Sane.{sane-after}
 use Rattle.ados_shell.specs.declared.drafts.Draft.{Draft}
 use Rattle.ados_shell.specs.declared.scenes.Scene.{Scene}
@@ -45,7 +45,7 @@ as-turning scene queue draft (turning.Takes rest turn_response) t = t
 -- an answer by which the shell went on
 pub answer-goes : (w : WorldState) (k : ℕ) (shell : ShellState) (scene : Scene) (answer : Reply) (draft : Draft) → Shows w k shell scene
     → IsAnswering scene (input_of w k).queue reply.Goes draft (scene_answering scene (input_of w k) answer)
-    → Accepts (answered_of w k answer (shell_at w k)) (world_after_turn k draft w) (draft_out (shell_at w k) draft)
+    → Accepts (answered_of w k answer (numbered_shell w k)) (world_after_turn k draft w) (draft_out (numbered_shell w k) draft)
 answer-goes w k shell scene answer draft s t =
     (let P : turning.Turning → Type 0 = λ x. IsAnswering scene (input_of w k).queue reply.Goes draft x in
     let accepts = goes w k shell scene draft _ s (as-turning scene _ draft _ (subst P (answering-is w k shell scene answer s) t)) in
@@ -66,7 +66,7 @@ took-wants k answer w codes (turning.Takes rest turn_response) m = tt
 
 pub answer-wants : (w : WorldState) (k : ℕ) (shell : ShellState) (scene : Scene) (answer : Reply) → Shows w k shell scene
     → MayWantMemory (scene_answering scene (input_of w k) answer)
-    → IsAnswer (event.Answer k answer) (Err NoMemory) (answered_of w k answer (shell_at w k))
+    → IsAnswer (event.Answer k answer) (Err NoMemory) (answered_of w k answer (numbered_shell w k))
 answer-wants w k shell scene answer s m =
     (let P : Response → Type 0 = λ r. IsAnswer (event.Answer k answer) (Err NoMemory) r in
     subst P (sym (ap (answered_of w k answer) s.here))
@@ -81,7 +81,7 @@ refuses-wrong scene queue draft k answer w codes (turning.Takes rest turn_respon
 
 pub answer-wrong : (w : WorldState) (k : ℕ) (shell : ShellState) (scene : Scene) (answer : Reply) (draft : Draft) → Shows w k shell scene
     → IsAnswering scene (input_of w k).queue reply.WrongAnswer draft (scene_answering scene (input_of w k) answer)
-    → IsAnswer (event.Answer k answer) (Err WrongAnswer) (answered_of w k answer (shell_at w k))
+    → IsAnswer (event.Answer k answer) (Err WrongAnswer) (answered_of w k answer (numbered_shell w k))
 answer-wrong w k shell scene answer draft s t =
     (let P : Response → Type 0 = λ r. IsAnswer (event.Answer k answer) (Err WrongAnswer) r in
     let Q : turning.Turning → Type 0 = λ x. IsAnswering scene (input_of w k).queue reply.WrongAnswer draft x in
@@ -91,25 +91,25 @@ answer-wrong w k shell scene answer draft s t =
 
 -- no script runs on after a failure in the world that an answer leaves
 pub sane-answered : (w world : WorldState) (k : ℕ) (answer : Reply) (given : Out) → IsSane w → is_over w ≡ false
-    → Accepts (answered_of w k answer (shell_at w k)) world given → IsSane world
+    → Accepts (answered_of w k answer (numbered_shell w k)) world given → IsSane world
 sane-answered w world k answer given sane over (items, e) =
-    (let P : Response → Type 0 = λ r. IsSane (world_after w (Ok given) r) in
-    subst P (ap (λ b. if b then Refused Over else answered_of w k answer (shell_at w k)) over ∙ e) (sane-after w (event.Answer k answer) (Ok given) sane))
+    (let P : Response → Type 0 = λ r. IsSane (resulting_world w (Ok given) r) in
+    subst P (ap (λ b. if b then Refused Over else answered_of w k answer (numbered_shell w k)) over ∙ e) (sane-after w (event.Answer k answer) (Ok given) sane))
 
 -- a shell that is shown runs
 pub copied-some : {X : Type 0} (shown : Option (Bor X)) → is_some shown ≡ true → is_some (option_copied shown) ≡ true
 copied-some None e = e
 copied-some (Some shell) e = refl
 
-found-broken : (w : WorldState) (k : ℕ) (kind : Kind) (found : Option ShellState) → shell_at w k ≡ found → is_some found ≡ true → IsSane w → is_over w ≡ false
-    → IsSane (record w { shells = broken_number (breaks_by kind) k w.shells })
+found-broken : (w : WorldState) (k : ℕ) (kind : Kind) (found : Option ShellState) → numbered_shell w k ≡ found → is_some found ≡ true → IsSane w → is_over w ≡ false
+    → IsSane (record w { shells = broken_number (kind_breaks kind) k w.shells })
 found-broken w k kind None e runs sane over = cc
 found-broken w k kind (Some shell) e runs sane over =
-    (let given : Out = out_with [] None [] in
-    let P : Response → Type 0 = λ r. IsSane (world_after w (Ok given) r) in
-    subst P (ap (λ b. if b then Refused Over else break_response w k kind (shell_at w k)) over ∙ ap (λ f. break_response w k kind f) e) (sane-after w (event.Break k kind) (Ok given) sane))
+    (let given : Out = event_out [] None [] in
+    let P : Response → Type 0 = λ r. IsSane (resulting_world w (Ok given) r) in
+    subst P (ap (λ b. if b then Refused Over else break_response w k kind (numbered_shell w k)) over ∙ ap (λ f. break_response w k kind f) e) (sane-after w (event.Break k kind) (Ok given) sane))
 
 -- no script runs on after a failure in the world that a break leaves
-pub sane-broken : (w : WorldState) (k : ℕ) (kind : Kind) → IsSane w → is_over w ≡ false → is_some (shell_at w k) ≡ true
-    → IsSane (record w { shells = broken_number (breaks_by kind) k w.shells })
-sane-broken w k kind sane over runs = found-broken w k kind (shell_at w k) refl runs sane over
+pub sane-broken : (w : WorldState) (k : ℕ) (kind : Kind) → IsSane w → is_over w ≡ false → is_some (numbered_shell w k) ≡ true
+    → IsSane (record w { shells = broken_number (kind_breaks kind) k w.shells })
+sane-broken w k kind sane over runs = found-broken w k kind (numbered_shell w k) refl runs sane over

@@ -5,11 +5,11 @@ use Rattle.ados_machine.specs.declared.answers.Answer.{Answer as Reply}
 use Rattle.ados_machine.specs.declared.events.Event.{Event}
 use Rattle.ados_machine.specs.declared.events.Event.TheVariants.{Turn, Answer}
 use Rattle.ados_machine.specs.declared.outs.Out.{Out}
-use Rattle.ados_machine.specs.Runs.{IsAnswer, world_after}
+use Rattle.ados_machine.specs.Runs.{IsAnswer, resulting_world}
 use Rattle.ados_machine.specs.Shells.{ShellState}
 use Rattle.ados_machine.specs.Step.{Response, Refused, Accepted, answer_response, turning_response, break_response, start, step_of, turn_response, typing_response, course_without_flag}
 use Rattle.ados_machine.specs.Turning.{Turning, Refuses, Ends, Takes, turning_of_answer, flagged_turning}
-use Rattle.ados_machine.specs.World.{WorldState, input_of, shell_at}
+use Rattle.ados_machine.specs.World.{WorldState, input_of, numbered_shell}
 use Rattle.ados_machine.proofs.BindingLemmas.{binds-only}
 use Rattle.ados_world.specs.Binding.{BindsWhatItUsed, TurningBinds}
 use Rattle.ados_machine.proofs.StepCases.{of-step}
@@ -28,23 +28,23 @@ applied-binds w k codes (Refuses why) = tt
 applied-binds w k codes Ends = tt
 applied-binds w k codes (Takes queue turn_response) = binds-only w _ k queue turn_response _ _ refl
 
-by-turn : (w : WorldState) (k : ℕ) (shell : ShellState) (r : Response) → shell_at w k ≡ Some shell
+by-turn : (w : WorldState) (k : ℕ) (shell : ShellState) (r : Response) → numbered_shell w k ≡ Some shell
     → PlaceBinds (flagged_turning shell.flagged (input_of w k) shell.frames (course_without_flag (start w shell)) shell.phase) r → BindsBy w (Turn k) r
 by-turn w k shell (Refused why) here binds = tt
 by-turn w k shell (Accepted world out items) here binds = rw here binds
 
-by-answer : (w : WorldState) (k : ℕ) (reply : Reply) (shell : ShellState) (r : Response) → shell_at w k ≡ Some shell
+by-answer : (w : WorldState) (k : ℕ) (reply : Reply) (shell : ShellState) (r : Response) → numbered_shell w k ≡ Some shell
     → PlaceBinds (turning_of_answer (input_of w k) shell.frames (start w shell) shell.phase reply) r → BindsBy w (Answer k reply) r
 by-answer w k reply shell (Refused why) here binds = tt
 by-answer w k reply shell (Accepted world out items) here binds = rw here binds
 
-turned-binds : (w : WorldState) (k : ℕ) (o : Option ShellState) → shell_at w k ≡ o → BindsBy w (Turn k) (turn_response w k o)
+turned-binds : (w : WorldState) (k : ℕ) (o : Option ShellState) → numbered_shell w k ≡ o → BindsBy w (Turn k) (turn_response w k o)
 turned-binds w k None here = tt
 turned-binds w k (Some shell) here =
     let turning = flagged_turning shell.flagged (input_of w k) shell.frames (course_without_flag (start w shell)) shell.phase in
     by-turn w k shell (turning_response w k shell.parts.codes turning) here (applied-binds w k shell.parts.codes turning)
 
-answered-binds : (w : WorldState) (k : ℕ) (reply : Reply) (o : Option ShellState) → shell_at w k ≡ o → BindsBy w (Answer k reply) (answer_response w k reply o)
+answered-binds : (w : WorldState) (k : ℕ) (reply : Reply) (o : Option ShellState) → numbered_shell w k ≡ o → BindsBy w (Answer k reply) (answer_response w k reply o)
 answered-binds w k reply None here = tt
 answered-binds w k reply (Some shell) here =
     let turning = turning_of_answer (input_of w k) shell.frames (start w shell) shell.phase reply in
@@ -61,10 +61,10 @@ step-by w event = of-step w (BindsBy w) (record {
 }) event
 
 accepted-binds : (w : WorldState) (event : Event) (out : Out) (r : Response) → IsAnswer event (Ok out) r → BindsBy w event r
-    → BindsWhatItUsed w event (world_after w (Ok out) r)
+    → BindsWhatItUsed w event (resulting_world w (Ok out) r)
 accepted-binds w event out (Refused why) answer binds = absurd answer
 accepted-binds w event out (Accepted world given items) answer binds = binds
 
 pub step-binds : (w : WorldState) (event : Event) (out : Out) → IsAnswer event (Ok out) (step_of w event)
-    → BindsWhatItUsed w event (world_after w (Ok out) (step_of w event))
+    → BindsWhatItUsed w event (resulting_world w (Ok out) (step_of w event))
 step-binds w event out answer = accepted-binds w event out (step_of w event) answer (step-by w event)

@@ -15,13 +15,13 @@ use Rattle.ados_machine.specs.Breaks.{has_script, kept_after_break}
 use Rattle.ados_machine.specs.Course.{Course}
 use Rattle.ados_machine.specs.Items.{Item, Began, Answered, Ended, Broke, break_of, reports_of}
 use Rattle.ados_machine.specs.Laws.{finds_flag, has_break, is_breakable}
-use Rattle.ados_machine.specs.Runs.{IsAnswer, Runs, world_after}
+use Rattle.ados_machine.specs.Runs.{IsAnswer, Runs, resulting_world}
 use Rattle.ados_machine.specs.Settled.{RuleState, RuleResult, after_break, with_items_first, end_at_break}
 use Rattle.ados_machine.specs.Shells.{ShellState}
 use Rattle.ados_machine.specs.Step.{Response, Refused, Accepted, turning_response, event_response, start, step_of, turn_response, course_without_flag}
 use Rattle.ados_machine.specs.Trace.{ends_in, trace}
 use Rattle.ados_machine.specs.Turning.{Input, Turning, Refuses, Ends, Takes, flagged_turning, turning_at_break, turning_in_phase}
-use Rattle.ados_machine.specs.World.{WorldState, input_of, is_over, shell_at}
+use Rattle.ados_machine.specs.World.{WorldState, input_of, is_over, numbered_shell}
 use Rattle.ados_machine.proofs.BreakLemmas.{breaks-end}
 use Rattle.ados_machine.proofs.Ends.{reports-hold}
 use Rattle.ados_world.specs.Laws.{BreaksEndScriptsIn, reports_break}
@@ -86,11 +86,11 @@ turn-tells w k (Some shell) e =
     (place-tells w k shell.parts.codes (turning_in_phase (input_of w k) shell.frames course shell.phase) (input_of w k) shell.frames course
     (and_parts shell.flagged (has_script shell.frames) e).1)
 
-step-tells : (w : WorldState) (k : ℕ) → is_breakable (shell_at w k) ≡ true → Tells (step_of w (Turn k))
+step-tells : (w : WorldState) (k : ℕ) → is_breakable (numbered_shell w k) ≡ true → Tells (step_of w (Turn k))
 step-tells w k e =
     elim (cases_Bool (is_over w)) [
       | inl over ↦ rw over tt
-      | inr left ↦ rw left (turn-tells w k (shell_at w k) e)
+      | inr left ↦ rw left (turn-tells w k (numbered_shell w k) e)
     ]
 
 event-tells : (w : WorldState) (event : Event) → finds_flag w event ≡ true → Tells (step_of w event)
@@ -105,7 +105,7 @@ reports-are : (w : WorldState) (event : Event) (world : WorldState) (out : Out) 
     step_of w event ≡ Accepted world out items → out.reports ≡ ends_in items
 reports-are w event world out items is =
     let answer : IsAnswer event (Ok out) (step_of w event) = rw is refl in
-    let held = reports-hold w (event ∷ []) (Ok out ∷ []) (world_after w (Ok out) (step_of w event)) (answer, refl) in
+    let held = reports-hold w (event ∷ []) (Ok out ∷ []) (resulting_world w (Ok out) (step_of w event)) (answer, refl) in
     sym (append-nil out.reports) ∙ (rw is at held) ∙ ap ends_in (append-nil items)
 
 -- an accepted event reports a break exactly when it finds a flag
@@ -132,4 +132,4 @@ pub breaks-end-in : (w : WorldState) (events : List Event) (outs : List (Result 
 breaks-end-in w [] outs last run = tt
 breaks-end-in w (event ∷ events) [] last run = tt
 breaks-end-in w (event ∷ events) (out ∷ outs) last run =
-    (event-told w event out (step_of w event) refl run.0, breaks-end-in (world_after w out (step_of w event)) events outs last run.1)
+    (event-told w event out (step_of w event) refl run.0, breaks-end-in (resulting_world w out (step_of w event)) events outs last run.1)

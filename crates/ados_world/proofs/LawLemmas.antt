@@ -7,7 +7,7 @@ use Rattle.ados_machine.specs.InUse.{asks, entry_of, outputs_held, runs_program}
 use Rattle.ados_machine.specs.Limits.{IsSane}
 use Rattle.ados_machine.specs.World.{WorldState}
 use Rattle.ados_machine.specs.Step.{Response, Refused, Accepted, step_of}
-use Rattle.ados_machine.specs.Runs.{IsAnswer, world_after}
+use Rattle.ados_machine.specs.Runs.{IsAnswer, resulting_world}
 use Rattle.ados_machine.specs.Starts.{FailedStart}
 use Rattle.ados_machine.proofs.GivenLemmas.{events-give}
 use Rattle.ados_machine.proofs.Starts.{failed-starts}
@@ -16,41 +16,41 @@ use Rattle.ados_machine.proofs.OutputLemmas.{outputs-stay}
 
 -- a start that has failed
 accepted-fails : (w : WorldState) (event : Event) (out : Out) (r : Response) → step_of w event ≡ r → IsAnswer event (Ok out) r →
-    FailedStart w event (world_after w (Ok out) r)
+    FailedStart w event (resulting_world w (Ok out) r)
 accepted-fails w event out (Refused why) is answer = absurd answer
 accepted-fails w event out (Accepted world given items) is answer = failed-starts w event world given items is
 
 pub failed-start : (w : WorldState) (event : Event) (out : Out) → IsAnswer event (Ok out) (step_of w event) →
-    FailedStart w event (world_after w (Ok out) (step_of w event))
+    FailedStart w event (resulting_world w (Ok out) (step_of w event))
 failed-start w event out answer = accepted-fails w event out (step_of w event) refl answer
 
 -- what is given as request is what is pending after the event
 request-given : (w : WorldState) (event : Event) (out : Out) (r : Response) → step_of w event ≡ r → IsSane w → IsAnswer event (Ok out) r →
-    out.request ≡ request_after_event (world_after w (Ok out) r) event
+    out.request ≡ request_after_event (resulting_world w (Ok out) r) event
 request-given w event out (Refused why) is sane answer = absurd answer
 request-given w event out (Accepted world given items) is sane answer = rw answer (events-give w event world given items sane is)
 
 pub step-gives : (w : WorldState) (event : Event) (out : Out) → IsSane w → IsAnswer event (Ok out) (step_of w event) →
-    out.request ≡ request_after_event (world_after w (Ok out) (step_of w event)) event
+    out.request ≡ request_after_event (resulting_world w (Ok out) (step_of w event)) event
 step-gives w event out sane answer = request-given w event out (step_of w event) refl sane answer
 
 -- a resident entry stays in use
 entry-stays : (w : WorldState) (event : Event) (out : Out) (r : Response) → step_of w event ≡ r → IsAnswer event (Ok out) r →
-    (k : ℕ) → asks w k ≡ true → asks (world_after w (Ok out) r) k ≡ true → entry_of (world_after w (Ok out) r) k ≡ entry_of w k
+    (k : ℕ) → asks w k ≡ true → asks (resulting_world w (Ok out) r) k ≡ true → entry_of (resulting_world w (Ok out) r) k ≡ entry_of w k
 entry-stays w event out (Refused why) is answer k before behind = absurd answer
 entry-stays w event out (Accepted world given items) is answer k before behind = entries-stay w event world given items is k before behind
 
 pub step-keeps-entries : (w : WorldState) (event : Event) (out : Out) → IsAnswer event (Ok out) (step_of w event) →
-    (k : ℕ) → asks w k ≡ true → asks (world_after w (Ok out) (step_of w event)) k ≡ true → entry_of (world_after w (Ok out) (step_of w event)) k ≡ entry_of w k
+    (k : ℕ) → asks w k ≡ true → asks (resulting_world w (Ok out) (step_of w event)) k ≡ true → entry_of (resulting_world w (Ok out) (step_of w event)) k ≡ entry_of w k
 step-keeps-entries w event out answer k before behind = entry-stays w event out (step_of w event) refl answer k before behind
 
 -- the outputs of a shell stay open while its program runs
 output-stays : (w : WorldState) (event : Event) (out : Out) (r : Response) → step_of w event ≡ r → IsAnswer event (Ok out) r →
-    (k : ℕ) → runs_program w k ≡ true → runs_program (world_after w (Ok out) r) k ≡ true → outputs_held (world_after w (Ok out) r) k ≡ outputs_held w k
+    (k : ℕ) → runs_program w k ≡ true → runs_program (resulting_world w (Ok out) r) k ≡ true → outputs_held (resulting_world w (Ok out) r) k ≡ outputs_held w k
 output-stays w event out (Refused why) is answer k before behind = absurd answer
 output-stays w event out (Accepted world given items) is answer k before behind = outputs-stay w event world given items is k before behind
 
 pub step-keeps-outputs : (w : WorldState) (event : Event) (out : Out) → IsAnswer event (Ok out) (step_of w event) →
-    (k : ℕ) → runs_program w k ≡ true → runs_program (world_after w (Ok out) (step_of w event)) k ≡ true →
-    outputs_held (world_after w (Ok out) (step_of w event)) k ≡ outputs_held w k
+    (k : ℕ) → runs_program w k ≡ true → runs_program (resulting_world w (Ok out) (step_of w event)) k ≡ true →
+    outputs_held (resulting_world w (Ok out) (step_of w event)) k ≡ outputs_held w k
 step-keeps-outputs w event out answer k before behind = output-stays w event out (step_of w event) refl answer k before behind

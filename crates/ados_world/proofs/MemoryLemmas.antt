@@ -18,7 +18,7 @@ use Rattle.ados_machine.specs.Shells.{ShellState}
 use Rattle.ados_machine.specs.Stacks.{stack_of}
 use Rattle.ados_machine.specs.Step.{turning_response, begun_items, codes_of_ended, is_done, shell_after_turn, moved_at_turn, of_shell, queue_after_event, start, turn_response, course_without_flag}
 use Rattle.ados_machine.specs.Turning as turning
-use Rattle.ados_machine.specs.World.{WorldState, has_frame, input_of, shell_at}
+use Rattle.ados_machine.specs.World.{WorldState, has_frame, input_of, numbered_shell}
 use Rattle.ados_machine.proofs.Shells.{shells_behind, found, found-left}
 use Rattle.ados_machine.proofs.Turnings.{TurningGoes, flagged-goes}
 use Rattle.ados_machine.proofs.Turns.{Goes}
@@ -39,12 +39,12 @@ runs-frame None shell e h = cc
 runs-frame (Some other) shell e h = (let same : other ≡ shell = cc in rw (← same) h)
 
 -- and is not done by that
-runs-on : (w : WorldState) (k : ℕ) (shell : ShellState) (t : TurnResult) → IsSane w → shell_at w k ≡ Some shell → Goes shell.parts shell.frames t → t.log ≡ []
+runs-on : (w : WorldState) (k : ℕ) (shell : ShellState) (t : TurnResult) → IsSane w → numbered_shell w k ≡ Some shell → Goes shell.parts shell.frames t → t.log ≡ []
     → is_done k t.frames ≡ false
 runs-on w k shell t sane here goes none =
     elim (cases_eq k 1) [
       | inl first ↦ rw (eq-eqb k 1 first) refl
-      | inr other ↦ (let stays : has_frame t.frames ≡ true = stack-frame t.frames shell.frames (silent-frames shell t goes none) (runs-frame (shell_at w k) shell here (sane.background k other)) in
+      | inr other ↦ (let stays : has_frame t.frames ≡ true = stack-frame t.frames shell.frames (silent-frames shell t goes none) (runs-frame (numbered_shell w k) shell here (sane.background k other)) in
           rw stays (nobody (not (k == 1))))
     ]
   where
@@ -56,17 +56,17 @@ left-is : (k : ℕ) (moved : Option Renamed) (t : TurnResult) → is_done k t.fr
 left-is k moved t e = rw e refl
 
 -- its shell is still at its place
-shell-stays : (w : WorldState) (k : ℕ) (shell : ShellState) (t : TurnResult) → IsSane w → shell_at w k ≡ Some shell → Goes shell.parts shell.frames t → t.log ≡ []
+shell-stays : (w : WorldState) (k : ℕ) (shell : ShellState) (t : TurnResult) → IsSane w → numbered_shell w k ≡ Some shell → Goes shell.parts shell.frames t → t.log ≡ []
     → is_some (found (shells_behind w.shells k (moved_at_turn w t) t) k) ≡ true
 shell-stays w k shell t sane here goes none =
     ap is_some (found-left w.shells k shell (moved_at_turn w t) t here) ∙ left-is k (moved_at_turn w t) t (runs-on w k shell t sane here goes none)
 
 -- a turn after which the shell runs on may need memory
-may-want : (k : ℕ) (world : WorldState) (items : List (ℕ × Item)) → is_some (shell_at world k) ≡ true → memory.MayWantMemory (event.Turn k) world items
+may-want : (k : ℕ) (world : WorldState) (items : List (ℕ × Item)) → is_some (numbered_shell world k) ≡ true → memory.MayWantMemory (event.Turn k) world items
 may-want k world [] e = e
 may-want k world (item ∷ items) e = tt
 
-log-wants : (k : ℕ) (world : WorldState) (all log : List Item) (more : List (ℕ × Item)) → all ≡ log → (all ≡ [] → is_some (shell_at world k) ≡ true)
+log-wants : (k : ℕ) (world : WorldState) (all log : List Item) (more : List (ℕ × Item)) → all ≡ log → (all ≡ [] → is_some (numbered_shell world k) ≡ true)
     → memory.MayWantMemory (event.Turn k) world (of_shell k log ++ more)
 log-wants k world all [] more e runs = may-want k world more (runs e)
 log-wants k world all (item ∷ log) more e runs = tt
@@ -80,7 +80,7 @@ behind w k rest t = record w {
   shared = shared_after_event t.course;
 }
 
-wants : (w : WorldState) (k : ℕ) (shell : ShellState) (turning : turning.Turning) → IsSane w → shell_at w k ≡ Some shell
+wants : (w : WorldState) (k : ℕ) (shell : ShellState) (turning : turning.Turning) → IsSane w → numbered_shell w k ≡ Some shell
     → TurningGoes shell.parts shell.frames turning → MayWantMemory turning → IsAnswer (event.Turn k) (Err NoMemory) (turning_response w k shell.parts.codes turning)
 wants w k shell (turning.Refuses why) sane here goes m = absurd m
 wants w k shell turning.Ends sane here goes m = absurd m
@@ -88,7 +88,7 @@ wants w k shell (turning.Takes rest t) sane here goes m =
     log-wants k (behind w k rest t) t.log t.log (begun_items t.course.begun (free_number w.shells)) refl (shell-stays w k shell t sane here goes)
 
 -- a turn that was accepted may need memory
-pub turn-may : (w : WorldState) (k : ℕ) (shell : ShellState) → IsSane w → shell_at w k ≡ Some shell
+pub turn-may : (w : WorldState) (k : ℕ) (shell : ShellState) → IsSane w → numbered_shell w k ≡ Some shell
     → MayWantMemory (turning.flagged_turning shell.flagged (input_of w k) shell.frames (course_without_flag (start w shell)) shell.phase)
     → IsAnswer (event.Turn k) (Err NoMemory) (turn_response w k (Some shell))
 turn-may w k shell sane here m =

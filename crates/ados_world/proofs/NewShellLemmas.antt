@@ -4,7 +4,7 @@ use Rattle.std.specs.Prelude.{IfSome, if◌then◌else◌, slice_get, slice_set}
 use Rattle.ados_find.specs.declared.codes.Codes.{Codes}
 use Rattle.ados_find.specs.declared.outcomes.Renamed.{Renamed}
 use Rattle.ados_machine.specs.Carrying.{carried_or_same}
-use Rattle.ados_machine.specs.Numbers.{free_from, free_number}
+use Rattle.ados_machine.specs.Numbers.{first_free_number, free_number}
 use Rattle.ados_machine.specs.Settle.{TurnResult}
 use Rattle.ados_machine.specs.Shells.{ShellStart, begun_shell, ShellState}
 use Rattle.ados_machine.specs.Step.{codes_of_ended, is_done, shell_of_turn, with_begun}
@@ -28,7 +28,7 @@ set-over (first ∷ xs) zero x y = refl
 set-over (first ∷ xs) (suc i) x y = ap (λ l. first ∷ l) (set-over xs i x y)
 
 -- the number that is given is that of a shell
-free-within : (n : ℕ) (places : List (Option ShellState)) (m : ℕ) → free_from n places ≡ Some m → (n ≤ m) × (m + 1 ≤ n + length places)
+free-within : (n : ℕ) (places : List (Option ShellState)) (m : ℕ) → first_free_number n places ≡ Some m → (n ≤ m) × (m + 1 ≤ n + length places)
 free-within n [] m e = cc
 free-within n (None ∷ places) m e = (let same : n ≡ m = cc in (omega (arith, same), omega (arith, same)))
 free-within n (Some shell ∷ places) m e = (let later = free-within (suc n) places m e in (omega (arith, later.0), omega (arith, later.1)))

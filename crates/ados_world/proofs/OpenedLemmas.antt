@@ -3,7 +3,7 @@ use Rattle.std.proofs.Common.{◌≡◌, ◌≢◌, ℕ, List, Some, refl, arith
 use Rattle.std.proofs.lemmas.Bool.{cases_eq}
 use Rattle.ados_text.specs.Text.{Text}
 use Rattle.ados_machine.specs.Numbers.{free_number}
-use Rattle.ados_machine.specs.World.{WorldState, shell_at}
+use Rattle.ados_machine.specs.World.{WorldState, numbered_shell}
 use Rattle.ados_machine.specs.Trace.{frames_of}
 use Rattle.ados_machine.specs.Limits.{AllRunOn, RunsFrame, IsNumbered, IsSane}
 use Rattle.ados_machine.specs.LoneShell.{world_with_opened, opened_shell}
@@ -12,7 +12,7 @@ use Rattle.ados_machine.proofs.Systems.{opened-stands}
 
 -- the other shells
 opened-other : (w : WorldState) (k : ℕ) (commands : List Text) (j : ℕ) → free_number w.shells ≡ Some k → j ≢ k →
-    shell_at (world_with_opened w k commands) j ≡ shell_at w j
+    numbered_shell (world_with_opened w k commands) j ≡ numbered_shell w j
 opened-other w k commands j free differ =
     let number : IsFree w.shells (Some k) = rw free at (free-number w.shells) in
     found-set_other w.shells k (Some (opened_shell k commands)) j differ (omega (arith, number.1))
@@ -25,7 +25,7 @@ opened-runs w k commands sane free j =
     ]
 
 opened-background : (w : WorldState) (k : ℕ) (commands : List Text) → IsSane w → free_number w.shells ≡ Some k → (j : ℕ) → j ≢ 1 →
-    RunsFrame (shell_at (world_with_opened w k commands) j)
+    RunsFrame (numbered_shell (world_with_opened w k commands) j)
 opened-background w k commands sane free j ne =
     elim (cases_eq j k) [
       | inl same ↦ rw (same, opened-stands w k commands free) refl
@@ -33,7 +33,7 @@ opened-background w k commands sane free j ne =
     ]
 
 opened-numbered : (w : WorldState) (k : ℕ) (commands : List Text) → IsSane w → free_number w.shells ≡ Some k → (j : ℕ) →
-    IsNumbered j (shell_at (world_with_opened w k commands) j)
+    IsNumbered j (numbered_shell (world_with_opened w k commands) j)
 opened-numbered w k commands sane free j =
     elim (cases_eq j k) [
       | inl same ↦ rw (same, opened-stands w k commands free) refl

@@ -13,13 +13,13 @@ use Rattle.ados_machine.specs.declared.refusals.Refusal.TheVariants.{NoMemory, N
 use Rattle.ados_machine.specs.Items.{Item, reports_of}
 use Rattle.ados_machine.specs.Shells.{ShellState}
 use Rattle.ados_machine.specs.Limits.{IsSane}
-use Rattle.ados_machine.specs.Runs.{IsAnswer, world_after}
+use Rattle.ados_machine.specs.Runs.{IsAnswer, resulting_world}
 use Rattle.ados_machine.specs.Turning as turning
-use Rattle.ados_machine.specs.World.{WorldState, input_of, is_over, seen_in, shell_at}
+use Rattle.ados_machine.specs.World.{WorldState, input_of, is_over, seen_shells, numbered_shell}
 use Rattle.ados_machine.specs.Course.{Course}
 use Rattle.ados_machine.specs.Numbers.{free_number}
 use Rattle.ados_machine.specs.Requests.{request_of}
-use Rattle.ados_machine.specs.Step.{Response, Refused, Accepted, turning_response, begun_items, out_with, of_shell, queue_after_event, start, turn_response, course_without_flag}
+use Rattle.ados_machine.specs.Step.{Response, Refused, Accepted, turning_response, begun_items, event_out, of_shell, queue_after_event, start, turn_response, course_without_flag}
 use Rattle.ados_machine.proofs.Sane.{sane-after}
 use Rattle.ados_shell.specs.declared.drafts.Draft.{Draft}
 use Rattle.ados_shell.specs.declared.scenes.Scene.{Scene}
@@ -44,7 +44,7 @@ start_in shared shells shell = record {
   parts = shell.parts;
   kept = shell.kept;
   shared = shared;
-  seen = seen_in shells;
+  seen = seen_shells shells;
   printed = [];
   renamed = None;
   begun = None;
@@ -72,12 +72,12 @@ Accepts response world given = (items : List (ℕ × Item)) × response ≡ Acce
 pub goes : (w : WorldState) (k : ℕ) (shell : ShellState) (scene : Scene) (draft : Draft) (turning : turning.Turning)
     → Shows w k shell scene
     → IsTurning scene (input_of w k).queue turn.Goes draft turning
-    → Accepts (turning_response w k shell.parts.codes turning) (world_after_turn k draft w) (draft_out (shell_at w k) draft)
+    → Accepts (turning_response w k shell.parts.codes turning) (world_after_turn k draft w) (draft_out (numbered_shell w k) draft)
 goes w k shell scene draft (turning.Refuses why) s t = absurd t
 goes w k shell scene draft turning.Ends s t = absurd t
 goes w k shell scene draft (turning.Takes rest turn_response) s t =
     let items = of_shell k turn_response.log ++ begun_items turn_response.course.begun (free_number w.shells) in
-    let given = out_with turn_response.course.printed (request_of turn_response.course.parts.number turn_response.phase) (reports_of k turn_response.log) in (
+    let given = event_out turn_response.course.printed (request_of turn_response.course.parts.number turn_response.phase) (reports_of k turn_response.log) in (
       items,
       ap (λ q. Accepted (record (behind_turn w k turn_response) { queue = q }) given items)
           (ap (queue_after_event k w.queue) t.0 ∙ queue-stays w k)
@@ -89,12 +89,12 @@ goes w k shell scene draft (turning.Takes rest turn_response) s t =
 takes : (w : WorldState) (k : ℕ) (shell : ShellState) (scene : Scene) (draft : Draft) (turning : turning.Turning)
     → Shows w k shell scene
     → IsTurning scene (input_of w k).queue turn.Takes draft turning
-    → Accepts (turning_response w k shell.parts.codes turning) (record (world_after_turn k draft w) { queue = queue_after_event k w.queue (drop 1 w.queue) }) (draft_out (shell_at w k) draft)
+    → Accepts (turning_response w k shell.parts.codes turning) (record (world_after_turn k draft w) { queue = queue_after_event k w.queue (drop 1 w.queue) }) (draft_out (numbered_shell w k) draft)
 takes w k shell scene draft (turning.Refuses why) s t = absurd t
 takes w k shell scene draft turning.Ends s t = absurd t
 takes w k shell scene draft (turning.Takes rest turn_response) s t =
     let items = of_shell k turn_response.log ++ begun_items turn_response.course.begun (free_number w.shells) in
-    let given = out_with turn_response.course.printed (request_of turn_response.course.parts.number turn_response.phase) (reports_of k turn_response.log) in
+    let given = event_out turn_response.course.printed (request_of turn_response.course.parts.number turn_response.phase) (reports_of k turn_response.log) in
     let queue = queue_after_event k w.queue (drop 1 w.queue) in (
       items,
       ap (λ q. Accepted (record (behind_turn w k turn_response) { queue = q }) given items)
@@ -106,7 +106,7 @@ takes w k shell scene draft (turning.Takes rest turn_response) s t =
 -- a turn at which the shell ended
 ends : (w : WorldState) (k : ℕ) (shell : ShellState) (scene : Scene) (draft : Draft) (turning : turning.Turning)
     → IsTurning scene (input_of w k).queue turn.Ends draft turning
-    → Accepts (turning_response w k shell.parts.codes turning) (ended_world k shell.parts.codes w) (out_with [] None [])
+    → Accepts (turning_response w k shell.parts.codes turning) (ended_world k shell.parts.codes w) (event_out [] None [])
 ends w k shell scene draft (turning.Refuses why) t = absurd t
 ends w k shell scene draft turning.Ends t = ([], refl)
 ends w k shell scene draft (turning.Takes rest turn_response) t = absurd t
@@ -125,7 +125,7 @@ takes-may scene queue draft (turning.Takes rest turn_response) t = tt
 pub turn-wants : (w : WorldState) (k : ℕ) (shell : ShellState) (scene : Scene) (input : Input)
     → IsSane w → Shows w k shell scene → input.is_ended ≡ (input_of w k).is_ended
     → MayWantMemory (scene_turning scene input (input_of w k).queue)
-    → IsAnswer (event.Turn k) (Err NoMemory) (turn_response w k (shell_at w k))
+    → IsAnswer (event.Turn k) (Err NoMemory) (turn_response w k (numbered_shell w k))
 turn-wants w k shell scene input sane s e m =
     (let P : Response → Type 0 = λ r. IsAnswer (event.Turn k) (Err NoMemory) r in
     subst P (sym (ap (turn_response w k) s.here)) (turn-may w k shell sane s.here (subst MayWantMemory (turning-is w k shell scene input s e) m)))
@@ -133,20 +133,20 @@ turn-wants w k shell scene input sane s e m =
 pub goes-wants : (w : WorldState) (k : ℕ) (shell : ShellState) (scene : Scene) (input : Input) (draft : Draft)
     → IsSane w → Shows w k shell scene → input.is_ended ≡ (input_of w k).is_ended
     → IsTurning scene (input_of w k).queue turn.Goes draft (scene_turning scene input (input_of w k).queue)
-    → IsAnswer (event.Turn k) (Err NoMemory) (turn_response w k (shell_at w k))
+    → IsAnswer (event.Turn k) (Err NoMemory) (turn_response w k (numbered_shell w k))
 goes-wants w k shell scene input draft sane s e t = turn-wants w k shell scene input sane s e (goes-may scene _ draft _ t)
 
 pub takes-wants : (w : WorldState) (k : ℕ) (shell : ShellState) (scene : Scene) (input : Input) (draft : Draft)
     → IsSane w → Shows w k shell scene → input.is_ended ≡ (input_of w k).is_ended
     → IsTurning scene (input_of w k).queue turn.Takes draft (scene_turning scene input (input_of w k).queue)
-    → IsAnswer (event.Turn k) (Err NoMemory) (turn_response w k (shell_at w k))
+    → IsAnswer (event.Turn k) (Err NoMemory) (turn_response w k (numbered_shell w k))
 takes-wants w k shell scene input draft sane s e t = turn-wants w k shell scene input sane s e (takes-may scene _ draft _ t)
 
 -- no script runs on after a failure in the world that an event leaves
-pub sane-behind : (w world : WorldState) (k : ℕ) (given : Out) → IsSane w → is_over w ≡ false → Accepts (turn_response w k (shell_at w k)) world given → IsSane world
+pub sane-behind : (w world : WorldState) (k : ℕ) (given : Out) → IsSane w → is_over w ≡ false → Accepts (turn_response w k (numbered_shell w k)) world given → IsSane world
 sane-behind w world k given sane over (items, e) =
-    (let P : Response → Type 0 = λ r. IsSane (world_after w (Ok given) r) in
-    subst P (ap (λ b. if b then Refused Over else turn_response w k (shell_at w k)) over ∙ e) (sane-after w (event.Turn k) (Ok given) sane))
+    (let P : Response → Type 0 = λ r. IsSane (resulting_world w (Ok given) r) in
+    subst P (ap (λ b. if b then Refused Over else turn_response w k (numbered_shell w k)) over ∙ e) (sane-after w (event.Turn k) (Ok given) sane))
 
 -- the event was accepted, unless an allocation failed: the answer is the step's answer
 pub answered : {X : Type 0} (world : WorldState) (e : Event) (given out : Out) (result : Result X Refusal) (response : Response)
@@ -159,19 +159,19 @@ answered world e given out (Err why) response (items, a) wants g n =
 
 -- the answer is the step's answer, and its world is the world after it
 pub answers : {X : Type 0} (w world new : WorldState) (given out : Out) (result : Result X Refusal) (response : Response) → Accepts response world given
-    → OnOk result (new ≡ world) → OnErr result (new ≡ w) → new ≡ world_after w (step_answer out result) response
-answers w world new given out (Ok accepted) response (items, e) a b = a ∙ sym (ap (world_after w (Ok out)) e)
-answers w world new given out (Err why) response (items, e) a b = b ∙ sym (ap (world_after w (Err why)) e)
+    → OnOk result (new ≡ world) → OnErr result (new ≡ w) → new ≡ resulting_world w (step_answer out result) response
+answers w world new given out (Ok accepted) response (items, e) a b = a ∙ sym (ap (resulting_world w (Ok out)) e)
+answers w world new given out (Err why) response (items, e) a b = b ∙ sym (ap (resulting_world w (Err why)) e)
 
-to-turned : (w world : WorldState) (k : ℕ) (given : Out) (shell : ShellState) → shell_at w k ≡ Some shell
+to-turned : (w world : WorldState) (k : ℕ) (given : Out) (shell : ShellState) → numbered_shell w k ≡ Some shell
     → Accepts (turning_response w k shell.parts.codes (turning.flagged_turning shell.flagged (input_of w k) shell.frames (course_without_flag (start w shell)) shell.phase)) world given
-    → Accepts (turn_response w k (shell_at w k)) world given
+    → Accepts (turn_response w k (numbered_shell w k)) world given
 to-turned w world k given shell here (items, e) = (items, ap (turn_response w k) here ∙ e)
 
 pub turn-goes : (w : WorldState) (k : ℕ) (shell : ShellState) (scene : Scene) (input : Input) (draft : Draft)
     → Shows w k shell scene → input.is_ended ≡ (input_of w k).is_ended
     → IsTurning scene (input_of w k).queue turn.Goes draft (scene_turning scene input (input_of w k).queue)
-    → Accepts (turn_response w k (shell_at w k)) (world_after_turn k draft w) (draft_out (shell_at w k) draft)
+    → Accepts (turn_response w k (numbered_shell w k)) (world_after_turn k draft w) (draft_out (numbered_shell w k) draft)
 turn-goes w k shell scene input draft s e t =
     (let P : turning.Turning → Type 0 = λ x. IsTurning scene (input_of w k).queue turn.Goes draft x in
     to-turned w _ k _ shell s.here (goes w k shell scene draft _ s (subst P (turning-is w k shell scene input s e) t)))
@@ -179,7 +179,7 @@ turn-goes w k shell scene input draft s e t =
 pub turn-takes : (w : WorldState) (k : ℕ) (shell : ShellState) (scene : Scene) (input : Input) (draft : Draft)
     → Shows w k shell scene → input.is_ended ≡ (input_of w k).is_ended
     → IsTurning scene (input_of w k).queue turn.Takes draft (scene_turning scene input (input_of w k).queue)
-    → Accepts (turn_response w k (shell_at w k)) (record (world_after_turn k draft w) { queue = queue_after_event k w.queue (drop 1 w.queue) }) (draft_out (shell_at w k) draft)
+    → Accepts (turn_response w k (numbered_shell w k)) (record (world_after_turn k draft w) { queue = queue_after_event k w.queue (drop 1 w.queue) }) (draft_out (numbered_shell w k) draft)
 turn-takes w k shell scene input draft s e t =
     (let P : turning.Turning → Type 0 = λ x. IsTurning scene (input_of w k).queue turn.Takes draft x in
     to-turned w _ k _ shell s.here (takes w k shell scene draft _ s (subst P (turning-is w k shell scene input s e) t)))
@@ -187,10 +187,10 @@ turn-takes w k shell scene input draft s e t =
 pub turn-ends : (w : WorldState) (k : ℕ) (shell : ShellState) (scene : Scene) (input : Input) (draft : Draft) (codes : Codes)
     → Shows w k shell scene → input.is_ended ≡ (input_of w k).is_ended → codes ≡ shell.parts.codes
     → IsTurning scene (input_of w k).queue turn.Ends draft (scene_turning scene input (input_of w k).queue)
-    → Accepts (turn_response w k (shell_at w k)) (ended_world k codes w) (out_with [] None [])
+    → Accepts (turn_response w k (numbered_shell w k)) (ended_world k codes w) (event_out [] None [])
 turn-ends w k shell scene input draft codes s e c t =
     (let P : turning.Turning → Type 0 = λ x. IsTurning scene (input_of w k).queue turn.Ends draft x in
-    let Q : Codes → Type 0 = λ x. Accepts (turn_response w k (shell_at w k)) (ended_world k x w) (out_with [] None []) in
+    let Q : Codes → Type 0 = λ x. Accepts (turn_response w k (numbered_shell w k)) (ended_world k x w) (event_out [] None []) in
     subst Q (sym c) (to-turned w _ k _ shell s.here (ends w k shell scene draft _ (subst P (turning-is w k shell scene input s e) t))))
 
 -- a turn that was refused
@@ -204,7 +204,7 @@ refuses w k shell scene draft (turning.Takes rest turn_response) t = absurd t
 pub turn-refused : (w : WorldState) (k : ℕ) (shell : ShellState) (scene : Scene) (input : Input) (draft : Draft)
     → Shows w k shell scene → input.is_ended ≡ (input_of w k).is_ended
     → IsTurning scene (input_of w k).queue turn.NotReady draft (scene_turning scene input (input_of w k).queue)
-    → IsAnswer (event.Turn k) (Err NotReady) (turn_response w k (shell_at w k))
+    → IsAnswer (event.Turn k) (Err NotReady) (turn_response w k (numbered_shell w k))
 turn-refused w k shell scene input draft s e t =
     (let P : Response → Type 0 = λ r. IsAnswer (event.Turn k) (Err NotReady) r in
     let Q : turning.Turning → Type 0 = λ x. IsTurning scene (input_of w k).queue turn.NotReady draft x in

@@ -8,11 +8,11 @@ use Rattle.ados_machine.specs.Items.{reports_of}
 use Rattle.ados_machine.specs.Shells.{ShellState}
 use Rattle.ados_machine.specs.Carrying.{carried_or_same, carried_shell, carried_shells, moved_object}
 use Rattle.ados_machine.specs.Settle.{TurnResult}
-use Rattle.ados_machine.specs.World.{WorldState, shell_at}
+use Rattle.ados_machine.specs.World.{WorldState, numbered_shell}
 use Rattle.ados_machine.specs.Course.{shared_after_event}
 use Rattle.ados_machine.specs.Numbers.{free_number}
 use Rattle.ados_machine.specs.Requests.{request_of}
-use Rattle.ados_machine.specs.Step.{codes_of_ended, out_with, is_done, moved_at_turn as moved_of, shell_of_turn, with_begun}
+use Rattle.ados_machine.specs.Step.{codes_of_ended, event_out, is_done, moved_at_turn as moved_of, shell_of_turn, with_begun}
 use Rattle.ados_machine.proofs.Shells.{shells_behind, broken-there, broken_for, broken_one, carried-free, carried-runs, found, found-carried, found-placed_other, found-set_same, free-number}
 use Rattle.ados_shell.specs.declared.drafts.Draft.{Draft}
 use Rattle.ados_shell.specs.declared.drafts.ShellDraft.{ShellDraft}
@@ -48,7 +48,7 @@ others w t = shells_after_break t.course.breaking (standing w t)
 abbrev own : WorldState → TurnResult → ShellState
 own w t = carried_or_same (moved_of w t) (shell_of_turn t)
 
-still-there : (w : WorldState) (k : ℕ) (shell : ShellState) (moved : Option Renamed) → shell_at w k ≡ Some shell → found (carried_shells moved w.shells) k ≡ Some (carried_or_same moved shell)
+still-there : (w : WorldState) (k : ℕ) (shell : ShellState) (moved : Option Renamed) → numbered_shell w k ≡ Some shell → found (carried_shells moved w.shells) k ≡ Some (carried_or_same moved shell)
 still-there w k shell moved here = found-carried moved w.shells k ∙ carried-runs moved (found w.shells k) shell here
 
 -- the shells that a draft holds, before another one is broken and before its own may end
@@ -69,7 +69,7 @@ stood-is w k shell scene draft t s d =
     (carried-free moved w.shells number (free-number w.shells)) (still-there w k shell moved s.here)
 
 -- its own shell is among these
-own-there : (w : WorldState) (k : ℕ) (shell : ShellState) (t : TurnResult) → shell_at w k ≡ Some shell
+own-there : (w : WorldState) (k : ℕ) (shell : ShellState) (t : TurnResult) → numbered_shell w k ≡ Some shell
     → found (standing w t) k ≡ Some (carried_or_same (moved_of w t) shell)
 own-there w k shell t here =
     let moved = moved_of w t in
@@ -85,7 +85,7 @@ with-is w k shell scene draft t s d =
     ∙ ap (shells_with_broken k t.course.breaking) (stood-is w k shell scene draft t s d)
     ∙ others-broken k t.course.breaking (standing w t) (carried_or_same (moved_of w t) shell) (Some (own w t)) (own-there w k shell t s.here)
 
-own-found : (w : WorldState) (k : ℕ) (shell : ShellState) (t : TurnResult) → shell_at w k ≡ Some shell
+own-found : (w : WorldState) (k : ℕ) (shell : ShellState) (t : TurnResult) → numbered_shell w k ≡ Some shell
     → found (slice_set (others w t) (k - 1) (Some (own w t))) k ≡ Some (own w t)
 own-found w k shell t here =
     let stood = carried_or_same (moved_of w t) shell in
@@ -138,9 +138,9 @@ taken-is w k shell scene draft t s d =
 
 -- what is given by an event that a draft holds
 pub gives : (w : WorldState) (k : ℕ) (shell : ShellState) (scene : Scene) (draft : Draft) (t : TurnResult) → Shows w k shell scene → IsDrafted scene draft t
-    → draft_out (shell_at w k) draft ≡ out_with t.course.printed (request_of t.course.parts.number t.phase) (reports_of k t.log)
+    → draft_out (numbered_shell w k) draft ≡ event_out t.course.printed (request_of t.course.parts.number t.phase) (reports_of k t.log)
 gives w k shell scene draft t s d =
     ap (λ o. draft_out o draft) s.here
-    ∙ ap (λ b. out_with b (request_of shell.parts.number (drafted_phase draft.shell)) draft.reports.items) d.printed_is
-    ∙ ap (λ (x : ShellState). out_with t.course.printed (request_of x.parts.number x.phase) draft.reports.items) (ap (drafted_shell draft.shell) (sym s.shell_is) ∙ d.shell_is)
-    ∙ ap (λ r. out_with t.course.printed (request_of t.course.parts.number t.phase) r) (d.reports_are ∙ ap (λ n. reports_of n t.log) s.number_is)
+    ∙ ap (λ b. event_out b (request_of shell.parts.number (drafted_phase draft.shell)) draft.reports.items) d.printed_is
+    ∙ ap (λ (x : ShellState). event_out t.course.printed (request_of x.parts.number x.phase) draft.reports.items) (ap (drafted_shell draft.shell) (sym s.shell_is) ∙ d.shell_is)
+    ∙ ap (λ r. event_out t.course.printed (request_of t.course.parts.number t.phase) r) (d.reports_are ∙ ap (λ n. reports_of n t.log) s.number_is)

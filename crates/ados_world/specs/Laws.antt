@@ -8,7 +8,7 @@ use Rattle.ados_machine.specs.declared.refusals.Refusal.{Refusal}
 use Rattle.ados_machine.specs.World.{WorldState}
 use Rattle.ados_machine.specs.Laws.{finds_flag}
 use Rattle.ados_machine.specs.Step.{step_of}
-use Rattle.ados_machine.specs.Runs.{world_after}
+use Rattle.ados_machine.specs.Runs.{resulting_world}
 use Rattle.ados_machine.specs.Quiet.{IsQuiet, CanBeTakenOut}
 
 -- one of these reports is about a break
@@ -20,7 +20,7 @@ reports_break reports = list_any (λ report. report.broken) reports
 abbrev pub BreaksEndScriptsIn : WorldState → List Event → List (Result Out Refusal) → Type 0
 BreaksEndScriptsIn w (event ∷ events) (out ∷ outs) =
     IfOk out (λ given. reports_break given.reports ≡ finds_flag w event)
-    × BreaksEndScriptsIn (world_after w out (step_of w event)) events outs
+    × BreaksEndScriptsIn (resulting_world w out (step_of w event)) events outs
 BreaksEndScriptsIn w _ _ = Unit {0}
 
 -- each shell that is quiet in a run can be taken out of it

@@ -8,7 +8,7 @@ use Rattle.ados_machine.specs.Shells.{ShellState}
 use Rattle.ados_machine.specs.Carrying.{moved_object}
 use Rattle.ados_machine.specs.Numbers.{free_number}
 use Rattle.ados_machine.specs.Requests.{request_of}
-use Rattle.ados_machine.specs.Step.{out_with}
+use Rattle.ados_machine.specs.Step.{event_out}
 use Rattle.ados_machine.specs.World.{WorldState, flatten, at_number}
 use Rattle.ados_shell.specs.declared.drafts.Draft.{Draft}
 use Rattle.ados_shell.specs.Drafts.{out_of, drafted_phase}
@@ -41,7 +41,7 @@ world_after_turn number draft w =
 -- what an event gives by a draft that changes a shell: it asks for what the shell waits for then
 abbrev pub draft_out : Option ShellState → Draft → Out
 draft_out None draft = out_of draft
-draft_out (Some shell) draft = out_with draft.printed.items (request_of shell.parts.number (drafted_phase draft.shell)) draft.reports.items
+draft_out (Some shell) draft = event_out draft.printed.items (request_of shell.parts.number (drafted_phase draft.shell)) draft.reports.items
 
 -- the world after the end of a shell, whose codes are kept
 abbrev pub ended_world : ℕ → Codes → WorldState → WorldState

@@ -1,7 +1,7 @@
 // Breaks of shells.
 ghost use Rattle.std.specs.Prelude.{◌≡◌, ◌<◌, ◌≤◌};
 ghost use Rattle.std.specs.List.{slice_get, slice_set};
-ghost use Rattle.ados_machine.specs.Breaks.{breaks_by, broken_number, broken_place};
+ghost use Rattle.ados_machine.specs.Breaks.{kind_breaks, broken_number, broken_place};
 ghost use Rattle.ados_machine.specs.World.{flatten};
 ghost use Rattle.ados_world.specs.Breaks.{shells_with_broken};
 
@@ -11,8 +11,8 @@ use ados_machine::Kind;
 use ados_shell::Shell;
 
 /// What a break of a kind does: one by C marks, and one by D flags.
-pub fn breaks_by(kind: Kind) -> Breaks
-    ensures { result ≡ breaks_by kind }
+pub fn kind_breaks(kind: Kind) -> Breaks
+    ensures { result ≡ kind_breaks kind }
 {
     Breaks {
         marks: kind == Kind::C,

@@ -2,8 +2,8 @@
 ghost use Rattle.std.specs.Prelude.{◌≡◌, [], ◌∷◌, ◌++◌, IfErr, OnErr, OnOk};
 ghost use Rattle.std.specs.Option.{option_copied};
 ghost use Rattle.ados_machine.specs.World.{has_input, input_of};
-ghost use Rattle.ados_machine.specs.Step.{Accepted, Refused, typing_response, end_of_input, out_with};
-ghost use Rattle.ados_machine.specs.Runs.{IsAnswer, world_after};
+ghost use Rattle.ados_machine.specs.Step.{Accepted, Refused, typing_response, end_of_input, event_out};
+ghost use Rattle.ados_machine.specs.Runs.{IsAnswer, resulting_world};
 ghost use Rattle.ados_machine.specs.declared.refusals.Refusal.TheVariants.{NoMemory};
 ghost use Rattle.ados_shell.specs.Turnings.{IsFirst};
 ghost use Rattle.ados_world.specs.Steps.{step_answer, with_line};
@@ -18,8 +18,8 @@ const QUEUE_LINES: usize = 256;
 impl World {
     /// A copy of a line joins the queue.
     pub(crate) fn queue_copy(&mut self, line: &Text) -> Result<(), Refusal>
-        ensures answer { IsAnswer (Event.Typed line.now) (step_answer (out_with [] None []) result) (typing_response self.old line.now) }
-        ensures world { self.new ≡ world_after self.old (step_answer (out_with [] None []) result) (typing_response self.old line.now) }
+        ensures answer { IsAnswer (Event.Typed line.now) (step_answer (event_out [] None []) result) (typing_response self.old line.now) }
+        ensures world { self.new ≡ resulting_world self.old (step_answer (event_out [] None []) result) (typing_response self.old line.now) }
     {
         self.admit(line)?;
         match line.copy() {
@@ -30,7 +30,7 @@ impl World {
 
     /// A line may join the queue, unless an allocation fails.
     pub(crate) fn admit(&self, line: &Text) -> Result<(), Refusal>
-        ensures ok { OnOk result (typing_response self.now line.now ≡ Accepted (with_line line.now self.now) (out_with [] None []) []) }
+        ensures ok { OnOk result (typing_response self.now line.now ≡ Accepted (with_line line.now self.now) (event_out [] None []) []) }
         ensures err { IfErr result (λ why. typing_response self.now line.now ≡ Refused why) }
     {
         if self.input_ended {
@@ -59,8 +59,8 @@ impl World {
 
     /// No more lines will be typed.
     pub(crate) fn end_input(&mut self) -> Result<(), Refusal>
-        ensures answer { IsAnswer Event.EndOfInput (step_answer (out_with [] None []) result) (end_of_input self.old) }
-        ensures world { self.new ≡ world_after self.old (step_answer (out_with [] None []) result) (end_of_input self.old) }
+        ensures answer { IsAnswer Event.EndOfInput (step_answer (event_out [] None []) result) (end_of_input self.old) }
+        ensures world { self.new ≡ resulting_world self.old (step_answer (event_out [] None []) result) (end_of_input self.old) }
     {
         if self.input_ended {
             return Err(Refusal::NotReady);

@@ -4,9 +4,9 @@ ghost use Rattle.ados_machine.specs.Given.{all_lines_taken, all_lines_typed};
 ghost use Rattle.ados_machine.specs.Kept.{codes_after_trace};
 ghost use Rattle.ados_machine.specs.Runs.{Runs};
 ghost use Rattle.ados_machine.specs.Limits.{LimitsHold, ReportsHold};
-ghost use Rattle.ados_machine.specs.Reports.{reports_of_trace, stacks_in};
+ghost use Rattle.ados_machine.specs.Reports.{reports_of_trace, shell_stacks};
 ghost use Rattle.ados_machine.specs.Stacks.{FramesHold};
-ghost use Rattle.ados_machine.specs.Trace.{own, reports_in, trace};
+ghost use Rattle.ados_machine.specs.Trace.{own, all_reports, trace};
 ghost use Rattle.ados_machine.specs.World.{codes_at};
 ghost use Rattle.ados_machine.specs.Starts.{FailedStartsLeaveNothingIn};
 ghost use Rattle.ados_world.specs.Laws.{BreaksEndScriptsIn, QuietShellsAreInvisibleIn};
@@ -86,7 +86,7 @@ impl World {
         ensures starts { IfOk result (λ run. FailedStartsLeaveNothingIn self events.now run.outs) }
         ensures quiet { IfOk result (λ run. QuietShellsAreInvisibleIn self events.now run.outs run.world) }
         ensures typed { IfOk result (λ run. self.queue ++ all_lines_typed events.now run.outs ≡ all_lines_taken self events.now run.outs ++ run.world.queue) }
-        ensures records { IfOk result (λ run. reports_in run.outs ≡ reports_of_trace (stacks_in self) (trace self events.now run.outs)) }
+        ensures records { IfOk result (λ run. all_reports run.outs ≡ reports_of_trace (shell_stacks self) (trace self events.now run.outs)) }
         ensures codes { IfOk result (λ run. (k : ℕ) → codes_at run.world k ≡ codes_after_trace (codes_at self k) (own k (trace self events.now run.outs))) }
         ensures err { IfErr result (λ world. world ≡ self) }
     {

@@ -4,9 +4,9 @@ ghost use Rattle.ados_machine.specs.Given.{request_after_event};
 ghost use Rattle.ados_machine.specs.InUse.{asks, entry_of, outputs_held, runs_program};
 ghost use Rattle.ados_machine.specs.Laws.{finds_flag};
 ghost use Rattle.ados_machine.specs.Limits.{IsSane};
-ghost use Rattle.ados_machine.specs.World.{is_over, shell_at};
-ghost use Rattle.ados_machine.specs.Step.{step_of, turn_response, answer_response, break_response, out_with, queue_after_event};
-ghost use Rattle.ados_machine.specs.Runs.{IsAnswer, world_after};
+ghost use Rattle.ados_machine.specs.World.{is_over, numbered_shell};
+ghost use Rattle.ados_machine.specs.Step.{step_of, turn_response, answer_response, break_response, event_out, queue_after_event};
+ghost use Rattle.ados_machine.specs.Runs.{IsAnswer, resulting_world};
 ghost use Rattle.ados_machine.specs.declared.refusals.Refusal.TheVariants.{NoMemory as WantOfMemory};
 ghost use Rattle.ados_find.specs.Shared.{version};
 ghost use Rattle.ados_shell.specs.Drafts.{out_of};
@@ -16,7 +16,7 @@ ghost use Rattle.ados_world.specs.Laws.{reports_break};
 ghost use Rattle.ados_world.specs.Shells.{IsShellNumber};
 ghost use Rattle.ados_world.specs.Steps.{step_answer, draft_out, ended_world, world_after_turn};
 
-use crate::breaks::{break_other, breaks_by};
+use crate::breaks::{break_other, kind_breaks};
 use crate::carrying::moved_by;
 use crate::endings::{end, end_done};
 use crate::new_shells::{join, new_shell};
@@ -40,7 +40,7 @@ impl World {
     /// that ends it, and the outputs that its shell holds stay open as long as the program runs.
     pub fn step(&mut self, event: &Event) -> Result<Out, Refusal>
         ensures answer { IsAnswer event.now result (step_of self.old event.now) }
-        ensures world { self.new ≡ world_after self.old result (step_of self.old event.now) }
+        ensures world { self.new ≡ resulting_world self.old result (step_of self.old event.now) }
         ensures failed_start { OnOk result (FailedStart self.old event.now self.new) }
         ensures request { IfOk result (λ out. out.request ≡ request_after_event self.new event.now) }
         ensures binding { OnOk result (BindsWhatItUsed self.old event.now self.new) }
@@ -57,7 +57,7 @@ impl World {
     /// draft serves for a whole run, and its buffers live on.
     pub fn step_into(&mut self, event: &Event, draft: &mut Draft) -> Result<(), Refusal>
         ensures answer { IsAnswer event.now (step_answer (out_of draft.new) result) (step_of self.old event.now) }
-        ensures world { self.new ≡ world_after self.old (step_answer (out_of draft.new) result) (step_of self.old event.now) }
+        ensures world { self.new ≡ resulting_world self.old (step_answer (out_of draft.new) result) (step_of self.old event.now) }
     {
         if self.is_over() {
             return Err(Refusal::Over);
@@ -82,8 +82,8 @@ impl World {
 
     /// A line was typed: the event of that name, which gives nothing, by a line that the world keeps.
     pub fn type_line(&mut self, line: Text) -> Result<(), Refusal>
-        ensures answer { IsAnswer (Event.Typed line) (step_answer (out_with [] None []) result) (step_of self.old (Event.Typed line)) }
-        ensures world { self.new ≡ world_after self.old (step_answer (out_with [] None []) result) (step_of self.old (Event.Typed line)) }
+        ensures answer { IsAnswer (Event.Typed line) (step_answer (event_out [] None []) result) (step_of self.old (Event.Typed line)) }
+        ensures world { self.new ≡ resulting_world self.old (step_answer (event_out [] None []) result) (step_of self.old (Event.Typed line)) }
     {
         if self.is_over() {
             return Err(Refusal::Over);
@@ -94,8 +94,8 @@ impl World {
 
     fn turn(&mut self, number: u8, draft: &mut Draft) -> Result<(), Refusal>
         requires { is_over self.old ≡ false }
-        ensures answer { IsAnswer (Event.Turn number) (step_answer (out_of draft.new) result) (turn_response self.old number (shell_at self.old number)) }
-        ensures world { self.new ≡ world_after self.old (step_answer (out_of draft.new) result) (turn_response self.old number (shell_at self.old number)) }
+        ensures answer { IsAnswer (Event.Turn number) (step_answer (out_of draft.new) result) (turn_response self.old number (numbered_shell self.old number)) }
+        ensures world { self.new ≡ resulting_world self.old (step_answer (out_of draft.new) result) (turn_response self.old number (numbered_shell self.old number)) }
     {
         // This lets a turn use what holds of every world: no script runs on after a failure, each background shell runs a
         // frame, and each shell has the number of its place.
@@ -119,8 +119,8 @@ impl World {
 
     fn answer(&mut self, number: u8, answer: &Answer, draft: &mut Draft) -> Result<(), Refusal>
         requires { is_over self.old ≡ false }
-        ensures answer { IsAnswer (Event.Answer number answer.now) (step_answer (out_of draft.new) result) (answer_response self.old number answer.now (shell_at self.old number)) }
-        ensures world { self.new ≡ world_after self.old (step_answer (out_of draft.new) result) (answer_response self.old number answer.now (shell_at self.old number)) }
+        ensures answer { IsAnswer (Event.Answer number answer.now) (step_answer (out_of draft.new) result) (answer_response self.old number answer.now (numbered_shell self.old number)) }
+        ensures world { self.new ≡ resulting_world self.old (step_answer (out_of draft.new) result) (answer_response self.old number answer.now (numbered_shell self.old number)) }
     {
         // This lets an answer use what holds of every world, as a turn does.
         let _ = &self.alloc;
@@ -136,24 +136,24 @@ impl World {
 
     fn break_shell(&mut self, number: u8, kind: Kind) -> Result<(), Refusal>
         requires { is_over self.old ≡ false }
-        ensures answer { IsAnswer (Event.Break number kind) (step_answer (out_with [] None []) result) (break_response self.old number kind (shell_at self.old number)) }
-        ensures world { self.new ≡ world_after self.old (step_answer (out_with [] None []) result) (break_response self.old number kind (shell_at self.old number)) }
+        ensures answer { IsAnswer (Event.Break number kind) (step_answer (event_out [] None []) result) (break_response self.old number kind (numbered_shell self.old number)) }
+        ensures world { self.new ≡ resulting_world self.old (step_answer (event_out [] None []) result) (break_response self.old number kind (numbered_shell self.old number)) }
     {
         // This lets a break use what holds of every world, as a turn does.
         let _ = &self.alloc;
         if self.shell(number).is_none() {
             return Err(Refusal::NoSuchShell);
         }
-        self.shells.break_shell(number as usize, breaks_by(kind));
+        self.shells.break_shell(number as usize, kind_breaks(kind));
         Ok(())
     }
 
     /// Moves in what is changed by a turn that took the first line of its input.
     fn take_typed(&mut self, number: u8, draft: &mut Draft) -> Result<(), Refusal>
         requires number { IsShellNumber number }
-        requires runs { is_some (shell_at self.old number) ≡ true }
+        requires runs { is_some (numbered_shell self.old number) ≡ true }
         requires sane { IsSane (world_after_turn number draft.old self.old) }
-        ensures out { OnOk result (out_of draft.new ≡ draft_out (shell_at self.old number) draft.old) }
+        ensures out { OnOk result (out_of draft.new ≡ draft_out (numbered_shell self.old number) draft.old) }
         ensures world { OnOk result (self.new ≡ record (world_after_turn number draft.old self.old) { queue = queue_after_event number self.old.queue (drop 1 self.old.queue) }) }
         ensures refusal { IfErr result (λ why. why ≡ WantOfMemory) }
         ensures unchanged { OnErr result (self.new ≡ self.old) }
@@ -169,9 +169,9 @@ impl World {
     /// broken, and the turn's own shell ends if it is a background shell that no longer runs a frame.
     fn take(&mut self, number: u8, draft: &mut Draft) -> Result<(), Refusal>
         requires number { IsShellNumber number }
-        requires runs { is_some (shell_at self.old number) ≡ true }
+        requires runs { is_some (numbered_shell self.old number) ≡ true }
         requires sane { IsSane (world_after_turn number draft.old self.old) }
-        ensures out { OnOk result (out_of draft.new ≡ draft_out (shell_at self.old number) draft.old) }
+        ensures out { OnOk result (out_of draft.new ≡ draft_out (numbered_shell self.old number) draft.old) }
         ensures world { OnOk result (self.new ≡ world_after_turn number draft.old self.old) }
         ensures refusal { IfErr result (λ why. why ≡ WantOfMemory) }
         ensures unchanged { OnErr result (self.new ≡ self.old) }
@@ -204,7 +204,7 @@ impl World {
 
     /// The launcher is asked for what the shell of this number waits for after the event.
     fn ask(&self, number: u8, draft: &mut Draft) -> Result<(), NoMemory>
-        ensures out { OnOk result (out_of draft.new ≡ draft_out (shell_at self.now number) draft.old) }
+        ensures out { OnOk result (out_of draft.new ≡ draft_out (numbered_shell self.now number) draft.old) }
         ensures same { OnOk result (draft.new ≡ record draft.old { request = draft.new.request }) }
     {
         match self.shell(number) {

@@ -9,7 +9,7 @@ ghost use Rattle.ados_machine.specs.Children.{child_in};
 ghost use Rattle.ados_machine.specs.InUse.{asks};
 ghost use Rattle.ados_machine.specs.Limits.{IsSane};
 ghost use Rattle.ados_machine.specs.Starts.{use_count};
-ghost use Rattle.ados_machine.specs.World.{fresh_world, shell_at, is_over, is_ready, wants_line, codes_at, ended_at, running_numbers, pending_of};
+ghost use Rattle.ados_machine.specs.World.{fresh_world, numbered_shell, is_over, is_ready, wants_line, codes_at, left_codes, running_numbers, pending_of};
 
 use crate::hosts::{NewFault, hosts_fault};
 use crate::shells::{any_runs, count_uses, find_shell, taken};
@@ -95,7 +95,7 @@ impl World {
 
     /// The shell of this number, if one runs: what it holds, by a name for each part.
     pub fn shell(&self, number: u8) -> Option<&Shell>
-        ensures shell { option_copied result ≡ shell_at self.now number }
+        ensures shell { option_copied result ≡ numbered_shell self.now number }
         ensures number { OnSome result (IsShellNumber number) }
     {
         find_shell(self.shells.places(), number)
@@ -222,7 +222,7 @@ impl World {
 
     /// What a turn of the shell of a number sees.
     pub(crate) fn scene<'a>(&'a self, number: u8, shell: &'a Shell) -> Scene<'a>
-        requires { shell_at self.now number ≡ Some shell.now }
+        requires { numbered_shell self.now number ≡ Some shell.now }
         ensures { Shows self.now number shell.now result }
     {
         Scene {
@@ -242,7 +242,7 @@ impl World {
     }
 
     fn ended_codes(&self, number: u8) -> Codes
-        ensures { result ≡ ended_at self.now number }
+        ensures { result ≡ left_codes self.now number }
     {
         match number {
             0 => Codes::NONE,

@@ -1,14 +1,14 @@
 use Rattle.std.proofs.Common.{arith, ◌+◌}
 use Rattle.std.proofs.lemmas.List.{take_rest}
 use Rattle.ados_line.specs.declared.letters.Letter.TheVariants.{Plain}
-use Rattle.ados_line.specs.Values.{variables_in}
+use Rattle.ados_line.specs.Values.{visible_variables}
 use Rattle.ados_line.proofs.ValueLemmas.{taken-one, segment-put, all-put}
 use Rattle.ados_line.proofs.values.put_values.Goals as goal
 use Rattle.ados_line.proofs.values.put_values.Goals.{then-taken-gt0, else-taken-gt0+in_ok-taken}
 
 pub loop-place-preserved : goal.loop-place-preserved
 loop-place-preserved c =
-    let v = variables_in c.args.scope.now in record {
+    let v = visible_variables c.args.scope.now in record {
       text = elim c.if-taken-gt0.branch [
         | then-taken-gt0 w ↦
             rw (w.text-is, w.taken-is)
@@ -23,5 +23,5 @@ loop-place-preserved c =
 
 pub returns : goal.returns
 returns c =
-    let v = variables_in c.args.scope.now in
+    let v = visible_variables c.args.scope.now in
     all-put v _ _ _ _ _ c.loop-place-test.false c.loop-place.invariant.short c.loop-place.invariant.text

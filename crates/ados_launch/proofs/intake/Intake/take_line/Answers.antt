@@ -2,7 +2,7 @@ use Rattle.std.proofs.Common.{arith, rules, ap, inr, length, sym, ◌∙◌, [],
 use Rattle.std.proofs.lemmas.List.{length-map}
 use Rattle.ados_text.specs.Text.{to_ascii}
 use Rattle.ados_machine.specs.declared.events.Event.TheVariants.{Typed, EndOfInput}
-use Rattle.ados_machine.specs.Step.{out_with}
+use Rattle.ados_machine.specs.Step.{event_out}
 use Rattle.std.specs.Prelude.{None}
 use Rattle.ados_shell.specs.Drafts.{out_of}
 use Rattle.ados_launch.specs.Intake.{TakesLineOrEnd}
@@ -28,7 +28,7 @@ pub returns-in_ok-give_line-in-Short-clause-took : goal.returns-in_ok-give_line-
 returns-in_ok-give_line-in-Short-clause-took g c =
     let P : List ℕ → Type 0 = λ b. TakesLineOrEnd c.args.world.now (bytes_ahead c.args.self.now.held (g.S.Source.left c.args.reader.now)) c.give_line.new.world (bytes_ahead c.next_line.new.held (g.S.Source.left c.next_line.new.source)) b in
     subst P (sym (ap (λ o. o.bytes) c.give_nothing.ensures))
-    (took-line c.args.world.now _ _ _ (Typed c.in_ok-text-in-Short.text) (out_with [] None []) c.in_ok-give_line-in-Short.ensures.answer c.in_ok-give_line-in-Short.ensures.world tt
+    (took-line c.args.world.now _ _ _ (Typed c.in_ok-text-in-Short.text) (event_out [] None []) c.in_ok-give_line-in-Short.ensures.answer c.in_ok-give_line-in-Short.ensures.world tt
     (λ bytes e. next-short bytes _ _ _ _ _ (c.in_ok-next_line.ensures.taken bytes (rw c.heed.ensures.left e)) c.in-Short.is c.in_ok-text-in-Short.ensures c.as_slice.ensures.value))
 
 pub returns-in-Overlong-clause-read : goal.returns-in-Overlong-clause-read
