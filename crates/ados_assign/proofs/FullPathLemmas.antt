@@ -30,14 +30,14 @@ abbrev path_to : Place → PathParts
 path_to place = record { device = Some (codes "RAM"); steps = steps_into place }
 
 -- its text
-behind-slash : (rest : Place) → steps_text (steps_into rest) ≡ slash_joined rest → text_after_name (steps_into rest) (steps_text (steps_into rest)) ≡ slash_before rest ++ slash_joined rest
-behind-slash [] h = h
-behind-slash (name ∷ rest) h = ap (λ (t : List ℕ). 47 ∷ t) h
+after-slash : (rest : Place) → steps_text (steps_into rest) ≡ slash_joined rest → text_after_name (steps_into rest) (steps_text (steps_into rest)) ≡ slash_before rest ++ slash_joined rest
+after-slash [] h = h
+after-slash (name ∷ rest) h = ap (λ (t : List ℕ). 47 ∷ t) h
 
 written-slashed : (names : Place) → steps_text (steps_into names) ≡ slash_joined names
 written-slashed [] = refl
 written-slashed (name ∷ rest) =
-    ap (λ (t : List ℕ). name ++ t) (behind-slash rest (written-slashed rest)) ∙ sym (append_assoc name (slash_before rest) (slash_joined rest))
+    ap (λ (t : List ℕ). name ++ t) (after-slash rest (written-slashed rest)) ∙ sym (append_assoc name (slash_before rest) (slash_joined rest))
 
 text-spelled : (place : Place) → text_of (path_to place) ≡ spelled_path place
 text-spelled place = ap (λ (t : List ℕ). codes "RAM:" ++ t) (written-slashed place)

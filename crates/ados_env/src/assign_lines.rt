@@ -71,13 +71,13 @@ fn push_text(
     name: &Text,
     before: &[u8],
     text: &Text,
-    behind: &[u8],
+    after: &[u8],
 ) -> Result<(), NoMemory>
-    ensures { OnOk result (output.new.items ≡ output.old.items ++ name.now ++ before.now ++ text.now ++ behind.now) }
+    ensures { OnOk result (output.new.items ≡ output.old.items ++ name.now ++ before.now ++ text.now ++ after.now) }
 {
     output.extend_from_slice(name.as_bytes())?;
     output.extend_from_slice(before)?;
     output.extend_from_slice(text.as_bytes())?;
-    output.extend_from_slice(behind)?;
+    output.extend_from_slice(after)?;
     Ok(())
 }

@@ -118,7 +118,7 @@ fn names_below(
     ensures { IfOk result (λ names. names ≡ drop (length directory.now) (written_place ram.now place.now)) }
 {
     let written = ram.written(place)?;
-    Place::root(alloc).joined(written.names_behind(directory))
+    Place::root(alloc).joined(written.relative_names(directory))
 }
 
 // A file keeps its name.

@@ -16,13 +16,13 @@ pub fn put_between(
     output: &mut Vec<u8>,
     before: &[u8],
     text: &[u8],
-    behind: &[u8],
+    after: &[u8],
 ) -> Result<(), NoMemory>
-    ensures { OnOk result (output.new.items ≡ output.old.items ++ (before.now ++ (text.now ++ behind.now))) }
+    ensures { OnOk result (output.new.items ≡ output.old.items ++ (before.now ++ (text.now ++ after.now))) }
 {
     output.extend_from_slice(before)?;
     output.extend_from_slice(text)?;
-    output.extend_from_slice(behind)?;
+    output.extend_from_slice(after)?;
     Ok(())
 }
 

@@ -42,8 +42,8 @@ found-before s directory path word found plain is =
     ∙ ap (λ before. file_or (option_or before (file_lookup s (in_c s directory word))) (directory_at s.files (place_of s directory word))) is
 
 -- and if there is none
-pub found-behind : (s : SharedState) (directory : Place) (path : List Place) (word : Text) → is_path word ≡ false →
+pub found-after : (s : SharedState) (directory : Place) (path : List Place) (word : Text) → is_path word ≡ false →
     first_file_before_c s directory path word ≡ None → found_file s directory path word ≡ found_in_c s directory word
-found-behind s directory path word plain is =
+found-after s directory path word plain is =
     plain-found s directory path word plain
     ∙ ap (λ before. file_or (option_or before (file_lookup s (in_c s directory word))) (directory_at s.files (place_of s directory word))) is

@@ -11,7 +11,7 @@ use Rattle.ados_flow.specs.Gathering.{Gathered, single_gathered, before_plus, ru
 
 -- what a byte makes of the text after it: whether that is blank, and what is before its `+`
 abbrev by_first : ℕ → Bool → Option Text → Option Text
-by_first c blank behind = if (c == 43) && blank then Some [] else option_map (λ front. c ∷ front) behind
+by_first c blank after = if (c == 43) && blank then Some [] else option_map (λ front. c ∷ front) after
 
 first : (c : ℕ) (cs : Text) → before_plus (c ∷ cs) ≡ by_first c (list_all is_blank cs) (before_plus cs)
 unfolding before_plus
@@ -45,46 +45,46 @@ alone-without c n =
     ∙ ap (option_map (λ front. c ∷ front)) none
 
 -- what is not blank has no `+` before it
-kept-on : (c : ℕ) (behind : Option Text) → by_first c false behind ≡ option_map (λ front. c ∷ front) behind
-kept-on c behind = ap (λ b. if b then Some [] else option_map (λ front. c ∷ front) behind) (and_right (c == 43) false refl)
+kept-on : (c : ℕ) (after : Option Text) → by_first c false after ≡ option_map (λ front. c ∷ front) after
+kept-on c after = ap (λ b. if b then Some [] else option_map (λ front. c ∷ front) after) (and_right (c == 43) false refl)
 
 -- a blank at the end changes nothing
-pub blank_behind : (xs : Text) (c : ℕ) → is_blank c ≡ true → before_plus (xs ++ c ∷ []) ≡ before_plus xs
-blank_behind [] c e = alone-without c (no-plus c e) ∙ sym none
-blank_behind (x ∷ xs) c e =
+pub blank_after : (xs : Text) (c : ℕ) → is_blank c ≡ true → before_plus (xs ++ c ∷ []) ≡ before_plus xs
+blank_after [] c e = alone-without c (no-plus c e) ∙ sym none
+blank_after (x ∷ xs) c e =
     first x (xs ++ c ∷ [])
     ∙ ap (λ b. by_first x b (before_plus (xs ++ c ∷ []))) (blanks-stay xs c e)
-    ∙ ap (by_first x (list_all is_blank xs)) (blank_behind xs c e)
+    ∙ ap (by_first x (list_all is_blank xs)) (blank_after xs c e)
     ∙ sym (first x xs)
 
 -- a `+` at the end is the one
-pub plus_behind : (xs : Text) → before_plus (xs ++ 43 ∷ []) ≡ Some xs
-plus_behind [] = first 43 []
-plus_behind (x ∷ xs) =
+pub plus_after : (xs : Text) → before_plus (xs ++ 43 ∷ []) ≡ Some xs
+plus_after [] = first 43 []
+plus_after (x ∷ xs) =
     first x (xs ++ 43 ∷ [])
     ∙ ap (λ b. by_first x b (before_plus (xs ++ 43 ∷ []))) (blanks-end xs 43 refl)
-    ∙ ap (by_first x false) (plus_behind xs)
+    ∙ ap (by_first x false) (plus_after xs)
     ∙ kept-on x (Some xs)
 
 -- with any other byte at the end there is none
-pub other_behind : (xs : Text) (c : ℕ) → is_blank c ≡ false → c == 43 ≡ false → before_plus (xs ++ c ∷ []) ≡ None
-other_behind [] c e n = alone-without c n
-other_behind (x ∷ xs) c e n =
+pub other_after : (xs : Text) (c : ℕ) → is_blank c ≡ false → c == 43 ≡ false → before_plus (xs ++ c ∷ []) ≡ None
+other_after [] c e n = alone-without c n
+other_after (x ∷ xs) c e n =
     first x (xs ++ c ∷ [])
     ∙ ap (λ b. by_first x b (before_plus (xs ++ c ∷ []))) (blanks-end xs c e)
-    ∙ ap (by_first x false) (other_behind xs c e n)
+    ∙ ap (by_first x false) (other_after xs c e n)
     ∙ kept-on x None
 
 -- a text of ASCII has such a text before its `+`
-first-stays : (c : ℕ) (behind : Option Text) → to_ascii c ≡ c → option_map (map to_ascii) behind ≡ behind
-    → option_map (map to_ascii) (option_map (λ front. c ∷ front) behind) ≡ option_map (λ front. c ∷ front) behind
+first-stays : (c : ℕ) (after : Option Text) → to_ascii c ≡ c → option_map (map to_ascii) after ≡ after
+    → option_map (map to_ascii) (option_map (λ front. c ∷ front) after) ≡ option_map (λ front. c ∷ front) after
 first-stays c None e es = refl
 first-stays c (Some front) e es = cc
 
-chosen-stays : (b : Bool) (behind : Option Text) → option_map (map to_ascii) behind ≡ behind
-    → option_map (map to_ascii) (if b then Some [] else behind) ≡ (if b then Some [] else behind)
-chosen-stays true behind e = refl
-chosen-stays false behind e = e
+chosen-stays : (b : Bool) (after : Option Text) → option_map (map to_ascii) after ≡ after
+    → option_map (map to_ascii) (if b then Some [] else after) ≡ (if b then Some [] else after)
+chosen-stays true after e = refl
+chosen-stays false after e = e
 
 byte-stays : (c : ℕ) → c < 128 → to_ascii c ≡ c
 byte-stays c h = grind (arith, nat_tests)

@@ -21,7 +21,7 @@ pub struct Gathered {
 
 /// The text before the `+` that has only blanks after it: a text that has one continues in the next line. `None` if a
 /// text has no such `+`.
-#[tactic(auto, using(crate::proofs::GatheringLemmas::none_in_none, crate::proofs::GatheringLemmas::blank_behind, crate::proofs::GatheringLemmas::plus_behind, crate::proofs::GatheringLemmas::other_behind))]
+#[tactic(auto, using(crate::proofs::GatheringLemmas::none_in_none, crate::proofs::GatheringLemmas::blank_after, crate::proofs::GatheringLemmas::plus_after, crate::proofs::GatheringLemmas::other_after))]
 pub fn before_plus(mut text: &[u8]) -> Option<&[u8]>
     ensures { option_map (λ t. t.now) result ≡ before_plus text.entry.now }
 {
@@ -68,13 +68,13 @@ pub fn gather<'a>(alloc: Global, text: &'a Text, lines: &'a [Text]) -> Result<Ga
     let mut commands = Texts::new(alloc);
     let mut last = text;
     let mut rest = lines;
-    while let Some((line, behind)) = rest.split_first()
+    while let Some((line, after)) = rest.split_first()
         && commands.len() < RUN_LIMIT - 1
         && before_plus(last.as_bytes()).is_some()
     {
         push_front(alloc, &mut commands, last)?;
         last = line;
-        rest = behind;
+        rest = after;
     }
     let taken = commands.len();
     push_front(alloc, &mut commands, last)?;

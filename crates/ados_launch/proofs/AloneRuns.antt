@@ -40,8 +40,8 @@ going-more k w line turns n was_full is_full world next before mid last calls mi
       ∙ rw (t.world_is, grown) (steps-on k left world t.event out mid (numbered_shell world k) refl runs t.is_next t.accepted rest));
 }
 
-none-behind : (calls now listed : List Call) → now ≡ calls ++ listed → now ≡ calls ++ (listed ++ [])
-none-behind calls now listed e = e ∙ ap (λ xs. calls ++ xs) (sym (append-nil listed))
+none-after : (calls now listed : List Call) → now ≡ calls ++ listed → now ≡ calls ++ (listed ++ [])
+none-after calls now listed e = e ∙ ap (λ xs. calls ++ xs) (sym (append-nil listed))
 
 abbrev pub runs-line : (k : ℕ) (w : WorldState) (line : Text) (turns n : ℕ) (was_full is_full : Bool) (world : WorldState) (before now : Bytes) (calls mid_calls calls_now others : List Call) →
     opening_fault w line ≡ None → free_number w.shells ≡ Some k → (was_full ≡ true → is_full ≡ true) → calls_now ≡ mid_calls ++ others →

@@ -10,22 +10,22 @@ use Rattle.ados_launch.specs.declared.schedule.Next as found
 use Rattle.ados_launch.specs.declared.schedule.Next.TheVariants.{Break as BreakFound, Due as DueFound}
 use Rattle.ados_launch.specs.Rounds.{due_place, IsRunning}
 use Rattle.ados_launch.specs.Schedule.{Next, AtBreak, AtLine, AtTurn, AtStart, AtFurther, IsInRound, MayCome, ScheduleState, schedule_state_after_place, breaks_left, first_due_break, is_passed, found_next, next_at, break_or_due, scheduled_next, passed_schedule_state, place_of, following_schedule_state}
-use Rattle.ados_launch.proofs.Places.{behind_in_round, due_below, due_comes}
+use Rattle.ados_launch.proofs.Places.{after_in_round, due_below, due_comes}
 
 -- the place of what is due at a place
 pub place_at : (place : ℕ) → place_of (next_at place) ≡ place
 place_at place = grind (arith, common_steps)
 
-behind-at : (s : ScheduleState) (w : WorldState) (next : Next) (place : ℕ) → next ≡ next_at place → following_schedule_state s w next ≡ schedule_state_after_place s w place
-behind-at s w AtLine place is = ap (schedule_state_after_place s w) (ap place_of is ∙ place_at place)
-behind-at s w (AtTurn shell) place is = ap (schedule_state_after_place s w) (ap place_of is ∙ place_at place)
-behind-at s w (AtStart shell) place is = ap (schedule_state_after_place s w) (ap place_of is ∙ place_at place)
-behind-at s w (AtFurther shell) place is = ap (schedule_state_after_place s w) (ap place_of is ∙ place_at place)
-behind-at s w (AtBreak shell kind) place is = grind (arith, common_steps)
+after-at : (s : ScheduleState) (w : WorldState) (next : Next) (place : ℕ) → next ≡ next_at place → following_schedule_state s w next ≡ schedule_state_after_place s w place
+after-at s w AtLine place is = ap (schedule_state_after_place s w) (ap place_of is ∙ place_at place)
+after-at s w (AtTurn shell) place is = ap (schedule_state_after_place s w) (ap place_of is ∙ place_at place)
+after-at s w (AtStart shell) place is = ap (schedule_state_after_place s w) (ap place_of is ∙ place_at place)
+after-at s w (AtFurther shell) place is = ap (schedule_state_after_place s w) (ap place_of is ∙ place_at place)
+after-at s w (AtBreak shell kind) place is = grind (arith, common_steps)
 
 -- the schedule goes on after what was due at a place
-pub behind_next : (s : ScheduleState) (w : WorldState) (place : ℕ) → following_schedule_state s w (next_at place) ≡ schedule_state_after_place s w place
-behind_next s w place = behind-at s w (next_at place) place refl
+pub after_next : (s : ScheduleState) (w : WorldState) (place : ℕ) → following_schedule_state s w (next_at place) ≡ schedule_state_after_place s w place
+after_next s w place = after-at s w (next_at place) place refl
 
 -- the first break that is not passed over is one of a shell that runs
 stays-runs : (number : ℕ) (w : WorldState) (at : BreakAt) → is_passed number w at ≡ false → nat_le at.event number ≡ true → is_some (numbered_shell w at.shell) ≡ true
@@ -77,7 +77,7 @@ next-running s w next in_round e =
 -- the schedule keeps to its places
 pub standing-in_round : (s : ScheduleState) (w : WorldState) (next : found.Next) → s.round.place ≤ 61 → IsInRound next → (following_schedule_state s w (found_next next)).round.place ≤ 61
 standing-in_round s w (BreakFound at) in_round is = in_round
-standing-in_round s w (DueFound due_at) in_round is = rw (behind_next s w due_at.place) (behind_in_round due_at.place is)
+standing-in_round s w (DueFound due_at) in_round is = rw (after_next s w due_at.place) (after_in_round due_at.place is)
 
 -- and counts what came
 pub passed-taken : (s : ScheduleState) (next : found.Next) → (passed_schedule_state s next).taken ≡ s.taken + 1

@@ -23,7 +23,7 @@ use Rattle.ados_launch.proofs.Coming.{next-running}
 use Rattle.ados_launch.proofs.Over.{calls-over, over}
 use Rattle.ados_launch.proofs.PartLines.{no-further}
 use Rattle.ados_launch.proofs.ReaderEnd.{reader-ended}
-use Rattle.ados_launch.proofs.Sessions.{Driven, driven-cut, next-dropped, next-is, stands, stands-behind, takes-session, why-read}
+use Rattle.ados_launch.proofs.Sessions.{Driven, driven-cut, next-dropped, next-is, stands, stands-after, takes-session, why-read}
 use Rattle.ados_launch.proofs.Waits.{none-open}
 
 pub ends : (turns n : ℕ) (breaks : List BreakAt) (before now : Moment) (standing : ScheduleState) (held : List ℕ) (end : End) → Driven before now breaks n standing (bytes_ahead held now.left) → n ≤ turns
@@ -59,7 +59,7 @@ stops-memory turns n breaks before mid now standing rest held next dropped d few
   n = n;
   few = few;
   dropped = dropped;
-  stands = stands-behind before mid now breaks n standing rest dropped stays world written calls d;
+  stands = stands-after before mid now breaks n standing rest dropped stays world written calls d;
   dropped_is = rw world (next-dropped before mid breaks n standing rest next dropped d here one);
   running = rw world (next-running standing mid.world next in_round here);
   unread = rw world (no-further before mid breaks n standing rest next held now.left d here less part);
@@ -74,7 +74,7 @@ pub stops-read : (turns n : ℕ) (breaks : List BreakAt) (before mid now : Momen
 stops-read turns n breaks before mid now standing rest held d few here stays world written calls less reads cause writes = record {
   n = n;
   few = few;
-  stands = stands-behind before mid now breaks n standing rest [] stays world written (calls ∙ sym (append-nil mid.calls)) d;
+  stands = stands-after before mid now breaks n standing rest [] stays world written (calls ∙ sym (append-nil mid.calls)) d;
   reading = rw world (next-is before mid breaks n standing rest AtLine d here);
   cause = why-read before mid breaks n standing rest d mid.read_faults before.read_faults now.read_faults held now.left reads less cause;
   writes_well = writes;

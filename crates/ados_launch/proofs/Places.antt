@@ -56,9 +56,9 @@ due_below round k w h e = by_option (in_this_round round w) (in_next_round w) k 
     (λ here. range_below (is_due w round.answered) (61 - round.place) round.place 61 k (omega (arith, h)) here)
     (λ there. range_below (is_due w none_answered) 61 0 61 k (omega arith) there)
 
-pub behind_in_round : (k : ℕ) → k < 61 → following_place k ≤ 61
-behind_in_round zero h = omega arith
-behind_in_round (suc k) h = omega arith
+pub after_in_round : (k : ℕ) → k < 61 → following_place k ≤ 61
+after_in_round zero h = omega arith
+after_in_round (suc k) h = omega arith
 
 -- if something is due, something may come
 pub running : (round : Round) (k : ℕ) (w : WorldState) → round.place ≤ 61 → Some k ≡ due_place round w → IsRunning w

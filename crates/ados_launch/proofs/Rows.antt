@@ -14,7 +14,7 @@ use Rattle.ados_machine.specs.declared.requests.Request.TheVariants.{Start, Read
 use Rattle.ados_machine.specs.Children.{answers_start, answers_read, answers_wait, child_after_answer, child_after_read, child_after_start, fits, is_asked, shell_named}
 use Rattle.ados_launcher.specs.declared.calls.Call.{Call}
 use Rattle.ados_launcher.specs.declared.calls.Call.TheVariants.{Start as Starts, Read as Reads, Wait as Waits}
-use Rattle.ados_launcher.specs.Lives.{Life, Between, InReads, BehindReads, Broken, life_of, life_for_state, life_after_call, life_after_start, life_after_read, life_after_wait, state_of, next_child_state, is_open}
+use Rattle.ados_launcher.specs.Lives.{Life, Between, InReads, AfterReads, Broken, life_of, life_for_state, life_after_call, life_after_start, life_after_read, life_after_wait, state_of, next_child_state, is_open}
 use Rattle.ados_launch.specs.Asked.{Asks, MayAsk, call_of}
 
 pub life-more : (k : ℕ) (calls : List Call) (call : Call) → life_of k (calls ++ call ∷ []) ≡ life_after_call k (life_of k calls) call
@@ -70,7 +70,7 @@ life-there j k (Wait n) reply life named apart = grind (arith, common_steps)
 abbrev IsStateOf : Life → ChildState → Type 0
 IsStateOf Between state = state ≡ Closed
 IsStateOf InReads state = state ≡ Reading
-IsStateOf BehindReads state = state ≡ Waiting
+IsStateOf AfterReads state = state ≡ Waiting
 IsStateOf Broken state = Unit {0}
 
 state-in : (state : ChildState) → state ≢ Cut → IsStateOf (life_for_state state) state
@@ -89,17 +89,17 @@ read-known reply e = grind (arith, common_steps)
 start-state : (life : Life) (state : ChildState) (reply : Answer) → IsStateOf life state → IsStateOf (life_after_start life reply) (child_after_start false reply)
 start-state Between state reply h = elim (cases_Bool (answers_start reply)) [ inl on ↦ rw on (state-in (child_after_start false reply) (start-known reply)) | inr off ↦ rw off tt ]
 start-state InReads state reply h = tt
-start-state BehindReads state reply h = tt
+start-state AfterReads state reply h = tt
 start-state Broken state reply h = tt
 
 read-state : (life : Life) (state : ChildState) (reply : Answer) → IsStateOf life state → IsStateOf (life_after_read life reply) (child_after_read false reply)
 read-state InReads state reply h = elim (cases_Bool (answers_read reply)) [ inl on ↦ rw on (state-in (child_after_read false reply) (read-known reply)) | inr off ↦ rw off tt ]
 read-state Between state reply h = tt
-read-state BehindReads state reply h = tt
+read-state AfterReads state reply h = tt
 read-state Broken state reply h = tt
 
 wait-state : (life : Life) (state : ChildState) (reply : Answer) → IsStateOf life state → IsStateOf (life_after_wait life reply) Closed
-wait-state BehindReads state reply h = elim (cases_Bool (answers_wait reply)) [ inl on ↦ rw on refl | inr off ↦ rw off tt ]
+wait-state AfterReads state reply h = elim (cases_Bool (answers_wait reply)) [ inl on ↦ rw on refl | inr off ↦ rw off tt ]
 wait-state InReads state reply h = elim (cases_Bool (answers_wait reply)) [ inl on ↦ rw on refl | inr off ↦ rw off tt ]
 wait-state Between state reply h = tt
 wait-state Broken state reply h = tt
@@ -109,15 +109,15 @@ chosen-state : (b : Bool) (life other : Life) (state another : ChildState) → I
 chosen-state true life other state another h i = h
 chosen-state false life other state another h i = i
 
-behind-state : (k : ℕ) (life : Life) (state : ChildState) (call : Call) → IsStateOf life state → IsStateOf (life_after_call k life call) (next_child_state k state call)
-behind-state k life state (Starts job reply) h = chosen-state (job.shell == k) (life_after_start life reply) life (child_after_start false reply) state (start-state life state reply h) h
-behind-state k life state (Reads n reply) h = chosen-state (n == k) (life_after_read life reply) life (child_after_read false reply) state (read-state life state reply h) h
-behind-state k life state (Waits n reply) h = chosen-state (n == k) (life_after_wait life reply) life Closed state (wait-state life state reply h) h
+after-state : (k : ℕ) (life : Life) (state : ChildState) (call : Call) → IsStateOf life state → IsStateOf (life_after_call k life call) (next_child_state k state call)
+after-state k life state (Starts job reply) h = chosen-state (job.shell == k) (life_after_start life reply) life (child_after_start false reply) state (start-state life state reply h) h
+after-state k life state (Reads n reply) h = chosen-state (n == k) (life_after_read life reply) life (child_after_read false reply) state (read-state life state reply h) h
+after-state k life state (Waits n reply) h = chosen-state (n == k) (life_after_wait life reply) life Closed state (wait-state life state reply h) h
 
 all-state : (k : ℕ) (life : Life) (state : ChildState) (calls : List Call) → IsStateOf life state →
     IsStateOf (fold (λ life c. life_after_call k life c) life calls) (fold (λ state c. next_child_state k state c) state calls)
 all-state k life state [] h = h
-all-state k life state (call ∷ calls) h = all-state k (life_after_call k life call) (next_child_state k state call) calls (behind-state k life state call h)
+all-state k life state (call ∷ calls) h = all-state k (life_after_call k life call) (next_child_state k state call) calls (after-state k life state call h)
 
 may-by : (request : Request) (state other : ChildState) (life : Life) → is_asked (Some request) state ≡ true → life ≡ life_for_state state → IsStateOf life other → MayAsk request other
 may-by (Start job) Closed other life asked e h = rw e at h
@@ -139,7 +139,7 @@ may-ask k calls request state asked e = may-by request state (state_of k calls) 
 
 open-not-closed : (life : Life) (state : ChildState) → IsStateOf life state → is_open life ≡ true → state ≢ Closed
 open-not-closed InReads state h o e = let x : Reading ≡ Closed = sym h ∙ e in cc
-open-not-closed BehindReads state h o e = let x : Waiting ≡ Closed = sym h ∙ e in cc
+open-not-closed AfterReads state h o e = let x : Waiting ≡ Closed = sym h ∙ e in cc
 open-not-closed Between state h o e = cc
 open-not-closed Broken state h o e = cc
 

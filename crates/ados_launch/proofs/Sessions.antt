@@ -62,11 +62,11 @@ session-more before mid now breaks n standing rest later next out d here stays t
       (subst (λ world. Agrees world now.calls) t.takes.world_is agrees);
 }
 
-pub driven-more : (before mid now : Moment) (breaks : List BreakAt) (n : ℕ) (standing behind : ScheduleState) (rest later : Option (List ℕ)) (next : Next) (out : List ℕ)
+pub driven-more : (before mid now : Moment) (breaks : List BreakAt) (n : ℕ) (standing after : ScheduleState) (rest later : Option (List ℕ)) (next : Next) (out : List ℕ)
     → Driven before mid breaks n standing rest → scheduled_next standing mid.world ≡ Some next → (mid.is_full ≡ true → now.is_full ≡ true)
-    → TakesNextItem mid.world rest now.is_full mid.calls next now.world later now.calls out → Agrees now.world now.calls → Appends mid.contents now.contents out → behind ≡ following_schedule_state standing mid.world next
-    → Driven before now breaks (n + 1) behind later
-driven-more before mid now breaks n standing behind rest later next out d here stays t agrees grown is = record {
+    → TakesNextItem mid.world rest now.is_full mid.calls next now.world later now.calls out → Agrees now.world now.calls → Appends mid.contents now.contents out → after ≡ following_schedule_state standing mid.world next
+    → Driven before now breaks (n + 1) after later
+driven-more before mid now breaks n standing after rest later next out d here stays t agrees grown is = record {
   taken = d.taken ++ t.item ∷ [];
   listed = d.listed ++ t.listed;
   count_is = count-more d.taken t.item ∙ ap (λ m. m + 1) d.count_is;
@@ -106,10 +106,10 @@ full-session was_full is_full before breaks listed taken last stays s = record {
 }
 
 -- the same with more calls after; the world and what is written are unchanged
-abbrev pub stands-behind : (before mid now : Moment) (breaks : List BreakAt) (n : ℕ) (standing : ScheduleState) (rest : Option (List ℕ)) (others : List Call)
+abbrev pub stands-after : (before mid now : Moment) (breaks : List BreakAt) (n : ℕ) (standing : ScheduleState) (rest : Option (List ℕ)) (others : List Call)
     → (mid.is_full ≡ true → now.is_full ≡ true) → now.world ≡ mid.world → now.contents ≡ mid.contents → now.calls ≡ mid.calls ++ others → Driven before mid breaks n standing rest
     → SessionProgress before now breaks n others
-stands-behind before mid now breaks n standing rest others stays world written calls d = record {
+stands-after before mid now breaks n standing rest others stays world written calls d = record {
   taken = d.taken;
   listed = d.listed;
   count_is = d.count_is;
@@ -120,7 +120,7 @@ stands-behind before mid now breaks n standing rest others stays world written c
 }
 
 abbrev pub stands : (before now : Moment) (breaks : List BreakAt) (n : ℕ) (standing : ScheduleState) (rest : Option (List ℕ)) → Driven before now breaks n standing rest → SessionProgress before now breaks n []
-stands before now breaks n standing rest d = stands-behind before now now breaks n standing rest [] (λ e. e) refl refl (sym (append-nil now.calls)) d
+stands before now breaks n standing rest d = stands-after before now now breaks n standing rest [] (λ e. e) refl refl (sym (append-nil now.calls)) d
 
 -- a read failed, or none did and the line that is due is too long
 pub why-read : (before mid : Moment) (breaks : List BreakAt) (n : ℕ) (standing : ScheduleState) (rest : Option (List ℕ)) (d : Driven before mid breaks n standing rest) (faults old new : ℕ) (held : List ℕ) (later : Option (List ℕ))

@@ -43,35 +43,35 @@ no-start (Read n) reply calls all is none e = cc
 no-start (Wait n) reply calls all is none e = cc
 
 -- what follows the calls for one thing that was taken
-abbrev Behind : List Call → List Call → Type 0
-Behind [] later = AreNoStarts later
-Behind (call ∷ calls) later = Unit {0}
+abbrev After : List Call → List Call → Type 0
+After [] later = AreNoStarts later
+After (call ∷ calls) later = Unit {0}
 
-has-behind : (k : ℕ) (reply : Reply) (out : Out) (now later : List Call) → HasCall (Given (Answer k reply) out) now later → Behind now later
-has-behind k reply out [] later has = has
-has-behind k reply out (call ∷ calls) later has = tt
+has-after : (k : ℕ) (reply : Reply) (out : Out) (now later : List Call) → HasCall (Given (Answer k reply) out) now later → After now later
+has-after k reply out [] later has = has
+has-after k reply out (call ∷ calls) later has = tt
 
 -- the answer to a request is unique, given the list of calls
-same-reply : (request : Request) (reply reply' : Reply) (full full' : Bool) (now later now' later' more : List Call) → Lists full request reply now → Lists full' request reply' now' → Behind now later → Behind now' later'
+same-reply : (request : Request) (reply reply' : Reply) (full full' : Bool) (now later now' later' more : List Call) → Lists full request reply now → Lists full' request reply' now' → After now later → After now' later'
     → now' ++ later' ≡ (now ++ later) ++ more → (full ≡ true → AreNoStarts more) → reply ≡ reply'
-same-reply request reply reply' full full' now later now' later' more (fit, inl is) (fit', inl is') behind behind' e none =
+same-reply request reply reply' full full' now later now' later' more (fit, inl is) (fit', inl is') after after' e none =
     let one : call_of request reply' ∷ later' ≡ call_of request reply ∷ (later ++ more) = ap (λ xs. xs ++ later') (sym is') ∙ (e ∙ ap (λ xs. (xs ++ later) ++ more) is) in
     sym (reply-of request reply' reply (head-is (call_of request reply') (call_of request reply) later' (later ++ more) one))
-same-reply request reply reply' full full' now later now' later' more (fit, inl is) (fit', inr unlisted) behind behind' e none =
-    let clear : AreNoStarts later' = subst (λ xs. Behind xs later') unlisted.0 behind' in
+same-reply request reply reply' full full' now later now' later' more (fit, inl is) (fit', inr unlisted) after after' e none =
+    let clear : AreNoStarts later' = subst (λ xs. After xs later') unlisted.0 after' in
     let one : later' ≡ call_of request reply ∷ (later ++ more) = ap (λ xs. xs ++ later') (sym unlisted.0) ∙ (e ∙ ap (λ xs. (xs ++ later) ++ more) is) in
     absurd (no-start request reply (later ++ more) later' unlisted.1 clear one)
-same-reply request reply reply' full full' now later now' later' more (fit, inr unlisted) (fit', inl is') behind behind' e none =
-    let clear : AreNoStarts (later ++ more) = starts-more later more (subst (λ xs. Behind xs later) unlisted.0 behind) (none unlisted.3) in
+same-reply request reply reply' full full' now later now' later' more (fit, inr unlisted) (fit', inl is') after after' e none =
+    let clear : AreNoStarts (later ++ more) = starts-more later more (subst (λ xs. After xs later) unlisted.0 after) (none unlisted.3) in
     let one : later ++ more ≡ call_of request reply' ∷ later' = ap (λ xs. (xs ++ later) ++ more) (sym unlisted.0) ∙ (sym e ∙ ap (λ xs. xs ++ later') is') in
     absurd (no-start request reply' later' (later ++ more) unlisted.1 clear one)
-same-reply request reply reply' full full' now later now' later' more (fit, inr unlisted) (fit', inr unlisted') behind behind' e none = unlisted.2 ∙ sym unlisted'.2
+same-reply request reply reply' full full' now later now' later' more (fit, inr unlisted) (fit', inr unlisted') after after' e none = unlisted.2 ∙ sym unlisted'.2
 
-same-answer : (pending : Option Request) (reply reply' : Reply) (full full' : Bool) (now later now' later' more : List Call) → ListsOf full pending reply now → ListsOf full' pending reply' now' → Behind now later → Behind now' later'
+same-answer : (pending : Option Request) (reply reply' : Reply) (full full' : Bool) (now later now' later' more : List Call) → ListsOf full pending reply now → ListsOf full' pending reply' now' → After now later → After now' later'
     → now' ++ later' ≡ (now ++ later) ++ more → (full ≡ true → AreNoStarts more) → reply ≡ reply'
-same-answer None reply reply' full full' now later now' later' more lists lists' behind behind' e none = absurd lists
-same-answer (Some request) reply reply' full full' now later now' later' more lists lists' behind behind' e none =
-    same-reply request reply reply' full full' now later now' later' more lists lists' behind behind' e none
+same-answer None reply reply' full full' now later now' later' more lists lists' after after' e none = absurd lists
+same-answer (Some request) reply reply' full full' now later now' later' more lists lists' after after' e none =
+    same-reply request reply reply' full full' now later now' later' more lists lists' after after' e none
 
 -- the next thing, by its place
 answer-next : (b c : Bool) (k j : ℕ) → (if b then AtStart k else AtFurther k) ≡ (if c then AtStart j else AtFurther j) → k ≡ j
@@ -167,7 +167,7 @@ same-call : (w : WorldState) (bytes : List ℕ) (full full' : Bool) (k : ℕ) (r
 same-call w bytes full full' k reply out (Given (Answer j reply') out') now later now' later' more s t e calls none =
     let shell : k ≡ j = answer-next (answers_start reply) (answers_start reply') k j e in
     let told : ListsOf full' (pending_of w k) reply' now' = rw (← shell) at t.asked in
-    let same : reply ≡ reply' = same-answer (pending_of w k) reply reply' full full' now later now' later' more s.asked told (has-behind k reply out now later s.has) (has-behind j reply' out' now' later' t.has) calls none in
+    let same : reply ≡ reply' = same-answer (pending_of w k) reply reply' full full' now later now' later' more s.asked told (has-after k reply out now later s.has) (has-after j reply' out' now' later' t.has) calls none in
     rw (← shell, ← same) (same-out w (Answer k reply) out out' s.accepted (rw (← shell, ← same) at t.accepted))
 same-call w bytes full full' k reply out (Given (Typed line) out') now later now' later' more s t e calls none = absurd (not-line (answers_start reply) k e)
 same-call w bytes full full' k reply out (Given EndOfInput out') now later now' later' more s t e calls none = absurd (not-line (answers_start reply) k e)
@@ -186,29 +186,29 @@ same-item w bytes full full' (Given (Answer k reply) out) other now later now' l
 same-item w bytes full full' (Given (Break k kind) out) other now later now' later' more s t e calls none = same-break w bytes full full' (Given (Break k kind) out) other now later now' later' s t refl e
 
 -- the calls after those for an item that both took
-behind-same : (item : TakenItem) (w : WorldState) (full full' : Bool) (now later now' later' more : List Call) → IsAsked full w item now → IsAsked full' w item now' → HasCall item now later → HasCall item now' later'
+after-same : (item : TakenItem) (w : WorldState) (full full' : Bool) (now later now' later' more : List Call) → IsAsked full w item now → IsAsked full' w item now' → HasCall item now later → HasCall item now' later'
     → now' ++ later' ≡ (now ++ later) ++ more → (full ≡ true → AreNoStarts more) → later' ≡ later ++ more
-behind-same (Given (Typed line) out) w full full' now later now' later' more a b has has' e none = rw (a, b) at e
-behind-same (Given EndOfInput out) w full full' now later now' later' more a b has has' e none = rw (a, b) at e
-behind-same (Given (Turn k) out) w full full' now later now' later' more a b has has' e none = rw (a, b) at e
-behind-same (Given (Break k kind) out) w full full' now later now' later' more a b has has' e none = rw (a, b) at e
-behind-same LongLine w full full' now later now' later' more a b has has' e none = rw (a, b) at e
-behind-same (Given (Answer k reply) out) w full full' now later now' later' more a b has has' e none =
-    behind-answer (pending_of w k) a b
+after-same (Given (Typed line) out) w full full' now later now' later' more a b has has' e none = rw (a, b) at e
+after-same (Given EndOfInput out) w full full' now later now' later' more a b has has' e none = rw (a, b) at e
+after-same (Given (Turn k) out) w full full' now later now' later' more a b has has' e none = rw (a, b) at e
+after-same (Given (Break k kind) out) w full full' now later now' later' more a b has has' e none = rw (a, b) at e
+after-same LongLine w full full' now later now' later' more a b has has' e none = rw (a, b) at e
+after-same (Given (Answer k reply) out) w full full' now later now' later' more a b has has' e none =
+    after-answer (pending_of w k) a b
   where
-    behind-answer : (pending : Option Request) → ListsOf full pending reply now → ListsOf full' pending reply now' → later' ≡ later ++ more
-    behind-answer None lists lists' = absurd lists
-    behind-answer (Some request) (fit, inl is) (fit', inl is') =
+    after-answer : (pending : Option Request) → ListsOf full pending reply now → ListsOf full' pending reply now' → later' ≡ later ++ more
+    after-answer None lists lists' = absurd lists
+    after-answer (Some request) (fit, inl is) (fit', inl is') =
         let one : call_of request reply ∷ later' ≡ call_of request reply ∷ (later ++ more) = ap (λ xs. xs ++ later') (sym is') ∙ (e ∙ ap (λ xs. (xs ++ later) ++ more) is) in cc
-    behind-answer (Some request) (fit, inl is) (fit', inr unlisted) =
-        let clear : AreNoStarts later' = subst (λ xs. Behind xs later') unlisted.0 (has-behind k reply out now' later' has') in
+    after-answer (Some request) (fit, inl is) (fit', inr unlisted) =
+        let clear : AreNoStarts later' = subst (λ xs. After xs later') unlisted.0 (has-after k reply out now' later' has') in
         let one : later' ≡ call_of request reply ∷ (later ++ more) = ap (λ xs. xs ++ later') (sym unlisted.0) ∙ (e ∙ ap (λ xs. (xs ++ later) ++ more) is) in
         absurd (no-start request reply (later ++ more) later' unlisted.1 clear one)
-    behind-answer (Some request) (fit, inr unlisted) (fit', inl is') =
-        let clear : AreNoStarts (later ++ more) = starts-more later more (subst (λ xs. Behind xs later) unlisted.0 (has-behind k reply out now later has)) (none unlisted.3) in
+    after-answer (Some request) (fit, inr unlisted) (fit', inl is') =
+        let clear : AreNoStarts (later ++ more) = starts-more later more (subst (λ xs. After xs later) unlisted.0 (has-after k reply out now later has)) (none unlisted.3) in
         let one : later ++ more ≡ call_of request reply ∷ later' = ap (λ xs. (xs ++ later) ++ more) (sym unlisted.0) ∙ (sym e ∙ ap (λ xs. xs ++ later') is') in
         absurd (no-start request reply later' (later ++ more) unlisted.1 clear one)
-    behind-answer (Some request) (fit, inr unlisted) (fit', inr unlisted') =
+    after-answer (Some request) (fit, inr unlisted) (fit', inr unlisted') =
         ap (λ xs. xs ++ later') (sym unlisted'.0) ∙ (e ∙ ap (λ xs. (xs ++ later) ++ more) unlisted.0)
 
 -- the first thing of a run, and the rest
@@ -236,4 +236,4 @@ unique (item ∷ taken) (other ∷ taken') s w bytes full full' listed listed' m
     subst (λ x. IsPrefixOfTaken (item ∷ taken) (x ∷ taken') ⊎ IsPrefixOfTaken (x ∷ taken') (item ∷ taken)) same
     (front-more item taken taken' (unique taken taken' (following_schedule_state s w (next_of item)) (world_after_item w item) (rest_after_item bytes item) full full' asked.1 asked'.1 more last last'
     one.1 (rw (← same) at two.1) order.1 (rw (← same) at order'.1) read.1 (rw (← same) at read'.1) asked.5 (rw (← same) at asked'.5)
-    (behind-same item w full full' asked.0 asked.1 asked'.0 asked'.1 more asked.3 (rw (← same) at asked'.3) asked.4 (rw (← same) at asked'.4) all none) none))
+    (after-same item w full full' asked.0 asked.1 asked'.0 asked'.1 more asked.3 (rw (← same) at asked'.3) asked.4 (rw (← same) at asked'.4) all none) none))

@@ -9,14 +9,14 @@ use Rattle.ados_machine.specs.declared.answers.Answer.{Answer}
 use Rattle.ados_machine.specs.Children.{answers_wait}
 use Rattle.ados_launcher.specs.declared.calls.Call.{Call}
 use Rattle.ados_launcher.specs.declared.calls.Call.TheVariants.{Start as Starts, Read as Reads, Wait as Waits}
-use Rattle.ados_launcher.specs.Lives.{Life, Between, InReads, BehindReads, Broken, life_of, life_after_wait, is_open}
+use Rattle.ados_launcher.specs.Lives.{Life, Between, InReads, AfterReads, Broken, life_of, life_after_wait, is_open}
 use Rattle.ados_launch.specs.Agreement.{AddsWait, AreWaits, AreOpenChildWaits, AreOver, IsOpenTable, WaitsForOpen, waited_child}
 use Rattle.ados_launch.proofs.Rows.{life-more}
 
 -- a row once its open child was waited for
 abbrev pub waited : Life → Life
 waited InReads = Between
-waited BehindReads = Between
+waited AfterReads = Between
 waited life = life
 
 -- the rows below n were waited for
@@ -28,21 +28,21 @@ none-waited before j = grind (arith, common_steps)
 
 waited-is : (life : Life) (a : Answer) → is_open life ≡ true → answers_wait a ≡ true → life_after_wait life a ≡ waited life
 waited-is InReads a o f = rw f refl
-waited-is BehindReads a o f = rw f refl
+waited-is AfterReads a o f = rw f refl
 waited-is Between a o f = cc
 waited-is Broken a o f = cc
 
 closed-stays : (life : Life) → is_open life ≡ false → waited life ≡ life
 closed-stays InReads o = cc
-closed-stays BehindReads o = cc
+closed-stays AfterReads o = cc
 closed-stays Between o = refl
 closed-stays Broken o = refl
 
 at : (n : ℕ) (x y : Life) → (if nat_lt n n then x else y) ≡ y
 at n x y = grind (arith, common_steps)
 
-behind : (n : ℕ) (x y : Life) → (if nat_lt n (n + 1) then x else y) ≡ x
-behind n x y = grind (arith, common_steps)
+later : (n : ℕ) (x y : Life) → (if nat_lt n (n + 1) then x else y) ≡ x
+later n x y = grind (arith, common_steps)
 
 past : (j n : ℕ) (x y : Life) → j ≢ n → (if nat_lt j (n + 1) then x else y) ≡ (if nat_lt j n then x else y)
 past j n x y h = grind (arith, common_steps)
@@ -60,7 +60,7 @@ waits-one n a before mid after w o f l j =
     elim (cases_eq j n) [
       | inl same ↦ subst (λ m. life_of m after ≡ (if nat_lt m (n + 1) then waited (life_of m before) else life_of m before)) (sym same)
           (rw l (row-waited n a mid) ∙ (ap (λ x. life_after_wait x a) (w n ∙ at n (waited (life_of n before)) (life_of n before))
-          ∙ (waited-is (life_of n before) a o f ∙ sym (behind n (waited (life_of n before)) (life_of n before)))))
+          ∙ (waited-is (life_of n before) a o f ∙ sym (later n (waited (life_of n before)) (life_of n before)))))
       | inr apart ↦ rw l (row-stays j n a mid apart) ∙ (w j ∙ sym (past j n (waited (life_of j before)) (life_of j before) apart))
     ]
 
@@ -69,7 +69,7 @@ passes-one : (n : ℕ) (before mid : List Call) → IsWaited n before mid → is
 passes-one n before mid w o j =
     elim (cases_eq j n) [
       | inl same ↦ subst (λ m. life_of m mid ≡ (if nat_lt m (n + 1) then waited (life_of m before) else life_of m before)) (sym same)
-          (w n ∙ (at n (waited (life_of n before)) (life_of n before) ∙ (sym (closed-stays (life_of n before) o) ∙ sym (behind n (waited (life_of n before)) (life_of n before)))))
+          (w n ∙ (at n (waited (life_of n before)) (life_of n before) ∙ (sym (closed-stays (life_of n before) o) ∙ sym (later n (waited (life_of n before)) (life_of n before)))))
       | inr apart ↦ w j ∙ sym (past j n (waited (life_of j before)) (life_of j before) apart)
     ]
 
@@ -84,13 +84,13 @@ still-open n before mid w o = ap is_open (w n ∙ at n (waited (life_of n before
 whole-over : (life : Life) → life ≢ Broken → waited life ≡ Between
 whole-over Between h = refl
 whole-over InReads h = refl
-whole-over BehindReads h = refl
+whole-over AfterReads h = refl
 whole-over Broken h = absurd (h refl)
 
 closed-over : (life : Life) → life ≢ Broken → is_open life ≡ false → life ≡ Between
 closed-over Between h o = refl
 closed-over InReads h o = cc
-closed-over BehindReads h o = cc
+closed-over AfterReads h o = cc
 closed-over Broken h o = absurd (h refl)
 
 over-by : (b : Bool) (life : Life) → life ≢ Broken → (b ≡ false → is_open life ≡ false) → (if b then waited life else life) ≡ Between

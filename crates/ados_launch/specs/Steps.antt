@@ -25,12 +25,12 @@ next_request w (Some AtLine) = None
 next_request w None = None
 
 -- What came next was taken, its bytes were written, and the schedule went on.
-pub record TakesOne (was now : SessionState) (before behind : Moment) : Type 0 where
+pub record TakesOne (was now : SessionState) (before after : Moment) : Type 0 where
   pub next : Next
   pub next_is : scheduled_next was.standing before.world ≡ Some next
   pub bytes : List ℕ
-  pub takes : TakesNextItem before.world (bytes_ahead was.held before.left) behind.is_full before.calls next behind.world (bytes_ahead now.held behind.left) behind.calls bytes
+  pub takes : TakesNextItem before.world (bytes_ahead was.held before.left) after.is_full before.calls next after.world (bytes_ahead now.held after.left) after.calls bytes
   pub standing_is : now.standing ≡ following_schedule_state was.standing before.world next
-  pub written : Appends before.contents behind.contents bytes
-  pub reads_well : ReadsWell before behind
-  pub writes_well : WritesWell before behind
+  pub written : Appends before.contents after.contents bytes
+  pub reads_well : ReadsWell before after
+  pub writes_well : WritesWell before after

@@ -105,7 +105,7 @@ pub fn system<L: Launcher>(
         out.old.items out.new.items (L.calls launcher.old) (L.calls launcher.new))) }
     // The launcher's list and the world agree again, once an answer that was not taken is given.
     ensures agrees { OnOk result (Agrees world.new (L.calls launcher.new)) }
-    ensures agrees_behind { IfErr result
+    ensures agrees_after { IfErr result
         (λ fault. AgreesAfterOpening world.new fault.shell fault.answer (L.calls launcher.new)) }
 {
     let number = match world.open_shell(line) {
@@ -177,7 +177,7 @@ fn next_event<L: Launcher>(
         × (L.calls launcher.new ≡ L.calls launcher.old ++ others)) }
     ensures stays { L.is_full launcher.old ≡ true → L.is_full launcher.new ≡ true }
     ensures agrees { OnOk result (Agrees world.new (L.calls launcher.new)) }
-    ensures agrees_behind { IfErr result
+    ensures agrees_after { IfErr result
         (λ answer. AgreesOnceTaken world.new number answer (L.calls launcher.new)) }
 {
     let Some(request) = world.pending(number) else {

@@ -35,7 +35,7 @@ pub fn answer<L: Launcher>(
         unreachable!();
     };
     let answer = ask(launcher, request);
-    children[usize::from(number)] = runs_behind(request, &answer);
+    children[usize::from(number)] = runs_after(request, &answer);
     give(world, &Event::Answer(number, answer), draft)
 }
 
@@ -53,7 +53,7 @@ pub fn ask<L: Launcher>(launcher: &mut L, request: &Request) -> Answer
 }
 
 // The child is open after this answer to the request.
-fn runs_behind(request: &Request, answer: &Answer) -> bool
+fn runs_after(request: &Request, answer: &Answer) -> bool
     ensures { result ≡ is_open (life_for_state (child_after_answer false request.now answer.now)) }
 {
     match request {

@@ -73,7 +73,7 @@ impl Round {
         if found.begins {
             self.answered = [false; 21];
         }
-        self.place = behind(found.place);
+        self.place = following_place(found.place);
         self.mark(found.place);
     }
 
@@ -195,7 +195,7 @@ pub fn asks_further(world: &World, number: u8) -> bool
 }
 
 // The place after an event: lines are read for as long as they are wanted.
-fn behind(place: u8) -> u8
+fn following_place(place: u8) -> u8
     requires { place < 61 }
     ensures { result ≡ following_place place }
 {

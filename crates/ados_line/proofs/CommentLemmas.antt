@@ -7,7 +7,7 @@ use Rattle.std.proofs.lemmas.List.{drop_all, take_all}
 use Rattle.ados_items.specs.Items.{is_blank, is_word_byte, closing_place, quoted_item, item_by_first, item_at}
 use Rattle.ados_items.specs.declared.items.Item.{Item}
 use Rattle.ados_items.specs.declared.items.Item.TheVariants.{Word, Quoted, Equal, End, Unmatched}
-use Rattle.ados_items.proofs.ItemLemmas.{IsAtEnd, StandsBehind, item-at-end, item-behind}
+use Rattle.ados_items.proofs.ItemLemmas.{IsAtEnd, StandsAfter, item-at-end, item-after}
 use Rattle.ados_line.specs.Pieces.{EndsAt}
 use Rattle.ados_line.specs.Comment.{comment_after_item, comment_search, comment_start, without_comment, StopsAt, StandUpTo, IsDropped, IsUpToComment}
 
@@ -16,18 +16,18 @@ pub comment_from-item : (n : ℕ) (line : List ℕ) (place : ℕ) (item : Item) 
 comment_from-item n line place item e = ap (λ it. comment_after_item (λ to. comment_search n line to) line it) (sym e)
 
 -- if no byte is `;`, the line has no comment
-behind-end : (next : ℕ → ℕ) (line : List ℕ) (item : Item) → IsAtEnd (length line) item → ((to : ℕ) → length line ≤ next to)
+after-end : (next : ℕ → ℕ) (line : List ℕ) (item : Item) → IsAtEnd (length line) item → ((to : ℕ) → length line ≤ next to)
     → length line ≤ comment_after_item next line item
-behind-end next line (Word from to) end goes = goes to
-behind-end next line (Quoted from to) end goes = goes (to + 1)
-behind-end next line (Equal at) end goes = goes (at + 1)
-behind-end next line (End at) end goes = end
-behind-end next line (Unmatched from) end goes = omega arith
+after-end next line (Word from to) end goes = goes to
+after-end next line (Quoted from to) end goes = goes (to + 1)
+after-end next line (Equal at) end goes = goes (at + 1)
+after-end next line (End at) end goes = end
+after-end next line (Unmatched from) end goes = omega arith
 
 from-end : (n : ℕ) (line : List ℕ) (place : ℕ) → list_any (λ c. c == 59) line ≡ false → length line ≤ comment_search n line place
 from-end zero line place none = omega arith
 from-end (suc n) line place none =
-    behind-end (λ to. comment_search n line to) line (item_at true line place) (item-at-end true line place none) (λ to. from-end n line to none)
+    after-end (λ to. comment_search n line to) line (item_at true line place) (item-at-end true line place none) (λ to. from-end n line to none)
 
 pub whole : (line : List ℕ) → list_any (λ c. c == 59) line ≡ false → without_comment line ≡ line
 whole line none = take_all (comment_start line) line (from-end (length line + 1) line 0 none)
@@ -59,7 +59,7 @@ end-drops line place = let place' = place + prefix_len is_blank (drop place line
 abbrev StopsFrom : List ℕ → ℕ → ℕ → Type 0
 StopsFrom line at place = ((items : List Item) × StandUpTo at line place items) × IsDropped (drop at line)
 
-item-stops : (next : ℕ → ℕ) (line : List ℕ) (place : ℕ) (item : Item) → item_at true line place ≡ item → StandsBehind place (length line) item
+item-stops : (next : ℕ → ℕ) (line : List ℕ) (place : ℕ) (item : Item) → item_at true line place ≡ item → StandsAfter place (length line) item
     → EndDrops line item → ((to : ℕ) → place < to → to ≤ length line → StopsFrom line (next to) to) → StopsFrom line (comment_after_item next line item) place
 item-stops next line place (Word from to) e w d goes =
     let rest = goes to (omega (arith, w.0, w.1)) w.2 in
@@ -77,7 +77,7 @@ item-stops next line place (Unmatched from) e w d goes =
 from-stops : (n : ℕ) (line : List ℕ) (place : ℕ) → place ≤ length line → length line < n + place → StopsFrom line (comment_search n line place) place
 from-stops zero line place within enough = absurd (omega arith)
 from-stops (suc n) line place within enough =
-    item-stops (λ to. comment_search n line to) line place (item_at true line place) refl (item-behind true line place) (end-drops line place)
+    item-stops (λ to. comment_search n line to) line place (item_at true line place) refl (item-after true line place) (end-drops line place)
     (λ to more end. from-stops n line to end (omega arith))
 
 -- the text kept of a line ends at its comment

@@ -6,7 +6,7 @@ use Rattle.std.proofs.lemmas.List.{length-append, length-drop, drop_all}
 use Rattle.ados_items.specs.declared.items.Item.{Item}
 use Rattle.ados_items.specs.declared.items.Item.TheVariants.{Word, Quoted, Equal, End, Unmatched}
 use Rattle.ados_items.specs.Items.{item_at, value_of, bytes_between}
-use Rattle.ados_items.proofs.ItemLemmas.{StandsBehind, item-behind}
+use Rattle.ados_items.proofs.ItemLemmas.{StandsAfter, item-after}
 use Rattle.ados_line.specs.declared.faults.LineFault.{LineFault}
 use Rattle.ados_line.specs.declared.faults.LineFault.TheVariants.{ArgumentMissing, TooManyArguments, NotImplemented, UnmatchedQuotes}
 use Rattle.ados_line.specs.declared.signs.Sign.{Sign}
@@ -25,9 +25,9 @@ use Rattle.ados_line.proofs.CutSteps.{Comes, both-signed, lift, no-equal-at, sig
 abbrev GoesOn : (ℕ → Cut → Result Cut LineFault) → List ℕ → Result Cut LineFault → ℕ → Type 0
 GoesOn next line answer place = (to : ℕ) (read : Cut) → place < to → to ≤ length line → next to read ≡ answer → Comes line to read answer
 
-on-later : (next : ℕ → Cut → Result Cut LineFault) (line : List ℕ) (answer : Result Cut LineFault) (place behind : ℕ) → place ≤ behind
-    → GoesOn next line answer place → GoesOn next line answer behind
-on-later next line answer place behind h goes = λ to read above within e. goes to read (omega arith) within e
+on-later : (next : ℕ → Cut → Result Cut LineFault) (line : List ℕ) (answer : Result Cut LineFault) (place tail : ℕ) → place ≤ tail
+    → GoesOn next line answer place → GoesOn next line answer tail
+on-later next line answer place tail h goes = λ to read above within e. goes to read (omega arith) within e
 
 sign-long : (sign : Sign) → length (sign_bytes sign) ≡ width_of sign
 sign-long Input = refl
@@ -42,20 +42,20 @@ signed-parts : (next : ℕ → Cut → Result Cut LineFault) (line : List ℕ) (
 signed-parts next line read answer from sign item to found single same ends above within free goes e =
     let start = from + width_of sign in
     let w = wide sign in
-    let behind = bytes_between line start to in
+    let tail = bytes_between line start to in
     let spans = spans-between line start to above within in
     let wide_sign = sign-long sign in
-    let joins = length-append (sign_bytes sign) behind in
+    let joins = length-append (sign_bytes sign) tail in
     let P : ℕ → Type 0 = λ k. EndsAt k (item_at false line start) in
     lift line from to read (with_name sign (value_of line item) read) answer
-    (λ end after p. name-parts line from to end sign behind (value_of line item) read after free
-    (sign-here line from sign found ∙ ap (λ l. sign_bytes sign ++ l) spans.0 ∙ sym (append_assoc (sign_bytes sign) behind (drop to line)), omega (arith, joins, wide_sign, spans.1))
+    (λ end after p. name-parts line from to end sign tail (value_of line item) read after free
+    (sign-here line from sign found ∙ ap (λ l. sign_bytes sign ++ l) spans.0 ∙ sym (append_assoc (sign_bytes sign) tail (drop to line)), omega (arith, joins, wide_sign, spans.1))
     (found, single, subst P (sym spans.1) (rw same ends), ap (value_of line) (sym same)) p)
     (goes to _ (omega (arith, w)) within e)
 
 named-parts : (next : ℕ → Cut → Result Cut LineFault) (line : List ℕ) (read : Cut) (answer : Result Cut LineFault) (from : ℕ) (sign : Sign) (item : Item)
     → sign_at line from ≡ Some sign → is_both line from ≡ false → from ≤ length line
-    → item_at false line (from + width_of sign) ≡ item → StandsBehind (from + width_of sign) (length line) item → is_taken sign read ≡ false
+    → item_at false line (from + width_of sign) ≡ item → StandsAfter (from + width_of sign) (length line) item → is_taken sign read ≡ false
     → GoesOn next line answer from → read_name next line sign read item ≡ answer → Comes line from read answer
 named-parts next line read answer from sign (Word start to) found single inside same stands free goes e =
     signed-parts next line read answer from sign (Word start to) to found single same refl (omega (arith, stands.0, stands.1)) stands.2 free goes e
@@ -74,7 +74,7 @@ redirected-parts next line read answer from sign found single inside goes =
     let P : Result Cut LineFault → Type 0 = λ r. r ≡ answer → Comes line from read answer in
     cond_both (is_taken sign read) (Err TooManyArguments) _ P
     (λ taken e. stop line from read TooManyArguments answer inside (second sign found single (taken-named sign read ∙ taken)) e)
-    (λ free e. named-parts next line read answer from sign _ found single inside refl (item-behind false line (from + width_of sign)) free goes e)
+    (λ free e. named-parts next line read answer from sign _ found single inside refl (item-after false line (from + width_of sign)) free goes e)
 
 -- blanks before a word that is not a piece of the arguments
 blanks-lift : (line : List ℕ) (read : Cut) (answer : Result Cut LineFault) (place from to : ℕ) → item_at true line place ≡ Word from to
@@ -114,7 +114,7 @@ word-parts next line read answer place from to same before long within other goe
 
 -- any item if the command is not Run
 item-parts : (next : ℕ → Cut → Result Cut LineFault) (line : List ℕ) (read : Cut) (answer : Result Cut LineFault) (place : ℕ) (item : Item) → item_at true line place ≡ item
-    → place ≤ length line → StandsBehind place (length line) item → is_run read.command ≡ false → GoesOn next line answer place
+    → place ≤ length line → StandsAfter place (length line) item → is_run read.command ≡ false → GoesOn next line answer place
     → cut_item next line place read item ≡ answer → Comes line place read answer
 item-parts next line read answer place (Word from to) same inside stands other goes e =
     word-parts next line read answer place from to same stands.0 stands.1 stands.2 other goes e
@@ -178,7 +178,7 @@ run-any-parts next line read answer place from to same before long within runs g
     (λ single e. run-word-parts next line read answer place from to (sign_at line from) refl single same before long within runs goes e)
 
 run-item-parts : (next : ℕ → Cut → Result Cut LineFault) (line : List ℕ) (read : Cut) (answer : Result Cut LineFault) (place : ℕ) (item : Item) → item_at true line place ≡ item
-    → place ≤ length line → StandsBehind place (length line) item → is_run read.command ≡ true → GoesOn next line answer place
+    → place ≤ length line → StandsAfter place (length line) item → is_run read.command ≡ true → GoesOn next line answer place
     → run_item next line place read item ≡ answer → Comes line place read answer
 run-item-parts next line read answer place (Word from to) same inside stands runs goes e =
     run-any-parts next line read answer place from to same stands.0 stands.1 stands.2 runs goes e
@@ -188,10 +188,10 @@ run-item-parts next line read answer place (End at) same inside stands runs goes
 run-item-parts next line read answer place (Unmatched from) same inside stands runs goes e = rest-left line read answer place inside runs (rw same refl) e
 
 -- any item
-behind-parts : (next : ℕ → Cut → Result Cut LineFault) (line : List ℕ) (read : Cut) (answer : Result Cut LineFault) (place : ℕ) (item : Item) → item_at true line place ≡ item
-    → place ≤ length line → StandsBehind place (length line) item → GoesOn next line answer place
+after-parts : (next : ℕ → Cut → Result Cut LineFault) (line : List ℕ) (read : Cut) (answer : Result Cut LineFault) (place : ℕ) (item : Item) → item_at true line place ≡ item
+    → place ≤ length line → StandsAfter place (length line) item → GoesOn next line answer place
     → cut_item_by_command next line place read item ≡ answer → Comes line place read answer
-behind-parts next line read answer place item same inside stands goes =
+after-parts next line read answer place item same inside stands goes =
     let P : Result Cut LineFault → Type 0 = λ r. r ≡ answer → Comes line place read answer in
     cond_both (is_run read.command) (run_item next line place read item) (cut_item next line place read item) P
     (λ runs e. run-item-parts next line read answer place item same inside stands runs goes e)
@@ -201,7 +201,7 @@ parts-from : (n : ℕ) (line : List ℕ) (place : ℕ) (read : Cut) (answer : Re
     → cut_later_items n line place read ≡ answer → Comes line place read answer
 parts-from zero line place read answer within enough e = absurd (omega arith)
 parts-from (suc n) line place read answer within enough e =
-    behind-parts (cut_later_items n line) line read answer place (item_at true line place) refl within (item-behind true line place)
+    after-parts (cut_later_items n line) line read answer place (item_at true line place) refl within (item-after true line place)
     (λ to more above end h. parts-from n line to more answer end (omega arith) h) e
 
 -- pieces up to the end are the line

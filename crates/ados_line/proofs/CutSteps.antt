@@ -79,8 +79,8 @@ no-equal place at (c ∷ cs) =
 
 pub no-equal-at : (line : List ℕ) (place at : ℕ) → item_at false line place ≡ Equal at → ⊥
 no-equal-at line place at =
-    let behind = place + prefix_len is_blank (drop place line) in
-    no-equal behind at (drop behind line)
+    let next_place = place + prefix_len is_blank (drop place line) in
+    no-equal next_place at (drop next_place line)
 
 -- What the cut of a line from a place on gives: its pieces up to the end, or pieces up to a place and the fault there.
 abbrev pub Comes : List ℕ → ℕ → Cut → Result Cut LineFault → Type 0

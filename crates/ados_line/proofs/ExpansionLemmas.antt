@@ -50,8 +50,8 @@ made (Err fault) aliases v raw h = tt
 
 -- what a line is read as after its command substitution
 resumed-made : (kept after : List ℕ) (found : Expanded) → length (kept ++ after) ≤ line_limit → read_rest_of_text (length kept) (kept ++ after) ≡ Ok found
-    → (read : List Letter) × (behind : List Letter) × IsSeam kept (kept ++ after) read behind
-    × (length (kept ++ after) ≤ line_limit) × IsRead (text_of read) behind found
+    → (read : List Letter) × (rest : List Letter) × IsSeam kept (kept ++ after) read rest
+    × (length (kept ++ after) ≤ line_limit) × IsRead (text_of read) rest found
 resumed-made kept after found short e =
     let ls = letters_of (kept ++ after) in
     let n = within_bytes (length kept) ls in (

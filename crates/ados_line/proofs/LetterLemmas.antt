@@ -7,7 +7,7 @@ use Rattle.std.proofs.lemmas.List.{drop-drop, take-append-drop}
 use Rattle.ados_items.specs.declared.items.Item.{Item}
 use Rattle.ados_items.specs.declared.items.Item.TheVariants.{Word, Quoted, Equal, End, Unmatched}
 use Rattle.ados_items.specs.Items.{is_blank, closing_place, quoted_item, item_by_first, item_at, bytes_between}
-use Rattle.ados_items.proofs.ItemLemmas.{StandsBehind, item-behind}
+use Rattle.ados_items.proofs.ItemLemmas.{StandsAfter, item-after}
 use Rattle.ados_line.specs.declared.letters.Letter.{Letter}
 use Rattle.ados_line.specs.declared.letters.Letter.TheVariants.{Plain}
 use Rattle.ados_line.specs.Letters.{letter_bytes, plain_letters, starred_letters, letters_after_item, letters_of_items, letters_of, following_letters}
@@ -20,33 +20,33 @@ pub letters-onward : (next : ℕ → List Letter) (whole new : List Letter) (to 
 letters-onward next whole new to place h e = h ∙ ap (λ o. new ++ following_letters next o) e
 
 -- the place of an open quote
-abbrev OpensBehind : ℕ → Item → Type 0
-OpensBehind place (Unmatched from) = place ≤ from
-OpensBehind place (Word from to) = Unit {0}
-OpensBehind place (Quoted from to) = Unit {0}
-OpensBehind place (Equal at) = Unit {0}
-OpensBehind place (End at) = Unit {0}
+abbrev OpensAfter : ℕ → Item → Type 0
+OpensAfter place (Unmatched from) = place ≤ from
+OpensAfter place (Word from to) = Unit {0}
+OpensAfter place (Quoted from to) = Unit {0}
+OpensAfter place (Equal at) = Unit {0}
+OpensAfter place (End at) = Unit {0}
 
-quote-opens : (place : ℕ) (found : Option ℕ) → OpensBehind place (quoted_item (place + 1) found)
+quote-opens : (place : ℕ) (found : Option ℕ) → OpensAfter place (quoted_item (place + 1) found)
 quote-opens place (Some to) = tt
 quote-opens place None = omega arith
 
-first-opens : (place : ℕ) (bytes : List ℕ) → OpensBehind place (item_by_first true place bytes)
+first-opens : (place : ℕ) (bytes : List ℕ) → OpensAfter place (item_by_first true place bytes)
 first-opens place [] = tt
 first-opens place (c ∷ cs) =
-    let P : Item → Type 0 = λ item. OpensBehind place item in
+    let P : Item → Type 0 = λ item. OpensAfter place item in
     cond_both (c == 59) _ _ P (λ _. tt) (λ _.
     cond_both (c == 34) _ _ P (λ _. quote-opens place (closing_place (place + 1) false cs)) (λ _.
     cond_both (c == 61) _ _ P (λ _. tt) (λ _. tt)))
 
-opens-before : (place following_letters : ℕ) (item : Item) → place ≤ following_letters → OpensBehind following_letters item → OpensBehind place item
+opens-before : (place following_letters : ℕ) (item : Item) → place ≤ following_letters → OpensAfter following_letters item → OpensAfter place item
 opens-before place following_letters (Unmatched from) h w = omega (arith, w)
 opens-before place following_letters (Word from to) h w = tt
 opens-before place following_letters (Quoted from to) h w = tt
 opens-before place following_letters (Equal at) h w = tt
 opens-before place following_letters (End at) h w = tt
 
-opens : (line : List ℕ) (place : ℕ) → OpensBehind place (item_at true line place)
+opens : (line : List ℕ) (place : ℕ) → OpensAfter place (item_at true line place)
 opens line place =
     let following_letters = place + prefix_len is_blank (drop place line) in
     opens-before place following_letters _ (omega arith) (first-opens following_letters (drop following_letters line))
@@ -88,7 +88,7 @@ pairs-written bytes rest ls h =
 abbrev Reads : (ℕ → List Letter) → List ℕ → ℕ → Type 0
 Reads next line place = (to : ℕ) → place < to → to ≤ length line → flat_map letter_bytes (next to) ≡ drop to line
 
-item-written : (next : ℕ → List Letter) (line : List ℕ) (place : ℕ) (item : Item) → StandsBehind place (length line) item → OpensBehind place item
+item-written : (next : ℕ → List Letter) (line : List ℕ) (place : ℕ) (item : Item) → StandsAfter place (length line) item → OpensAfter place item
     → Reads next line place → flat_map letter_bytes (letters_after_item next line place item) ≡ drop place line
 item-written next line place (Word from to) w o reads =
     then-written _ _ _ (reads to (omega (arith, w.0, w.1)) w.2) ∙ on line place to (omega (arith, w.0, w.1))
@@ -105,7 +105,7 @@ item-written next line place (Unmatched from) w o reads =
 from-written : (n : ℕ) (line : List ℕ) (place : ℕ) → place ≤ length line → length line < n + place → flat_map letter_bytes (letters_of_items n line place) ≡ drop place line
 from-written zero line place within enough = absurd (omega arith)
 from-written (suc n) line place within enough =
-    item-written (letters_of_items n line) line place (item_at true line place) (item-behind true line place) (opens line place)
+    item-written (letters_of_items n line) line place (item_at true line place) (item-after true line place) (opens line place)
     (λ to more end. from-written n line to end (omega arith))
 
 -- the characters of a line are the line

@@ -196,52 +196,52 @@ none-listed None e = refl
 none-listed (Some x) e = cc
 
 -- a redirection adds nothing to the command and the arguments
-passed-command : (command : Option (List ℕ)) (sign : Sign) (behind name : List ℕ) (pieces : List Piece)
-    → command_from command pieces ≡ command_from command (Redirected sign behind name ∷ pieces)
-passed-command None sign behind name pieces = refl
-passed-command (Some command) sign behind name pieces = refl
+passed-command : (command : Option (List ℕ)) (sign : Sign) (tail name : List ℕ) (pieces : List Piece)
+    → command_from command pieces ≡ command_from command (Redirected sign tail name ∷ pieces)
+passed-command None sign tail name pieces = refl
+passed-command (Some command) sign tail name pieces = refl
 
-passed-args : (command : Option (List ℕ)) (sign : Sign) (behind name : List ℕ) (pieces : List Piece)
-    → args_from command pieces ≡ args_from command (Redirected sign behind name ∷ pieces)
-passed-args None sign behind name pieces = refl
-passed-args (Some command) sign behind name pieces = refl
+passed-args : (command : Option (List ℕ)) (sign : Sign) (tail name : List ℕ) (pieces : List Piece)
+    → args_from command pieces ≡ args_from command (Redirected sign tail name ∷ pieces)
+passed-args None sign tail name pieces = refl
+passed-args (Some command) sign tail name pieces = refl
 
 -- a redirection
-pub name-parts : (line : List ℕ) (place to end : ℕ) (sign : Sign) (behind name : List ℕ) (read after : Cut) → is_taken sign read ≡ false
-    → Spans line place to (sign_bytes sign ++ behind) → IsPieceAt line read.command place (Redirected sign behind name)
+pub name-parts : (line : List ℕ) (place to end : ℕ) (sign : Sign) (tail name : List ℕ) (read after : Cut) → is_taken sign read ≡ false
+    → Spans line place to (sign_bytes sign ++ tail) → IsPieceAt line read.command place (Redirected sign tail name)
     → Parts line to end (with_name sign name read) after → Parts line place end read after
-name-parts line place to end Input behind name read after free spans here p =
-    let a = p.1 in let piece = Redirected Input behind name in (
+name-parts line place to end Input tail name read after free spans here p =
+    let a = p.1 in let piece = Redirected Input tail name in (
       piece ∷ p.0,
       record {
-        joined = joined-more line (sign_bytes Input ++ behind) place to end p.0 spans a.joined;
+        joined = joined-more line (sign_bytes Input ++ tail) place to end p.0 spans a.joined;
         placed = stand-more line read.command place to piece p.0 here spans.1 a.placed;
-        command = a.command ∙ passed-command read.command Input behind name p.0;
-        args = a.args ∙ ap (λ l. read.args ++ l) (passed-args read.command Input behind name p.0);
+        command = a.command ∙ passed-command read.command Input tail name p.0;
+        args = a.args ∙ ap (λ l. read.args ++ l) (passed-args read.command Input tail name p.0);
         input = a.input ∙ ap (λ l. l ++ (name ∷ flat_map inputs p.0)) (sym (none-listed read.input free));
         output = a.output;
       },
     )
-name-parts line place to end Output behind name read after free spans here p =
-    let a = p.1 in let piece = Redirected Output behind name in (
+name-parts line place to end Output tail name read after free spans here p =
+    let a = p.1 in let piece = Redirected Output tail name in (
       piece ∷ p.0,
       record {
-        joined = joined-more line (sign_bytes Output ++ behind) place to end p.0 spans a.joined;
+        joined = joined-more line (sign_bytes Output ++ tail) place to end p.0 spans a.joined;
         placed = stand-more line read.command place to piece p.0 here spans.1 a.placed;
-        command = a.command ∙ passed-command read.command Output behind name p.0;
-        args = a.args ∙ ap (λ l. read.args ++ l) (passed-args read.command Output behind name p.0);
+        command = a.command ∙ passed-command read.command Output tail name p.0;
+        args = a.args ∙ ap (λ l. read.args ++ l) (passed-args read.command Output tail name p.0);
         input = a.input;
         output = a.output ∙ ap (λ l. l ++ (record { name = name; append = false } ∷ flat_map outputs p.0)) (sym (none-listed read.output free));
       },
     )
-name-parts line place to end Append behind name read after free spans here p =
-    let a = p.1 in let piece = Redirected Append behind name in (
+name-parts line place to end Append tail name read after free spans here p =
+    let a = p.1 in let piece = Redirected Append tail name in (
       piece ∷ p.0,
       record {
-        joined = joined-more line (sign_bytes Append ++ behind) place to end p.0 spans a.joined;
+        joined = joined-more line (sign_bytes Append ++ tail) place to end p.0 spans a.joined;
         placed = stand-more line read.command place to piece p.0 here spans.1 a.placed;
-        command = a.command ∙ passed-command read.command Append behind name p.0;
-        args = a.args ∙ ap (λ l. read.args ++ l) (passed-args read.command Append behind name p.0);
+        command = a.command ∙ passed-command read.command Append tail name p.0;
+        args = a.args ∙ ap (λ l. read.args ++ l) (passed-args read.command Append tail name p.0);
         input = a.input;
         output = a.output ∙ ap (λ l. l ++ (record { name = name; append = true } ∷ flat_map outputs p.0)) (sym (none-listed read.output free));
       },

@@ -6,7 +6,7 @@ use Rattle.std.proofs.lemmas.List.{get_or-drop}
 use Rattle.ados_items.specs.declared.items.Item.{Item}
 use Rattle.ados_items.specs.declared.items.Item.TheVariants.{Word, Quoted, Equal, End, Unmatched}
 use Rattle.ados_items.specs.Items.{is_blank, item_by_first, item_at, value_of, bytes_between}
-use Rattle.ados_items.proofs.ItemLemmas.{StandsBehind, item-behind}
+use Rattle.ados_items.proofs.ItemLemmas.{StandsAfter, item-after}
 use Rattle.ados_line.specs.declared.faults.LineFault.{LineFault}
 use Rattle.ados_line.specs.declared.cuts.Cut.{Cut}
 use Rattle.ados_line.specs.Cut.{is_run, run_item, cut_item, cut_item_by_command, cut_later_items, cut_of, nothing_read}
@@ -38,9 +38,9 @@ first-unquoted place (c ∷ cs) none =
 
 unquoted : (line : List ℕ) (place : ℕ) → list_any is_mark line ≡ false → IsUnquoted (item_at true line place)
 unquoted line place none =
-    let behind = place + prefix_len is_blank (drop place line) in
-    first-unquoted behind (drop behind line)
-    (ap is_mark (get_or-drop behind line 0 0 ∙ ap (λ k. get_or line k 0) (omega arith)) ∙ unmarked line behind none)
+    let after = place + prefix_len is_blank (drop place line) in
+    first-unquoted after (drop after line)
+    (ap is_mark (get_or-drop after line 0 0 ∙ ap (λ k. get_or line k 0) (omega arith)) ∙ unmarked line after none)
 
 -- the line holds no sign of a redirection
 no-sign-byte : (line : List ℕ) (at : ℕ) → list_any is_mark line ≡ false → ((get_or line at 0 == 60) ≡ false) × ((get_or line at 0 == 62) ≡ false)
@@ -68,7 +68,7 @@ piece-joins line command args place to h =
     ap (with_arguments command) (append_assoc args _ _ ∙ ap (λ l. args ++ l) (sym (between line place to h)))
 
 item-rests : (next : ℕ → Cut → Result Cut LineFault) (line command args : List ℕ) (place : ℕ) (item : Item) → list_any is_mark line ≡ false
-    → IsUnquoted item → StandsBehind place (length line) item → Rests next line command place
+    → IsUnquoted item → StandsAfter place (length line) item → Rests next line command place
     → cut_item next line place (with_arguments command args) item ≡ Ok (with_arguments command (args ++ drop place line))
 item-rests next line command args place (Word from to) none plain stands rests =
     rw (no-both line from none, no-sign line from none)
@@ -87,10 +87,10 @@ run-rests next line command args place (Equal at) none = refl
 run-rests next line command args place (End at) none = refl
 run-rests next line command args place (Unmatched from) none = refl
 
-behind-rests : (next : ℕ → Cut → Result Cut LineFault) (line command args : List ℕ) (place : ℕ) (item : Item) → list_any is_mark line ≡ false
-    → IsUnquoted item → StandsBehind place (length line) item → Rests next line command place
+after-rests : (next : ℕ → Cut → Result Cut LineFault) (line command args : List ℕ) (place : ℕ) (item : Item) → list_any is_mark line ≡ false
+    → IsUnquoted item → StandsAfter place (length line) item → Rests next line command place
     → cut_item_by_command next line place (with_arguments command args) item ≡ Ok (with_arguments command (args ++ drop place line))
-behind-rests next line command args place item none plain stands rests =
+after-rests next line command args place item none plain stands rests =
     let read = with_arguments command args in
     let P : Result Cut LineFault → Type 0 = λ r. r ≡ Ok (with_arguments command (args ++ drop place line)) in
     cond_both (is_run (Some command)) (run_item next line place read item) (cut_item next line place read item) P
@@ -101,7 +101,7 @@ rests-from : (n : ℕ) (line command args : List ℕ) (place : ℕ) → list_any
     → cut_later_items n line place (with_arguments command args) ≡ Ok (with_arguments command (args ++ drop place line))
 rests-from zero line command args place none within enough = absurd (omega arith)
 rests-from (suc n) line command args place none within enough =
-    behind-rests (cut_later_items n line) line command args place (item_at true line place) none (unquoted line place none) (item-behind true line place)
+    after-rests (cut_later_items n line) line command args place (item_at true line place) none (unquoted line place none) (item-after true line place)
     (λ to more above end. rests-from n line command more to none end (omega arith))
 
 -- the cut by the line's first item
@@ -112,7 +112,7 @@ plain_by line (Equal at) = with_arguments (61 ∷ []) (drop (at + 1) line)
 plain_by line (End at) = nothing_read
 plain_by line (Unmatched from) = nothing_read
 
-by-item : (line : List ℕ) (item : Item) → list_any is_mark line ≡ false → IsUnquoted item → StandsBehind 0 (length line) item
+by-item : (line : List ℕ) (item : Item) → list_any is_mark line ≡ false → IsUnquoted item → StandsAfter 0 (length line) item
     → cut_item (cut_later_items (length line) line) line 0 nothing_read item ≡ Ok (plain_by line item)
 by-item line (Word from to) none plain stands =
     rw (no-both line from none, no-sign line from none)
@@ -126,4 +126,4 @@ pub plain_cut : (line : List ℕ) → list_any is_mark line ≡ false → cut_of
 plain_cut line none =
     let count : length line + 1 ≡ suc (length line) = omega arith in
     ap (λ n. cut_later_items n line 0 nothing_read) count
-    ∙ by-item line (item_at true line 0) none (unquoted line 0 none) (item-behind true line 0)
+    ∙ by-item line (item_at true line 0) none (unquoted line 0 none) (item-after true line 0)

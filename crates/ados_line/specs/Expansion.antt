@@ -81,5 +81,5 @@ IsMade variables line found = (text : Text) × IsInSegments variables line text 
 abbrev pub IsResumed : Text → Bytes → Text → Expanded → Type 0
 IsResumed before output after found =
     let kept = before ++ tick_text output in
-    (read : List Letter) × (behind : List Letter) × IsSeam kept (kept ++ after) read behind
-    × (length (kept ++ after) ≤ line_limit) × IsRead (text_of read) behind found
+    (read : List Letter) × (rest : List Letter) × IsSeam kept (kept ++ after) read rest
+    × (length (kept ++ after) ≤ line_limit) × IsRead (text_of read) rest found

@@ -34,7 +34,7 @@ sign_bytes Append = 62 ∷ 62 ∷ []
 abbrev pub piece_bytes : Piece → Text
 piece_bytes (Blank bytes) = bytes
 piece_bytes (Kept bytes text) = bytes
-piece_bytes (Redirected sign behind name) = sign_bytes sign ++ behind
+piece_bytes (Redirected sign after name) = sign_bytes sign ++ after
 piece_bytes (Rest bytes) = bytes
 
 -- an item ends at a place: neither the line's end nor an open quote does
@@ -72,9 +72,9 @@ IsPieceAt line command place (Blank bytes) =
 IsPieceAt line command place (Kept bytes text) =
     let item = item_at true line place in
     (is_run command ≡ false) × EndsAt (place + length bytes) item × (text ≡ value_of line item) × (is_signed line item ≡ false)
-IsPieceAt line command place (Redirected sign behind name) =
+IsPieceAt line command place (Redirected sign after name) =
     let item = item_at false line (place + width_of sign) in
-    (sign_at line place ≡ Some sign) × (is_both line place ≡ false) × EndsAt (place + width_of sign + length behind) item × (name ≡ value_of line item)
+    (sign_at line place ≡ Some sign) × (is_both line place ≡ false) × EndsAt (place + width_of sign + length after) item × (name ≡ value_of line item)
 IsPieceAt line command place (Rest bytes) =
     (is_run command ≡ true) × (place + length bytes ≡ length line) × (is_signed line (item_at true line place) ≡ false)
 
@@ -82,7 +82,7 @@ IsPieceAt line command place (Rest bytes) =
 abbrev pub next_command : Option Text → Piece → Option Text
 next_command command (Blank bytes) = command
 next_command command (Kept bytes text) = option_or command (Some text)
-next_command command (Redirected sign behind name) = command
+next_command command (Redirected sign after name) = command
 next_command command (Rest bytes) = command
 
 -- the pieces follow one another in the line from a place on
@@ -100,7 +100,7 @@ pub record ArePieces (line : Text) (pieces : List Piece) : Type 0 where
 abbrev pub piece_args : Text → Piece → Text
 piece_args command (Blank bytes) = if is_run (Some command) then [] else bytes
 piece_args command (Kept bytes text) = bytes
-piece_args command (Redirected sign behind name) = []
+piece_args command (Redirected sign after name) = []
 piece_args command (Rest bytes) = bytes
 
 -- the command is the first item that is kept
@@ -108,7 +108,7 @@ abbrev pub command_of : List Piece → Option Text
 command_of [] = None
 command_of (Blank bytes ∷ pieces) = command_of pieces
 command_of (Kept bytes text ∷ pieces) = Some text
-command_of (Redirected sign behind name ∷ pieces) = command_of pieces
+command_of (Redirected sign after name ∷ pieces) = command_of pieces
 command_of (Rest bytes ∷ pieces) = command_of pieces
 
 -- the arguments are the text kept after the command, joined unchanged
@@ -116,7 +116,7 @@ abbrev pub args_of : List Piece → Text
 args_of [] = []
 args_of (Blank bytes ∷ pieces) = args_of pieces
 args_of (Kept bytes text ∷ pieces) = flat_map (piece_args text) pieces
-args_of (Redirected sign behind name ∷ pieces) = args_of pieces
+args_of (Redirected sign after name ∷ pieces) = args_of pieces
 args_of (Rest bytes ∷ pieces) = args_of pieces
 
 abbrev pub input_by : Sign → Text → List Text
@@ -133,14 +133,14 @@ output_by Append name = record { name = name; append = true } ∷ []
 abbrev pub inputs : Piece → List Text
 inputs (Blank bytes) = []
 inputs (Kept bytes text) = []
-inputs (Redirected sign behind name) = input_by sign name
+inputs (Redirected sign after name) = input_by sign name
 inputs (Rest bytes) = []
 
 -- the output, if the piece names one
 abbrev pub outputs : Piece → List Redirection
 outputs (Blank bytes) = []
 outputs (Kept bytes text) = []
-outputs (Redirected sign behind name) = output_by sign name
+outputs (Redirected sign after name) = output_by sign name
 outputs (Rest bytes) = []
 
 -- A line is what its pieces say: the redirections are at most one input and at most one output.

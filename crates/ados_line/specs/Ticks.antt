@@ -74,6 +74,6 @@ IsTick kept letters tick =
 
 -- A line's characters up to the end of the kept text, and those that are read: a star at that end is read with the byte
 -- after it.
-pub record IsSeam (kept line : Text) (before behind : List Letter) : Type 0 where
-  pub joined : before ++ behind ≡ letters_of line
+pub record IsSeam (kept line : Text) (before tail : List Letter) : Type 0 where
+  pub joined : before ++ tail ≡ letters_of line
   pub ends : (flat_map letter_bytes before ≡ kept) ⊎ (flat_map letter_bytes before ++ 42 ∷ [] ≡ kept)

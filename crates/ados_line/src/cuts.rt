@@ -214,7 +214,7 @@ impl Cut {
     }
 
     // An item after Run: a redirection of Run's own, or the start of the rest of the line.
-    fn take_behind_run(
+    fn take_after_run(
         &mut self,
         alloc: Global,
         line: &[u8],
@@ -254,7 +254,7 @@ impl Cut {
     {
         let item = next_item(line, place);
         if self.is_run() {
-            self.take_behind_run(alloc, line, place, &item)
+            self.take_after_run(alloc, line, place, &item)
         } else {
             self.take_item(alloc, line, place, &item)
         }

@@ -12,7 +12,7 @@ use crate::faults::LineFault;
 use crate::letters::read_letters;
 use crate::lines::{Expanded, cut_text};
 use crate::scopes::Scope;
-use crate::ticks::{Parted, part_behind};
+use crate::ticks::{Parted, part_after};
 use crate::values::put_values;
 use ados_text::{LINE_BYTES, NoMemory, Text};
 use std::alloc::Global;
@@ -101,7 +101,7 @@ fn part_and_cut(alloc: Global, text: &[u8], size: usize) -> Result<Expanded, Lin
     requires { IsText text.now }
     ensures { Gives result (read_rest_of_text size text.now) }
 {
-    match part_behind(alloc, text, size)? {
+    match part_after(alloc, text, size)? {
         Parted::Whole(text) => cut_text(alloc, text.as_bytes()),
         Parted::Ticked(tick) => Ok(Expanded::Tick(tick)),
     }

@@ -25,7 +25,7 @@ pub enum Parted {
 ///
 /// Inside quotes a star before a back-tick is removed, and the back-tick stands for itself. Gives `UnmatchedQuotes` for
 /// a single back-tick.
-pub fn part_behind(alloc: Global, line: &[u8], size: usize) -> Result<Parted, LineFault>
+pub fn part_after(alloc: Global, line: &[u8], size: usize) -> Result<Parted, LineFault>
     requires { IsText line.now }
     ensures { Gives result (split_after_bytes size line.now) }
 {

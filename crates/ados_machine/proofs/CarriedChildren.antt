@@ -18,7 +18,7 @@ use Rattle.ados_machine.specs.Settle.{TurnResult}
 use Rattle.ados_machine.specs.Shells.{ShellStart, begun_shell, ShellState}
 use Rattle.ados_machine.specs.Step.{shell_of_turn, with_begun, is_done, shell_after_turn}
 use Rattle.ados_machine.specs.World.{request_of_shell}
-use Rattle.ados_machine.proofs.Shells.{shells_behind, broken_maybe, broken_for, found-broken, found, IsFree, free-number, carried-free, carried_found, found-carried, found-set_other, runs_pos}
+use Rattle.ados_machine.proofs.Shells.{shells_after, broken_maybe, broken_for, found-broken, found, IsFree, free-number, carried-free, carried_found, found-carried, found-set_other, runs_pos}
 use Rattle.ados_machine.proofs.Moves.{placed-at}
 use Rattle.ados_machine.proofs.Rests.{IsIdle}
 use Rattle.ados_machine.proofs.AskedTurns.{HandsIn}
@@ -109,7 +109,7 @@ others-same : {X : Type 0} (f : Option ShellState → X) → ((n : ℕ) (begun :
     ((moved : Option Renamed) (o : Option ShellState) → f (carried_found moved o) ≡ f o) →
     ((breaks : Option Breaks) (o : Option ShellState) → f (broken_maybe breaks o) ≡ f o) →
     (shells : List (Option ShellState)) (k : ℕ) (shell : ShellState) (moved : Option Renamed) (t : TurnResult) → found shells k ≡ Some shell →
-    (j : ℕ) → j ≢ k → f (found (shells_behind shells k moved t) j) ≡ f (found shells j)
+    (j : ℕ) → j ≢ k → f (found (shells_after shells k moved t) j) ≡ f (found shells j)
 others-same f fresh carries breaks shells k shell moved t is j differ =
     let carried = carried_shells moved shells in
     let number = free_number shells in
@@ -120,11 +120,11 @@ others-same f fresh carries breaks shells k shell moved t is j differ =
     ap f stay ∙ (whole ∙ (begun ∙ (ap f (found-carried moved shells j) ∙ carries moved (found shells j))))
 
 pub others-pending : (shells : List (Option ShellState)) (k : ℕ) (shell : ShellState) (moved : Option Renamed) (t : TurnResult) → found shells k ≡ Some shell →
-    (j : ℕ) → j ≢ k → request_of_shell (found (shells_behind shells k moved t) j) ≡ request_of_shell (found shells j)
+    (j : ℕ) → j ≢ k → request_of_shell (found (shells_after shells k moved t) j) ≡ request_of_shell (found shells j)
 others-pending = others-same request_of_shell (λ n begun. refl) carried-pending broken-pending
 
 pub others-child : (shells : List (Option ShellState)) (k : ℕ) (shell : ShellState) (moved : Option Renamed) (t : TurnResult) → found shells k ≡ Some shell →
-    (j : ℕ) → j ≢ k → child_of_shell (found (shells_behind shells k moved t) j) ≡ child_of_shell (found shells j)
+    (j : ℕ) → j ≢ k → child_of_shell (found (shells_after shells k moved t) j) ≡ child_of_shell (found shells j)
 others-child = others-same child_of_shell (λ n begun. refl) carried-child broken-child
 
 -- the child of the shell that a turn leaves, if it leaves one

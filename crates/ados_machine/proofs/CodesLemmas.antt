@@ -49,12 +49,12 @@ follows-codes limit codes (top ∷ below) (Ended d kind line answer early ∷ lo
 follows-codes limit codes [] (Broke d kind line ∷ log) stands h = absurd h
 follows-codes limit codes (top ∷ below) (Broke d kind line ∷ log) stands h = follows-codes limit codes below log stands h.3
 
-pub behind-append : (codes : Codes) (log more : List Item) → codes_after_trace codes (log ++ more) ≡ codes_after_trace (codes_after_trace codes log) more
-behind-append codes [] more = refl
-behind-append codes (Began d kind first ∷ log) more = behind-append (codes_begun kind codes) log more
-behind-append codes (Answered d entry ∷ log) more = behind-append entry.codes log more
-behind-append codes (Ended d kind line answer early ∷ log) more = behind-append (codes_after_end kind answer codes) log more
-behind-append codes (Broke d kind line ∷ log) more = behind-append codes log more
+pub after-append : (codes : Codes) (log more : List Item) → codes_after_trace codes (log ++ more) ≡ codes_after_trace (codes_after_trace codes log) more
+after-append codes [] more = refl
+after-append codes (Began d kind first ∷ log) more = after-append (codes_begun kind codes) log more
+after-append codes (Answered d entry ∷ log) more = after-append entry.codes log more
+after-append codes (Ended d kind line answer early ∷ log) more = after-append (codes_after_end kind answer codes) log more
+after-append codes (Broke d kind line ∷ log) more = after-append codes log more
 
 -- the last codes that stay at a number
 abbrev stays_at : List Codes → ℕ → Codes

@@ -198,9 +198,9 @@ event-agrees : (k gas : ℕ) → AgreesAt k gas →
     (completion_of further (lines k gas) n answers common (at_of k frame frames) completion)
     (ended k frame frames) (breaking k frame frames) (script_count (frame ∷ frames))
 event-agrees k gas ih n answers common frame frames further completion lt waits =
-    let behind = common_after_event common (course_of completion) in
-    weaker n (suc n) _ (after_completion further (lines k gas) n answers behind (at_of k frame frames) completion) (ended k frame frames) (breaking k frame frames) (script_count (frame ∷ frames))
-    (omega arith) (completion-agrees k gas ih n answers behind frame frames further completion lt waits)
+    let later = common_after_event common (course_of completion) in
+    weaker n (suc n) _ (after_completion further (lines k gas) n answers later (at_of k frame frames) completion) (ended k frame frames) (breaking k frame frames) (script_count (frame ∷ frames))
+    (omega arith) (completion-agrees k gas ih n answers later frame frames further completion lt waits)
 
 -- an event that results in the completion of a line
 work-agrees : (k gas : ℕ) → AgreesAt k gas →

@@ -24,9 +24,9 @@ use Rattle.ados_machine.specs.Trace.{items_after, trace, own}
 use Rattle.ados_machine.specs.Turning.{Turning, Refuses, Ends, Takes, flagged_turning, turning_of_answer}
 use Rattle.ados_machine.specs.World.{WorldState, input_of, codes_at}
 use Rattle.ados_machine.specs.Kept.{codes_after_trace, HasAllCodes, FreshWorldsHaveAllCodes, EventsKeepAllCodes, LastCodesStay}
-use Rattle.ados_machine.proofs.Shells.{shells_behind, own-append}
+use Rattle.ados_machine.proofs.Shells.{shells_after, own-append}
 use Rattle.ados_machine.proofs.Sane.{sane-after}
-use Rattle.ados_machine.proofs.CodesLemmas.{behind-append, step-codes, after-codes}
+use Rattle.ados_machine.proofs.CodesLemmas.{after-append, step-codes, after-codes}
 use Rattle.ados_machine.proofs.StepCases.{of-step}
 
 -- each number keeps last codes
@@ -59,8 +59,8 @@ length-broken : (breaking : Option Breaking) (shells : List (Option ShellState))
 length-broken None shells = refl
 length-broken (Some breaking) shells = length-broken_number breaking.breaks breaking.shell shells
 
-length-behind : (shells : List (Option ShellState)) (k : ℕ) (moved : Option Renamed) (t : TurnResult) → length (shells_behind shells k moved t) ≡ length shells
-length-behind shells k moved t =
+length-after : (shells : List (Option ShellState)) (k : ℕ) (moved : Option Renamed) (t : TurnResult) → length (shells_after shells k moved t) ≡ length shells
+length-after shells k moved t =
     let placed = with_begun t.course.begun (free_number shells) (carried_shells moved shells) in
     length-set (shells_after_break t.course.breaking placed) (k - 1) (shell_after_turn k moved t)
     ∙ (length-broken t.course.breaking placed
@@ -81,7 +81,7 @@ applied-all : (w : WorldState) (k : ℕ) (codes : Codes) (now : Turning) → Has
 applied-all w k codes (Refuses why) all = tt
 applied-all w k codes Ends all = length-set w.ended (k - 1) codes ∙ (all ∙ sym (length-set w.shells (k - 1) None))
 applied-all w k codes (Takes queue t) all =
-    length-ended (is_done k t.frames) k t.course.parts.codes w.ended ∙ (all ∙ sym (length-behind w.shells k (moved_at_turn w t) t))
+    length-ended (is_done k t.frames) k t.course.parts.codes w.ended ∙ (all ∙ sym (length-after w.shells k (moved_at_turn w t) t))
 
 turned-all : (w : WorldState) (k : ℕ) (o : Option ShellState) → HasAllCodes w → KeepsAll (turn_response w k o)
 turned-all w k None all = tt
@@ -126,6 +126,6 @@ last-codes-stay w (event ∷ events) [] last run sane all k = absurd run
 last-codes-stay w (event ∷ events) (out ∷ outs) last run sane all k =
     let mid : WorldState = resulting_world w out (step_of w event) in
     let here = items_after out (step_of w event) in
-    rw (own-append k here (trace mid events outs), behind-append (codes_at w k) (own k here) (own k (trace mid events outs)))
+    rw (own-append k here (trace mid events outs), after-append (codes_at w k) (own k here) (own k (trace mid events outs)))
     (last-codes-stay mid events outs last run.1 (sane-after w event out sane) (events-keep-all w event out all) k
     ∙ ap (λ codes. codes_after_trace codes (own k (trace mid events outs))) (after-codes w out (step_of w event) (step-codes w event sane all) k))

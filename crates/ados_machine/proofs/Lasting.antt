@@ -29,13 +29,13 @@ use Rattle.ados_machine.specs.World.{WorldState, numbered_shell, input_of}
 use Rattle.ados_machine.proofs.AskedTurns.{flagged-refused}
 use Rattle.ados_machine.proofs.Moves.{placed-at}
 use Rattle.ados_machine.proofs.Rests.{IsIdle, passed-rests, finished-rests, called-rests, ticked-rests}
-use Rattle.ados_machine.proofs.Shells.{shells_behind, broken_maybe, broken_for, found-broken, found, IsFree, free-number, carried-free, carried_found, found-carried, found-set_same, found-set_other, found-left, runs_pos}
+use Rattle.ados_machine.proofs.Shells.{shells_after, broken_maybe, broken_for, found-broken, found, IsFree, free-number, carried-free, carried_found, found-carried, found-set_same, found-set_other, found-left, runs_pos}
 use Rattle.ados_machine.proofs.StepCases.{of-step}
 
 -- if a completion waits on, the same is seen above these frames
-abbrev pub SeenBehind : {X : Type 0} → (List FrameState → Phase → X) → List FrameState → X → Option Completion → Type 0
-SeenBehind look frames value (Some (Waits wait course)) = look frames (phase.Waiting wait) ≡ value
-SeenBehind look frames value completion = Unit {0}
+abbrev pub SeenAfter : {X : Type 0} → (List FrameState → Phase → X) → List FrameState → X → Option Completion → Type 0
+SeenAfter look frames value (Some (Waits wait course)) = look frames (phase.Waiting wait) ≡ value
+SeenAfter look frames value completion = Unit {0}
 
 -- what is seen of a shell by its frames and its phase, and nothing if there is none; while its phase holds that, it
 -- waits for a launcher, whose answers keep it
@@ -48,7 +48,7 @@ pub record Watch (X : Type 0) : Type 0 where
   pub for_answer : (asking : Asking) → holds (phase.Waiting (ForAnswer asking)) ≡ false
   pub for_lines : (gathering : Gathering) → holds (phase.Waiting (ForLines gathering)) ≡ false
   pub answers : (frames : List FrameState) (sink : Sink) (course : Course) (now : Phase) (answer : Reply) → holds now ≡ true →
-      SeenBehind look frames (look frames now) (answered_in sink course now answer)
+      SeenAfter look frames (look frames now) (answered_in sink course now answer)
 
 abbrev pub seen_by : {X : Type 0} → Watch X → Option ShellState → X
 seen_by s None = s.nothing
@@ -102,7 +102,7 @@ begun-seen s shells (Some begun) (Some n) j free held =
     none (Some shell) e h = cc
 
 others-seen : {X : Type 0} (s : Watch X) (shells : List (Option ShellState)) (k : ℕ) (shell : ShellState) (moved : Option Renamed) (t : TurnResult) → found shells k ≡ Some shell →
-    (j : ℕ) → j ≢ k → is_held s (found shells j) ≡ true → seen_by s (found (shells_behind shells k moved t) j) ≡ seen_by s (found shells j)
+    (j : ℕ) → j ≢ k → is_held s (found shells j) ≡ true → seen_by s (found (shells_after shells k moved t) j) ≡ seen_by s (found shells j)
 others-seen s shells k shell moved t is j differ held =
     let carried = carried_shells moved shells in
     let number = free_number shells in
@@ -126,20 +126,20 @@ Keeps s w (Accepted world out items) =
 took-keeps : {X : Type 0} (s : Watch X) (w : WorldState) (k : ℕ) (shell : ShellState) (queue : List (List ℕ)) (t : TurnResult) → numbered_shell w k ≡ Some shell →
     (s.holds shell.phase ≡ true → is_held s (shell_after_turn k (moved_at_turn w t) t) ≡ true → seen_by s (shell_after_turn k (moved_at_turn w t) t) ≡ s.look shell.frames shell.phase) →
     Keeps s w (turn_taken w k queue t)
-took-keeps s w k shell queue t is own = λ j before behind.
+took-keeps s w k shell queue t is own = λ j before later.
     let moved = moved_at_turn w t in
     elim (cases_eq j k) [
       | inl same ↦
           (let there = found-left w.shells k shell moved t is in
           rw same (ap (seen_by s) there
-          ∙ (own (ap (is_held s) (sym is) ∙ (rw same at before)) (ap (is_held s) (sym there) ∙ (rw same at behind)) ∙ ap (seen_by s) (sym is))))
+          ∙ (own (ap (is_held s) (sym is) ∙ (rw same at before)) (ap (is_held s) (sym there) ∙ (rw same at later)) ∙ ap (seen_by s) (sym is))))
       | inr differ ↦ others-seen s w.shells k shell moved t is j differ before
     ]
 
 ended-keeps : {X : Type 0} (s : Watch X) (w : WorldState) (k : ℕ) (shell : ShellState) (codes : Codes) → numbered_shell w k ≡ Some shell → Keeps s w (shell_ended w k codes)
-ended-keeps s w k shell codes is = λ j before behind.
+ended-keeps s w k shell codes is = λ j before later.
     elim (cases_eq j k) [
-      | inl same ↦ absurd (never (ap (is_held s) (sym (found-set_same w.shells k shell None is)) ∙ (rw same at behind)))
+      | inl same ↦ absurd (never (ap (is_held s) (sym (found-set_same w.shells k shell None is)) ∙ (rw same at later)))
       | inr differ ↦ ap (seen_by s) (found-set_other w.shells k None j differ (runs_pos w.shells k shell is))
     ]
 
@@ -148,7 +148,7 @@ applied-keeps : {X : Type 0} (s : Watch X) (w : WorldState) (k : ℕ) (shell : S
     Keeps s w (turning_response w k shell.parts.codes now)
 applied-keeps s w k shell (Refuses why) is free = tt
 applied-keeps s w k shell Ends is free = ended-keeps s w k shell shell.parts.codes is
-applied-keeps s w k shell (Takes queue t) is free = took-keeps s w k shell queue t is (λ before behind. absurd (never (sym free ∙ before)))
+applied-keeps s w k shell (Takes queue t) is free = took-keeps s w k shell queue t is (λ before later. absurd (never (sym free ∙ before)))
 
 -- its turn in a phase
 abbrev turn_by : WorldState → ℕ → ShellState → Phase → Turning
@@ -196,7 +196,7 @@ waits-keeps s k moved value wait course frames same =
     ]
 
 settle-keeps : {X : Type 0} (s : Watch X) (k : ℕ) (moved : Option Renamed) (value : X) (completion : Completion) (frames : List FrameState) →
-    SeenBehind s.look frames value (Some completion) → LeftKeeps s k moved value (turn_of_completion completion frames)
+    SeenAfter s.look frames value (Some completion) → LeftKeeps s k moved value (turn_of_completion completion frames)
 settle-keeps s k moved value (Passes course) frames keeps = idle-keeps s k moved value (turn_of_completion (Passes course) frames) (passed-rests frames (said_of course)).idle
 settle-keeps s k moved value (Answers word answer quits course) frames keeps =
     idle-keeps s k moved value (turn_of_completion (Answers word answer quits course) frames) (finished-rests word answer quits frames (said_of course)).idle
@@ -209,13 +209,13 @@ settle-keeps s k moved value (Ticks before command after course) frames keeps =
 settle-keeps s k moved value (Waits wait course) frames keeps = waits-keeps s k moved value wait course frames keeps
 
 replied-keeps : {X : Type 0} (s : Watch X) (w : WorldState) (k : ℕ) (shell : ShellState) (completion : Option Completion) → numbered_shell w k ≡ Some shell →
-    (s.holds shell.phase ≡ true → SeenBehind s.look shell.frames (s.look shell.frames shell.phase) completion) →
+    (s.holds shell.phase ≡ true → SeenAfter s.look shell.frames (s.look shell.frames shell.phase) completion) →
     Keeps s w (turning_response w k shell.parts.codes (turning_of_completion (input_of w k) shell.frames completion))
 replied-keeps s w k shell None is keeps = tt
 replied-keeps s w k shell (Some completion) is keeps =
     let t = turn_of_completion completion shell.frames in
     took-keeps s w k shell (input_of w k).queue t is
-    (λ before behind. settle-keeps s k (moved_at_turn w t) (s.look shell.frames shell.phase) completion shell.frames (keeps before) behind)
+    (λ before later. settle-keeps s k (moved_at_turn w t) (s.look shell.frames shell.phase) completion shell.frames (keeps before) later)
 
 answered-keeps : {X : Type 0} (s : Watch X) (w : WorldState) (k : ℕ) (reply : Reply) (o : Option ShellState) → numbered_shell w k ≡ o → Keeps s w (answer_response w k reply o)
 answered-keeps s w k reply None is = tt
@@ -225,15 +225,15 @@ answered-keeps s w k reply (Some shell) is =
 
 break-keeps : {X : Type 0} (s : Watch X) (w : WorldState) (k : ℕ) (kind : Kind) (o : Option ShellState) → Keeps s w (break_response w k kind o)
 break-keeps s w k kind None = tt
-break-keeps s w k kind (Some shell) = λ j before behind.
+break-keeps s w k kind (Some shell) = λ j before later.
     let breaking = Some (record { shell = k; breaks = kind_breaks kind }) in
     ap (seen_by s) (found-broken breaking w.shells j) ∙ broken-seen s (broken_for breaking j) (found w.shells j)
 
 pub step-keeps : {X : Type 0} (s : Watch X) (w : WorldState) (event : Event) → Keeps s w (step_of w event)
 step-keeps s w event = of-step w (λ event response. Keeps s w response) (record {
   refused = λ event why. tt;
-  typed = λ line. (λ j before behind. refl);
-  ended = λ j before behind. refl;
+  typed = λ line. (λ j before later. refl);
+  ended = λ j before later. refl;
   turned = λ k shell is. turned-keeps s w k (Some shell) is;
   answered = λ k reply shell is. answered-keeps s w k reply (Some shell) is;
   broken = λ k kind shell is. break-keeps s w k kind (Some shell);

@@ -29,7 +29,7 @@ use Rattle.ados_machine.specs.Carrying.{carried_shells, carried_or_same, moved_o
 use Rattle.ados_machine.specs.Step.{with_begun, codes_of_ended, queue_after_event, is_done, moved_at_turn, turn_taken, start, course_without_flag, turning_response, step_of}
 use Rattle.ados_machine.specs.Whole.{Common, common_after_event, carried_parts, common_without_flag}
 use Rattle.ados_machine.specs.Alone.{Exec, exec_step, reply_next, event_next, exec_alone, world_after_lines}
-use Rattle.ados_machine.proofs.Shells.{shells_behind, broken_one, broken_for, broken-there, found, found-set_same, found-carried, carried-runs, found-placed_other, carried-free, free-number}
+use Rattle.ados_machine.proofs.Shells.{shells_after, broken_one, broken_for, broken-there, found, found-set_same, found-carried, carried-runs, found-placed_other, carried-free, free-number}
 use Rattle.ados_machine.proofs.Places.{map-set, any-found, shells-same, broken-same_set}
 use Rattle.ados_machine.proofs.Fronts.{front, fronted, broken-front, ruled-front}
 use Rattle.ados_machine.proofs.Alone.{Lone, go_by, turn_event, lift, shell_of, standing, start_in, Go, with_ends, does, line_event, completion_event, reply_event, event_in, exec}
@@ -84,8 +84,8 @@ carried-stands k advanced_frame begun breaking shells shell is =
     (carried-free advanced_frame shells (free_number shells) (free-number shells))
     (found-carried advanced_frame shells k ∙ carried-runs advanced_frame (found shells k) shell is))
 
-stands-behind : (k : ℕ) (common : Common) (course : Course) → Stands k common → Stands k (common_after_event common course)
-stands-behind k common course stands = record {
+stands-after : (k : ℕ) (common : Common) (course : Course) → Stands k common → Stands k (common_after_event common course)
+stands-after k common course stands = record {
   above = stands.above;
   shell = broken_one (broken_for course.breaking k) (carried_or_same (moved_object common.shared (shared_after_event course) course.renamed) stands.shell);
   is = carried-stands k (moved_object common.shared (shared_after_event course) course.renamed) course.begun course.breaking common.shells stands.shell stands.is;
@@ -94,8 +94,8 @@ stands-behind k common course stands = record {
 pub stands-again : (k : ℕ) (common : Common) (course : Course) (said : RuleState) (log : List Item) → Stands k common →
     Stands k (record (common_after_event common course) { said = said; reports = with_ends k log common.reports })
 stands-again k common course said log stands =
-    let behind = stands-behind k common course stands in
-    record { above = behind.above; shell = behind.shell; is = behind.is }
+    let after = stands-after k common course stands in
+    record { above = after.above; shell = after.shell; is = after.is }
 
 -- the shell after an event
 left-same : (advanced_frame : Option Renamed) (shell : ShellState) →
@@ -106,7 +106,7 @@ left-same (Some renamed) shell = refl
 -- the world after an event
 abbrev pub took_world : WorldState → ℕ → Course → RuleResult → WorldState
 took_world w k course settled = (let t = turn_by_rule course settled in record {
-  shells = shells_behind w.shells k (moved_at_turn w t) t;
+  shells = shells_after w.shells k (moved_at_turn w t) t;
   ended = codes_of_ended (is_done k t.frames) k t.course.parts.codes w.ended;
   queue = queue_after_event k w.queue [];
   input_ended = w.input_ended;

@@ -40,15 +40,15 @@ use Rattle.ados_machine.proofs.Rests.{Rests, passed-rests, finished-rests, calle
 use Rattle.ados_machine.proofs.CarriedChildren.{same_some, idle-asked, carried_by-child, others-pending, others-child, left-child}
 
 -- the child of a shell after a completion
-abbrev child_behind : Completion → ChildState
-child_behind (Waits wait course) = child_while wait
-child_behind completion = Closed
+abbrev child_after : Completion → ChildState
+child_after (Waits wait course) = child_while wait
+child_after completion = Closed
 
 -- what an answer does: it is taken exactly if it is of the kind that was asked for, and its completion moves the child
 abbrev MovesBy : Bool → Option Request → Reply → Option Completion → Type 0
 MovesBy marked None answer completion = completion ≡ None
 MovesBy marked (Some request) answer None = fits request answer ≡ false
-MovesBy marked (Some request) answer (Some completion) = (fits request answer ≡ true) × (child_behind completion ≡ child_after_answer marked request answer)
+MovesBy marked (Some request) answer (Some completion) = (fits request answer ≡ true) × (child_after completion ≡ child_after_answer marked request answer)
 
 next-while : (child : Child) → child_while (next_wait child) ≡ read_unless child.marked
 next-while child =
@@ -69,17 +69,17 @@ piece-marked child None = refl
 piece-marked child (Some fault) = refl
 
 started-moves : (starting : Starting) (course : Course) (opened : Result OpenedOutput Result2) →
-    child_behind (started_completion starting course opened) ≡ read_unless starting.marked
+    child_after (started_completion starting course opened) ≡ read_unless starting.marked
 started-moves starting course (Err fault) = next-while (child_of starting None (Some fault))
 started-moves starting course (Ok opened) = next-while (child_of starting opened.target None)
 
 piece-moves : (child : Child) (bytes : Bytes) (sink : Sink) (course : Course) (fault : Option Result2) →
-    child_behind (piece_completion child bytes sink course fault) ≡ read_unless child.marked
+    child_after (piece_completion child bytes sink course fault) ≡ read_unless child.marked
 piece-moves child bytes sink course (Some fault) = next-while (with_break child) ∙ ap read_unless (break-marked child)
 piece-moves child bytes sink course None =
     next-while (child_after_piece (with_break child) _) ∙ ap read_unless (piece-marked (with_break child) _ ∙ break-marked child)
 
-ended-moves : (child : Child) (codes : Codes) (course : Course) (fault : Option Result2) → child_behind (ended_completion child codes course fault) ≡ Closed
+ended-moves : (child : Child) (codes : Codes) (course : Course) (fault : Option Result2) → child_after (ended_completion child codes course fault) ≡ Closed
 ended-moves child codes course (Some fault) = refl
 ended-moves child codes course None = refl
 
@@ -118,7 +118,7 @@ rests-child : (k : ℕ) (moved : Option Renamed) (course : Course) (settled : Ru
 rests-child k moved course settled rests = left-child k moved (turn_by_rule course settled) (idle-asked settled.phase rests.idle)
 
 settled-child : (k : ℕ) (moved : Option Renamed) (completion : Completion) (frames : List FrameState) → is_done k frames ≡ false →
-    child_of_shell (shell_after_turn k moved (turn_of_completion completion frames)) ≡ child_behind completion
+    child_of_shell (shell_after_turn k moved (turn_of_completion completion frames)) ≡ child_after completion
 settled-child k moved (Passes course) frames runs = rests-child k moved course _ (passed-rests frames (said_of course))
 settled-child k moved (Answers word answer quits course) frames runs =
     rests-child k moved course _ (finished-rests word answer quits frames (said_of course))

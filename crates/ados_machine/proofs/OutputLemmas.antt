@@ -31,9 +31,9 @@ use Rattle.ados_machine.specs.Sinks.{Sink, newest_sink, sink_or, frame_outputs, 
 use Rattle.ados_machine.specs.Step.{Response, Refused, Accepted, shell_after_turn, moved_at_turn, turn_taken, start, turning_response, answer_response, step_of}
 use Rattle.ados_machine.specs.Turning.{turning_of_completion}
 use Rattle.ados_machine.specs.World.{WorldState, numbered_shell, is_over, input_of}
-use Rattle.ados_machine.proofs.Lasting.{Watch, SeenBehind, Keeps, seen_by, is_held, step-keeps, waits-keeps}
+use Rattle.ados_machine.proofs.Lasting.{Watch, SeenAfter, Keeps, seen_by, is_held, step-keeps, waits-keeps}
 use Rattle.ados_machine.proofs.Rests.{IsIdle}
-use Rattle.ados_machine.proofs.Shells.{found, found-left, shells_behind}
+use Rattle.ados_machine.proofs.Shells.{found, found-left, shells_after}
 
 -- the outputs that a shell holds above these frames, in a phase
 abbrev held_above : List FrameState → Phase → List Place
@@ -81,19 +81,19 @@ put-held child None = refl
 put-held child (Some fault) = refl
 
 piece-held : (frames : List FrameState) (child : Child) (bytes : Bytes) (sink : Sink) (course : Course) (fault : Option Result2) →
-    SeenBehind held_above frames (frame_outputs frames ++ open_places child.output) (Some (piece_completion child bytes sink course fault))
+    SeenAfter held_above frames (frame_outputs frames ++ open_places child.output) (Some (piece_completion child bytes sink course fault))
 piece-held frames child bytes sink course (Some fault) = ap (λ l. frame_outputs frames ++ l) (next-held (with_break child) ∙ break-held child)
 piece-held frames child bytes sink course None =
     let fault = output_fault (put (sink_or child.output sink) bytes went_well course).codes in
     ap (λ l. frame_outputs frames ++ l) (next-held (child_after_piece (with_break child) fault) ∙ (put-held (with_break child) fault ∙ break-held child))
 
 ended-held : (frames : List FrameState) (outputs : List Place) (child : Child) (codes : Codes) (course : Course) (fault : Option Result2) →
-    SeenBehind held_above frames outputs (Some (ended_completion child codes course fault))
+    SeenAfter held_above frames outputs (Some (ended_completion child codes course fault))
 ended-held frames outputs child codes course (Some fault) = tt
 ended-held frames outputs child codes course None = tt
 
 wait-held : (frames : List FrameState) (sink : Sink) (course : Course) (wait : Wait) (answer : Reply) → runs_in (phase.Waiting wait) ≡ true →
-    SeenBehind held_above frames (held_above frames (phase.Waiting wait)) (answered_completion sink course wait answer)
+    SeenAfter held_above frames (held_above frames (phase.Waiting wait)) (answered_completion sink course wait answer)
 wait-held frames sink course (ForStart starting) answer runs = absurd (never runs)
 wait-held frames sink course (ForPiece child) (Piece bytes) runs =
     elim (cases_Bool (is_piece bytes)) [
@@ -108,7 +108,7 @@ wait-held frames sink course (ForEnd child) WaitFault runs = ended-held frames _
 wait-held frames sink course wait answer runs = tt
 
 phase-held : (frames : List FrameState) (sink : Sink) (course : Course) (now : Phase) (answer : Reply) → runs_in now ≡ true →
-    SeenBehind held_above frames (held_above frames now) (answered_in sink course now answer)
+    SeenAfter held_above frames (held_above frames now) (answered_in sink course now answer)
 phase-held frames sink course phase.Ready answer runs = tt
 phase-held frames sink course (phase.GoingOn parted) answer runs = tt
 phase-held frames sink course (phase.Waiting wait) answer runs = wait-held frames sink course wait answer runs
@@ -135,29 +135,29 @@ runs-same None = refl
 runs-same (Some shell) = refl
 
 pub outputs-stay : OutputsStayOpen
-outputs-stay w event world out items is k before behind =
+outputs-stay w event world out items is k before after =
     let keeps : Keeps held_outputs w (Accepted world out items) = rw is at (step-keeps held_outputs w event) in
     outputs-same (numbered_shell world k)
-    ∙ (keeps k (sym (runs-same (numbered_shell w k)) ∙ before) (sym (runs-same (numbered_shell world k)) ∙ behind) ∙ sym (outputs-same (numbered_shell w k)))
+    ∙ (keeps k (sym (runs-same (numbered_shell w k)) ∙ before) (sym (runs-same (numbered_shell world k)) ∙ after) ∙ sym (outputs-same (numbered_shell w k)))
 
 -- a shell whose program runs after an answer is seen to hold these
-abbrev HoldsBehind : ℕ → List Place → Response → Type 0
-HoldsBehind k outputs (Refused why) = Unit {0}
-HoldsBehind k outputs (Accepted world out items) = runs_program world k ≡ true → outputs_held world k ≡ outputs
+abbrev HoldsAfter : ℕ → List Place → Response → Type 0
+HoldsAfter k outputs (Refused why) = Unit {0}
+HoldsAfter k outputs (Accepted world out items) = runs_program world k ≡ true → outputs_held world k ≡ outputs
 
 waits-hold : (w : WorldState) (k : ℕ) (shell : ShellState) (queue : List (List ℕ)) (wait : Wait) (course : Course) (outputs : List Place) → numbered_shell w k ≡ Some shell →
-    held_above shell.frames (phase.Waiting wait) ≡ outputs → HoldsBehind k outputs (turn_taken w k queue (turn_of_completion (Waits wait course) shell.frames))
+    held_above shell.frames (phase.Waiting wait) ≡ outputs → HoldsAfter k outputs (turn_taken w k queue (turn_of_completion (Waits wait course) shell.frames))
 waits-hold w k shell queue wait course outputs is same = λ runs.
     let t = turn_of_completion (Waits wait course) shell.frames in
     let moved = moved_at_turn w t in
-    let behind = found (shells_behind w.shells k moved t) k in
-    let there : behind ≡ shell_after_turn k moved t = found-left w.shells k shell moved t is in
-    outputs-same behind ∙ (ap (seen_by held_outputs) there
-    ∙ waits-keeps held_outputs k moved outputs wait course shell.frames same (ap (is_held held_outputs) (sym there) ∙ (sym (runs-same behind) ∙ runs)))
+    let after = found (shells_after w.shells k moved t) k in
+    let there : after ≡ shell_after_turn k moved t = found-left w.shells k shell moved t is in
+    outputs-same after ∙ (ap (seen_by held_outputs) there
+    ∙ waits-keeps held_outputs k moved outputs wait course shell.frames same (ap (is_held held_outputs) (sym there) ∙ (sym (runs-same after) ∙ runs)))
 
 by-opening : (w : WorldState) (k : ℕ) (shell : ShellState) (starting : Starting) (opened : OpenedOutput) (result : Result OpenedOutput Result2) → numbered_shell w k ≡ Some shell →
     result ≡ Ok opened →
-    HoldsBehind k (frame_outputs shell.frames ++ open_places opened.target)
+    HoldsAfter k (frame_outputs shell.frames ++ open_places opened.target)
     (turning_response w k shell.parts.codes (turning_of_completion (input_of w k) shell.frames (Some (started_completion starting (start w shell) result))))
 by-opening w k shell starting opened result is e =
     rw e
@@ -167,19 +167,19 @@ by-opening w k shell starting opened result is e =
 
 by-phase : (w : WorldState) (k : ℕ) (shell : ShellState) (starting : Starting) (opened : OpenedOutput) (now : Phase) → numbered_shell w k ≡ Some shell →
     now ≡ phase.Waiting (ForStart starting) → line_output (start w shell) starting.output ≡ Ok opened →
-    HoldsBehind k (frame_outputs shell.frames ++ open_places opened.target)
+    HoldsAfter k (frame_outputs shell.frames ++ open_places opened.target)
     (turning_response w k shell.parts.codes (turning_of_completion (input_of w k) shell.frames (answered_in (newest_sink shell.frames) (start w shell) now Started)))
 by-phase w k shell starting opened now is waits opens =
     rw waits (by-opening w k shell starting opened (line_output (start w shell) starting.output) is opens)
 
 by-place : (w : WorldState) (k : ℕ) (shell : ShellState) (starting : Starting) (opened : OpenedOutput) (o : Option ShellState) → numbered_shell w k ≡ Some shell → o ≡ Some shell →
     shell.phase ≡ phase.Waiting (ForStart starting) → line_output (start w shell) starting.output ≡ Ok opened →
-    HoldsBehind k (frame_outputs shell.frames ++ open_places opened.target) (answer_response w k Started o)
+    HoldsAfter k (frame_outputs shell.frames ++ open_places opened.target) (answer_response w k Started o)
 by-place w k shell starting opened o is e waits opens = rw e (by-phase w k shell starting opened shell.phase is waits opens)
 
 started-holds : (w : WorldState) (k : ℕ) (shell : ShellState) (starting : Starting) (opened : OpenedOutput) → numbered_shell w k ≡ Some shell →
     shell.phase ≡ phase.Waiting (ForStart starting) → line_output (start w shell) starting.output ≡ Ok opened →
-    HoldsBehind k (frame_outputs shell.frames ++ open_places opened.target) (step_of w (Answer k Started))
+    HoldsAfter k (frame_outputs shell.frames ++ open_places opened.target) (step_of w (Answer k Started))
 started-holds w k shell starting opened is waits opens =
     elim (cases_Bool (is_over w)) [
       | inl e ↦ rw e tt
@@ -188,5 +188,5 @@ started-holds w k shell starting opened is waits opens =
 
 pub starts-open : StartsOpenOutputs
 starts-open w k shell starting opened world out items here waits opens is runs =
-    let holds : HoldsBehind k (frame_outputs shell.frames ++ open_places opened.target) (Accepted world out items) = rw is at (started-holds w k shell starting opened here waits opens) in
+    let holds : HoldsAfter k (frame_outputs shell.frames ++ open_places opened.target) (Accepted world out items) = rw is at (started-holds w k shell starting opened here waits opens) in
     holds runs

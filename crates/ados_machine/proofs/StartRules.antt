@@ -36,13 +36,13 @@ pub record Rules (flagged : Bool) (frames : List FrameState) (said : RuleState) 
 -- what it changes after the end of a frame
 record EndRules (flagged : Bool) (kind : Kind) (frames : List FrameState) (said : RuleState) (settled : RuleResult) : Type 0 where
   parts : KeepsSettings said.parts settled.said.parts
-  behind_end : IsAfterEnd kind (HasAnswered frames said.kept (settled_shell flagged settled)) frames said.kept (settled_shell flagged settled)
+  after_last_end : IsAfterEnd kind (HasAnswered frames said.kept (settled_shell flagged settled)) frames said.kept (settled_shell flagged settled)
 
 end-rules : (flagged : Bool) (kind : Kind) (further : RuleResult) (frames : List FrameState) (said : RuleState) → Rules flagged frames said further →
     EndRules flagged kind frames said (after_end kind further frames said)
-end-rules flagged (Script name command) further frames said rules = record { parts = rules.parts; behind_end = rules.answered }
-end-rules flagged Lines further frames said rules = record { parts = refl; behind_end = (refl, refl, refl) }
-end-rules flagged (Tick before after) further frames said rules = record { parts = refl; behind_end = (refl, refl, refl) }
+end-rules flagged (Script name command) further frames said rules = record { parts = rules.parts; after_last_end = rules.answered }
+end-rules flagged Lines further frames said rules = record { parts = refl; after_last_end = (refl, refl, refl) }
+end-rules flagged (Tick before after) further frames said rules = record { parts = refl; after_last_end = (refl, refl, refl) }
 
 -- a frame that ends is a script, or has no line left
 ends-may : (script over reached : Bool) → (over || (script && reached)) ≡ true → (script || over) ≡ true
@@ -62,7 +62,7 @@ finish-rules flagged word answer quits (frame ∷ frames) said =
     elim (cases_Bool (is_ended quits answer said.parts.limit frame)) [
       | inl e ↦ rw e
           (let end = end-rules flagged frame.kind further frames done same in
-          record { parts = end.parts; answered = inr (ends-may (is_script frame.kind) (is_over frame) _ e, end.behind_end) })
+          record { parts = end.parts; answered = inr (ends-may (is_script frame.kind) (is_over frame) _ e, end.after_last_end) })
       | inr e ↦ rw e (record { parts = refl; answered = inl (entry_of (frame ∷ frames) answer said.parts.limit, (refl, refl, refl)) })
     ]
 

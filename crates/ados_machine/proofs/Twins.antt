@@ -25,7 +25,7 @@ use Rattle.ados_machine.specs.Carrying.{moved_object, carried_shells}
 use Rattle.ados_machine.specs.Step.{Response, Refused, Accepted, of_shell, begun_items, with_begun, is_done, shell_after_turn, moved_at_turn, codes_of_ended, queue_after_event, queue_limit, turn_taken, start, course_without_flag, turning_response, turn_response, answer_response, break_response, typing_response, end_of_input, event_response, step_of}
 use Rattle.ados_machine.specs.Runs.{MayWantMemory, IsAnswer, resulting_world}
 use Rattle.ados_machine.specs.Quiet.{shell_of}
-use Rattle.ados_machine.proofs.Shells.{shells_behind}
+use Rattle.ados_machine.proofs.Shells.{shells_after}
 use Rattle.ados_machine.proofs.Alike.{alike-broken, Alike, alike-get, alike-set, LooksLike, alike-seen, free-seen, any-seen, alike-carried}
 
 abbrev pub Any : {X : Type 0} → X → X → Type 0
@@ -90,7 +90,7 @@ queue-both k old old' now same =
     ]
 
 shells-both : (j : ℕ) (xs ys : List (Option ShellState)) (k : ℕ) (moved : Option Renamed) (t : TurnResult) → Alike LooksLike j 1 xs ys →
-    free_number ys ≡ free_number xs → Alike LooksLike j 1 (shells_behind xs k moved t) (shells_behind ys k moved t)
+    free_number ys ≡ free_number xs → Alike LooksLike j 1 (shells_after xs k moved t) (shells_after ys k moved t)
 shells-both j xs ys k moved t alike free =
     rw free (alike-set LooksLike j 1 _ _ (k - 1) (shell_after_turn k moved t)
     (alike-broken t.course.breaking j 1 (with_begun t.course.begun (free_number xs) (carried_shells moved xs)) (with_begun t.course.begun (free_number xs) (carried_shells moved ys))

@@ -25,7 +25,7 @@ use Rattle.ados_machine.specs.Shells.{ShellState, seen_of, entry_while, entry_in
 use Rattle.ados_machine.specs.Sinks.{Sink, sink_or}
 use Rattle.ados_machine.specs.Step.{Accepted}
 use Rattle.ados_machine.specs.World.{numbered_shell, request_of_shell}
-use Rattle.ados_machine.proofs.Lasting.{Watch, SeenBehind, Keeps, seen_by, is_held, step-keeps}
+use Rattle.ados_machine.proofs.Lasting.{Watch, SeenAfter, Keeps, seen_by, is_held, step-keeps}
 use Rattle.ados_machine.proofs.Rests.{IsIdle}
 
 -- the entry from which a shell runs in a phase, whatever its frames are
@@ -67,7 +67,7 @@ break-entry child =
     ]
 
 started-entry : (frames : List FrameState) (starting : Starting) (course : Course) (opened : Result OpenedOutput Result2) →
-    SeenBehind entry_above frames starting.entry (Some (started_completion starting course opened))
+    SeenAfter entry_above frames starting.entry (Some (started_completion starting course opened))
 started-entry frames starting course (Err fault) = next-entry (child_of starting None (Some fault))
 started-entry frames starting course (Ok opened) = next-entry (child_of starting opened.target None)
 
@@ -76,19 +76,19 @@ put-entry child None = refl
 put-entry child (Some fault) = refl
 
 piece-entry : (frames : List FrameState) (child : Child) (bytes : Bytes) (sink : Sink) (course : Course) (fault : Option Result2) →
-    SeenBehind entry_above frames child.entry (Some (piece_completion child bytes sink course fault))
+    SeenAfter entry_above frames child.entry (Some (piece_completion child bytes sink course fault))
 piece-entry frames child bytes sink course (Some fault) = next-entry (with_break child) ∙ break-entry child
 piece-entry frames child bytes sink course None =
     let fault = output_fault (put (sink_or child.output sink) bytes went_well course).codes in
     next-entry (child_after_piece (with_break child) fault) ∙ (put-entry (with_break child) fault ∙ break-entry child)
 
 ended-entry : (frames : List FrameState) (entry : Option Text) (child : Child) (codes : Codes) (course : Course) (fault : Option Result2) →
-    SeenBehind entry_above frames entry (Some (ended_completion child codes course fault))
+    SeenAfter entry_above frames entry (Some (ended_completion child codes course fault))
 ended-entry frames entry child codes course (Some fault) = tt
 ended-entry frames entry child codes course None = tt
 
 wait-entry : (frames : List FrameState) (sink : Sink) (course : Course) (wait : Wait) (answer : Reply) →
-    SeenBehind entry_above frames (entry_while wait) (answered_completion sink course wait answer)
+    SeenAfter entry_above frames (entry_while wait) (answered_completion sink course wait answer)
 wait-entry frames sink course (ForStart starting) Started = started-entry frames starting course (line_output course starting.output)
 wait-entry frames sink course (ForStart starting) NotFound = tt
 wait-entry frames sink course (ForStart starting) Denied = tt
@@ -107,7 +107,7 @@ wait-entry frames sink course (ForEnd child) WaitFault = ended-entry frames chil
 wait-entry frames sink course wait answer = tt
 
 phase-entry : (frames : List FrameState) (sink : Sink) (course : Course) (now : Phase) (answer : Reply) →
-    SeenBehind entry_above frames (entry_above frames now) (answered_in sink course now answer)
+    SeenAfter entry_above frames (entry_above frames now) (answered_in sink course now answer)
 phase-entry frames sink course phase.Ready answer = tt
 phase-entry frames sink course (phase.GoingOn parted) answer = tt
 phase-entry frames sink course (phase.Waiting wait) answer = wait-entry frames sink course wait answer
@@ -143,10 +143,10 @@ asks-same None = refl
 asks-same (Some shell) = any-number shell.parts.number shell.phase
 
 pub entries-stay : EntriesStayInUse
-entries-stay w event world out items is k before behind =
+entries-stay w event world out items is k before after =
     let keeps : Keeps entries w (Accepted world out items) = rw is at (step-keeps entries w event) in
     entry-same (numbered_shell world k)
-    ∙ (keeps k (sym (asks-same (numbered_shell w k)) ∙ before) (sym (asks-same (numbered_shell world k)) ∙ behind) ∙ sym (entry-same (numbered_shell w k)))
+    ∙ (keeps k (sym (asks-same (numbered_shell w k)) ∙ before) (sym (asks-same (numbered_shell world k)) ∙ after) ∙ sym (entry-same (numbered_shell w k)))
 
 -- if nothing is asked for
 phase-idle : (n : ℕ) (now : Phase) → request_of n now ≡ None → entry_in now ≡ None

@@ -136,12 +136,12 @@ carried_parts moved parts = record parts { directory = directory_after_move move
 -- an event ends, and what was printed is appended to what was printed before
 abbrev pub common_after_event : Common → Course → Common
 common_after_event common course =
-    (let behind = after_event common.shared common.shells course in
+    (let later = after_event common.shared common.shells course in
     record {
       reports = common.reports;
-      shells = behind.shells;
-      shared = behind.shared;
-      said = record { parts = carried_parts behind.moved course.parts; kept = course.kept; printed = common.said.printed ++ course.printed };
+      shells = later.shells;
+      shared = later.shared;
+      said = record { parts = carried_parts later.moved course.parts; kept = course.kept; printed = common.said.printed ++ course.printed };
       flagged = course.flagged;
     })
 

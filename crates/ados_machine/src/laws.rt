@@ -45,7 +45,7 @@ pub fn scripts_end_where_the_rule_says()
 /// No script runs on after a command whose code reached its limit: a fresh world has none that
 /// does, and no event leaves one. So too each background shell runs a frame, and each shell has
 /// the number of its place.
-pub fn no_script_runs_on_behind_a_failure()
+pub fn no_script_continues_after_a_failure()
     ensures fresh { (hosts : List HostEntry) → IsSane (fresh_world hosts) }
     ensures kept { EventsKeepWorldsSane }
 {}

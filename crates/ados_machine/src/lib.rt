@@ -25,8 +25,8 @@ pub use events::{BreakAt, Event, Kind};
 pub use laws::{
     alone_means_the_direct_meaning, breaks_end_scripts, children_go_by_their_answers,
     each_end_is_reported_once, each_frame_ends_once, events_bind_only_what_they_used,
-    failed_starts_change_the_codes, no_script_runs_on_behind_a_failure, quiet_shells_are_invisible,
-    scripts_end_where_the_rule_says,
+    failed_starts_change_the_codes, no_script_continues_after_a_failure,
+    quiet_shells_are_invisible, scripts_end_where_the_rule_says,
 };
 pub use outs::{EndReport, Out, Reports};
 pub use phases::{Asking, Child, Gathering, Parted, Phase, Question, Starting, Wait};

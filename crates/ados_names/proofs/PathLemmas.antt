@@ -29,9 +29,9 @@ none_in_piece : (piece : List ℕ) → is_piece piece ≡ true → list_all no_c
 none_in_piece [] h = refl
 none_in_piece (c ∷ cs) h = no_colons (c ∷ cs) (name-parts (c ∷ cs) h).bytes
 
-none_behind : (steps : List Step) (text : List ℕ) → list_all no_colon text ≡ true → list_all no_colon (text_after_name steps text) ≡ true
-none_behind [] text h = h
-none_behind (s ∷ ss) text h = h
+none_after : (steps : List Step) (text : List ℕ) → list_all no_colon text ≡ true → list_all no_colon (text_after_name steps text) ≡ true
+none_after [] text h = h
+none_after (s ∷ ss) text h = h
 
 none_written : (steps : List Step) → list_all is_step steps ≡ true → list_all no_colon (steps_text steps) ≡ true
 none_written [] h = refl
@@ -40,7 +40,7 @@ none_written (Name name ∷ rest) h =
     let both = and_parts (is_name name) (list_all is_step rest) h in
     list_all-append no_colon name (text_after_name rest (steps_text rest))
     ∙ and_from (list_all no_colon name) (list_all no_colon (text_after_name rest (steps_text rest)))
-    (no_colons name (name-parts name both.0).bytes) (none_behind rest (steps_text rest) (none_written rest both.1))
+    (no_colons name (name-parts name both.0).bytes) (none_after rest (steps_text rest) (none_written rest both.1))
 
 one_more : (n : ℕ) → 1 + n ≡ suc n
 one_more n = omega arith
@@ -78,13 +78,13 @@ parts-text None steps d h =
 parts-text (Some device) steps d h =
     let text = device ++ 58 ∷ steps_text steps in
     let one : (device ++ 58 ∷ []) ++ steps_text steps ≡ text = append_assoc device (58 ∷ []) (steps_text steps) in
-    let behind : drop (length device + 1) text ≡ steps_text steps =
+    let after : drop (length device + 1) text ≡ steps_text steps =
     (let seam = drop-append_seam (device ++ 58 ∷ []) (steps_text steps) in
     ap (λ n. drop n text) (sym (length-append device (58 ∷ []))) ∙ ap (drop (length (device ++ 58 ∷ []))) (sym one) ∙ seam) in
     ap parts_of one
     ∙ ap (parts_by_colon text) (colon_position device (steps_text steps) (none_in_piece device d))
     ∙ ap (λ (t : List ℕ). record { device = Some t; steps = steps_of (slice_split is_slash (drop (length device + 1) text)) }) (take-append_seam device (58 ∷ steps_text steps))
-    ∙ ap (λ (t : List ℕ). record { device = Some device; steps = steps_of (slice_split is_slash t) }) behind
+    ∙ ap (λ (t : List ℕ). record { device = Some device; steps = steps_of (slice_split is_slash t) }) after
     ∙ ap (λ (s : List Step). record { device = Some device; steps = s }) (steps-written steps h)
 
 -- the text of a path names it

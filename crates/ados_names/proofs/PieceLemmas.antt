@@ -24,8 +24,8 @@ not_last piece [] h = absurd (omega arith)
 not_last piece (next ∷ more) h = refl
 
 -- a piece followed by a slash is not the last
-steps-behind : (piece text : List ℕ) → steps_of (piece ∷ slice_split is_slash text) ≡ step_of piece ∷ steps_of (slice_split is_slash text)
-steps-behind piece text = not_last piece (slice_split is_slash text) (omega (arith, length-slice_split is_slash text))
+steps-after : (piece text : List ℕ) → steps_of (piece ∷ slice_split is_slash text) ≡ step_of piece ∷ steps_of (slice_split is_slash text)
+steps-after piece text = not_last piece (slice_split is_slash text) (omega (arith, length-slice_split is_slash text))
 
 found : (b : Bool) (n place : ℕ) → cond b (Some n) None ≡ Some place → (b ≡ true) × (n ≡ place)
 found true n place e = (refl, cc)
@@ -42,7 +42,7 @@ cut-more text place e =
     let within : position_or_len is_slash text < length text = (let t = at.0 in grind (arith, nat_tests)) in
     ap steps_of (slice_split_first is_slash text 0 within)
     ∙ ap (λ n. steps_of (take n text ∷ slice_split is_slash (drop (n + 1) text))) at.1
-    ∙ steps-behind (take place text) (drop (place + 1) text)
+    ∙ steps-after (take place text) (drop (place + 1) text)
 
 one_piece : (text : List ℕ) → nat_lt (position_or_len is_slash text) (length text) ≡ false → slice_split is_slash text ≡ text ∷ []
 one_piece [] e = refl
@@ -91,7 +91,7 @@ step_of-name (c ∷ cs) h = refl
 -- steps are those of their text
 pub steps-written : (steps : List Step) → list_all is_step steps ≡ true → steps_of (slice_split is_slash (steps_text steps)) ≡ steps
 steps-written [] h = refl
-steps-written (Up ∷ rest) h = steps-behind [] (steps_text rest) ∙ ap (λ s. Up ∷ s) (steps-written rest h)
+steps-written (Up ∷ rest) h = steps-after [] (steps_text rest) ∙ ap (λ s. Up ∷ s) (steps-written rest h)
 steps-written (Name name ∷ []) h =
     let is : IsName name = name-parts name (and_parts (is_name name) true h).0 in
     ap (λ t. steps_of (slice_split is_slash t)) (append-nil name)
@@ -101,13 +101,13 @@ steps-written (Name name ∷ next ∷ more) h =
     let both = and_parts (is_name name) (list_all is_step (next ∷ more)) h in
     let is : IsName name = name-parts name both.0 in
     ap steps_of (slice_split_at is_slash name 47 (steps_text (next ∷ more)) (no_slashes name is.bytes) refl)
-    ∙ steps-behind name (steps_text (next ∷ more))
+    ∙ steps-after name (steps_text (next ∷ more))
     ∙ ap (λ s. s ∷ steps_of (slice_split is_slash (steps_text (next ∷ more)))) (step_of-name name is.some)
     ∙ ap (λ s. Name name ∷ s) (steps-written (next ∷ more) both.1)
 
-behind_name-le : (steps : List Step) (text : List ℕ) → length (text_after_name steps text) ≤ length text + 1
-behind_name-le [] text = omega arith
-behind_name-le (s ∷ ss) text = omega arith
+after_name-le : (steps : List Step) (text : List ℕ) → length (text_after_name steps text) ≤ length text + 1
+after_name-le [] text = omega arith
+after_name-le (s ∷ ss) text = omega arith
 
 joined-le : (pieces : List (List ℕ)) → length (steps_text (steps_of pieces)) ≤ length (join_with_byte 47 pieces)
 joined-le [] = omega arith
@@ -116,7 +116,7 @@ joined-le ((c ∷ cs) ∷ []) = omega (arith, length-append (c ∷ cs) [])
 joined-le ([] ∷ next ∷ more) = omega (arith, joined-le (next ∷ more))
 joined-le ((c ∷ cs) ∷ next ∷ more) =
     let rest = steps_of (next ∷ more) in
-    omega (arith, joined-le (next ∷ more), behind_name-le rest (steps_text rest), length-append (c ∷ cs) (text_after_name rest (steps_text rest)), length-append (c ∷ cs) (47 ∷ join_with_byte 47 (next ∷ more)))
+    omega (arith, joined-le (next ∷ more), after_name-le rest (steps_text rest), length-append (c ∷ cs) (text_after_name rest (steps_text rest)), length-append (c ∷ cs) (47 ∷ join_with_byte 47 (next ∷ more)))
 
 -- the steps of a text are written out in no more bytes than it has
 pub written-le : (text : List ℕ) → length (steps_text (steps_of (slice_split is_slash text))) ≤ length text

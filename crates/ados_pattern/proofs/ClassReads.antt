@@ -59,22 +59,22 @@ plain-tokens c rest b q k e = rw (is-not c 93 k, is-not c 39 q, e) refl
 pub quoted-tokens : (c : ℕ) (rest : List ℕ) (b : Bool) → begins_range rest ≡ b → tokens_from Class (quote ∷ c ∷ rest) ≡ Silent ∷ ((if b then Silent else Member c c) ∷ tokens_from (if b then Low c else Class) rest)
 quoted-tokens c rest b e = rw e refl
 
-pub alone-told : {s : List ℕ} {c : ℕ} → IsOne s c → (rest : List ℕ) (ms : List (ℕ × ℕ)) (behind : List Token) (n : ℕ) → begins_range rest ≡ false → Told (tokens_from Class rest) ms behind n → Told (tokens_from Class (s ++ rest)) ((c, c) ∷ ms) behind (length s + n)
-alone-told (plain c q k) rest ms behind n e t = told-as _ _ _ _ _ _ (plain-tokens c rest false q k e) (omega arith) (told-member _ ms behind n c c t)
-alone-told (quoted c) rest ms behind n e t = told-as _ _ _ _ _ _ (quoted-tokens c rest false e) (omega arith) (told-silent _ _ _ _ (told-member _ ms behind n c c t))
+pub alone-told : {s : List ℕ} {c : ℕ} → IsOne s c → (rest : List ℕ) (ms : List (ℕ × ℕ)) (tail : List Token) (n : ℕ) → begins_range rest ≡ false → Told (tokens_from Class rest) ms tail n → Told (tokens_from Class (s ++ rest)) ((c, c) ∷ ms) tail (length s + n)
+alone-told (plain c q k) rest ms tail n e t = told-as _ _ _ _ _ _ (plain-tokens c rest false q k e) (omega arith) (told-member _ ms tail n c c t)
+alone-told (quoted c) rest ms tail n e t = told-as _ _ _ _ _ _ (quoted-tokens c rest false e) (omega arith) (told-silent _ _ _ _ (told-member _ ms tail n c c t))
 
 -- the high end of a range
-pub high-told : {u : List ℕ} {high : ℕ} → IsOne u high → (low : ℕ) (rest : List ℕ) (ms : List (ℕ × ℕ)) (behind : List Token) (n : ℕ) → Told (tokens_from Class rest) ms behind n → Told (tokens_from (Ranged low) (u ++ rest)) ((low, high) ∷ ms) behind (length u + n)
-high-told (plain h q k) low rest ms behind n t = told-as _ _ _ _ _ _ (rw (is-not h 39 q) refl) (omega arith) (told-member _ ms behind n low h t)
-high-told (quoted h) low rest ms behind n t = told-as _ _ _ _ _ _ refl (omega arith) (told-silent _ _ _ _ (told-member _ ms behind n low h t))
+pub high-told : {u : List ℕ} {high : ℕ} → IsOne u high → (low : ℕ) (rest : List ℕ) (ms : List (ℕ × ℕ)) (tail : List Token) (n : ℕ) → Told (tokens_from Class rest) ms tail n → Told (tokens_from (Ranged low) (u ++ rest)) ((low, high) ∷ ms) tail (length u + n)
+high-told (plain h q k) low rest ms tail n t = told-as _ _ _ _ _ _ (rw (is-not h 39 q) refl) (omega arith) (told-member _ ms tail n low h t)
+high-told (quoted h) low rest ms tail n t = told-as _ _ _ _ _ _ refl (omega arith) (told-silent _ _ _ _ (told-member _ ms tail n low h t))
 
 pub dash-begins : {u : List ℕ} {high : ℕ} → IsOne u high → (rest : List ℕ) → begins_range (dash ∷ (u ++ rest)) ≡ true
 dash-begins (plain h q k) rest = rw (is-not h 93 k) refl
 dash-begins (quoted h) rest = refl
 
-pub range-told : {s u : List ℕ} {low high : ℕ} → IsOne s low → IsOne u high → (rest : List ℕ) (ms : List (ℕ × ℕ)) (behind : List Token) (n : ℕ) → Told (tokens_from Class rest) ms behind n → Told (tokens_from Class (s ++ dash ∷ (u ++ rest))) ((low, high) ∷ ms) behind (length s + (length u + n + 1))
-range-told {u = u} (plain c q k) o rest ms behind n t = told-as _ _ _ _ _ _ (plain-tokens c (dash ∷ (u ++ rest)) true q k (dash-begins o rest)) (omega arith) (told-silent _ _ _ _ (told-silent _ _ _ _ (high-told o c rest ms behind n t)))
-range-told {u = u} (quoted c) o rest ms behind n t = told-as _ _ _ _ _ _ (quoted-tokens c (dash ∷ (u ++ rest)) true (dash-begins o rest)) (omega arith) (told-silent _ _ _ _ (told-silent _ _ _ _ (told-silent _ _ _ _ (high-told o c rest ms behind n t))))
+pub range-told : {s u : List ℕ} {low high : ℕ} → IsOne s low → IsOne u high → (rest : List ℕ) (ms : List (ℕ × ℕ)) (tail : List Token) (n : ℕ) → Told (tokens_from Class rest) ms tail n → Told (tokens_from Class (s ++ dash ∷ (u ++ rest))) ((low, high) ∷ ms) tail (length s + (length u + n + 1))
+range-told {u = u} (plain c q k) o rest ms tail n t = told-as _ _ _ _ _ _ (plain-tokens c (dash ∷ (u ++ rest)) true q k (dash-begins o rest)) (omega arith) (told-silent _ _ _ _ (told-silent _ _ _ _ (high-told o c rest ms tail n t)))
+range-told {u = u} (quoted c) o rest ms tail n t = told-as _ _ _ _ _ _ (quoted-tokens c (dash ∷ (u ++ rest)) true (dash-begins o rest)) (omega arith) (told-silent _ _ _ _ (told-silent _ _ _ _ (told-silent _ _ _ _ (high-told o c rest ms tail n t))))
 
 pub free-of-range : (t rest : List ℕ) → IsNoRange t → begins_range (t ++ close_class ∷ rest) ≡ false
 free-of-range [] [] free = refl
@@ -128,8 +128,8 @@ built-told (member ts low high ms t) rest = ap (on_row (with_member low high)) (
 pub record IsCut (text : List ℕ) : Type 0 where
   pub front : List ℕ
   pub ms : List (ℕ × ℕ)
-  pub behind : List ℕ
-  pub joined : text ≡ front ++ close_class ∷ behind
+  pub tail : List ℕ
+  pub joined : text ≡ front ++ close_class ∷ tail
   pub members : AreMembers front ms
 
 -- no class ends in the tokens
@@ -181,10 +181,10 @@ members-dash none h r e = absurd cc
 members-dash (alone s t c ms o free are) h r e = dash-front o t h r (members-front are) e
 members-dash (range s u t low high ms o p are) h r e = dash-front o (dash ∷ (u ++ t)) h r (λ b. absurd (omega (arith, b))) e
 
-pub free-front : (t behind : List ℕ) (ms : List (ℕ × ℕ)) → AreMembers t ms → begins_range (t ++ close_class ∷ behind) ≡ false → IsNoRange t
-free-front [] behind ms are e = tt
-free-front (d ∷ []) behind ms are e = tt
-free-front (d ∷ h ∷ t) behind ms are e = λ same. members-dash are h t (ap (λ x. x ∷ h ∷ t) same) (not-high h (sym (ap (λ x. (x == 45) && not (h == 93)) same) ∙ e))
+pub free-front : (t tail : List ℕ) (ms : List (ℕ × ℕ)) → AreMembers t ms → begins_range (t ++ close_class ∷ tail) ≡ false → IsNoRange t
+free-front [] tail ms are e = tt
+free-front (d ∷ []) tail ms are e = tt
+free-front (d ∷ h ∷ t) tail ms are e = λ same. members-dash are h t (ap (λ x. x ∷ h ∷ t) same) (not-high h (sym (ap (λ x. (x == 45) && not (h == 93)) same) ∙ e))
 
 abbrev pub Cuts : List ℕ → Type 0
 Cuts text = IsCut text ⊎ IsOpen (tokens_from Class text)
@@ -201,9 +201,9 @@ cut-alone {s = s} {c = c} o rest e cut = elim cut [
   | inl k ↦ inl (record {
     front = s ++ k.front;
     ms = (c, c) ∷ k.ms;
-    behind = k.behind;
-    joined = ap (λ x. s ++ x) k.joined ∙ sym (append_assoc s k.front (close_class ∷ k.behind));
-    members = alone s k.front c k.ms o (free-front k.front k.behind k.ms k.members (sym (ap begins_range k.joined) ∙ e)) k.members;
+    tail = k.tail;
+    joined = ap (λ x. s ++ x) k.joined ∙ sym (append_assoc s k.front (close_class ∷ k.tail));
+    members = alone s k.front c k.ms o (free-front k.front k.tail k.ms k.members (sym (ap begins_range k.joined) ∙ e)) k.members;
   })
   | inr k ↦ inr (open-alone o rest e k)
 ]
@@ -213,8 +213,8 @@ cut-range {s = s} {u = u} {low = low} {high = high} o p rest cut = elim cut [
   | inl k ↦ inl (record {
     front = s ++ dash ∷ (u ++ k.front);
     ms = (low, high) ∷ k.ms;
-    behind = k.behind;
-    joined = ap (λ x. s ++ dash ∷ (u ++ x)) k.joined ∙ ap (λ x. s ++ dash ∷ x) (sym (append_assoc u k.front (close_class ∷ k.behind))) ∙ sym (append_assoc s (dash ∷ (u ++ k.front)) (close_class ∷ k.behind));
+    tail = k.tail;
+    joined = ap (λ x. s ++ dash ∷ (u ++ x)) k.joined ∙ ap (λ x. s ++ dash ∷ x) (sym (append_assoc u k.front (close_class ∷ k.tail))) ∙ sym (append_assoc s (dash ∷ (u ++ k.front)) (close_class ∷ k.tail));
     members = range s u k.front low high k.ms o p k.members;
   })
   | inr k ↦ inr (open-low o (dash ∷ (u ++ rest)) (dash-begins p rest) (open-silent _ (open-high p low rest k)))
@@ -239,20 +239,20 @@ cut-by {s = s} {c = c} o rest cut cuts = go (begins_range rest) refl
 pub eq-not : (a b : ℕ) → (a == b) ≡ false → a ≡ b → ⊥
 eq-not a b e same = let f : true ≡ false = sym (is-eq a b same) ∙ e in absurd cc
 
-pub cut-behind : {s : List ℕ} {c : ℕ} → IsOne s c → (n : ℕ) (rest : List ℕ) → length rest ≤ n → ((r : List ℕ) → length r ≤ n → Cuts r) → Cuts (s ++ rest)
-cut-behind o n rest l again = cut-by o rest (again rest l) (λ u r e long. again r (omega (arith, l, ap length e, length-append u r)))
+pub cut-after : {s : List ℕ} {c : ℕ} → IsOne s c → (n : ℕ) (rest : List ℕ) → length rest ≤ n → ((r : List ℕ) → length r ≤ n → Cuts r) → Cuts (s ++ rest)
+cut-after o n rest l again = cut-by o rest (again rest l) (λ u r e long. again r (omega (arith, l, ap length e, length-append u r)))
 
 pub class-step : (n c : ℕ) (text : List ℕ) → length text ≤ n → ((r : List ℕ) → length r ≤ n → Cuts r) → Cuts (c ∷ text)
 class-step n c text l again = go (c == 93) refl (c == 39) refl
   where
     quote_in : (rest : List ℕ) → text ≡ rest → c ≡ 39 → Cuts (c ∷ text)
     quote_in [] e q = subst (λ x. Cuts (c ∷ x)) (sym e) (subst (λ d. Cuts (d ∷ [])) (sym q) (inr (open-silent [] open-none)))
-    quote_in (d ∷ rest) e q = subst (λ x. Cuts (c ∷ x)) (sym e) (subst (λ x. Cuts (x ∷ d ∷ rest)) (sym q) (cut-behind (quoted d) n rest (omega (arith, l, ap length e)) again))
+    quote_in (d ∷ rest) e q = subst (λ x. Cuts (c ∷ x)) (sym e) (subst (λ x. Cuts (x ∷ d ∷ rest)) (sym q) (cut-after (quoted d) n rest (omega (arith, l, ap length e)) again))
 
     go : (b : Bool) → (c == 93) ≡ b → (q : Bool) → (c == 39) ≡ q → Cuts (c ∷ text)
-    go true e q f = inl (record { front = []; ms = []; behind = text; joined = ap (λ x. x ∷ text) (eq-is c 93 e); members = none })
+    go true e q f = inl (record { front = []; ms = []; tail = text; joined = ap (λ x. x ∷ text) (eq-is c 93 e); members = none })
     go false e true f = quote_in text refl (eq-is c 39 f)
-    go false e false f = cut-behind (plain c (eq-not c 39 f) (eq-not c 93 e)) n text l again
+    go false e false f = cut-after (plain c (eq-not c 39 f) (eq-not c 93 e)) n text l again
 
 -- a text in a class is split where the class ends, or no class ends in it
 pub class-cut : (n : ℕ) (text : List ℕ) → length text ≤ n → Cuts text

@@ -17,12 +17,12 @@ pub begun-class : (text : List ℕ) → (Begins tilde text → ⊥) → tokens_f
 begun-class [] b = refl
 begun-class (c ∷ text) b = rw (is-not c 126 b) refl
 
-pub begins-behind : (t rest : List ℕ) → (Begins tilde t → ⊥) → Begins tilde (t ++ close_class ∷ rest) → ⊥
-begins-behind [] rest b h = absurd (omega (arith, h))
-begins-behind (c ∷ t) rest b h = b h
+pub begins-after : (t rest : List ℕ) → (Begins tilde t → ⊥) → Begins tilde (t ++ close_class ∷ rest) → ⊥
+begins-after [] rest b h = absurd (omega (arith, h))
+begins-after (c ∷ t) rest b h = b h
 
 pub begun-within : (t rest : List ℕ) → (Begins tilde t → ⊥) → tokens_from Begun (t ++ close_class ∷ rest) ≡ tokens_from Class (t ++ close_class ∷ rest)
-begun-within t rest b = begun-class (t ++ close_class ∷ rest) (begins-behind t rest b)
+begun-within t rest b = begun-class (t ++ close_class ∷ rest) (begins-after t rest b)
 
 pub text-closes : {s : List ℕ} → IsClassText s → (depth : ℕ) (rest : List ℕ) → closes depth (tokens_from Begun (s ++ close_class ∷ rest)) ≡ closes depth (tokens_from Plain rest)
 text-closes (within_text t ms b are) depth rest = let w = members-told are rest in ap (closes depth) (begun-within t rest b ∙ w.joined) ∙ closes-told w.tells depth (tokens_from Plain rest)
@@ -72,8 +72,8 @@ good-row t (m ∷ ms) are e = record { members = are; some = omega arith; upward
 -- a prefix of the text is a class's text, and a class unless it is bad
 pub record IsWhole (text : List ℕ) : Type 0 where
   pub front : List ℕ
-  pub behind : List ℕ
-  pub joined : text ≡ front ++ close_class ∷ behind
+  pub tail : List ℕ
+  pub joined : text ≡ front ++ close_class ∷ tail
   pub kept : IsClassText front
   pub class : is_bad_class false (tokens_from Begun text) ≡ false → (f : Form) × IsClass front f
 
@@ -81,32 +81,32 @@ pub whole-within : (text : List ℕ) → (Begins tilde text → ⊥) → Cuts te
 whole-within text b cut = elim cut [
   | inr o ↦ inr (subst IsOpen (sym (begun-class text b)) o)
   | inl k ↦
-      let c : Begins tilde k.front → ⊥ = front-begins k.front k.behind text k.joined b in
-      let w = members-told k.members k.behind in
+      let c : Begins tilde k.front → ⊥ = front-begins k.front k.tail text k.joined b in
+      let w = members-told k.members k.tail in
       inl (record {
         front = k.front;
-        behind = k.behind;
+        tail = k.tail;
         joined = k.joined;
         kept = within_text k.front k.ms c k.members;
-        class = λ e. (any_of k.ms, within k.front k.ms c (good-row k.front k.ms k.members (sym (ap (is_bad_class false) (begun-class text b ∙ ap (tokens_from Class) k.joined ∙ w.joined) ∙ bad-told w.tells false (tokens_from Plain k.behind)) ∙ e)));
+        class = λ e. (any_of k.ms, within k.front k.ms c (good-row k.front k.ms k.members (sym (ap (is_bad_class false) (begun-class text b ∙ ap (tokens_from Class) k.joined ∙ w.joined) ∙ bad-told w.tells false (tokens_from Plain k.tail)) ∙ e)));
       })
 ]
   where
-    front-begins : (front behind text : List ℕ) → text ≡ front ++ close_class ∷ behind → (Begins tilde text → ⊥) → Begins tilde front → ⊥
-    front-begins [] behind text e b h = h
-    front-begins (d ∷ front) behind text e b h = b (subst (Begins tilde) (sym e) h)
+    front-begins : (front tail text : List ℕ) → text ≡ front ++ close_class ∷ tail → (Begins tilde text → ⊥) → Begins tilde front → ⊥
+    front-begins [] tail text e b h = h
+    front-begins (d ∷ front) tail text e b h = b (subst (Begins tilde) (sym e) h)
 
 pub whole-outside : (text : List ℕ) → Cuts text → IsWhole (tilde ∷ text) ⊎ IsOpen (tokens_from Begun (tilde ∷ text))
 whole-outside text cut = elim cut [
   | inr o ↦ inr (record { bad = o.bad; unclosed = o.unclosed })
   | inl k ↦
-      let w = members-told k.members k.behind in
+      let w = members-told k.members k.tail in
       inl (record {
         front = tilde ∷ k.front;
-        behind = k.behind;
+        tail = k.tail;
         joined = ap (λ x. tilde ∷ x) k.joined;
         kept = outside_text k.front k.ms k.members;
-        class = λ e. (Outside (any_of k.ms), outside k.front k.ms (good-row k.front k.ms k.members (sym (ap (is_bad_class false) (ap (tokens_from Class) k.joined ∙ w.joined) ∙ bad-told w.tells false (tokens_from Plain k.behind)) ∙ e)));
+        class = λ e. (Outside (any_of k.ms), outside k.front k.ms (good-row k.front k.ms k.members (sym (ap (is_bad_class false) (ap (tokens_from Class) k.joined ∙ w.joined) ∙ bad-told w.tells false (tokens_from Plain k.tail)) ∙ e)));
       })
 ]
 

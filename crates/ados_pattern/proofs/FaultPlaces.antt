@@ -81,20 +81,20 @@ leads-closes (other d e c t f l) rest = let w = quiet-of c (t ++ rest) f in ap (
 
 -- the fault found is that found in the rest, or an earlier one
 abbrev pub GoesTo : Option ℕ → ℕ → Option ℕ → Type 0
-GoesTo found place behind = (found ≡ behind) ⊎ ((q : ℕ) × (q < place) × (found ≡ Some q))
+GoesTo found place tail = (found ≡ tail) ⊎ ((q : ℕ) × (q < place) × (found ≡ Some q))
 
-pub goes-as : (f g : Option ℕ) (place : ℕ) (behind : Option ℕ) → f ≡ g → GoesTo g place behind → GoesTo f place behind
-goes-as f g place behind e w = subst (λ x. GoesTo x place behind) (sym e) w
+pub goes-as : (f g : Option ℕ) (place : ℕ) (tail : Option ℕ) → f ≡ g → GoesTo g place tail → GoesTo f place tail
+goes-as f g place tail e w = subst (λ x. GoesTo x place tail) (sym e) w
 
-pub goes-on : (d place : ℕ) (t : Token) (ts : List Token) (after : ℕ) (behind : Option ℕ) → place < after → GoesTo (fault_from (depth_after d t) (place + 1) ts) after behind → GoesTo (fault_from d place (t ∷ ts)) after behind
-goes-on d place t ts after behind l w = go (is_fault d t ts) refl
+pub goes-on : (d place : ℕ) (t : Token) (ts : List Token) (after : ℕ) (tail : Option ℕ) → place < after → GoesTo (fault_from (depth_after d t) (place + 1) ts) after tail → GoesTo (fault_from d place (t ∷ ts)) after tail
+goes-on d place t ts after tail l w = go (is_fault d t ts) refl
   where
-    go : (b : Bool) → is_fault d t ts ≡ b → GoesTo (fault_from d place (t ∷ ts)) after behind
+    go : (b : Bool) → is_fault d t ts ≡ b → GoesTo (fault_from d place (t ∷ ts)) after tail
     go true e = inr (place, l, ap (λ b. if b then Some place else fault_from (depth_after d t) (place + 1) ts) e)
-    go false e = goes-as _ _ after behind (ap (λ b. if b then Some place else fault_from (depth_after d t) (place + 1) ts) e) w
+    go false e = goes-as _ _ after tail (ap (λ b. if b then Some place else fault_from (depth_after d t) (place + 1) ts) e) w
 
-pub goes-to : (f : Option ℕ) (a b : ℕ) (behind : ℕ → Option ℕ) → a ≡ b → GoesTo f a (behind a) → GoesTo f b (behind b)
-goes-to f a b behind e w = subst (λ k. GoesTo f k (behind k)) e w
+pub goes-to : (f : Option ℕ) (a b : ℕ) (tail : ℕ → Option ℕ) → a ≡ b → GoesTo f a (tail a) → GoesTo f b (tail b)
+goes-to f a b tail e w = subst (λ k. GoesTo f k (tail k)) e w
 
 pub leads-on : (d place : ℕ) (t : Token) (ts : List Token) (k n after e : ℕ) (rest : List Token) → depth_after d t ≡ k → place + 1 + n ≡ after → GoesTo (fault_from k (place + 1) ts) (place + 1 + n) (fault_from e (place + 1 + n) rest) → GoesTo (fault_from d place (t ∷ ts)) after (fault_from e after rest)
 leads-on d place t ts k n after e rest depth far w =
@@ -121,21 +121,21 @@ leads-fault (other d e c t f l) place rest =
 -- what closes the group around a text
 pub record IsClosed (d : ℕ) (text : List ℕ) : Type 0 where
   pub inner : List ℕ
-  pub behind : List ℕ
-  pub joined : text ≡ inner ++ close_group ∷ behind
+  pub tail : List ℕ
+  pub joined : text ≡ inner ++ close_group ∷ tail
   pub led : Leads d inner 0
 
 pub closed-quiet : (d c : ℕ) (rest : List ℕ) → is_frame c ≡ false → IsClosed d rest → IsClosed d (c ∷ rest)
-closed-quiet d c rest e w = record { inner = c ∷ w.inner; behind = w.behind; joined = ap (λ x. c ∷ x) w.joined; led = other d 0 c w.inner e w.led }
+closed-quiet d c rest e w = record { inner = c ∷ w.inner; tail = w.tail; joined = ap (λ x. c ∷ x) w.joined; led = other d 0 c w.inner e w.led }
 
 pub closed-at : (d : ℕ) (rest : List ℕ) → (IsClosed (d - 1) rest) ⊎ (d ≡ 0) → IsClosed d (close_group ∷ rest)
-closed-at zero rest w = record { inner = []; behind = rest; joined = refl; led = here 0 }
+closed-at zero rest w = record { inner = []; tail = rest; joined = refl; led = here 0 }
 closed-at (suc d) rest w = elim w [
   | inr e ↦ absurd (omega (arith, e))
   | inl w ↦
       let e : suc d - 1 ≡ d = omega arith in
       let f : d + 1 ≡ suc d = omega arith in
-      record { inner = close_group ∷ w.inner; behind = w.behind; joined = ap (λ x. close_group ∷ x) w.joined; led = subst (λ k. Leads k (close_group ∷ w.inner) 0) f (closed d 0 w.inner (subst (λ k. Leads k w.inner 0) e w.led)) }
+      record { inner = close_group ∷ w.inner; tail = w.tail; joined = ap (λ x. close_group ∷ x) w.joined; led = subst (λ k. Leads k (close_group ∷ w.inner) 0) f (closed d 0 w.inner (subst (λ k. Leads k w.inner 0) e w.led)) }
 ]
 
 abbrev pub Closes : ℕ → List ℕ → Type 0
@@ -144,14 +144,14 @@ Closes n text = length text ≤ n → (d : ℕ) → closes d (tokens_from Plain 
 pub close-step : {text : List ℕ} → View text → (n : ℕ) → ((r : List ℕ) → Closes n r) → Closes (suc n) text
 close-step at_end n again l d e = absurd cc
 close-step at_hanging n again l d e = absurd cc
-close-step (at_quoted c rest) n again l d e = let w = again rest (omega (arith, l)) d e in record { inner = quote ∷ c ∷ w.inner; behind = w.behind; joined = ap (λ x. quote ∷ c ∷ x) w.joined; led = quoted d 0 c w.inner w.led }
+close-step (at_quoted c rest) n again l d e = let w = again rest (omega (arith, l)) d e in record { inner = quote ∷ c ∷ w.inner; tail = w.tail; joined = ap (λ x. quote ∷ c ∷ x) w.joined; led = quoted d 0 c w.inner w.led }
 close-step (at_open_class rest o) n again l d e = let f : false ≡ true = sym (o.unclosed d) ∙ e in absurd cc
 close-step (at_class s rest k g) n again l d e =
     let w = again rest (omega (arith, l, length-append s (close_class ∷ rest))) d (sym (text-closes k d rest) ∙ e) in
     record {
       inner = open_class ∷ (s ++ close_class ∷ w.inner);
-      behind = w.behind;
-      joined = ap (λ x. open_class ∷ (s ++ close_class ∷ x)) w.joined ∙ ap (λ x. open_class ∷ x) (sym (append_assoc s (close_class ∷ w.inner) (close_group ∷ w.behind)));
+      tail = w.tail;
+      joined = ap (λ x. open_class ∷ (s ++ close_class ∷ x)) w.joined ∙ ap (λ x. open_class ∷ x) (sym (append_assoc s (close_class ∷ w.inner) (close_group ∷ w.tail)));
       led = class d 0 s w.inner k w.led;
     }
 close-step (at_any rest) n again l d e = closed-quiet d question rest refl (again rest (omega (arith, l)) d e)
@@ -159,7 +159,7 @@ close-step (at_nothing rest) n again l d e = closed-quiet d percent rest refl (a
 close-step (at_many rest) n again l d e = closed-quiet d hash rest refl (again rest (omega (arith, l)) d e)
 close-step (at_other rest) n again l d e = closed-quiet d tilde rest refl (again rest (omega (arith, l)) d e)
 close-step (at_bar rest) n again l d e = closed-quiet d bar rest refl (again rest (omega (arith, l)) d e)
-close-step (at_open rest) n again l d e = let w = again rest (omega (arith, l)) (d + 1) e in record { inner = open_group ∷ w.inner; behind = w.behind; joined = ap (λ x. open_group ∷ x) w.joined; led = opened d 0 w.inner w.led }
+close-step (at_open rest) n again l d e = let w = again rest (omega (arith, l)) (d + 1) e in record { inner = open_group ∷ w.inner; tail = w.tail; joined = ap (λ x. open_group ∷ x) w.joined; led = opened d 0 w.inner w.led }
 close-step (at_close rest) n again l d e = closed-at d rest (close-cases (d == 0) refl)
   where
     close-cases : (b : Bool) → (d == 0) ≡ b → IsClosed (d - 1) rest ⊎ (d ≡ 0)
@@ -172,12 +172,12 @@ close-found zero [] l d e = absurd cc
 close-found zero (c ∷ text) l d e = absurd (omega (arith, l))
 close-found (suc n) text l d e = close-step (view text) n (λ r. close-found n r) l d e
 
-pub not-closed : (text : List ℕ) → ((inner behind : List ℕ) → text ≡ inner ++ close_group ∷ behind → Leads 0 inner 0 → ⊥) → closes 0 (tokens_from Plain text) ≡ false
+pub not-closed : (text : List ℕ) → ((inner tail : List ℕ) → text ≡ inner ++ close_group ∷ tail → Leads 0 inner 0 → ⊥) → closes 0 (tokens_from Plain text) ≡ false
 not-closed text none = go (closes 0 (tokens_from Plain text)) refl
   where
     go : (b : Bool) → closes 0 (tokens_from Plain text) ≡ b → closes 0 (tokens_from Plain text) ≡ false
     go false e = e
-    go true e = let w = close-found (length text) text (omega arith) 0 e in absurd (none w.inner w.behind w.joined w.led)
+    go true e = let w = close-found (length text) text (omega arith) 0 e in absurd (none w.inner w.tail w.joined w.led)
 
-pub closed-not : (text : List ℕ) → closes 0 (tokens_from Plain text) ≡ false → (inner behind : List ℕ) → text ≡ inner ++ close_group ∷ behind → Leads 0 inner 0 → ⊥
-closed-not text e inner behind j l = let f : true ≡ false = sym (ap (λ x. closes 0 (tokens_from Plain x)) j ∙ leads-closes l (close_group ∷ behind)) ∙ e in absurd cc
+pub closed-not : (text : List ℕ) → closes 0 (tokens_from Plain text) ≡ false → (inner tail : List ℕ) → text ≡ inner ++ close_group ∷ tail → Leads 0 inner 0 → ⊥
+closed-not text e inner tail j l = let f : true ≡ false = sym (ap (λ x. closes 0 (tokens_from Plain x)) j ∙ leads-closes l (close_group ∷ tail)) ∙ e in absurd cc

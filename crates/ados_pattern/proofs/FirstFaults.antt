@@ -37,21 +37,21 @@ nothing-ends (at_open rest) e = absurd cc
 nothing-ends (at_close rest) e = inr refl
 nothing-ends (at_char c rest k) e = let f : false ≡ true = sym (ap has_nothing (char-tokens c rest k)) ∙ e in absurd cc
 
-pub not-class : (text : List ℕ) → ((inner behind : List ℕ) (f : Form) → text ≡ inner ++ close_class ∷ behind → IsClass inner f → ⊥) → is_bad_class false (tokens_from Begun text) ≡ true
+pub not-class : (text : List ℕ) → ((inner tail : List ℕ) (f : Form) → text ≡ inner ++ close_class ∷ tail → IsClass inner f → ⊥) → is_bad_class false (tokens_from Begun text) ≡ true
 not-class text none = go (is_bad_class false (tokens_from Begun text)) refl
   where
     contrary : is_bad_class false (tokens_from Begun text) ≡ false → IsWhole text ⊎ IsOpen (tokens_from Begun text) → is_bad_class false (tokens_from Begun text) ≡ true
     contrary e cut = elim cut [
       | inr o ↦ o.bad false
-      | inl w ↦ let c = w.class e in absurd (none w.front w.behind c.0 w.joined c.1)
+      | inl w ↦ let c = w.class e in absurd (none w.front w.tail c.0 w.joined c.1)
     ]
 
     go : (b : Bool) → is_bad_class false (tokens_from Begun text) ≡ b → is_bad_class false (tokens_from Begun text) ≡ true
     go true e = e
     go false e = contrary e (whole-cut text)
 
-pub class-not : (text : List ℕ) → is_bad_class false (tokens_from Begun text) ≡ true → (inner behind : List ℕ) (f : Form) → text ≡ inner ++ close_class ∷ behind → IsClass inner f → ⊥
-class-not text e inner behind f j c = let g : false ≡ true = sym (ap (λ x. is_bad_class false (tokens_from Begun x)) j ∙ class-good c behind) ∙ e in absurd cc
+pub class-not : (text : List ℕ) → is_bad_class false (tokens_from Begun text) ≡ true → (inner tail : List ℕ) (f : Form) → text ≡ inner ++ close_class ∷ tail → IsClass inner f → ⊥
+class-not text e inner tail f j c = let g : false ≡ true = sym (ap (λ x. is_bad_class false (tokens_from Begun x)) j ∙ class-good c tail) ∙ e in absurd cc
 
 -- a fault at the beginning is found there
 pub fault-here : {d : ℕ} {text : List ℕ} → IsFault d text → (place : ℕ) → fault_from d place (tokens_from Plain text) ≡ Some place

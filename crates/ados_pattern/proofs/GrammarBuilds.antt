@@ -19,10 +19,10 @@ use Rattle.ados_pattern.proofs.Views.{View, view, at_end, at_hanging, at_quoted,
 -- a row, and alternatives after it
 pub record Parted (text : List ℕ) (row rest : Form) : Type 0 where
   pub front : List ℕ
-  pub behind : List ℕ
-  pub joined : text ≡ front ++ bar ∷ behind
+  pub tail : List ℕ
+  pub joined : text ≡ front ++ bar ∷ tail
   pub first : Says Row front row
-  pub second : Says Alternatives behind rest
+  pub second : Says Alternatives tail rest
 
 abbrev pub IsReady : List ℕ → Level → Type 0
 IsReady text (row, None) = Says Row text row
@@ -31,34 +31,34 @@ IsReady text (row, Some rest) = Parted text row rest
 -- the levels of a text inside `d` groups
 pub data Levels : ℕ → List ℕ → List Level → Type 0 where
   last : (d : ℕ) (text : List ℕ) (l : Level) → IsReady text l → Levels d text (l ∷ [])
-  above : (d : ℕ) (text front behind : List ℕ) (l : Level) (ls : List Level) → text ≡ front ++ close_group ∷ behind → IsReady front l → Levels d behind ls → Levels (suc d) text (l ∷ ls)
+  above : (d : ℕ) (text front tail : List ℕ) (l : Level) (ls : List Level) → text ≡ front ++ close_group ∷ tail → IsReady front l → Levels d tail ls → Levels (suc d) text (l ∷ ls)
 
 pub ready-says : (text : List ℕ) (row : Form) (rest : Option Form) → IsReady text (row, rest) → Says Alternatives text (whole_row row rest)
 ready-says text row None r = one text row r
-ready-says text row (Some rest) r = let P : List ℕ → Type 0 = λ t. Says Alternatives t (Either row rest) in subst P (sym r.joined) (either r.front r.behind row rest r.first r.second)
+ready-says text row (Some rest) r = let P : List ℕ → Type 0 = λ t. Says Alternatives t (Either row rest) in subst P (sym r.joined) (either r.front r.tail row rest r.first r.second)
 
 -- what may be put before a row with which a text begins, if what follows ends the row
 abbrev pub Fronts : List ℕ → List ℕ → (Form → Form) → Type 0
-Fronts pre text change = (s behind : List ℕ) (f : Form) → text ≡ s ++ behind → EndsRow behind → Says Row s f → Says Row (pre ++ s) (change f)
+Fronts pre text change = (s tail : List ℕ) (f : Form) → text ≡ s ++ tail → EndsRow tail → Says Row s f → Says Row (pre ++ s) (change f)
 
-pub ready-front : (pre text : List ℕ) (change : Form → Form) → Fronts pre text change → (s behind : List ℕ) (row : Form) (rest : Option Form) → text ≡ s ++ behind → EndsRow behind → IsReady s (row, rest) → IsReady (pre ++ s) (change row, rest)
-ready-front pre text change put s behind row None e ends r = put s behind row e ends r
-ready-front pre text change put s behind row (Some rest) e ends r = record {
+pub ready-front : (pre text : List ℕ) (change : Form → Form) → Fronts pre text change → (s tail : List ℕ) (row : Form) (rest : Option Form) → text ≡ s ++ tail → EndsRow tail → IsReady s (row, rest) → IsReady (pre ++ s) (change row, rest)
+ready-front pre text change put s tail row None e ends r = put s tail row e ends r
+ready-front pre text change put s tail row (Some rest) e ends r = record {
   front = pre ++ r.front;
-  behind = r.behind;
-  joined = ap (λ x. pre ++ x) r.joined ∙ sym (append_assoc pre r.front (bar ∷ r.behind));
-  first = put r.front (bar ∷ (r.behind ++ behind)) row (e ∙ ap (λ x. x ++ behind) r.joined ∙ append_assoc r.front (bar ∷ r.behind) behind) (inl refl) r.first;
+  tail = r.tail;
+  joined = ap (λ x. pre ++ x) r.joined ∙ sym (append_assoc pre r.front (bar ∷ r.tail));
+  first = put r.front (bar ∷ (r.tail ++ tail)) row (e ∙ ap (λ x. x ++ tail) r.joined ∙ append_assoc r.front (bar ∷ r.tail) tail) (inl refl) r.first;
   second = r.second;
 }
 
 pub levels-front : (pre : List ℕ) (change : Form → Form) {d : ℕ} {text : List ℕ} {ls : List Level} → Levels d text ls → Fronts pre text change → Levels d (pre ++ text) (on_row change ls)
 levels-front pre change (last d text l r) put = last d (pre ++ text) (change l.0, l.1) (ready-front pre text change put text [] l.0 l.1 (sym (append-nil text)) tt r)
-levels-front pre change (above d text front behind l ls e r below) put =
-    above d (pre ++ text) (pre ++ front) behind (change l.0, l.1) ls (ap (λ x. pre ++ x) e ∙ sym (append_assoc pre front (close_group ∷ behind)))
-    (ready-front pre text change put front (close_group ∷ behind) l.0 l.1 e (inr refl) r) below
+levels-front pre change (above d text front tail l ls e r below) put =
+    above d (pre ++ text) (pre ++ front) tail (change l.0, l.1) ls (ap (λ x. pre ++ x) e ∙ sym (append_assoc pre front (close_group ∷ tail)))
+    (ready-front pre text change put front (close_group ∷ tail) l.0 l.1 e (inr refl) r) below
 
 pub levels-item : {d : ℕ} {text : List ℕ} {ls : List Level} (pre : List ℕ) (f : Form) → Says Item pre f → Levels d text ls → Levels d (pre ++ text) (with_item f ls)
-levels-item pre f i w = levels-front pre (Then f) w (λ s behind g e ends r. item pre s f g i r)
+levels-item pre f i w = levels-front pre (Then f) w (λ s tail g e ends r. item pre s f g i r)
 
 -- `#` and `~` before a row that is not empty
 abbrev pub OnFirst : ℕ → (Form → Form) → Kind → List ℕ → Form → Type 0
@@ -93,25 +93,25 @@ first-other (item s t f g i r) = λ l. item (tilde ∷ s) t (Other f) g (other s
 first-other (one t f r) = tt
 first-other (either s t f g r a) = tt
 
-pub some-front : (text s behind : List ℕ) → has_nothing (tokens_from Plain text) ≡ false → text ≡ s ++ behind → EndsRow behind → 0 < length s
-some-front text [] behind e j ends = let f : true ≡ false = sym (ap (λ x. has_nothing (tokens_from Plain x)) j ∙ ends-nothing behind ends) ∙ e in absurd cc
-some-front text (c ∷ s) behind e j ends = omega arith
+pub some-front : (text s tail : List ℕ) → has_nothing (tokens_from Plain text) ≡ false → text ≡ s ++ tail → EndsRow tail → 0 < length s
+some-front text [] tail e j ends = let f : true ≡ false = sym (ap (λ x. has_nothing (tokens_from Plain x)) j ∙ ends-nothing tail ends) ∙ e in absurd cc
+some-front text (c ∷ s) tail e j ends = omega arith
 
 -- a group at the beginning
 pub levels-group : {d : ℕ} {text : List ℕ} {ls : List Level} → Levels d text ls → (e : ℕ) → d ≡ e + 1 → closes 0 (tokens_from Plain text) ≡ true → Levels e (open_group ∷ text) (with_group ls)
 levels-group (last d text l r) e k c = let f : false ≡ true = sym (pattern-level text (whole_row l.0 l.1) (ready-says text l.0 l.1 r)) ∙ c in absurd cc
-levels-group (above d text front behind l ls j r below) e k c =
+levels-group (above d text front tail l ls j r below) e k c =
     let same : d ≡ e = omega (arith, k) in
     let P : List ℕ → Type 0 = λ t. Levels e t (with_group (l ∷ ls)) in
-    subst P (ap (λ x. open_group ∷ x) (append_assoc front (close_group ∷ []) behind ∙ sym j))
-    (levels-item (open_group ∷ front ++ close_group ∷ []) (whole_row l.0 l.1) (group front (whole_row l.0 l.1) (ready-says front l.0 l.1 r)) (subst (λ n. Levels n behind ls) same below))
+    subst P (ap (λ x. open_group ∷ x) (append_assoc front (close_group ∷ []) tail ∙ sym j))
+    (levels-item (open_group ∷ front ++ close_group ∷ []) (whole_row l.0 l.1) (group front (whole_row l.0 l.1) (ready-says front l.0 l.1 r)) (subst (λ n. Levels n tail ls) same below))
 
 -- a `|` at the beginning
 pub levels-bar : {d : ℕ} {text : List ℕ} {ls : List Level} → Levels d text ls → Levels d (bar ∷ text) (with_bar ls)
-levels-bar (last d text l r) = last d (bar ∷ text) (Empty, Some (whole_row l.0 l.1)) (record { front = []; behind = text; joined = refl; first = end; second = ready-says text l.0 l.1 r })
-levels-bar (above d text front behind l ls j r below) =
-    above d (bar ∷ text) (bar ∷ front) behind (Empty, Some (whole_row l.0 l.1)) ls (ap (λ x. bar ∷ x) j)
-    (record { front = []; behind = front; joined = refl; first = end; second = ready-says front l.0 l.1 r }) below
+levels-bar (last d text l r) = last d (bar ∷ text) (Empty, Some (whole_row l.0 l.1)) (record { front = []; tail = text; joined = refl; first = end; second = ready-says text l.0 l.1 r })
+levels-bar (above d text front tail l ls j r below) =
+    above d (bar ∷ text) (bar ∷ front) tail (Empty, Some (whole_row l.0 l.1)) ls (ap (λ x. bar ∷ x) j)
+    (record { front = []; tail = front; joined = refl; first = end; second = ready-says front l.0 l.1 r }) below
 
 -- what is left if a test found no fault
 pub by-none : (b : Bool) (place : ℕ) (x : Option ℕ) → (if b then Some place else x) ≡ None → (b ≡ false) × (x ≡ None)
@@ -146,10 +146,10 @@ build-step (at_any rest) n again l d place e = levels-item (question ∷ []) Any
 build-step (at_nothing rest) n again l d place e = levels-item (percent ∷ []) Empty nothing (again rest (omega (arith, l)) d (place + 1) e)
 build-step (at_many rest) n again l d place e =
     let w = by-none (has_nothing (tokens_from Plain rest)) place (fault_from d (place + 1) (tokens_from Plain rest)) e in
-    levels-front (hash ∷ []) item_many (again rest (omega (arith, l)) d (place + 1) w.1) (λ s behind f j ends r. first-many r (some-front rest s behind w.0 j ends))
+    levels-front (hash ∷ []) item_many (again rest (omega (arith, l)) d (place + 1) w.1) (λ s tail f j ends r. first-many r (some-front rest s tail w.0 j ends))
 build-step (at_other rest) n again l d place e =
     let w = by-none (has_nothing (tokens_from Plain rest)) place (fault_from d (place + 1) (tokens_from Plain rest)) e in
-    levels-front (tilde ∷ []) item_other (again rest (omega (arith, l)) d (place + 1) w.1) (λ s behind f j ends r. first-other r (some-front rest s behind w.0 j ends))
+    levels-front (tilde ∷ []) item_other (again rest (omega (arith, l)) d (place + 1) w.1) (λ s tail f j ends r. first-other r (some-front rest s tail w.0 j ends))
 build-step (at_bar rest) n again l d place e = levels-bar (again rest (omega (arith, l)) d (place + 1) e)
 build-step (at_open rest) n again l d place e =
     let w = by-none (not (closes 0 (tokens_from Plain rest))) place (fault_from (d + 1) (place + 1) (tokens_from Plain rest)) e in
@@ -165,7 +165,7 @@ build-all (suc n) text l d place e = build-step (view text) n (λ r. build-all n
 
 pub level-says : {d : ℕ} {text : List ℕ} {ls : List Level} → Levels d text ls → d ≡ 0 → IsPattern text (form_of_levels ls)
 level-says (last d text l r) e = ready-says text l.0 l.1 r
-level-says (above d text front behind l ls j r below) e = absurd (omega (arith, e))
+level-says (above d text front tail l ls j r below) e = absurd (omega (arith, e))
 
 -- a text without a fault is a pattern, and says what its tokens say
 pub kept-pattern : (text : List ℕ) → fault_from 0 0 (tokens_of text) ≡ None → IsPattern text (form_of_tokens (tokens_of text))

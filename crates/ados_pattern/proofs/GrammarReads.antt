@@ -27,8 +27,8 @@ pub record ReadsItem (text : List ℕ) (form : Form) : Type 0 where
 
 -- a row before a row
 abbrev pub row_before : Form → Form → Form
-row_before (Then i row) behind = Then i (row_before row behind)
-row_before form behind = behind
+row_before (Then i row) tail = Then i (row_before row tail)
+row_before form tail = tail
 
 pub record ReadsRow (text : List ℕ) (form : Form) : Type 0 where
   pub passes : Passes text (on_row (row_before form))
@@ -53,8 +53,8 @@ Reads Item text form = ReadsItem text form
 pub at-place : (d a b : ℕ) (ts : List Token) → a ≡ b → fault_from d a ts ≡ fault_from d b ts
 at-place d a b ts e = ap (λ p. fault_from d p ts) e
 
-pub no-fault : (b : Bool) (place : ℕ) (behind : Option ℕ) → b ≡ false → (if b then Some place else behind) ≡ behind
-no-fault b place behind e = if-false b (Some place) behind e
+pub no-fault : (b : Bool) (place : ℕ) (tail : Option ℕ) → b ≡ false → (if b then Some place else tail) ≡ tail
+no-fault b place tail e = if-false b (Some place) tail e
 
 pub reads-char : (c : ℕ) → is_sign c ≡ false → ReadsItem (c ∷ []) (Char c)
 reads-char c e = record {

@@ -68,11 +68,11 @@ chars-kept mode [] name e k = k
 chars-kept mode (c ∷ rest) name e k =
     let ts : List Token = tokens_from (next_mode mode c rest) rest in
     let first : to_ascii c ≡ c = first-kept c rest e in
-    let behind : map to_ascii rest ≡ rest = rest-kept c rest e in
+    let tail : map to_ascii rest ≡ rest = rest-kept c rest e in
     let P : Token → Type 0 = λ t. IsKept (chars_after name (t ∷ ts)) in
     elim (kind-of mode c rest) [
-      | inl s ↦ subst P (sym s) (chars-kept (next_mode mode c rest) rest name behind k)
-      | inr (inl s) ↦ subst P (sym s) (chars-kept (next_mode mode c rest) rest (name ++ c ∷ []) behind (kept-more name c k first))
+      | inl s ↦ subst P (sym s) (chars-kept (next_mode mode c rest) rest name tail k)
+      | inr (inl s) ↦ subst P (sym s) (chars-kept (next_mode mode c rest) rest (name ++ c ∷ []) tail (kept-more name c k first))
       | inr (inr s) ↦ subst IsKept (sym (s name ts)) tt
     ]
 

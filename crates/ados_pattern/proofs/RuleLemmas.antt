@@ -185,15 +185,15 @@ pub table-next : (Q : List ℕ → Type 0) (test : CharTest) (b : Table) (text :
 table-next Q test b text cells tb f = table-from (Next test b) (HasCut (λ s. is_one (test_of test) s ≡ true) Q) text cells f (record {
   sound = λ i j m l h.
       let here : has_test (test_of test) (byte_at text i) ≡ true = both-left (has_test (test_of test) (byte_at text i)) (cells_of b (i - 1) j) h in
-      let behind : cells_of b (i - 1) j ≡ true = both-right (has_test (test_of test) (byte_at text i)) (cells_of b (i - 1) j) h in
+      let tail : cells_of b (i - 1) j ≡ true = both-right (has_test (test_of test) (byte_at text i)) (cells_of b (i - 1) j) h in
       let some : 0 < i = no-byte (test_of test) text i here in
       let one : i - (i - 1) ≡ 1 = omega (arith, some) in
       record {
         front = piece text i (i - 1);
         rest = piece text (i - 1) j;
-        joined = piece-split text i (i - 1) j (tb.ordered (i - 1) j behind) (omega arith) m;
+        joined = piece-split text i (i - 1) j (tb.ordered (i - 1) j tail) (omega arith) m;
         first = ap (λ k. is_one (test_of test) (take k (drop (length text - i) text))) one ∙ one-at (test_of test) text (length text - i) ∙ here;
-        second = tb.sound (i - 1) j behind;
+        second = tb.sound (i - 1) j tail;
       };
   complete = λ i j m l p.
       let w : IsCutAt text i j p.front p.rest (j + length p.rest) = cut-at text i j p.front p.rest l m p.joined in

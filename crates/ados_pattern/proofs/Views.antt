@@ -78,7 +78,7 @@ pub data View : List ℕ → Type 0 where
 pub class-view : (rest : List ℕ) → IsWhole rest ⊎ IsOpen (tokens_from Begun rest) → View (open_class ∷ rest)
 class-view rest cut = elim cut [
   | inr o ↦ at_open_class rest o
-  | inl w ↦ subst (λ x. View (open_class ∷ x)) (sym w.joined) (at_class w.front w.behind w.kept (λ e. w.class (ap (λ x. is_bad_class false (tokens_from Begun x)) w.joined ∙ e)))
+  | inl w ↦ subst (λ x. View (open_class ∷ x)) (sym w.joined) (at_class w.front w.tail w.kept (λ e. w.class (ap (λ x. is_bad_class false (tokens_from Begun x)) w.joined ∙ e)))
 ]
 
 pub quote-view : (rest : List ℕ) → View (quote ∷ rest)

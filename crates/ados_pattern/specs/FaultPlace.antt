@@ -29,8 +29,8 @@ pub data IsFault : ℕ → Text → Type 0 where
   hanging_quote : (depth : ℕ) → IsFault depth (quote ∷ [])
   bare : (depth c : ℕ) (text : Text) → (c ≡ hash) ⊎ (c ≡ tilde) → EndsRow text → IsFault depth (c ∷ text)
   open_too_few : (text : Text) → IsFault 0 (close_group ∷ text)
-  open_for_ever : (depth : ℕ) (text : Text) → ((inner behind : Text) → text ≡ inner ++ close_group ∷ behind → Leads 0 inner 0 → ⊥) → IsFault depth (open_group ∷ text)
-  no_class : (depth : ℕ) (text : Text) → ((inner behind : Text) (f : Form) → text ≡ inner ++ close_class ∷ behind → IsClass inner f → ⊥) → IsFault depth (open_class ∷ text)
+  open_for_ever : (depth : ℕ) (text : Text) → ((inner tail : Text) → text ≡ inner ++ close_group ∷ tail → Leads 0 inner 0 → ⊥) → IsFault depth (open_group ∷ text)
+  no_class : (depth : ℕ) (text : Text) → ((inner tail : Text) (f : Form) → text ≡ inner ++ close_class ∷ tail → IsClass inner f → ⊥) → IsFault depth (open_class ∷ text)
 
 -- there is a fault at the place
 pub record FaultAt (text : Text) (place : ℕ) : Type 0 where

@@ -1,6 +1,6 @@
 // A launcher for a world in which children may be open.
 ghost use Rattle.std.specs.Prelude.{◌≡◌, ◌≢◌, ◌<◌, ℕ, IfOk, OnOk};
-ghost use Rattle.ados_launcher.specs.Lives.{Between, InReads, BehindReads, life_for_state, life_of};
+ghost use Rattle.ados_launcher.specs.Lives.{Between, InReads, AfterReads, life_for_state, life_of};
 ghost use Rattle.ados_launch.specs.Agreement.{Agrees};
 
 use crate::lines::answer_of;
@@ -90,7 +90,7 @@ fn start(alloc: Global, launcher: &mut Listed, number: u8) -> Result<(), NoMemor
 fn end_reads(launcher: &mut Listed, number: u8) -> Result<(), NoMemory>
     requires number { number < 21 }
     requires reading { life_of number launcher.old.calls ≡ InReads }
-    ensures own { OnOk result (life_of number launcher.new.calls ≡ BehindReads) }
+    ensures own { OnOk result (life_of number launcher.new.calls ≡ AfterReads) }
     ensures others { OnOk result ((k : ℕ) → k ≢ number → life_of k launcher.new.calls ≡ life_of k launcher.old.calls) }
 {
     match launcher.read(number) {

@@ -58,7 +58,7 @@ pub fn push_system(
         Ok(end) => Some(end),
         Err(fault) => {
             push_fault(text, &fault)?;
-            end_behind(alloc, world, order, fault, &mut left, &mut printed)?
+            end_after(alloc, world, order, fault, &mut left, &mut printed)?
         }
     };
     push_lines(text, b"", printed.as_slice())?;
@@ -116,7 +116,7 @@ fn push_left(text: &mut Vec<u8>, left: &Left) -> Result<(), NoMemory> {
 
 // How a line ends that was stopped by a fault: if an allocation failed its shell goes on by steps, from what the fault
 // gives, with the answers of the texts that are left.
-fn end_behind(
+fn end_after(
     alloc: Global,
     world: &mut World,
     order: &Order,

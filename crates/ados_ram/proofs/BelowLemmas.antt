@@ -13,7 +13,7 @@ use Rattle.ados_ram.specs.Files.{Rows}
 use Rattle.ados_ram.specs.Contents.{put_after_contents, contents}
 use Rattle.ados_ram.specs.Tree.{Kid, Kids, IsSubtree, AllSubtrees, AreKids, rows_under_name, flatten, rows_of, subtree_rows, with_way, places_of_ways}
 use Rattle.ados_ram.proofs.RowsLemmas.{first, second}
-use Rattle.ados_ram.proofs.RenameLemmas.{behind-exact}
+use Rattle.ados_ram.proofs.RenameLemmas.{after-exact}
 use Rattle.ados_ram.proofs.TreeLemmas.{holds}
 use Rattle.ados_ram.proofs.WalkLemmas.{IsTop, is_top}
 
@@ -23,12 +23,12 @@ less Equal p = absurd p
 less Greater p = absurd p
 
 -- two paths from one place
-behind-same : (key w q : Key) → path_below (key ++ w) (key ++ q) ≡ path_below w q
-behind-same [] w q = refl
-behind-same (n ∷ ns) w q = ap (λ o. cond (is_eq o) (path_below (ns ++ w) (ns ++ q)) None) (tied_itself name_cmp_total n) ∙ behind-same ns w q
+after-same : (key w q : Key) → path_below (key ++ w) (key ++ q) ≡ path_below w q
+after-same [] w q = refl
+after-same (n ∷ ns) w q = ap (λ o. cond (is_eq o) (path_below (ns ++ w) (ns ++ q)) None) (tied_itself name_cmp_total n) ∙ after-same ns w q
 
 below-same : (key w q : Key) → is_below (key ++ w) (key ++ q) ≡ is_below w q
-below-same key w q = ap has_names (behind-same key w q)
+below-same key w q = ap has_names (after-same key w q)
 
 put-ways : (key w : Key) (ws rest : List Key) → put_after_contents (key ++ w) rest ≡ (key ++ w) ∷ rest → put_after_contents (key ++ w) (places_of_ways key ws ++ rest) ≡ places_of_ways key (put_after_contents w ws) ++ rest
 put-ways key w [] rest h = h
@@ -53,7 +53,7 @@ contents-from key (e ∷ es) =
       | Some w ↦ λ p.
           elim (has_names (Some w)) as (λ b. cond b (put_after_contents e.0 (contents key es)) (contents key es) ≡ places_of_ways key (cond b (put_after_contents w (contents [] (subtree_rows key es))) (contents [] (subtree_rows key es)))) [
             | true ↦
-                ap (λ (q : Key). put_after_contents q (contents key es)) (behind-exact key e.0 w p) ∙ ap (put_after_contents (key ++ w)) (next ∙ sym (append-nil (places_of_ways key (contents [] (subtree_rows key es)))))
+                ap (λ (q : Key). put_after_contents q (contents key es)) (after-exact key e.0 w p) ∙ ap (put_after_contents (key ++ w)) (next ∙ sym (append-nil (places_of_ways key (contents [] (subtree_rows key es)))))
                 ∙ put-ways key w (contents [] (subtree_rows key es)) [] refl ∙ append-nil (places_of_ways key (put_after_contents w (contents [] (subtree_rows key es))))
             | false ↦ next
           ]

@@ -136,15 +136,15 @@ after_at x ((k ∷ ks) ∷ bs) zero s f h =
     not_le Greater p = refl
 after_at x (b ∷ bs) (suc i) s f h = after_at x bs i (sorted-back b (all_kids bs) s) f.1 (λ k d p q. h (suc k) d (omega arith) (omega arith))
 
-drop-behind : (x : Name) (bs : List Kids) → T (below_all name_cmp x (all_kids bs)) → T (below_all name_cmp x (all_kids (drop 1 bs)))
-drop-behind x [] h = tt
-drop-behind x (b ∷ bs) h = below-back x b (all_kids bs) h
+drop-after : (x : Name) (bs : List Kids) → T (below_all name_cmp x (all_kids bs)) → T (below_all name_cmp x (all_kids (drop 1 bs)))
+drop-after x [] h = tt
+drop-after x (b ∷ bs) h = below-back x b (all_kids bs) h
 
 -- the block before the first that begins after the name
 pub parted : (x : Name) (bs : List Kids) (i : ℕ) → AreBlocks bs → i ≤ length bs → IsPartitionPoint (λ b. first_is_at_most x b ≡ true) (λ b. first_is_at_most x b ≡ false) bs i → IsBlockOf x bs (i - 1)
 parted x bs zero are l p =
     let e : 0 ≡ zero - 1 = omega arith in
-    subst (λ (j : ℕ). IsBlockOf x bs j) e (record { before = tt; after = is_true _ (drop-behind x bs (after_at x bs 0 (holds _ are.sorted) are.full p.1)) })
+    subst (λ (j : ℕ). IsBlockOf x bs j) e (record { before = tt; after = is_true _ (drop-after x bs (after_at x bs 0 (holds _ are.sorted) are.full p.1)) })
 parted x bs (suc i) are l p =
     let e : i ≡ suc i - 1 = omega arith in
     let n : suc i ≡ i + 1 = omega arith in
@@ -244,9 +244,9 @@ none-left : (bs : List Kids) → length bs ≡ 0 → bs ≡ []
 none-left [] e = refl
 none-left (b ∷ bs) e = absurd (omega arith)
 
-pub changed_behind : (x : Name) (new : Option Kid) (bs front rest : List Kids) (i : ℕ) (out : Kids) (made : List Kids) → IsBlockOf x bs i → front ≡ take i bs → rest ≡ drop i bs → length rest ≡ 0
+pub changed_after : (x : Name) (new : Option Kid) (bs front rest : List Kids) (i : ℕ) (out : Kids) (made : List Kids) → IsBlockOf x bs i → front ≡ take i bs → rest ≡ drop i bs → length rest ≡ 0
     → out ≡ replace_kid x new [] → all_kids made ≡ all_kids front ++ out → all_kids made ≡ replace_kid x new (all_kids bs)
-changed_behind x new bs front rest i out made at f d l o m =
+changed_after x new bs front rest i out made at f d l o m =
     let e : drop i bs ≡ [] = sym d ∙ none-left rest l in
     let whole : bs ≡ take i bs = sym (take-append-drop i bs) ∙ ap (λ (t : List Kids). take i bs ++ t) e ∙ append-nil (take i bs) in
     let own : all_kids bs ≡ all_kids (take i bs) ++ [] = ap all_kids whole ∙ sym (append-nil (all_kids (take i bs))) in

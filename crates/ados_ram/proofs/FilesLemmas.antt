@@ -128,10 +128,10 @@ abbrev pub nothing : Option Entry
 nothing = None
 
 -- the path from a place to that place followed by more
-pub behind-append : (place way : List (List ℕ)) → path_below place (place ++ way) ≡ Some way
-behind-append [] way = refl
-behind-append (n ∷ ns) way =
-    ap (λ b. cond b (path_below ns (ns ++ way)) None) ((eq_by_cmp_equiv name_cmp_total).refl n) ∙ behind-append ns way
+pub after-append : (place way : List (List ℕ)) → path_below place (place ++ way) ≡ Some way
+after-append [] way = refl
+after-append (n ∷ ns) way =
+    ap (λ b. cond b (path_below ns (ns ++ way)) None) ((eq_by_cmp_equiv name_cmp_total).refl n) ∙ after-append ns way
 
 -- the bits of a new file do not affect the sizes
 same_total : (m : Files) (key : List (List ℕ)) (name bytes : List ℕ) (bits : Bits) → total_of (map.entries (write_of m key name bytes)) ≡ total_of (map.entries (write_as_of m key name bytes bits))
@@ -235,7 +235,7 @@ no_root_left m (n ∷ ns) h d = d
 
 nothing_in : (m : Files) (key place : List (List ℕ)) (name : List ℕ) (rest : List (List ℕ)) → has_descendants key (map.entries m) ≡ false → place ≡ key → IsSome (map.get m (place ++ name ∷ rest)) → ⊥
 nothing_in m key place name rest empty t g =
-    let way : is_below place (place ++ name ∷ rest) ≡ true = ap has_names (behind-append place (name ∷ rest)) in
+    let way : is_below place (place ++ name ∷ rest) ≡ true = ap has_names (after-append place (name ∷ rest)) in
     let below : is_below key (place ++ name ∷ rest) ≡ true = subst (λ (k : List (List ℕ)). is_below k (place ++ name ∷ rest) ≡ true) t way in
     clash (subst (λ (o : Option Entry). IsSome o) (get-entries m (place ++ name ∷ rest) ∙ has_descendants-there key (place ++ name ∷ rest) (map.entries m) empty below) g)
 

@@ -9,9 +9,9 @@ use Rattle.ados_ram.specs.InUse.{InUse}
 use Rattle.ados_ram.specs.Files.{Files, IsTree, is_some_directory}
 use Rattle.ados_ram.specs.FileOperations.{way_fault, write_target_fault, write_fault, free_fault, make_dir_fault, has_descendants, delete_target_fault, delete_fault, rename_target_fault, rename_fault}
 use Rattle.ados_ram.specs.Tree.{key_above, MayMove}
-use Rattle.ados_ram.proofs.FilesLemmas.{same, clash, or_first, or_second, way_clear, behind-append, no_directory, CanDelete, can_delete}
-use Rattle.ados_ram.proofs.RenameLemmas.{CanMove, false_of, behind-exact}
-use Rattle.ados_ram.proofs.RenamedFiles.{IsAbove, can_move, within_from, some_of, no_root_behind}
+use Rattle.ados_ram.proofs.FilesLemmas.{same, clash, or_first, or_second, way_clear, after-append, no_directory, CanDelete, can_delete}
+use Rattle.ados_ram.proofs.RenameLemmas.{CanMove, false_of, after-exact}
+use Rattle.ados_ram.proofs.RenamedFiles.{IsAbove, can_move, within_from, some_of, no_root_after}
 
 above_of : (key : Key) → is_root key ≡ false → IsAbove (key_above key) key
 above_of [] h = clash (sym h)
@@ -106,6 +106,6 @@ may_move busy m from to files e =
         elim (path_below from (key_above to)) as (λ o. path_below from (key_above to) ≡ o → ⊥) [
           | None ↦ λ p. clash (sym (ap is_some p) ∙ h)
           | Some w ↦ λ p.
-              let is : to ≡ from ++ (w ++ a.name ∷ a.rest) = a.is ∙ ap (λ (q : Key). q ++ a.name ∷ a.rest) (behind-exact from (key_above to) w p) ∙ append_assoc from w (a.name ∷ a.rest) in
-              clash (sym out ∙ ap has_names (ap (path_below from) is ∙ behind-append from (w ++ a.name ∷ a.rest)) ∙ no_root_behind w a.name a.rest)
+              let is : to ≡ from ++ (w ++ a.name ∷ a.rest) = a.is ∙ ap (λ (q : Key). q ++ a.name ∷ a.rest) (after-exact from (key_above to) w p) ∙ append_assoc from w (a.name ∷ a.rest) in
+              clash (sym out ∙ ap has_names (ap (path_below from) is ∙ after-append from (w ++ a.name ∷ a.rest)) ∙ no_root_after w a.name a.rest)
         ] refl

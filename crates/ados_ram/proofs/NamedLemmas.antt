@@ -18,9 +18,9 @@ use Rattle.ados_ram.specs.InUse.{InUse}
 use Rattle.ados_ram.specs.Renames.{HasMoved, entry_with_name}
 use Rattle.ados_ram.proofs.ChangeLemmas.{last-deeper}
 use Rattle.ados_ram.proofs.ContentsLaws.{key-twice}
-use Rattle.ados_ram.proofs.FilesLemmas.{behind-append, nothing, same}
+use Rattle.ados_ram.proofs.FilesLemmas.{after-append, nothing, same}
 use Rattle.ados_ram.proofs.MoveLemmas.{renames-move}
-use Rattle.ados_ram.proofs.RenameLemmas.{behind-exact}
+use Rattle.ados_ram.proofs.RenameLemmas.{after-exact}
 
 -- the last name of a key
 last-folded : (place : Place) → last_name (key_of place) ≡ folded_text (last_name place)
@@ -28,10 +28,10 @@ last-folded [] = refl
 last-folded (x ∷ []) = refl
 last-folded (x ∷ y ∷ ys) = last-deeper (folded_text x) (folded_text y) (key_of ys) ∙ (last-folded (y ∷ ys) ∙ ap folded_text (sym (last-deeper x y ys)))
 
-last-behind : (above : Key) (first : Name) (way : Key) → last_name (above ++ first ∷ way) ≡ last_name (first ∷ way)
-last-behind [] first way = refl
-last-behind (x ∷ []) first way = last-deeper x first way
-last-behind (x ∷ y ∷ ys) first way = last-deeper x y (ys ++ first ∷ way) ∙ last-behind (y ∷ ys) first way
+last-after : (above : Key) (first : Name) (way : Key) → last_name (above ++ first ∷ way) ≡ last_name (first ∷ way)
+last-after [] first way = refl
+last-after (x ∷ []) first way = last-deeper x first way
+last-after (x ∷ y ∷ ys) first way = last-deeper x y (ys ++ first ∷ way) ∙ last-after (y ∷ ys) first way
 
 -- an object under the last name of its place
 by-place : (place : Place) (e : Entry) → e.name ≡ last_name place → IsNamedBy (key_of place) e
@@ -111,10 +111,10 @@ moved-below from to first way e it =
     let all : key_of from ++ key_of deep ≡ key_of from ++ deep =
     ap (λ k. k ++ key_of deep) (sym (key-twice from)) ∙ sym (map-append folded_text (key_of from) deep) ∙ it.folded_key in
     let ways : key_of deep ≡ deep =
-    same-way (key_of deep) deep (sym (behind-append (key_of from) (key_of deep)) ∙ ap (path_below (key_of from)) all ∙ behind-append (key_of from) deep) in
+    same-way (key_of deep) deep (sym (after-append (key_of from) (key_of deep)) ∙ ap (path_below (key_of from)) all ∙ after-append (key_of from) deep) in
     record {
       folded_key = map-append folded_text (key_of to) deep ∙ ap (λ k. k ++ key_of deep) (key-twice to) ∙ ap (λ w. key_of to ++ w) ways;
-      own = it.own ∙ last-behind (key_of from) first way ∙ sym (last-behind (key_of to) first way);
+      own = it.own ∙ last-after (key_of from) first way ∙ sym (last-after (key_of to) first way);
     }
 
 moved-to : (files : Files) (from to : Place) (new : Files) → AreNamed files → HasMoved (key_of from) (key_of to) (last_name to) files new →
@@ -138,7 +138,7 @@ rename-named busy files from to tree clear are key e h =
     let moves = renames-move busy files (key_of from) (key_of to) (last_name to) tree clear in
     elim (path_below (key_of to) key) as (λ o. path_below (key_of to) key ≡ o → IsNamedBy key e) [
       | Some way ↦ λ p.
-          let is : key ≡ key_of to ++ way = behind-exact (key_of to) key way p in
+          let is : key ≡ key_of to ++ way = after-exact (key_of to) key way p in
           subst (λ k. IsNamedBy k e) (sym is) (moved-to files from to new are moves way e (ap (map.get new) (sym is) ∙ h))
       | None ↦ λ p. moved-out files from to new are moves key e (is_at_or_below (key_of from) key) refl (ap is_some p) h
     ] refl

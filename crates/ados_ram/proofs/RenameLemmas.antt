@@ -11,7 +11,7 @@ use Rattle.ados_ram.specs.Place.{place_cmp, place_cmp_total, is_same_key, is_roo
 use Rattle.ados_ram.specs.Entry.{size_of, renamed_entry}
 use Rattle.ados_ram.specs.Files.{Files, Rows, is_some_directory, entry_bytes, total_of}
 use Rattle.ados_ram.specs.FileOperations.{moved_row, moved_rows, rename_of}
-use Rattle.ados_ram.proofs.FilesLemmas.{equal, same, clash, nothing, behind-append}
+use Rattle.ados_ram.proofs.FilesLemmas.{equal, same, clash, nothing, after-append}
 
 pub same_way : (a b : List (List ℕ)) → Some a ≡ Some b → a ≡ b
 same_way a b e = ap (λ (o : Option (List (List ℕ))). unwrap_or o a) e
@@ -27,22 +27,22 @@ pub cons : {A : Type 0} (x y : A) (xs ys : List A) → x ≡ y → xs ≡ ys →
 cons x y xs ys e f = ap (λ z. z ∷ xs) e ∙ ap (λ zs. y ∷ zs) f
 
 -- a place is the directory followed by the path from it
-pub behind-exact : (place q way : List (List ℕ)) → path_below place q ≡ Some way → q ≡ place ++ way
-behind-exact [] q way e = same_way q way e
-behind-exact (n ∷ ns) [] way e = cc
-behind-exact (n ∷ ns) (x ∷ xs) way e =
+pub after-exact : (place q way : List (List ℕ)) → path_below place q ≡ Some way → q ≡ place ++ way
+after-exact [] q way e = same_way q way e
+after-exact (n ∷ ns) [] way e = cc
+after-exact (n ∷ ns) (x ∷ xs) way e =
     elim (is_eq (name_cmp n x)) as (λ b. is_eq (name_cmp n x) ≡ b → cond b (path_below ns xs) None ≡ Some way → x ∷ xs ≡ n ∷ (ns ++ way)) [
-      | true ↦ λ t g. cons x n xs (ns ++ way) (sym (name_cmp_exact n x (equal (name_cmp n x) t))) (behind-exact ns xs way g)
+      | true ↦ λ t g. cons x n xs (ns ++ way) (sym (name_cmp_exact n x (equal (name_cmp n x) t))) (after-exact ns xs way g)
       | false ↦ λ t g. cc
     ] refl e
 
 -- paths from the same directory are equal just if their places are
-pub same_behind : (place a b : List (List ℕ)) → is_same_key (place ++ a) (place ++ b) ≡ is_same_key a b
-same_behind place a b =
+pub same_after : (place a b : List (List ℕ)) → is_same_key (place ++ a) (place ++ b) ≡ is_same_key a b
+same_after place a b =
     elim (is_same_key a b) as (λ t. is_same_key a b ≡ t → is_same_key (place ++ a) (place ++ b) ≡ t) [
       | true ↦ λ t. subst (λ (w : List (List ℕ)). is_same_key (place ++ a) (place ++ w) ≡ true) (same a b t) (self (place ++ a))
       | false ↦ λ t. false_of _ (λ h.
-          let e : a ≡ b = same_way a b (sym (behind-append place a) ∙ ap (path_below place) (same (place ++ a) (place ++ b) h) ∙ behind-append place b) in
+          let e : a ≡ b = same_way a b (sym (after-append place a) ∙ ap (path_below place) (same (place ++ a) (place ++ b) h) ∙ after-append place b) in
           clash (sym t ∙ subst (λ (w : List (List ℕ)). is_same_key a w ≡ true) e (self a)))
     ] refl
 
@@ -57,7 +57,7 @@ pub here : (e : List (List ℕ) × Entry) (es : Rows) → IsSome (find place_cmp
 here e es = subst (λ (b : Bool). IsSome (cond b (Some e.1) (find place_cmp e.0 es))) (sym (self e.0)) refl
 
 pub at_or_below : (place way k : List (List ℕ)) → k ≡ place ++ way → is_at_or_below place k ≡ true
-at_or_below place way k e = ap is_some (ap (path_below place) e ∙ behind-append place way)
+at_or_below place way k e = ap is_some (ap (path_below place) e ∙ after-append place way)
 
 -- what is found at the places that things moved to
 pub find-moved_in : (from to : List (List ℕ)) (name : List ℕ) (es : Rows) (way : List (List ℕ)) → Within to from es
@@ -72,8 +72,8 @@ find-moved_in from to name (e ∷ es) way within =
           ap (λ b. cond b (Some e.1) (find place_cmp (to ++ way) (moved_rows from to name es))) no_to ∙ rest
           ∙ ap (λ b. option_map (renamed_entry name way) (cond b (Some e.1) (find place_cmp (from ++ way) es))) (sym no_from)
       | Some w ↦ λ p.
-          let from_way : is_same_key (from ++ way) e.0 ≡ is_same_key way w = ap (is_same_key (from ++ way)) (behind-exact from e.0 w p) ∙ same_behind from way w in
-          ap (λ b. cond b (Some (renamed_entry name w e.1)) (find place_cmp (to ++ way) (moved_rows from to name es))) (same_behind to way w)
+          let from_way : is_same_key (from ++ way) e.0 ≡ is_same_key way w = ap (is_same_key (from ++ way)) (after-exact from e.0 w p) ∙ same_after from way w in
+          ap (λ b. cond b (Some (renamed_entry name w e.1)) (find place_cmp (to ++ way) (moved_rows from to name es))) (same_after to way w)
           ∙ elim (is_same_key way w) as (λ b. is_same_key way w ≡ b → cond b (Some (renamed_entry name w e.1)) (find place_cmp (to ++ way) (moved_rows from to name es)) ≡ option_map (renamed_entry name way) (cond b (Some e.1) (find place_cmp (from ++ way) es))) [
             | true ↦ λ t. ap (λ (x : List (List ℕ)). Some (renamed_entry name x e.1)) (sym (same way w t))
             | false ↦ λ t. rest

@@ -13,8 +13,8 @@ use Rattle.ados_ram.specs.InUse.{InUse, holds_output}
 use Rattle.ados_ram.specs.Files.{Files, Rows, IsTree, is_some_directory, entry_bytes, total_of, file_limit, bytes_limit, objects_limit}
 use Rattle.ados_ram.specs.FileOperations.{way_fault, moved_rows, rename_of, rename_target_fault, rename_fault}
 use Rattle.ados_ram.proofs.RowsLemmas.{sorted_of, AreRowsOf, own_rows, entries_rows, renamed_rows, total-sorted_of, length-sorted_of}
-use Rattle.ados_ram.proofs.FilesLemmas.{same, way_clear, or_first, or_second, clash, nothing, behind-append}
-use Rattle.ados_ram.proofs.RenameLemmas.{same_way, false_of, cons, behind-exact, Within, at_or_below, get-moved_in, get-moved_out, bytes-renamed, kind-renamed, there-renamed, total-moved_rows, length-moved_rows, CanMove, Tests}
+use Rattle.ados_ram.proofs.FilesLemmas.{same, way_clear, or_first, or_second, clash, nothing, after-append}
+use Rattle.ados_ram.proofs.RenameLemmas.{same_way, false_of, cons, after-exact, Within, at_or_below, get-moved_in, get-moved_out, bytes-renamed, kind-renamed, there-renamed, total-moved_rows, length-moved_rows, CanMove, Tests}
 
 by_tests : (held root below there same : Bool) → cond (held || root || below) (Some OBJECT_IN_USE) (cond (there && not same) (Some OBJECT_EXISTS) None) ≡ None → Tests root below there same
 by_tests true root below there same h = cc
@@ -41,7 +41,7 @@ within_from m from to files free k there at =
       | true ↦ λ t. subst (λ (d : List (List ℕ)). is_at_or_below d k ≡ true) (sym (same from to t)) at
       | false ↦ λ t. elim (path_below to k) as (λ o. path_below to k ≡ o → is_at_or_below from k ≡ true) [
         | None ↦ λ p. clash (sym (ap is_some p) ∙ at)
-        | Some way ↦ λ p. clash (sym t ∙ free (taken way (subst (λ (q : List (List ℕ)). IsSome (map.get m q)) (behind-exact to k way p) (subst (λ (o : Option Entry). IsSome o) (sym (get-entries m k)) there))))
+        | Some way ↦ λ p. clash (sym t ∙ free (taken way (subst (λ (q : List (List ℕ)). IsSome (map.get m q)) (after-exact to k way p) (subst (λ (o : Option Entry). IsSome o) (sym (get-entries m k)) there))))
       ] refl
     ] refl
   where
@@ -71,9 +71,9 @@ is_above (p ∷ ps) (t ∷ ts) way tail e out =
     let above = is_above ps ts way tail (tails p t (ps ++ tail) (ts ++ way) e) (sym (ap (λ b. cond b (path_below ts ps) None) equal_names) ∙ out) in
     record { name = above.name; rest = above.rest; is = cons t p ts (ps ++ above.name ∷ above.rest) (sym h) above.is }
 
-pub no_root_behind : (w : List (List ℕ)) (n : List ℕ) (rest : List (List ℕ)) → not (is_root (w ++ n ∷ rest)) ≡ true
-no_root_behind [] n rest = refl
-no_root_behind (x ∷ xs) n rest = refl
+pub no_root_after : (w : List (List ℕ)) (n : List ℕ) (rest : List (List ℕ)) → not (is_root (w ++ n ∷ rest)) ≡ true
+no_root_after [] n rest = refl
+no_root_after (x ∷ xs) n rest = refl
 
 -- a directory stays one if it is not moved
 dir_out : (m : Files) (from to : List (List ℕ)) (name : List ℕ) (place : List (List ℕ)) → path_below to place ≡ None → is_at_or_below from place ≡ false → IsTrue (is_some_directory (map.get m place)) → IsTrue (is_some_directory (map.get (rename_of m from to name) place))
@@ -86,9 +86,9 @@ above_in : (m : Files) (from to : List (List ℕ)) (name : List ℕ) (place : Li
 above_in m from to name place n rest way files within clear not_below e there =
     elim (path_below to place) as (λ o. path_below to place ≡ o → IsTrue (is_some_directory (map.get (rename_of m from to name) place))) [
       | Some w ↦ λ p.
-          let is : place ≡ to ++ w = behind-exact to place w p in
+          let is : place ≡ to ++ w = after-exact to place w p in
           let all : to ++ (w ++ n ∷ rest) ≡ to ++ way = sym (append_assoc to w (n ∷ rest)) ∙ ap (λ q. q ++ n ∷ rest) (sym is) ∙ e in
-          let ways : way ≡ w ++ n ∷ rest = same_way way (w ++ n ∷ rest) (sym (behind-append to way) ∙ ap (path_below to) (sym all) ∙ behind-append to (w ++ n ∷ rest)) in
+          let ways : way ≡ w ++ n ∷ rest = same_way way (w ++ n ∷ rest) (sym (after-append to way) ∙ ap (path_below to) (sym all) ∙ after-append to (w ++ n ∷ rest)) in
           let old : IsSome (map.get m ((from ++ w) ++ n ∷ rest)) = subst (λ (q : List (List ℕ)). IsSome (map.get m q)) (ap (λ v. from ++ v) ways ∙ sym (append_assoc from w (n ∷ rest))) there in
           let dir : IsTrue (is_some_directory (map.get m (from ++ w))) = files.above (from ++ w) n rest old in
           subst (λ (q : List (List ℕ)). IsTrue (is_some_directory (map.get (rename_of m from to name) q))) (sym is)
@@ -104,8 +104,8 @@ above_in m from to name place n rest way files within clear not_below e there =
         elim (path_below from place) as (λ o. path_below from place ≡ o → ⊥) [
           | None ↦ λ p. clash (sym (ap is_some p) ∙ h)
           | Some w ↦ λ p.
-              let is : to ≡ from ++ (w ++ above.name ∷ above.rest) = above.is ∙ ap (λ q. q ++ above.name ∷ above.rest) (behind-exact from place w p) ∙ append_assoc from w (above.name ∷ above.rest) in
-              let below : is_below from to ≡ true = ap has_names (ap (path_below from) is ∙ behind-append from (w ++ above.name ∷ above.rest)) ∙ no_root_behind w above.name above.rest in
+              let is : to ≡ from ++ (w ++ above.name ∷ above.rest) = above.is ∙ ap (λ q. q ++ above.name ∷ above.rest) (after-exact from place w p) ∙ append_assoc from w (above.name ∷ above.rest) in
+              let below : is_below from to ≡ true = ap has_names (ap (path_below from) is ∙ after-append from (w ++ above.name ∷ above.rest)) ∙ no_root_after w above.name above.rest in
               clash (sym not_below ∙ below)
         ] refl
 
@@ -114,7 +114,7 @@ none_above : (directory place : List (List ℕ)) (n : List ℕ) (rest : List (Li
 none_above directory place n rest h = false_of _ (λ t.
     elim (path_below directory place) as (λ o. path_below directory place ≡ o → ⊥) [
       | None ↦ λ p. clash (sym (ap is_some p) ∙ t)
-      | Some w ↦ λ p. clash (sym h ∙ at_or_below directory (w ++ n ∷ rest) (place ++ n ∷ rest) (ap (λ q. q ++ n ∷ rest) (behind-exact directory place w p) ∙ append_assoc directory w (n ∷ rest)))
+      | Some w ↦ λ p. clash (sym h ∙ at_or_below directory (w ++ n ∷ rest) (place ++ n ∷ rest) (ap (λ q. q ++ n ∷ rest) (after-exact directory place w p) ∙ append_assoc directory w (n ∷ rest)))
     ] refl)
 
 pub none_of : (o : Option (List (List ℕ))) → is_some o ≡ false → o ≡ None
@@ -142,7 +142,7 @@ sizes_stay m from to name place files within =
     elim (path_below to place) as (λ o. path_below to place ≡ o → length (entry_bytes (map.get (rename_of m from to name) place)) ≤ file_limit) [
       | Some w ↦ λ p.
           let e : length (entry_bytes (map.get (rename_of m from to name) place)) ≡ length (entry_bytes (map.get m (from ++ w))) =
-          ap (λ q. length (entry_bytes (map.get (rename_of m from to name) q))) (behind-exact to place w p)
+          ap (λ q. length (entry_bytes (map.get (rename_of m from to name) q))) (after-exact to place w p)
           ∙ ap (λ o. length (entry_bytes o)) (get-moved_in m from to name w within) ∙ bytes-renamed name w (map.get m (from ++ w)) in
           subst (λ (k : ℕ). k ≤ file_limit) (sym e) (files.each_file (from ++ w))
       | None ↦ λ p. subst (λ (o : Option Entry). length (entry_bytes o) ≤ file_limit) (sym (get-moved_out m from to name place p))
@@ -164,7 +164,7 @@ renamed_files {m} busy from to name files e =
       above = λ place n rest h.
           elim (path_below to (place ++ n ∷ rest)) as (λ o. path_below to (place ++ n ∷ rest) ≡ o → IsTrue (is_some_directory (map.get (rename_of m from to name) place))) [
             | Some way ↦ λ p.
-                let is : place ++ n ∷ rest ≡ to ++ way = behind-exact to (place ++ n ∷ rest) way p in
+                let is : place ++ n ∷ rest ≡ to ++ way = after-exact to (place ++ n ∷ rest) way p in
                 above_in m from to name place n rest way files within clear can.not_below is
                 (there-renamed name way (map.get m (from ++ way)) (subst (λ (o : Option Entry). IsSome o) (ap (map.get (rename_of m from to name)) is ∙ get-moved_in m from to name way within) h))
             | None ↦ λ p. above_out m from to name place n rest files p (subst (λ (o : Option Entry). IsSome o) (get-moved_out m from to name (place ++ n ∷ rest) p) h)

@@ -14,7 +14,7 @@ use Rattle.ados_ram.specs.Files.{Files, OthersStay}
 use Rattle.ados_ram.specs.FileOperations.{append_of, is_put, put_open_of, rename_of, with_entry_changed, protect_of, comment_of}
 use Rattle.ados_ram.specs.Entry.{with_bits, with_comment}
 use Rattle.ados_ram.proofs.FilesLemmas.{clash, nothing, same}
-use Rattle.ados_ram.proofs.RenameLemmas.{at_or_below, behind-exact, false_of, get-moved_out}
+use Rattle.ados_ram.proofs.RenameLemmas.{at_or_below, after-exact, false_of, get-moved_out}
 use Rattle.ados_ram.proofs.RenamedFiles.{none_of}
 use Rattle.ados_ram.proofs.ContentsLaws.{key-twice}
 
@@ -60,7 +60,7 @@ pub none-below : (to names : Place) (key : Key) → is_at_or_below (key_of to) k
 none-below to names key out = false_of _ (λ h.
     elim (path_below (key_of (to ++ names)) key) as (λ o. path_below (key_of (to ++ names)) key ≡ o → ⊥) [
       | None ↦ λ p. clash (sym (ap is_some p) ∙ h)
-      | Some way ↦ λ p. clash (sym out ∙ at_or_below (key_of to) (key_of names ++ way) key (behind-exact (key_of (to ++ names)) key way p ∙ ap (λ q. q ++ way) (map-append folded_text to names) ∙ append_assoc (key_of to) (key_of names) way))
+      | Some way ↦ λ p. clash (sym out ∙ at_or_below (key_of to) (key_of names ++ way) key (after-exact (key_of (to ++ names)) key way p ∙ ap (λ q. q ++ way) (map-append folded_text to names) ∙ append_assoc (key_of to) (key_of names) way))
     ] refl)
 
 pub place-outside : (to names : Place) (key : Key) → is_at_or_below (key_of to) key ≡ false → is_same_key (key_of (to ++ names)) key ≡ false
@@ -71,5 +71,5 @@ pub contents-outside : (place q : Place) (key : Key) → is_below (key_of place)
 contents-outside place q key below out = false_of _ (λ h.
     elim (path_below (key_of place) q) as (λ o. path_below (key_of place) q ≡ o → ⊥) [
       | None ↦ λ p. clash (sym (ap has_names p) ∙ below)
-      | Some way ↦ λ p. clash (sym out ∙ at_or_below (key_of place) (key_of way) key (sym (same (key_of q) key h) ∙ ap key_of (behind-exact (key_of place) q way p) ∙ map-append folded_text (key_of place) way ∙ ap (λ d. d ++ key_of way) (key-twice place)))
+      | Some way ↦ λ p. clash (sym out ∙ at_or_below (key_of place) (key_of way) key (sym (same (key_of q) key h) ∙ ap key_of (after-exact (key_of place) q way p) ∙ map-append folded_text (key_of place) way ∙ ap (λ d. d ++ key_of way) (key-twice place)))
     ] refl)

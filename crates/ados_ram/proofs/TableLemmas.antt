@@ -11,13 +11,13 @@ use Rattle.ados_ram.specs.Files.{Files, Rows}
 use Rattle.ados_ram.specs.FileOperations.{has_descendants, rename_of, fault_above, way_fault}
 use Rattle.ados_ram.specs.Tree.{subtree_rows, rows_way, entry_by_way, IsReplaced, IsEntryAt, IsRenamed}
 use Rattle.ados_ram.proofs.FilesLemmas.{same, clash, nothing}
-use Rattle.ados_ram.proofs.RenameLemmas.{behind-exact, same_behind, at_or_below, false_of, Within, get-moved_in, get-moved_out}
+use Rattle.ados_ram.proofs.RenameLemmas.{after-exact, same_after, at_or_below, false_of, Within, get-moved_in, get-moved_out}
 use Rattle.ados_ram.proofs.RenamedFiles.{none_of}
 use Rattle.ados_ram.proofs.RowsLemmas.{get_rows}
 use Rattle.ados_ram.proofs.TreeLemmas.{holds, find-from, find-here}
 
 at_itself : (key w : Key) → is_same_key (key ++ w) key ≡ is_same_key w []
-at_itself key w = ap (is_same_key (key ++ w)) (sym (append-nil key)) ∙ same_behind key w []
+at_itself key w = ap (is_same_key (key ++ w)) (sym (append-nil key)) ∙ same_after key w []
 
 elsewhere : (key q : Key) → path_below key q ≡ None → is_same_key q key ≡ false
 elsewhere key q p = false_of _ (λ h. clash (sym (ap is_some p) ∙ at_or_below key [] q (same q key h ∙ sym (append-nil key))))
@@ -30,7 +30,7 @@ inserted {m} key entry sub old new is sorted r there = same_map place_cmp_total 
     ∙ elim (path_below key q) as (λ o. path_below key q ≡ o → entry_by_way o sub (find place_cmp q old) ≡ cond (is_same_key q key) (Some entry) (map.get m q)) [
       | None ↦ λ p. sym (get_rows old q is sorted) ∙ ap (λ b. cond b (Some entry) (map.get m q)) (sym (elsewhere key q p))
       | Some w ↦ λ p.
-          let at : q ≡ key ++ w = behind-exact key q w p in
+          let at : q ≡ key ++ w = after-exact key q w p in
           there w ∙ ap (λ b. cond b (Some entry) (find place_cmp (key ++ w) old)) (sym (at_itself key w))
           ∙ ap (λ o. cond (is_same_key (key ++ w) key) (Some entry) o) (sym (get_rows old (key ++ w) is sorted))
           ∙ ap (λ (k : Key). cond (is_same_key k key) (Some entry) (map.get m k)) (sym at)
@@ -61,7 +61,7 @@ removed {m} key old new is sorted empty r = same_map place_cmp_total place_cmp_e
     ∙ sym (get-remove place_cmp_total m key q))
   where
     gone : (m : Files) (key q w : Key) (old : Rows) → path_below key q ≡ Some w → (is_below key q ≡ true → map.get m q ≡ nothing) → cond (is_same_key q key) nothing (map.get m q) ≡ nothing
-    gone m key q [] old p h = ap (λ b. cond b nothing (map.get m q)) (ap (λ (k : Key). is_same_key k key) (behind-exact key q [] p) ∙ at_itself key [])
+    gone m key q [] old p h = ap (λ b. cond b nothing (map.get m q)) (ap (λ (k : Key). is_same_key k key) (after-exact key q [] p) ∙ at_itself key [])
     gone m key q (n ∷ ns) old p h =
         elim (is_same_key q key) as (λ b. cond b nothing (map.get m q) ≡ nothing) [
           | true ↦ refl
@@ -77,7 +77,7 @@ moved {m} from to name sub old mid new is sorted within out put there = same_map
     ∙ elim (path_below to q) as (λ o. path_below to q ≡ o → entry_by_way o sub (find place_cmp q mid) ≡ map.get (rename_of m from to name) q) [
       | Some w ↦ λ p.
           there w ∙ ap (option_map (renamed_entry name w)) (find-from from w old ∙ sym (get_rows old (from ++ w) is sorted))
-          ∙ sym (get-moved_in m from to name w within) ∙ ap (map.get (rename_of m from to name)) (sym (behind-exact to q w p))
+          ∙ sym (get-moved_in m from to name w within) ∙ ap (map.get (rename_of m from to name)) (sym (after-exact to q w p))
       | None ↦ λ p.
           out.found q
           ∙ elim (path_below from q) as (λ o. entry_by_way o [] (find place_cmp q old) ≡ cond (is_some o) nothing (map.get m q)) [

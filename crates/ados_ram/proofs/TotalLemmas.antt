@@ -12,7 +12,7 @@ use Rattle.ados_ram.specs.FileOperations.{moved_row, moved_rows, rename_of}
 use Rattle.ados_ram.specs.Rows.{other_rows}
 use Rattle.ados_ram.proofs.RowsLemmas.{holds, first, second, tied, sorted_of, sorted_of_rows, get_rows, entries_rows, total-put, length-put_without}
 use Rattle.ados_ram.proofs.FilesLemmas.{clash, nothing}
-use Rattle.ados_ram.proofs.RenameLemmas.{Within, later, here, behind-exact, false_of, find-moved_in, find-moved_out, total-moved_rows, length-moved_rows}
+use Rattle.ados_ram.proofs.RenameLemmas.{Within, later, here, after-exact, false_of, find-moved_in, find-moved_out, total-moved_rows, length-moved_rows}
 use Rattle.ados_ram.proofs.RenamedFiles.{none_of}
 
 -- no place occurs twice
@@ -54,7 +54,7 @@ distinct-moved from to name (e ∷ es) s within =
             let out : path_below to e.0 ≡ None = none_of (path_below to e.0) (false_of _ (λ h. clash (sym (ap is_some p) ∙ within e.0 (here e es) h))) in
             find-moved_out from to name es e.0 out ∙ ap (λ b. cond b nothing (find place_cmp e.0 es)) (ap is_some p) ∙ alone
         | Some w ↦ λ p.
-            find-moved_in from to name es w on ∙ ap (λ (k : Key). option_map (renamed_entry name w) (find place_cmp k es)) (sym (behind-exact from e.0 w p)) ∙ ap (option_map (renamed_entry name w)) alone
+            find-moved_in from to name es w on ∙ ap (λ (k : Key). option_map (renamed_entry name w) (find place_cmp k es)) (sym (after-exact from e.0 w p)) ∙ ap (option_map (renamed_entry name w)) alone
       ] refl,
       distinct-moved from to name es (second _ _ s) on,
     )

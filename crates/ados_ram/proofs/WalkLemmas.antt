@@ -12,7 +12,7 @@ use Rattle.ados_ram.specs.Contents.{is_within, children, directory_files}
 use Rattle.ados_ram.specs.Rows.{inner_rows}
 use Rattle.ados_ram.specs.Tree.{Kid, Kids, IsSubtree, AllSubtrees, rows_under_name, flatten, rows_of, rows_by_root, subtree_rows, with_way}
 use Rattle.ados_ram.proofs.RowsLemmas.{first, none_above}
-use Rattle.ados_ram.proofs.RenameLemmas.{behind-exact}
+use Rattle.ados_ram.proofs.RenameLemmas.{after-exact}
 use Rattle.ados_ram.proofs.TreeLemmas.{holds}
 
 -- what is within a directory, by the path from there
@@ -38,7 +38,7 @@ rows-below all key (e ∷ es) =
       | None ↦ λ p. ap (λ b. cond b (e ∷ inner_rows all key es) (inner_rows all key es)) (none-within all) ∙ next
       | Some w ↦ λ p.
           elim (way_within all (Some w)) as (λ b. cond b (e ∷ inner_rows all key es) (inner_rows all key es) ≡ rows_by_root key (cond b ((w, e.1) ∷ inner_rows all [] (subtree_rows key es)) (inner_rows all [] (subtree_rows key es)))) [
-            | true ↦ ap (λ (q : Key). (q, e.1) ∷ inner_rows all key es) (behind-exact key e.0 w p) ∙ ap (λ (r : Rows). (key ++ w, e.1) ∷ r) next
+            | true ↦ ap (λ (q : Key). (q, e.1) ∷ inner_rows all key es) (after-exact key e.0 w p) ∙ ap (λ (r : Rows). (key ++ w, e.1) ∷ r) next
             | false ↦ next
           ]
           ∙ ap (λ b. rows_by_root key (cond b ((w, e.1) ∷ inner_rows all [] (subtree_rows key es)) (inner_rows all [] (subtree_rows key es)))) (sym (within-way all [] w))

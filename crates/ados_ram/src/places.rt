@@ -82,7 +82,7 @@ impl Place {
     }
 
     /// The names after those that another place has; none if this one has no more.
-    pub fn names_behind(&self, directory: &Place) -> &[Name]
+    pub fn relative_names(&self, directory: &Place) -> &[Name]
         ensures { result.now ≡ drop (length directory.now) self.now }
     {
         let count = directory.names.len().min(self.names.len());
@@ -93,8 +93,8 @@ impl Place {
     pub fn carried(&self, from: &Place, to: &Place) -> Result<Place, NoMemory>
         ensures { IfOk result (λ place. place ≡ moved_place from.now to.now self.now) }
     {
-        if behind(&from.names, &self.names).is_some() {
-            to.joined(self.names_behind(from))
+        if strip_directory(&from.names, &self.names).is_some() {
+            to.joined(self.relative_names(from))
         } else {
             self.copy()
         }
@@ -144,7 +144,7 @@ pub fn is_same(a: &[Name], b: &[Name]) -> bool
 
 /// The names that lead from a directory down to a place, if the place is at it or below it.
 #[tactic(auto, using(ados_text::proofs::NameLemmas::alike))]
-pub fn behind<'a>(directory: &[Name], place: &'a [Name]) -> Option<&'a [Name]>
+pub fn strip_directory<'a>(directory: &[Name], place: &'a [Name]) -> Option<&'a [Name]>
     ensures { option_map key_of (option_copied result) ≡ path_below (key_of directory.now) (key_of place.now) }
 {
     let Some((x, xs)) = directory.split_first() else {
@@ -153,14 +153,18 @@ pub fn behind<'a>(directory: &[Name], place: &'a [Name]) -> Option<&'a [Name]>
     let Some((y, ys)) = place.split_first() else {
         return None;
     };
-    if x == y { behind(xs, ys) } else { None }
+    if x == y {
+        strip_directory(xs, ys)
+    } else {
+        None
+    }
 }
 
 /// Whether the second place is below the first.
 pub fn is_below(directory: &[Name], place: &[Name]) -> bool
     ensures { result ≡ is_below (key_of directory.now) (key_of place.now) }
 {
-    match behind(directory, place) {
+    match strip_directory(directory, place) {
         None => false,
         Some(way) => !way.is_empty(),
     }
@@ -183,7 +187,7 @@ pub fn any_at_or_below(places: &[Place], names: &[Name]) -> bool
     ensures { result ≡ any_at_or_below places.now (key_of names.now) }
 {
     for place in places {
-        if behind(names, place.names()).is_some() {
+        if strip_directory(names, place.names()).is_some() {
             return true;
         }
     }

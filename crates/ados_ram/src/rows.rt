@@ -3,7 +3,7 @@ ghost use Rattle.std.specs.Prelude.{◌≡◌};
 ghost use Rattle.ados_ram.specs.Place.{key_of, is_child, is_below};
 
 use crate::entries::Entry;
-use crate::places::{Place, behind, is_below};
+use crate::places::{Place, is_below, strip_directory};
 use ados_text::Name;
 use std::marker::Model;
 
@@ -52,7 +52,7 @@ impl Row {
     pub fn is_in(&self, directory: &[Name]) -> bool
         ensures { result ≡ is_child (key_of directory.now) self.now.0 }
     {
-        match behind(directory, self.place().names()) {
+        match strip_directory(directory, self.place().names()) {
             None => false,
             Some(way) => way.len() == 1,
         }

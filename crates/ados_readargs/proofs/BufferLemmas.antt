@@ -17,8 +17,8 @@ between-append bytes more from to a b =
     let left : length (drop from bytes) ≡ length bytes - from = length-drop from bytes in
     ap (take (to - from)) (drop-append-le from bytes more (omega arith)) ∙ take-append-le (to - from) (drop from bytes) more (omega arith)
 
-between-behind : (bytes more : List ℕ) (from to : ℕ) → from ≡ length bytes → to ≡ length bytes + length more → bytes_between (bytes ++ more) from to ≡ more
-between-behind bytes more from to a b =
+between-after : (bytes more : List ℕ) (from to : ℕ) → from ≡ length bytes → to ≡ length bytes + length more → bytes_between (bytes ++ more) from to ≡ more
+between-after bytes more from to a b =
     ap (λ k. take (to - from) (drop k (bytes ++ more))) a ∙ ap (take (to - from)) (drop-append_seam bytes more) ∙ take_all (to - from) more (omega arith)
 
 -- the texts so far
@@ -35,7 +35,7 @@ pub one-more : (bytes more : List ℕ) (spans : List Span) (from to : ℕ) → f
 one-more bytes more spans from to a b within =
     map-append (text_in (bytes ++ more)) spans (record { from = from; to = to } ∷ [])
     ∙ ap (λ texts. texts ++ text_in (bytes ++ more) (record { from = from; to = to }) ∷ []) (texts-kept bytes more spans within)
-    ∙ ap (λ text. texts_in bytes spans ++ text ∷ []) (between-behind bytes more from to a b)
+    ∙ ap (λ text. texts_in bytes spans ++ text ∷ []) (between-after bytes more from to a b)
 
 pub ruleset laid = (texts-kept, one-more)
 

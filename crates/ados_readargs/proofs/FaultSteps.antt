@@ -19,8 +19,8 @@ use Rattle.ados_readargs.specs.FirstFault.{IsFaultAt, MayContinue}
 use Rattle.ados_readargs.proofs.PhraseLemmas.{Said, with_phrase, says-more}
 
 -- phrases that are the first of these words, with the words after them, and what was read after the phrases
-pub record Leads (options : List TemplateOption) (line : List ℕ) (before after : Readings) (whole behind : List LineWord) (phrases : List Phrase) : Type 0 where
-  pub words : flat_map words_in phrases ++ behind ≡ whole
+pub record Leads (options : List TemplateOption) (line : List ℕ) (before after : Readings) (whole rest : List LineWord) (phrases : List Phrase) : Type 0 where
+  pub words : flat_map words_in phrases ++ rest ≡ whole
   pub said : ArePhrases options line before.given phrases
   pub given : after.given ≡ before.given ++ flat_map fillings phrases
   pub plain : after.plain ≡ before.plain ++ flat_map plain_words phrases
@@ -30,8 +30,8 @@ pub record Leads (options : List TemplateOption) (line : List ℕ) (before after
 abbrev pub Comes : List TemplateOption → List ℕ → Readings → List LineWord → Result Readings ArgFault → Type 0
 Comes options line before words (Ok after) = Said options line before after words
 Comes options line before words (Err found) =
-    (after : Readings) × (behind : List LineWord) × (phrases : List Phrase) × Leads options line before after words behind phrases
-    × IsFaultAt options line after.given behind found
+    (after : Readings) × (rest : List LineWord) × (phrases : List Phrase) × Leads options line before after words rest phrases
+    × IsFaultAt options line after.given rest found
 
 pub stop : (options : List TemplateOption) (line : List ℕ) (readings : Readings) (words : List LineWord) (found : ArgFault) (answer : Result Readings ArgFault)
     → IsFaultAt options line readings.given words found → Err found ≡ answer → Comes options line readings words answer
@@ -46,7 +46,7 @@ stop options line readings words found answer here e =
     )
 
 pub comes-more : (options : List TemplateOption) (line : List ℕ) (before : Readings) (answer : Result Readings ArgFault) (phrase : Phrase) (words : List LineWord)
-    → IsPhrase options line before.given phrase → ((behind : List Phrase) → IsLast phrase behind)
+    → IsPhrase options line before.given phrase → ((rest : List Phrase) → IsLast phrase rest)
     → Comes options line (with_phrase before phrase) words answer → Comes options line before (words_in phrase ++ words) answer
 comes-more options line before (Ok after) phrase words here last p = says-more options line before after phrase words here last p
 comes-more options line before (Err found) phrase words here last p =

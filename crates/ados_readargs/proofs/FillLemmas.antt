@@ -15,7 +15,7 @@ use Rattle.ados_readargs.specs.Readings.{Readings, no_readings}
 use Rattle.ados_readargs.specs.Words.{line_words_of}
 use Rattle.ados_readargs.specs.Meanings.{read_from, read_of, with_quotes, quotes_first}
 use Rattle.ados_readargs.specs.Phrases.{Phrase, words_in, fillings, plain_words, readings_of_phrases, IsFilled}
-use Rattle.ados_readargs.specs.FirstFault.{IsFaultAt, MayContinue, ArePhrasesAndWords, is_unclosed, IsFirstFault, at_words, open_behind, left_over, missing, no_number, LinesHaveTheirFirstFault}
+use Rattle.ados_readargs.specs.FirstFault.{IsFaultAt, MayContinue, ArePhrasesAndWords, is_unclosed, IsFirstFault, at_words, open_after, left_over, missing, no_number, LinesHaveTheirFirstFault}
 use Rattle.ados_readargs.specs.Shares.{TakesAll, is_left}
 use Rattle.ados_readargs.specs.Args.{args_of}
 use Rattle.ados_readargs.specs.Checks.{lacks, has_bad}
@@ -68,19 +68,19 @@ all-said phrases readings given plain =
     ap (λ l. record { given = l; plain = flat_map plain_words phrases }) (sym given) ∙ ap (λ l. record { given = readings.given; plain = l }) (sym plain)
 
 -- a fault at words, and whether a quote that is not closed comes before it
-at-fault : (options : List TemplateOption) (line : List ℕ) (found told : ArgFault) (phrases : List Phrase) (behind : List LineWord) → ArePhrasesAndWords options line phrases behind → MayContinue phrases
-    → IsFaultAt options line (readings_of_phrases phrases).given behind found → quotes_first (is_unclosed line) found ≡ told → IsFirstFault options line told
-at-fault options line fault.TooMany told phrases behind stand onward here e =
+at-fault : (options : List TemplateOption) (line : List ℕ) (found told : ArgFault) (phrases : List Phrase) (after : List LineWord) → ArePhrasesAndWords options line phrases after → MayContinue phrases
+    → IsFaultAt options line (readings_of_phrases phrases).given after found → quotes_first (is_unclosed line) found ≡ told → IsFirstFault options line told
+at-fault options line fault.TooMany told phrases after stand onward here e =
     let P : ArgFault → Type 0 = λ f. f ≡ told → IsFirstFault options line told in
     cond_both (is_unclosed line) fault.Unmatched fault.TooMany P
-    (λ unclosed same. subst (λ f. IsFirstFault options line f) same (open_behind phrases behind stand onward here unclosed))
-    (λ closed same. subst (λ f. IsFirstFault options line f) same (at_words phrases behind fault.TooMany stand onward here (λ _. closed))) e
-at-fault options line fault.BadTemplate told phrases behind stand onward here e = subst (λ f. IsFirstFault options line f) e (at_words phrases behind fault.BadTemplate stand onward here (λ h. cc))
-at-fault options line fault.BadNumber told phrases behind stand onward here e = subst (λ f. IsFirstFault options line f) e (at_words phrases behind fault.BadNumber stand onward here (λ h. cc))
-at-fault options line fault.ArgumentMissing told phrases behind stand onward here e = subst (λ f. IsFirstFault options line f) e (at_words phrases behind fault.ArgumentMissing stand onward here (λ h. cc))
-at-fault options line fault.ValueMissing told phrases behind stand onward here e = subst (λ f. IsFirstFault options line f) e (at_words phrases behind fault.ValueMissing stand onward here (λ h. cc))
-at-fault options line fault.Unmatched told phrases behind stand onward here e = subst (λ f. IsFirstFault options line f) e (at_words phrases behind fault.Unmatched stand onward here (λ h. cc))
-at-fault options line fault.NoMemory told phrases behind stand onward here e = subst (λ f. IsFirstFault options line f) e (at_words phrases behind fault.NoMemory stand onward here (λ h. cc))
+    (λ unclosed same. subst (λ f. IsFirstFault options line f) same (open_after phrases after stand onward here unclosed))
+    (λ closed same. subst (λ f. IsFirstFault options line f) same (at_words phrases after fault.TooMany stand onward here (λ _. closed))) e
+at-fault options line fault.BadTemplate told phrases after stand onward here e = subst (λ f. IsFirstFault options line f) e (at_words phrases after fault.BadTemplate stand onward here (λ h. cc))
+at-fault options line fault.BadNumber told phrases after stand onward here e = subst (λ f. IsFirstFault options line f) e (at_words phrases after fault.BadNumber stand onward here (λ h. cc))
+at-fault options line fault.ArgumentMissing told phrases after stand onward here e = subst (λ f. IsFirstFault options line f) e (at_words phrases after fault.ArgumentMissing stand onward here (λ h. cc))
+at-fault options line fault.ValueMissing told phrases after stand onward here e = subst (λ f. IsFirstFault options line f) e (at_words phrases after fault.ValueMissing stand onward here (λ h. cc))
+at-fault options line fault.Unmatched told phrases after stand onward here e = subst (λ f. IsFirstFault options line f) e (at_words phrases after fault.Unmatched stand onward here (λ h. cc))
+at-fault options line fault.NoMemory told phrases after stand onward here e = subst (λ f. IsFirstFault options line f) e (at_words phrases after fault.NoMemory stand onward here (λ h. cc))
 
 -- the words are not all read
 words-fault : (options : List TemplateOption) (line : List ℕ) (read : Result Readings ArgFault) (told : ArgFault) → read_from options line no_readings Free (line_words_of line) ≡ read

@@ -96,11 +96,11 @@ none-needed (option ∷ options) given place e =
     let rest = none-needed options given (place + 1) (neither-right (is_required option) (list_any is_required options) e) in
     rw (first, rest) (not-counted (is_vacant place option.qualifiers given))
 
-none-behind : (options : List TemplateOption) (n : ℕ) → list_any is_required options ≡ false → list_any is_required (drop n options) ≡ false
-none-behind options zero e = e
-none-behind [] (suc n) e = refl
-none-behind (option ∷ options) (suc n) e = none-behind options n (neither-right (is_required option) (list_any is_required options) e)
+none-after : (options : List TemplateOption) (n : ℕ) → list_any is_required options ≡ false → list_any is_required (drop n options) ≡ false
+none-after options zero e = e
+none-after [] (suc n) e = refl
+none-after (option ∷ options) (suc n) e = none-after options n (neither-right (is_required option) (list_any is_required options) e)
 
 -- if no option has /A, none from a place on is needed
 pub none_needed : (options : List TemplateOption) (given : List Reading) (place : ℕ) → list_any is_required options ≡ false → vacant_count true place (drop place options) given ≡ 0
-none_needed options given place e = none-needed (drop place options) given place (none-behind options place e)
+none_needed options given place e = none-needed (drop place options) given place (none-after options place e)

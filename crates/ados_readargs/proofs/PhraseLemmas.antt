@@ -38,7 +38,7 @@ pub says-none : (options : List TemplateOption) (line : List ℕ) (readings : Re
 says-none options line readings = ([], record { words = refl; said = tt; given = sym (append-nil _); plain = sym (append-nil _) })
 
 pub says-more : (options : List TemplateOption) (line : List ℕ) (before after : Readings) (phrase : Phrase) (words : List LineWord)
-    → IsPhrase options line before.given phrase → ((behind : List Phrase) → IsLast phrase behind)
+    → IsPhrase options line before.given phrase → ((tail : List Phrase) → IsLast phrase tail)
     → Said options line (with_phrase before phrase) after words → Said options line before after (words_in phrase ++ words)
 says-more options line before after phrase words here last p =
     let s = p.1 in (

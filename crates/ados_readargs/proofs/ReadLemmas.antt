@@ -30,13 +30,13 @@ read-none whole options line readings pending n place e h =
     h ∙ ap (λ words. read_from options line readings pending words) (words-step n line place None e)
 
 pub read-some : (whole : Result Readings ArgFault) (options : List TemplateOption) (line : List ℕ) (readings : Readings) (pending : Pending) (n place : ℕ)
-    (word : LineWord) (behind : ℕ) (meaning : Meaning) → Some (word, behind) ≡ word_of line (item_at true line place)
+    (word : LineWord) (after : ℕ) (meaning : Meaning) → Some (word, after) ≡ word_of line (item_at true line place)
     → meaning ≡ meaning_of options line readings.given pending word
     → whole ≡ read_from options line readings pending (words_from (suc n) line place)
-    → whole ≡ read_by_meaning (λ more next. read_from options line more next (words_from n line behind)) readings meaning
-read-some whole options line readings pending n place word behind meaning e m h =
-    h ∙ ap (λ words. read_from options line readings pending words) (words-step n line place (Some (word, behind)) e)
-    ∙ ap (λ said. read_by_meaning (λ more next. read_from options line more next (words_from n line behind)) readings said) (sym m)
+    → whole ≡ read_by_meaning (λ more next. read_from options line more next (words_from n line after)) readings meaning
+read-some whole options line readings pending n place word after meaning e m h =
+    h ∙ ap (λ words. read_from options line readings pending words) (words-step n line place (Some (word, after)) e)
+    ∙ ap (λ said. read_by_meaning (λ more next. read_from options line more next (words_from n line after)) readings said) (sym m)
 
 pub refused : (defined : Result Readings ArgFault) (e : ArgFault) → defined ≡ Err e → IsFaultOf defined e
 refused defined fault.BadTemplate h = h

@@ -62,7 +62,7 @@ given-said options line words readings answer full place it whole refuses then_ 
 
 -- a phrase that fills an option, and what follows it
 filling-said : (options : List TemplateOption) (line : List ℕ) (words : List LineWord) (readings : Readings) (answer : Result Readings ArgFault) (phrase : Phrase) (reading : Reading)
-    → fillings phrase ≡ reading ∷ [] → plain_words phrase ≡ [] → IsPhrase options line readings.given phrase → ((behind : List Phrase) → IsLast phrase behind)
+    → fillings phrase ≡ reading ∷ [] → plain_words phrase ≡ [] → IsPhrase options line readings.given phrase → ((after : List Phrase) → IsLast phrase after)
     → GoesOn options line words answer → read_from options line (record readings { given = readings.given ++ reading ∷ [] }) Free words ≡ answer
     → Comes options line readings (words_in phrase ++ words) answer
 filling-said options line words readings answer phrase reading fills nothing here last goes e =

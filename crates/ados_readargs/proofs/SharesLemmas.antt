@@ -100,31 +100,31 @@ shares-more : (mo : Option ℕ) (options : List TemplateOption) (readings : Read
     → first_shares mo n options readings ≡ first_shares mo k options readings ++ option_share mo options readings k
 shares-more mo options readings n k e = ap (λ i. first_shares mo i options readings) e
 
-back-last : (b : Bool) (front behind count : ℕ) (plain : List Item) → nat_lt behind (length plain - front) ≡ b → count ≡ 1 + behind
-    → take (front + (length plain - front - count)) plain ++ (if b then take 1 (drop (length plain - 1 - behind) plain) else [])
-    ≡ take (front + (length plain - front - behind)) plain
-back-last true front behind count plain t e =
-    let below : behind < length plain - front = grind (arith, nat_tests, t) in
-    let e1 : front + (length plain - front - count) ≡ length plain - 1 - behind = omega arith in
-    let e2 : length plain - 1 - behind + 1 ≡ front + (length plain - front - behind) = omega arith in
-    ap (λ i. take i plain ++ take 1 (drop (length plain - 1 - behind) plain)) e1
-    ∙ sym (take-add (length plain - 1 - behind) 1 plain) ∙ ap (λ i. take i plain) e2
-back-last false front behind count plain t e =
-    let past : length plain - front ≤ behind = grind (arith, nat_tests, t) in
-    let e1 : front + (length plain - front - count) ≡ front + (length plain - front - behind) = omega arith in
+back-last : (b : Bool) (front after count : ℕ) (plain : List Item) → nat_lt after (length plain - front) ≡ b → count ≡ 1 + after
+    → take (front + (length plain - front - count)) plain ++ (if b then take 1 (drop (length plain - 1 - after) plain) else [])
+    ≡ take (front + (length plain - front - after)) plain
+back-last true front after count plain t e =
+    let below : after < length plain - front = grind (arith, nat_tests, t) in
+    let e1 : front + (length plain - front - count) ≡ length plain - 1 - after = omega arith in
+    let e2 : length plain - 1 - after + 1 ≡ front + (length plain - front - after) = omega arith in
+    ap (λ i. take i plain ++ take 1 (drop (length plain - 1 - after) plain)) e1
+    ∙ sym (take-add (length plain - 1 - after) 1 plain) ∙ ap (λ i. take i plain) e2
+back-last false front after count plain t e =
+    let past : length plain - front ≤ after = grind (arith, nat_tests, t) in
+    let e1 : front + (length plain - front - count) ≡ front + (length plain - front - after) = omega arith in
     append-nil _ ∙ ap (λ i. take i plain) e1
 
-back-words : (v r : Bool) (front behind count : ℕ) (plain : List Item) → count ≡ (if v && (not true || r) then 1 else 0) + behind
+back-words : (v r : Bool) (front after count : ℕ) (plain : List Item) → count ≡ (if v && (not true || r) then 1 else 0) + after
     → take (front + (length plain - front - count)) plain
-    ++ (if v && (r && nat_lt behind (length plain - front)) then take 1 (drop (length plain - 1 - behind) plain) else [])
-    ≡ take (front + (length plain - front - behind)) plain
-back-words false r front behind count plain e =
-    let same : count ≡ behind = omega (arith, e) in
+    ++ (if v && (r && nat_lt after (length plain - front)) then take 1 (drop (length plain - 1 - after) plain) else [])
+    ≡ take (front + (length plain - front - after)) plain
+back-words false r front after count plain e =
+    let same : count ≡ after = omega (arith, e) in
     append-nil _ ∙ ap (λ i. take (front + (length plain - front - i)) plain) same
-back-words true false front behind count plain e =
-    let same : count ≡ behind = omega (arith, e) in
+back-words true false front after count plain e =
+    let same : count ≡ after = omega (arith, e) in
     append-nil _ ∙ ap (λ i. take (front + (length plain - front - i)) plain) same
-back-words true true front behind count plain e = back-last (nat_lt behind (length plain - front)) front behind count plain refl e
+back-words true true front after count plain e = back-last (nat_lt after (length plain - front)) front after count plain refl e
 
 -- after the /M, all words are taken except those of the options still to come
 abbrev kept : ℕ → ℕ → List TemplateOption → Readings → List Item

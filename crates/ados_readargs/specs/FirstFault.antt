@@ -32,30 +32,30 @@ IsSkippedEqual keyword (equal ∷ other ∷ more) = ⊥
 -- takes no more, after the `=` of its keyword or as a word of its own; a keyword without a value; and a quote that is not
 -- closed, as a word or as a value.
 pub data IsFaultAt (options : List TemplateOption) (line : Bytes) (before : List Reading) : List LineWord → ArgFault → Type 0 where
-  twice : (place : ℕ) (keyword : LineWord) (behind : List LineWord) → IsKeyword options line place keyword → is_rest_next options before ≡ false
+  twice : (place : ℕ) (keyword : LineWord) (after : List LineWord) → IsKeyword options line place keyword → is_rest_next options before ≡ false
       → takes_value (option_qualifiers options place) ≡ false → (option_qualifiers options place).toggle ≡ false → is_filled place before ≡ true
-      → IsFaultAt options line before (keyword ∷ behind) TooMany
-  full_joined : (place : ℕ) (keyword : LineWord) (behind : List LineWord) → TakesValue options line before place keyword → has_value keyword ≡ true
-      → may_fill options before place ≡ false → IsFaultAt options line before (keyword ∷ behind) TooMany
-  full_parted : (place : ℕ) (keyword : LineWord) (between : List LineWord) (value : LineWord) (behind : List LineWord)
+      → IsFaultAt options line before (keyword ∷ after) TooMany
+  full_joined : (place : ℕ) (keyword : LineWord) (after : List LineWord) → TakesValue options line before place keyword → has_value keyword ≡ true
+      → may_fill options before place ≡ false → IsFaultAt options line before (keyword ∷ after) TooMany
+  full_parted : (place : ℕ) (keyword : LineWord) (between : List LineWord) (value : LineWord) (after : List LineWord)
       → TakesValue options line before place keyword → has_value keyword ≡ false → IsBetween keyword between value → is_open_quote value ≡ false
-      → may_fill options before place ≡ false → IsFaultAt options line before ((keyword ∷ between) ++ value ∷ behind) TooMany
+      → may_fill options before place ≡ false → IsFaultAt options line before ((keyword ∷ between) ++ value ∷ after) TooMany
   no_value : (place : ℕ) (keyword : LineWord) (between : List LineWord) → TakesValue options line before place keyword → has_value keyword ≡ false
       → IsSkippedEqual keyword between → IsFaultAt options line before (keyword ∷ between) ValueMissing
-  open_value : (place : ℕ) (keyword : LineWord) (between : List LineWord) (value : LineWord) (behind : List LineWord)
+  open_value : (place : ℕ) (keyword : LineWord) (between : List LineWord) (value : LineWord) (after : List LineWord)
       → TakesValue options line before place keyword → has_value keyword ≡ false → IsBetween keyword between value → is_open_quote value ≡ true
-      → IsFaultAt options line before ((keyword ∷ between) ++ value ∷ behind) Unmatched
-  open_word : (word : LineWord) (behind : List LineWord) → is_rest_next options before ≡ false → is_open_quote word ≡ true
-      → IsFaultAt options line before (word ∷ behind) Unmatched
+      → IsFaultAt options line before ((keyword ∷ between) ++ value ∷ after) Unmatched
+  open_word : (word : LineWord) (after : List LineWord) → is_rest_next options before ≡ false → is_open_quote word ≡ true
+      → IsFaultAt options line before (word ∷ after) Unmatched
 
 -- words may follow these phrases: none of them is the rest of the line
 abbrev pub MayContinue : List Phrase → Type 0
 MayContinue [] = Unit {0}
-MayContinue (phrase ∷ phrases) = ((behind : List Phrase) → IsLast phrase behind) × MayContinue phrases
+MayContinue (phrase ∷ phrases) = ((after : List Phrase) → IsLast phrase after) × MayContinue phrases
 
 -- the words of the line are these phrases, and then these words
-pub record ArePhrasesAndWords (options : List TemplateOption) (line : Bytes) (phrases : List Phrase) (behind : List LineWord) : Type 0 where
-  pub words : flat_map words_in phrases ++ behind ≡ line_words_of line
+pub record ArePhrasesAndWords (options : List TemplateOption) (line : Bytes) (phrases : List Phrase) (after : List LineWord) : Type 0 where
+  pub words : flat_map words_in phrases ++ after ≡ line_words_of line
   pub said : ArePhrases options line [] phrases
 
 -- a quote is not closed somewhere in the line
@@ -66,10 +66,10 @@ is_unclosed line = list_any is_open_quote (line_words_of line)
 -- word too many; or, if all words are phrases, a plain word that is left over, then an option with /A that was given nothing,
 -- then a value that is not a number.
 pub data IsFirstFault (options : List TemplateOption) (line : Bytes) : ArgFault → Type 0 where
-  at_words : (phrases : List Phrase) (behind : List LineWord) (fault : ArgFault) → ArePhrasesAndWords options line phrases behind → MayContinue phrases
-      → IsFaultAt options line (readings_of_phrases phrases).given behind fault → (fault ≡ TooMany → is_unclosed line ≡ false) → IsFirstFault options line fault
-  open_behind : (phrases : List Phrase) (behind : List LineWord) → ArePhrasesAndWords options line phrases behind → MayContinue phrases
-      → IsFaultAt options line (readings_of_phrases phrases).given behind TooMany → is_unclosed line ≡ true → IsFirstFault options line Unmatched
+  at_words : (phrases : List Phrase) (after : List LineWord) (fault : ArgFault) → ArePhrasesAndWords options line phrases after → MayContinue phrases
+      → IsFaultAt options line (readings_of_phrases phrases).given after fault → (fault ≡ TooMany → is_unclosed line ≡ false) → IsFirstFault options line fault
+  open_after : (phrases : List Phrase) (after : List LineWord) → ArePhrasesAndWords options line phrases after → MayContinue phrases
+      → IsFaultAt options line (readings_of_phrases phrases).given after TooMany → is_unclosed line ≡ true → IsFirstFault options line Unmatched
   left_over : (phrases : List Phrase) → ArePhrasesAndWords options line phrases [] → is_left options (readings_of_phrases phrases) ≡ true → IsFirstFault options line TooMany
   missing : (phrases : List Phrase) → ArePhrasesAndWords options line phrases [] → is_left options (readings_of_phrases phrases) ≡ false
       → lacks options (args_of options line (readings_of_phrases phrases)) ≡ true → IsFirstFault options line ArgumentMissing

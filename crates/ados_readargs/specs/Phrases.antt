@@ -37,7 +37,7 @@ words_in (Switch place keyword) = keyword ∷ []
 words_in (Joined place keyword) = keyword ∷ []
 words_in (Parted place keyword between value) = (keyword ∷ between) ++ value ∷ []
 words_in (Direct place word) = word ∷ []
-words_in (Rest place word behind end) = word ∷ behind
+words_in (Rest place word after end) = word ∷ after
 words_in (Plain word) = word ∷ []
 
 -- what follows the `=` of a run
@@ -52,7 +52,7 @@ fillings (Switch place keyword) = Named place ∷ []
 fillings (Joined place keyword) = Given place (joined_value keyword) ∷ []
 fillings (Parted place keyword between value) = Given place (item_of value) ∷ []
 fillings (Direct place word) = Given place (item_of word) ∷ []
-fillings (Rest place word behind end) = Given place (item.Word (start_of word) end) ∷ []
+fillings (Rest place word after end) = Given place (item.Word (start_of word) end) ∷ []
 fillings (Plain word) = []
 
 -- the plain words
@@ -61,7 +61,7 @@ plain_words (Switch place keyword) = []
 plain_words (Joined place keyword) = []
 plain_words (Parted place keyword between value) = []
 plain_words (Direct place word) = []
-plain_words (Rest place word behind end) = []
+plain_words (Rest place word after end) = []
 plain_words (Plain word) = item_of word ∷ []
 
 -- A keyword of the option at a place is a run whose first Word is a name of it, unless it has /F, and which ends there
@@ -126,23 +126,23 @@ IsPhrase options line before (Parted place keyword between value) =
     IsKeyed options line before place keyword × (takes_value (option_qualifiers options place) ≡ true) × (has_value keyword ≡ false)
     × IsBetween keyword between value × (is_open_quote value ≡ false)
 IsPhrase options line before (Direct place word) = IsPlainWord options line before word × (next_open options before ≡ Some place)
-IsPhrase options line before (Rest place word behind end) = (next_open options before ≡ Some place) × (is_rest_next options before ≡ true) × EndsInBlanks line end
+IsPhrase options line before (Rest place word after end) = (next_open options before ≡ Some place) × (is_rest_next options before ≡ true) × EndsInBlanks line end
 IsPhrase options line before (Plain word) = IsPlainWord options line before word × (next_open options before ≡ None)
 
 -- nothing follows the rest of the line
 abbrev pub IsLast : Phrase → List Phrase → Type 0
-IsLast (Switch place keyword) behind = Unit {0}
-IsLast (Joined place keyword) behind = Unit {0}
-IsLast (Parted place keyword between value) behind = Unit {0}
-IsLast (Direct place word) behind = Unit {0}
-IsLast (Rest place word words end) behind = behind ≡ []
-IsLast (Plain word) behind = Unit {0}
+IsLast (Switch place keyword) after = Unit {0}
+IsLast (Joined place keyword) after = Unit {0}
+IsLast (Parted place keyword between value) after = Unit {0}
+IsLast (Direct place word) after = Unit {0}
+IsLast (Rest place word words end) after = after ≡ []
+IsLast (Plain word) after = Unit {0}
 
 -- the phrases come in order, after the fillings before them
 abbrev pub ArePhrases : List TemplateOption → Bytes → List Reading → List Phrase → Type 0
 ArePhrases options line before [] = Unit {0}
-ArePhrases options line before (phrase ∷ behind) =
-    IsPhrase options line before phrase × IsLast phrase behind × ArePhrases options line (before ++ fillings phrase) behind
+ArePhrases options line before (phrase ∷ after) =
+    IsPhrase options line before phrase × IsLast phrase after × ArePhrases options line (before ++ fillings phrase) after
 
 -- what the phrases say: the fillings and the plain words, in order
 abbrev pub readings_of_phrases : List Phrase → Readings

@@ -29,16 +29,16 @@ front_share options readings place =
 abbrev pub middle_share : List TemplateOption → Readings → ℕ → List Item
 middle_share options readings middle =
     let front = vacant_count false 0 (take middle options) readings.given in
-    let behind = vacant_count true (middle + 1) (drop (middle + 1) options) readings.given in
-    take (length readings.plain - front - behind) (drop front readings.plain)
+    let after = vacant_count true (middle + 1) (drop (middle + 1) options) readings.given in
+    take (length readings.plain - front - after) (drop front readings.plain)
 
 -- the plain word of a vacant /A option after the /M: the last option takes the last word
 abbrev pub back_share : List TemplateOption → Readings → ℕ → ℕ → List Item
 back_share options readings middle place =
     let front = vacant_count false 0 (take middle options) readings.given in
-    let behind = vacant_count true (place + 1) (drop (place + 1) options) readings.given in
-    if is_vacant place (option_qualifiers options place) readings.given && ((option_qualifiers options place).required && nat_lt behind (length readings.plain - front))
-    then take 1 (drop (length readings.plain - 1 - behind) readings.plain) else []
+    let after = vacant_count true (place + 1) (drop (place + 1) options) readings.given in
+    if is_vacant place (option_qualifiers options place) readings.given && ((option_qualifiers options place).required && nat_lt after (length readings.plain - front))
+    then take 1 (drop (length readings.plain - 1 - after) readings.plain) else []
 
 -- the plain words that the option at a place takes
 abbrev pub option_share : Option ℕ → List TemplateOption → Readings → ℕ → List Item

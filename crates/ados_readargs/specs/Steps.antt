@@ -25,7 +25,7 @@ IsPlainAt options line place word =
 -- the readings if the line says no more, and otherwise what `next` gives from a place on
 abbrev pub next_readings : (ℕ → Result Readings ArgFault) → Readings → Option ℕ → Result Readings ArgFault
 next_readings next readings None = Ok readings
-next_readings next readings (Some behind) = next behind
+next_readings next readings (Some next_place) = next next_place
 
 -- Reading goes on: what the words from a place on say after some readings is what those from the next place say after others;
 -- if there is no next place, the others are all.

@@ -35,7 +35,7 @@ word_of line (item.End from) = None
 -- the words from one that was found on, if `next` gives those from a place on
 abbrev pub words_from_found : (ℕ → List LineWord) → Option (LineWord × ℕ) → List LineWord
 words_from_found next None = []
-words_from_found next (Some (word, behind)) = word ∷ next behind
+words_from_found next (Some (word, after)) = word ∷ next after
 
 -- the words of a line from a place on, at most `count`
 abbrev pub words_from : ℕ → Bytes → ℕ → List LineWord

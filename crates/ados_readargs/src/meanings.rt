@@ -51,7 +51,7 @@ fn given_meaning(full: bool, place: usize, item: Item) -> Meaning
     }
 }
 
-fn value_behind(full: bool, place: usize, word: LineWord) -> Meaning
+fn value_after(full: bool, place: usize, word: LineWord) -> Meaning
     ensures { result ≡ keyword_value_meaning full place word }
 {
     match word {
@@ -94,7 +94,7 @@ fn keyword_meaning(q: Qualifiers, filled: bool, place: usize, word: LineWord) ->
     } else if q.switch {
         switch_meaning(filled, place)
     } else {
-        value_behind(is_full(q, filled), place, word)
+        value_after(is_full(q, filled), place, word)
     }
 }
 

@@ -81,7 +81,7 @@ fn read_word(
     ensures fault { IfErr result (λ e. StopsReading options.now line.now place
         (record { given = given.old.items; plain = plain.old.items }) pending.old e) }
 {
-    let Some((word, behind)) = word_at(line, place) else {
+    let Some((word, after)) = word_at(line, place) else {
         return match read_end(*pending) {
             Ok(()) => Ok(None),
             Err(fault) => Err(fault),
@@ -91,16 +91,16 @@ fn read_word(
         Meaning::Read(reading) => {
             given.push(reading)?;
             *pending = Pending::Free;
-            return Ok(Some(behind));
+            return Ok(Some(after));
         }
         Meaning::Plain(item) => {
             plain.push(item)?;
             *pending = Pending::Free;
-            return Ok(Some(behind));
+            return Ok(Some(after));
         }
         Meaning::Wait { option, equal } => {
             *pending = Pending::Value { option, equal };
-            return Ok(Some(behind));
+            return Ok(Some(after));
         }
         Meaning::Stop(reading) => {
             given.push(reading)?;
@@ -163,7 +163,7 @@ fn read_words(
     let mut place = 0;
     for step in 0..line.len() + 1 {
         match read_next(options, line, place, &mut pending, given, plain) {
-            Ok(Some(behind)) => place = behind,
+            Ok(Some(after)) => place = after,
             Ok(None) => return Ok(()),
             Err(fault) => return Err(fault),
         }

@@ -75,11 +75,11 @@ fn middle_share<'a>(options: &OptionList, readings: &'a Readings, middle: usize)
     let given = readings.given.as_slice();
     let plain = readings.plain.as_slice();
     let front = front_count(options.as_slice(), given, middle);
-    let behind = needed_count(options, given, middle + 1);
+    let after = needed_count(options, given, middle + 1);
     piece(
         plain,
         front,
-        plain.len().saturating_sub(front).saturating_sub(behind),
+        plain.len().saturating_sub(front).saturating_sub(after),
     )
 }
 
@@ -97,10 +97,10 @@ fn back_share<'a>(
     let given = readings.given.as_slice();
     let plain = readings.plain.as_slice();
     let front = front_count(options, given, middle);
-    let behind = vacant_count(true, place + 1, options, given);
+    let after = vacant_count(true, place + 1, options, given);
     let q = option_qualifiers(options, place);
-    if is_vacant(place, q, given) && q.required && behind < plain.len().saturating_sub(front) {
-        piece(plain, plain.len() - 1 - behind, 1)
+    if is_vacant(place, q, given) && q.required && after < plain.len().saturating_sub(front) {
+        piece(plain, plain.len() - 1 - after, 1)
     } else {
         &[]
     }

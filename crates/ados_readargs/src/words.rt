@@ -136,13 +136,13 @@ pub fn is_unclosed(line: &[u8]) -> bool
 {
     let mut place = 0;
     for step in 0..line.len() + 1 {
-        let Some((word, behind)) = word_at(line, place) else {
+        let Some((word, after)) = word_at(line, place) else {
             return false;
         };
         if word.is_open_quote() {
             return true;
         }
-        place = behind;
+        place = after;
     }
     false
 }

@@ -39,13 +39,13 @@ record IsSought (at_else : Bool) (lines : List Head) (from i depth : ℕ) : Type
 pub record IsNext (lines : List Head) (i : ℕ) (head : Head) (rest : List Head) : Type 0 where
   pub within : i < length lines
   pub here : get_or lines i head ≡ head
-  pub behind : drop (i + 1) lines ≡ rest
+  pub after : drop (i + 1) lines ≡ rest
 
 pub next : (lines : List Head) (i : ℕ) (head : Head) (rest : List Head) → drop i lines ≡ head ∷ rest → IsNext lines i head rest
 next lines i head rest e =
     let long : i < length lines = omega (arith, length-drop i lines, ap length e) in
     let parts = sym (drop_more lines i head long) ∙ e in
-    record { within = long; here = ap (λ (l : List Head). get_or l 0 head) parts; behind = ap (λ (l : List Head). drop 1 l) parts }
+    record { within = long; here = ap (λ (l : List Head). get_or l 0 head) parts; after = ap (λ (l : List Head). drop 1 l) parts }
 
 sought-here : {at_else : Bool} {lines : List Head} {from i depth : ℕ} {head : Head} {rest : List Head} → IsSought at_else lines from i depth
     → IsNext lines i head rest → (ends at_else head && (depth == 0)) ≡ true → Some (i + 1) ≡ find (ends_block at_else lines from) (numbers_below lines from)
@@ -83,32 +83,32 @@ ended-sought a lines from i depth [] order e s =
     sym (s.left ∙ find-past _ lines i short)
 ended-sought a lines from i depth (If ∷ rest) order e s =
     let n = next lines i If rest e in
-    ended-sought a lines from (i + 1) (suc depth) rest (omega arith) n.behind (sought-further (suc depth) s order n refl (omega arith))
+    ended-sought a lines from (i + 1) (suc depth) rest (omega arith) n.after (sought-further (suc depth) s order n refl (omega arith))
 ended-sought a lines from i zero (EndIf ∷ rest) order e s = sought-here s (next lines i EndIf rest e) refl
 ended-sought a lines from i (suc depth) (EndIf ∷ rest) order e s =
     let n = next lines i EndIf rest e in
     let inside : (suc depth == 0) ≡ false = grind (arith, nat_tests) in
-    ended-sought a lines from (i + 1) depth rest (omega arith) n.behind (sought-further depth s order n inside (omega arith))
+    ended-sought a lines from (i + 1) depth rest (omega arith) n.after (sought-further depth s order n inside (omega arith))
 ended-sought true lines from i zero (Else ∷ rest) order e s = sought-here s (next lines i Else rest e) refl
 ended-sought false lines from i zero (Else ∷ rest) order e s =
     let n = next lines i Else rest e in
-    ended-sought false lines from (i + 1) zero rest (omega arith) n.behind (sought-further zero s order n refl refl)
+    ended-sought false lines from (i + 1) zero rest (omega arith) n.after (sought-further zero s order n refl refl)
 ended-sought true lines from i (suc depth) (Else ∷ rest) order e s =
     let n = next lines i Else rest e in
     let inside : (suc depth == 0) ≡ false = grind (arith, nat_tests) in
-    ended-sought true lines from (i + 1) (suc depth) rest (omega arith) n.behind (sought-further (suc depth) s order n inside refl)
+    ended-sought true lines from (i + 1) (suc depth) rest (omega arith) n.after (sought-further (suc depth) s order n inside refl)
 ended-sought false lines from i (suc depth) (Else ∷ rest) order e s =
     let n = next lines i Else rest e in
-    ended-sought false lines from (i + 1) (suc depth) rest (omega arith) n.behind (sought-further (suc depth) s order n refl refl)
+    ended-sought false lines from (i + 1) (suc depth) rest (omega arith) n.after (sought-further (suc depth) s order n refl refl)
 ended-sought a lines from i depth (EndSkip ∷ rest) order e s =
     let n = next lines i EndSkip rest e in
-    ended-sought a lines from (i + 1) depth rest (omega arith) n.behind (sought-further depth s order n refl refl)
+    ended-sought a lines from (i + 1) depth rest (omega arith) n.after (sought-further depth s order n refl refl)
 ended-sought a lines from i depth (Lab ∷ rest) order e s =
     let n = next lines i Lab rest e in
-    ended-sought a lines from (i + 1) depth rest (omega arith) n.behind (sought-further depth s order n refl refl)
+    ended-sought a lines from (i + 1) depth rest (omega arith) n.after (sought-further depth s order n refl refl)
 ended-sought a lines from i depth (Other ∷ rest) order e s =
     let n = next lines i Other rest e in
-    ended-sought a lines from (i + 1) depth rest (omega arith) n.behind (sought-further depth s order n refl refl)
+    ended-sought a lines from (i + 1) depth rest (omega arith) n.after (sought-further depth s order n refl refl)
 
 -- the line that ends a block, by depth
 pub ended-is : (at_else : Bool) (lines : List Head) (i : ℕ) → ended at_else 0 i (drop i lines) ≡ find (ends_block at_else lines i) (numbers_below lines i)
@@ -129,14 +129,14 @@ past at_else depth lines (Some m) = ended at_else depth m (drop m lines)
 -- the outer search is the inner one, and then the outer one after the EndIf that it finds
 inner : (a : Bool) (lines : List Head) (i j d : ℕ) (rest : List Head) → drop i lines ≡ rest → ended a (deeper j d) i rest ≡ past a d lines (ended false j i rest)
 inner a lines i j d [] e = refl
-inner a lines i j d (If ∷ rest) e = inner a lines (i + 1) (suc j) d rest (next lines i If rest e).behind
-inner a lines i zero d (EndIf ∷ rest) e = ap (ended a d (i + 1)) (sym (next lines i EndIf rest e).behind)
-inner a lines i (suc j) d (EndIf ∷ rest) e = inner a lines (i + 1) j d rest (next lines i EndIf rest e).behind
-inner a lines i zero d (Else ∷ rest) e = inner a lines (i + 1) zero d rest (next lines i Else rest e).behind
-inner a lines i (suc j) d (Else ∷ rest) e = inner a lines (i + 1) (suc j) d rest (next lines i Else rest e).behind
-inner a lines i j d (EndSkip ∷ rest) e = inner a lines (i + 1) j d rest (next lines i EndSkip rest e).behind
-inner a lines i j d (Lab ∷ rest) e = inner a lines (i + 1) j d rest (next lines i Lab rest e).behind
-inner a lines i j d (Other ∷ rest) e = inner a lines (i + 1) j d rest (next lines i Other rest e).behind
+inner a lines i j d (If ∷ rest) e = inner a lines (i + 1) (suc j) d rest (next lines i If rest e).after
+inner a lines i zero d (EndIf ∷ rest) e = ap (ended a d (i + 1)) (sym (next lines i EndIf rest e).after)
+inner a lines i (suc j) d (EndIf ∷ rest) e = inner a lines (i + 1) j d rest (next lines i EndIf rest e).after
+inner a lines i zero d (Else ∷ rest) e = inner a lines (i + 1) zero d rest (next lines i Else rest e).after
+inner a lines i (suc j) d (Else ∷ rest) e = inner a lines (i + 1) (suc j) d rest (next lines i Else rest e).after
+inner a lines i j d (EndSkip ∷ rest) e = inner a lines (i + 1) j d rest (next lines i EndSkip rest e).after
+inner a lines i j d (Lab ∷ rest) e = inner a lines (i + 1) j d rest (next lines i Lab rest e).after
+inner a lines i j d (Other ∷ rest) e = inner a lines (i + 1) j d rest (next lines i Other rest e).after
 
 -- below an If a block ends where it does after the If's own EndIf
 pub below_if : (a : Bool) (lines : List Head) (i : ℕ) → ended a 1 i (drop i lines) ≡ past a 0 lines (ended false 0 i (drop i lines))

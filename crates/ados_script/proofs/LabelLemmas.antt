@@ -13,7 +13,7 @@ use Rattle.ados_text.specs.Text.{Text, folded_text}
 use Rattle.ados_text.specs.Name.{name_cmp, name_cmp_total}
 use Rattle.ados_script.specs.declared.labels.Label.{Label}
 use Rattle.ados_script.specs.Tables.{has_text}
-use Rattle.ados_script.proofs.ListLemmas.{filter-alike, filter-behind, filter-front}
+use Rattle.ados_script.proofs.ListLemmas.{filter-alike, filter-after, filter-front}
 
 -- how the text of a label compares to another
 abbrev pub against : Text → Label → Ordering
@@ -73,7 +73,7 @@ pub found_all : (text : Text) (labels : List Label) (k n : ℕ)
     → take n (drop k labels) ≡ filter (has_text text) labels
 found_all text labels k n less equal =
     filter-front (λ label. is_eq (against text label)) (drop k labels) n equal.0 equal.1
-    ∙ filter-behind (λ label. is_eq (against text label)) labels k (λ i d a b. not-equal _ (less.0 i d a b))
+    ∙ filter-after (λ label. is_eq (against text label)) labels k (λ i d a b. not-equal _ (less.0 i d a b))
     ∙ filter-alike _ (has_text text) (λ label. is_eq-slice_cmp (folded_text label.text) (folded_text text)) labels
 
 -- a label whose text compares as equal to a text has it

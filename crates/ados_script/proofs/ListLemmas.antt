@@ -67,10 +67,10 @@ filter-none p [] h = refl
 filter-none p (x ∷ xs) h = let first : p x ≡ false = h 0 x (omega arith) (omega arith) in rw first (filter-none p xs (high_all (λ y. p y ≡ false) x xs h))
 
 -- the elements that pass, after a prefix of which none does
-pub filter-behind : {X : Type 0} (p : X → Bool) (xs : List X) (k : ℕ) → AllWithin (λ x. p x ≡ false) xs 0 k → filter p (drop k xs) ≡ filter p xs
-filter-behind p xs zero h = refl
-filter-behind p [] (suc k) h = refl
-filter-behind p (x ∷ xs) (suc k) h = let first : p x ≡ false = h 0 x (omega arith) (omega arith) in rw first (filter-behind p xs k (low_rest (λ y. p y ≡ false) x xs k h))
+pub filter-after : {X : Type 0} (p : X → Bool) (xs : List X) (k : ℕ) → AllWithin (λ x. p x ≡ false) xs 0 k → filter p (drop k xs) ≡ filter p xs
+filter-after p xs zero h = refl
+filter-after p [] (suc k) h = refl
+filter-after p (x ∷ xs) (suc k) h = let first : p x ≡ false = h 0 x (omega arith) (omega arith) in rw first (filter-after p xs k (low_rest (λ y. p y ≡ false) x xs k h))
 
 -- the elements that pass are a prefix
 pub filter-front : {X : Type 0} (p : X → Bool) (xs : List X) (k : ℕ)

@@ -46,35 +46,35 @@ end_below heads i rows are =
     let e : (row_at rows 0).end_if ≡ (ends_of heads i).end_if = ap (λ (row : Ends). row.end_if) (are 0 ∙ ap (ends_of heads) (omega arith)) in
     rw e (IfSome_then (ends_of heads i).end_if (found_within (ends_block false heads i) heads i) (λ m h. omega arith))
 
-behind_if : (heads : List Head) (i : ℕ) (rows : List Ends) → AreRows heads (i + 1) rows → (end : Option ℕ) → IfSome end (λ m. i + 1 ≤ m)
+after_the_if : (heads : List Head) (i : ℕ) (rows : List Ends) → AreRows heads (i + 1) rows → (end : Option ℕ) → IfSome end (λ m. i + 1 ≤ m)
     → row_at_end rows (i + 1) end ≡ record { end_if = past false 0 heads end; branch = past true 0 heads end }
-behind_if heads i rows are None h = refl
-behind_if heads i rows are (Some m) h = row-is heads (i + 1) (m - (i + 1)) m rows are (omega arith)
+after_the_if heads i rows are None h = refl
+after_the_if heads i rows are (Some m) h = row-is heads (i + 1) (m - (i + 1)) m rows are (omega arith)
 
 -- the row of one more line
 above-is : (heads : List Head) (i : ℕ) (head : Head) (rest : List Head) (rows : List Ends) → AreRows heads (i + 1) rows → drop i heads ≡ head ∷ rest
     → ends_above rows (i + 1) head ≡ by_depth heads i
 above-is heads i EndIf rest rows are e = rw e refl
 above-is heads i Else rest rows are e =
-    let behind = (next heads i Else rest e).behind in
+    let after = (next heads i Else rest e).after in
     let first = row-is heads (i + 1) 0 (i + 1) rows are (omega arith) in
-    rw (first, behind, e) refl
+    rw (first, after, e) refl
 above-is heads i If rest rows are e =
-    let behind = (next heads i If rest e).behind in
+    let after = (next heads i If rest e).after in
     let first = ap (λ (row : Ends). row.end_if) (row-is heads (i + 1) 0 (i + 1) rows are (omega arith)) in
     let bound = rw first at (end_below heads (i + 1) rows are) in
-    let here = behind_if heads i rows are (ended false 0 (i + 1) (drop (i + 1) heads)) bound in
-    let inside : (a : Bool) → ended a 0 i (drop i heads) ≡ past a 0 heads (ended false 0 (i + 1) (drop (i + 1) heads)) = λ a. rw e (ap (ended a 1 (i + 1)) (sym behind) ∙ below_if a heads (i + 1)) in
+    let here = after_the_if heads i rows are (ended false 0 (i + 1) (drop (i + 1) heads)) bound in
+    let inside : (a : Bool) → ended a 0 i (drop i heads) ≡ past a 0 heads (ended false 0 (i + 1) (drop (i + 1) heads)) = λ a. rw e (ap (ended a 1 (i + 1)) (sym after) ∙ below_if a heads (i + 1)) in
     rw (first, inside false, inside true) here
 above-is heads i EndSkip rest rows are e =
-    let behind = (next heads i EndSkip rest e).behind in
-    row-is heads (i + 1) 0 (i + 1) rows are (omega arith) ∙ rw (behind, e) refl
+    let after = (next heads i EndSkip rest e).after in
+    row-is heads (i + 1) 0 (i + 1) rows are (omega arith) ∙ rw (after, e) refl
 above-is heads i Lab rest rows are e =
-    let behind = (next heads i Lab rest e).behind in
-    row-is heads (i + 1) 0 (i + 1) rows are (omega arith) ∙ rw (behind, e) refl
+    let after = (next heads i Lab rest e).after in
+    row-is heads (i + 1) 0 (i + 1) rows are (omega arith) ∙ rw (after, e) refl
 above-is heads i Other rest rows are e =
-    let behind = (next heads i Other rest e).behind in
-    row-is heads (i + 1) 0 (i + 1) rows are (omega arith) ∙ rw (behind, e) refl
+    let after = (next heads i Other rest e).after in
+    row-is heads (i + 1) 0 (i + 1) rows are (omega arith) ∙ rw (after, e) refl
 
 pub with_more : (heads : List Head) (i : ℕ) (head : Head) (rest : List Head) (rows : List Ends) → AreRows heads (i + 1) rows → drop i heads ≡ head ∷ rest
     → AreRows heads i (with_row rows (ends_above rows (i + 1) head))

@@ -5,7 +5,7 @@ use Rattle.ados_text.specs.Text.{Text, is_same}
 use Rattle.ados_script.specs.declared.heads.Head.{Head}
 use Rattle.ados_script.specs.declared.heads.Head.TheVariants.{Lab, EndSkip}
 use Rattle.ados_script.specs.declared.jumps.Jump.{Jump}
-use Rattle.ados_script.specs.declared.jumps.Jump.TheVariants.{To, EndSkip as BehindEndSkip, None as Nowhere}
+use Rattle.ados_script.specs.declared.jumps.Jump.TheVariants.{To, EndSkip as AfterEndSkip, None as Nowhere}
 use Rattle.ados_script.specs.Heads.{head_of, label_of}
 use Rattle.ados_script.specs.Lines.{line_of, is_some_and, numbers_below}
 
@@ -35,7 +35,7 @@ is_end_skip_at lines j = is_some_and (λ line. is_end_skip (head_of line)) (line
 -- to the line after the one at which it stops
 abbrev pub jump_past_stop : List Text → Option ℕ → Jump
 jump_past_stop lines None = Nowhere
-jump_past_stop lines (Some j) = if is_end_skip_at lines j then BehindEndSkip (j + 1) else To (j + 1)
+jump_past_stop lines (Some j) = if is_end_skip_at lines j then AfterEndSkip (j + 1) else To (j + 1)
 
 -- after the first line below a line at which it stops
 abbrev pub skip_below : Option Text → List Text → ℕ → Jump

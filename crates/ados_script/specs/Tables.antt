@@ -10,7 +10,7 @@ use Rattle.ados_script.specs.declared.blocks.Ends.{Ends}
 use Rattle.ados_script.specs.declared.labels.Label.{Label}
 use Rattle.ados_script.specs.declared.tables.Tables.{Tables}
 use Rattle.ados_script.specs.declared.jumps.Jump.{Jump}
-use Rattle.ados_script.specs.declared.jumps.Jump.TheVariants.{To, EndSkip as BehindEndSkip, None as Nowhere}
+use Rattle.ados_script.specs.declared.jumps.Jump.TheVariants.{To, EndSkip as AfterEndSkip, None as Nowhere}
 use Rattle.ados_script.specs.Heads.{head_of, label_of}
 use Rattle.ados_script.specs.Lines.{line_of, is_some_and, numbers_below}
 use Rattle.ados_script.specs.Blocks.{ends_block}
@@ -96,5 +96,5 @@ pub record AreTables (lines : List Text) (tables : Tables) : Type 0 where
 abbrev pub jump_past_first : Option ℕ → Option ℕ → Jump
 jump_past_first None None = Nowhere
 jump_past_first (Some lab) None = To (lab + 1)
-jump_past_first None (Some end) = BehindEndSkip (end + 1)
-jump_past_first (Some lab) (Some end) = if nat_lt end lab then BehindEndSkip (end + 1) else To (lab + 1)
+jump_past_first None (Some end) = AfterEndSkip (end + 1)
+jump_past_first (Some lab) (Some end) = if nat_lt end lab then AfterEndSkip (end + 1) else To (lab + 1)

@@ -50,11 +50,11 @@ pub fn first_of(labels: &[Label], text: &[u8], i: usize) -> Option<usize>
     requires rising { IsNonDecreasingBy (λ (label : Label). label.line) (filter (has_text text.now) labels.now) }
     ensures { result ≡ option_map (λ (label : Label). label.line) (find (λ (label : Label). nat_lt i label.line) (filter (has_text text.now) labels.now)) }
 {
-    Some(first_behind(all_of(labels, text), i)?.line)
+    Some(first_label_after(all_of(labels, text), i)?.line)
 }
 
 // The first of these labels that is below line `i`.
-fn first_behind(labels: &[Label], i: usize) -> Option<&Label>
+fn first_label_after(labels: &[Label], i: usize) -> Option<&Label>
     requires { IsNonDecreasingBy (λ (label : Label). label.line) labels.now }
     ensures { option_copied result ≡ find (λ (label : Label). nat_lt i label.line) labels.now }
 {

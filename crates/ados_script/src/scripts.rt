@@ -6,9 +6,9 @@ ghost use Rattle.ados_script.specs.Lines.{line_of};
 ghost use Rattle.ados_script.specs.Skips.{skip};
 
 use crate::blocks::row_at;
-use crate::jumps::{Jump, behind};
+use crate::jumps::{Jump, jump_after};
 use crate::labels::first_of;
-use crate::skips::{behind_first, first_below};
+use crate::skips::{first_below, jump_after_first};
 use crate::tables::{Tables, read_tables};
 use ados_text::{NoMemory, Text};
 use std::alloc::Global;
@@ -68,7 +68,7 @@ impl Script {
         ensures jump { result ≡ after_if self.now i }
         ensures within { LeadsWithin self.now result }
     {
-        behind(row_at(&self.tables.ends, i).branch)
+        jump_after(row_at(&self.tables.ends, i).branch)
     }
 
     /// Where the script continues after an Else in line `i`: after the first EndIf below it at depth 0. `None` if there
@@ -77,7 +77,7 @@ impl Script {
         ensures jump { result ≡ after_else self.now i }
         ensures within { LeadsWithin self.now result }
     {
-        behind(row_at(&self.tables.ends, i).end_if)
+        jump_after(row_at(&self.tables.ends, i).end_if)
     }
 
     /// Where the script continues after a Skip in line `i`: after the first Lab below it that has the label, ignoring
@@ -93,6 +93,6 @@ impl Script {
             None => first_below(&self.tables.labs, start),
             Some(label) => first_of(&self.tables.labels, label, start),
         };
-        behind_first(lab, first_below(&self.tables.end_skips, start))
+        jump_after_first(lab, first_below(&self.tables.end_skips, start))
     }
 }

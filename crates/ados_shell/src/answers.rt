@@ -182,7 +182,7 @@ impl Draft {
         let output = child.output.as_ref();
         let codes = self.put(scene, output, bytes.copy()?, Codes::NONE)?;
         let child = child.copy()?.with_break();
-        let child = child.behind_piece(output_fault(codes));
+        let child = child.after_piece(output_fault(codes));
         self.wait(scene, child.next())
     }
 

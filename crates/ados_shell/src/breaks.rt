@@ -83,7 +83,7 @@ impl Draft {
             self.give_up(scene, &frame)?;
             self.break_frames(scene)
         } else {
-            self.shell.limit = self.shell.frames.limit_behind(scene.shell, frame.limit());
+            self.shell.limit = self.shell.frames.limit_after(scene.shell, frame.limit());
             self.finish(scene, maker(&frame), Codes::erred(Result2::BREAK), false)
         }
     }

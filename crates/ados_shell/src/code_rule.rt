@@ -171,7 +171,7 @@ impl Draft {
         ensures { OnOk result (IsReported scene.now self.old self.new name.now frame.now) }
     {
         self.reports.push(report_of(scene.number, name, frame)?)?;
-        self.shell.limit = self.shell.frames.limit_behind(scene.shell, frame.limit());
+        self.shell.limit = self.shell.frames.limit_after(scene.shell, frame.limit());
         Ok(())
     }
 }

@@ -91,7 +91,7 @@ impl Draft {
             }
             Some(lines) => {
                 let line = line.with_args(first_of(scene.alloc, lines)?)?;
-                self.command(scene, builtin, &line, Some(behind_first(lines)))
+                self.command(scene, builtin, &line, Some(lines_after_first(lines)))
             }
         }
     }
@@ -140,7 +140,7 @@ fn slice_of(lines: Option<&Texts>) -> Option<&[Text]>
 }
 
 /// The lines after the first.
-fn behind_first(lines: &[Text]) -> &[Text]
+fn lines_after_first(lines: &[Text]) -> &[Text]
     ensures { result.now ≡ drop 1 lines.now }
 {
     match lines.split_first() {

@@ -94,7 +94,7 @@ impl Draft {
     {
         match before_plus(line.args.as_bytes()) {
             None => {
-                let commands = behind(scene.alloc, &[], line.args.copy()?)?;
+                let commands = with_command(scene.alloc, &[], line.args.copy()?)?;
                 let codes = self.make_shell(scene, commands, output.as_ref())?;
                 Ok(Completion::Answered {
                     codes,
@@ -106,7 +106,7 @@ impl Draft {
                 let gathering = Gathering {
                     word: line.command.copy()?,
                     output,
-                    commands: behind(scene.alloc, &[], command)?,
+                    commands: with_command(scene.alloc, &[], command)?,
                 };
                 Ok(Completion::waiting(scene.alloc, Wait::ForLines(gathering))?)
             }
@@ -129,12 +129,12 @@ impl Draft {
         let Gathering { word, output, .. } = gathering;
         match before_plus(line.as_bytes()) {
             None => {
-                let commands = behind(scene.alloc, before, line.copy()?)?;
+                let commands = with_command(scene.alloc, before, line.copy()?)?;
                 self.answer_begun(scene, word, commands, output.as_ref())
             }
             Some(front) => {
                 let command = Text::from_bytes(scene.alloc, front)?;
-                let commands = behind(scene.alloc, before, command)?;
+                let commands = with_command(scene.alloc, before, command)?;
                 if before.len() < RUN_LIMIT - 1 {
                     let gathering = Gathering {
                         word: word.copy()?,
@@ -226,7 +226,7 @@ impl Draft {
 }
 
 /// Commands with one more after them.
-fn behind(alloc: Global, commands: &[Text], command: Text) -> Result<Texts, NoMemory>
+fn with_command(alloc: Global, commands: &[Text], command: Text) -> Result<Texts, NoMemory>
     ensures { IfOk result (λ all. all ≡ commands.now ++ command ∷ []) }
 {
     let mut all = Vec::with_capacity(alloc, commands.len() + 1)?;

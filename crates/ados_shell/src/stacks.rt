@@ -138,7 +138,7 @@ impl Stack {
 
     /// The limit after a script above these frames that began at a limit ends: that limit is restored, or it is the
     /// first one if no script is left.
-    pub fn limit_behind(&self, shell: &Shell, limit: Code) -> Code
+    pub fn limit_after(&self, shell: &Shell, limit: Code) -> Code
         ensures { result ≡ limit_above_frames (drafted_frames shell.now self.now) limit }
     {
         if self.has_script(shell) {

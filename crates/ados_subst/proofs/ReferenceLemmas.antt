@@ -51,13 +51,13 @@ abbrev Begins : Marks → References → ℕ → Text → Segment → Type 0
 Begins m r c cs segment = LineBecomes m r (c ∷ cs) (segment_text segment ++ segments_text m r (segment_tail_len segment) cs)
 
 -- what follows a segment, by how many bytes of it are left
-abbrev Behind : Marks → References → Text → Type 0
-Behind m r cs = (taken : ℕ) → LineBecomes m r (drop taken cs) (segments_text m r taken cs)
+abbrev After : Marks → References → Text → Type 0
+After m r cs = (taken : ℕ) → LineBecomes m r (drop taken cs) (segments_text m r taken cs)
 
 value-begins : (m : Marks) (r : References) (c : ℕ) (cs : Text) (place : ℕ) (value : Option Text)
-    → Behind m r cs → c ≡ m.bra → position (is_byte m.ket) cs ≡ Some place → r (take place cs) ≡ value
+    → After m r cs → c ≡ m.bra → position (is_byte m.ket) cs ≡ Some place → r (take place cs) ≡ value
     → Begins m r c cs (segment_by_value c (take place cs) value)
-value-begins m r c cs place None behind bra found known =
+value-begins m r c cs place None after bra found known =
     byte c cs (segments_text m r 0 cs)
     (λ name rest lacks same.
     let line : cs ≡ name ++ m.ket ∷ rest = cc in
@@ -65,42 +65,42 @@ value-begins m r c cs place None behind bra found known =
     let same_name : take place cs ≡ name =
     ap (λ n. take n cs) size ∙ ap (λ l. take (length name) l) line ∙ take_at name (m.ket ∷ rest) (length name) refl in
     ap r (sym same_name) ∙ known)
-    (behind 0)
-value-begins m r c cs place (Some value) behind bra found known =
+    (after 0)
+value-begins m r c cs place (Some value) after bra found known =
     let name = take place cs in
     let parts = ket-parts m.ket cs place found in
     let P : Text → Type 0 = λ line. LineBecomes m r line (value ++ segments_text m r (length name + 1) cs) in
     subst P (ap (λ b. b ∷ (name ++ m.ket ∷ drop (length name + 1) cs)) (sym bra) ∙ ap (λ l. c ∷ l) (sym parts.1))
     (reference name value (drop (length name + 1) cs) (segments_text m r (length name + 1) cs) parts.0 known
-    (behind (length name + 1)))
+    (after (length name + 1)))
 
-ket-begins : (m : Marks) (r : References) (c : ℕ) (cs : Text) (place : Option ℕ) → Behind m r cs → c ≡ m.bra
+ket-begins : (m : Marks) (r : References) (c : ℕ) (cs : Text) (place : Option ℕ) → After m r cs → c ≡ m.bra
     → position (is_byte m.ket) cs ≡ place → Begins m r c cs (segment_by_ket r c cs place)
-ket-begins m r c cs None behind bra none =
+ket-begins m r c cs None after bra none =
     byte c cs (segments_text m r 0 cs)
     (λ name rest lacks same.
     let line : cs ≡ name ++ m.ket ∷ rest = cc in
     let some : position (is_byte m.ket) cs ≡ Some (length name) =
     ap (position (is_byte m.ket)) line ∙ ket-place m.ket name rest lacks in cc)
-    (behind 0)
-ket-begins m r c cs (Some place) behind bra found =
-    value-begins m r c cs place (r (take place cs)) behind bra found refl
+    (after 0)
+ket-begins m r c cs (Some place) after bra found =
+    value-begins m r c cs place (r (take place cs)) after bra found refl
 
-segment-begins : (m : Marks) (r : References) (c : ℕ) (cs : Text) → Behind m r cs
+segment-begins : (m : Marks) (r : References) (c : ℕ) (cs : Text) → After m r cs
     → Begins m r c cs (first_segment m r c cs)
-segment-begins m r c cs behind =
+segment-begins m r c cs after =
     cond_both (c == m.bra) (segment_by_ket r c cs (position (is_byte m.ket) cs)) (Literal c) (Begins m r c cs)
-    (λ e. ket-begins m r c cs (position (is_byte m.ket) cs) behind (eqb-true c m.bra e) refl)
+    (λ e. ket-begins m r c cs (position (is_byte m.ket) cs) after (eqb-true c m.bra e) refl)
     (λ e. byte c cs (segments_text m r 0 cs)
-    (λ name rest lacks same. let bra : c ≡ m.bra = cc in absurd (eqb-false c m.bra e bra)) (behind 0))
+    (λ name rest lacks same. let bra : c ≡ m.bra = cc in absurd (eqb-false c m.bra e bra)) (after 0))
 
-behind : (m : Marks) (r : References) (taken : ℕ) (line : Text)
+after : (m : Marks) (r : References) (taken : ℕ) (line : Text)
     → LineBecomes m r (drop taken line) (segments_text m r taken line)
-behind m r zero [] = ended
-behind m r (suc taken) [] = ended
-behind m r (suc taken) (c ∷ cs) = behind m r taken cs
-behind m r zero (c ∷ cs) = segment-begins m r c cs (λ taken. behind m r taken cs)
+after m r zero [] = ended
+after m r (suc taken) [] = ended
+after m r (suc taken) (c ∷ cs) = after m r taken cs
+after m r zero (c ∷ cs) = segment-begins m r c cs (λ taken. after m r taken cs)
 
 -- a line becomes what `substituted_line` gives
 pub line-becomes : (m : Marks) (r : References) (line : Text) → LineBecomes m r line (substituted_line m r line)
-line-becomes m r line = behind m r 0 line
+line-becomes m r line = after m r 0 line

@@ -53,7 +53,7 @@ last_counts bytes i done [] past some e = absurd (omega arith)
 last_counts bytes i done (byte ∷ line) past some e = sym (e ∙ ap (λ l. done ++ begun_by (byte ∷ line) (lines_of l)) (drop_all i bytes past))
 
 -- an empty one is not a line
-pub none_behind : (bytes : List ℕ) (i : ℕ) (done : List (List ℕ)) (line : List ℕ) → length bytes ≤ i → length line ≡ 0
+pub none_after : (bytes : List ℕ) (i : ℕ) (done : List (List ℕ)) (line : List ℕ) → length bytes ≤ i → length line ≡ 0
     → lines_of bytes ≡ done ++ begun_by line (lines_of (drop i bytes)) → done ≡ lines_of bytes
-none_behind bytes i done [] past none e = sym (e ∙ ap (λ l. done ++ lines_of l) (drop_all i bytes past) ∙ append-nil done)
-none_behind bytes i done (byte ∷ line) past none e = absurd (omega arith)
+none_after bytes i done [] past none e = sym (e ∙ ap (λ l. done ++ lines_of l) (drop_all i bytes past) ∙ append-nil done)
+none_after bytes i done (byte ∷ line) past none e = absurd (omega arith)

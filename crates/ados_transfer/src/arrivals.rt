@@ -171,8 +171,8 @@ impl Mirror {
             self.add_gone_records(look, gone, &mut changes)?;
             rest = from;
             let record = match rest.split_first() {
-                Some((record, behind)) if record.key.as_str() == seen.key.as_str() => {
-                    rest = behind;
+                Some((record, after)) if record.key.as_str() == seen.key.as_str() => {
+                    rest = after;
                     Some(record)
                 }
                 _ => None,

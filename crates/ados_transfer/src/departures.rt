@@ -140,7 +140,7 @@ impl Mirror {
                 continue;
             }
             let written = files.written(place)?;
-            let path = self.path_of(written.names_behind(&self.place))?;
+            let path = self.path_of(written.relative_names(&self.place))?;
             if !is_key_left_out(key.as_str(), self.options.all) {
                 departures.push(Departure {
                     path,

@@ -15,7 +15,7 @@ impl Mirror {
         if !place.names().starts_with(self.place.names()) {
             return Ok(None);
         }
-        let path = self.spelled(place.names_behind(&self.place))?;
+        let path = self.spelled(place.relative_names(&self.place))?;
         Ok(Some(lower(self.alloc, path.as_str())?))
     }
 

@@ -29,7 +29,7 @@ impl Mirror {
         if !place.names().starts_with(self.place.names()) {
             return Ok(StartPlace::Home);
         }
-        let path = self.path_of(place.names_behind(&self.place))?;
+        let path = self.path_of(place.relative_names(&self.place))?;
         if self.has_folder(rt, path.as_str())? {
             let whole = step_into(self.alloc, self.folder.as_str(), path.as_str())?;
             return Ok(StartPlace::Folder(whole));

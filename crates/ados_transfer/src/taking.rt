@@ -182,7 +182,9 @@ fn take_one<R: AllocGlobal + Files>(
     folder: &str,
 ) -> io::Result<()> {
     match (files.look(place), files.written(place)) {
-        (Some(entry), Ok(place)) => { take_below(rt, folder, place.names_behind(directory), entry) }
+        (Some(entry), Ok(place)) => {
+            take_below(rt, folder, place.relative_names(directory), entry)
+        }
         (None, _) => Ok(()),
         (_, Err(_)) => Err(no_memory()),
     }

@@ -33,19 +33,19 @@ still-new pairs p (q ∷ qs) apart new = (
   still-new pairs p qs apart.1 new.1,
 )
 
-all-behind : (pairs ps : Pairs) → AreDistinct ps → AllByRecursion (IsNew pairs) ps
+all-after : (pairs ps : Pairs) → AreDistinct ps → AllByRecursion (IsNew pairs) ps
     → set_all pairs (filter is_other ps) ≡ pairs ++ filter is_other ps
 unfolding IsDistinct
-all-behind pairs [] distinct new = sym (append-nil pairs)
-all-behind pairs (p ∷ ps) distinct new =
-    by (is_other p) refl (all-behind pairs ps distinct.1 new.1)
-    (all-behind (set_pair pairs p.0 p.1) ps distinct.1 (still-new pairs p ps distinct.0 new.1))
+all-after pairs [] distinct new = sym (append-nil pairs)
+all-after pairs (p ∷ ps) distinct new =
+    by (is_other p) refl (all-after pairs ps distinct.1 new.1)
+    (all-after (set_pair pairs p.0 p.1) ps distinct.1 (still-new pairs p ps distinct.0 new.1))
   where
     by : (b : Bool) → is_other p ≡ b → set_all pairs (filter is_other ps) ≡ pairs ++ filter is_other ps
         → set_all (set_pair pairs p.0 p.1) (filter is_other ps) ≡ set_pair pairs p.0 p.1 ++ filter is_other ps
         → set_all pairs (filter is_other (p ∷ ps)) ≡ pairs ++ filter is_other (p ∷ ps)
-    by true e without behind = simp e (behind ∙ ap (λ l. l ++ filter is_other ps) (set-new pairs p.0 p.1 (new.0 e)) ∙ append_assoc pairs (p ∷ []) (filter is_other ps))
-    by false e without behind = simp e without
+    by true e without after = simp e (after ∙ ap (λ l. l ++ filter is_other ps) (set-new pairs p.0 p.1 (new.0 e)) ∙ append_assoc pairs (p ∷ []) (filter is_other ps))
+    by false e without after = simp e without
 
 -- a name that is not one of a shell's own is none of these
 none-of : (a b c : Bool) (x y z : Text) → not (a || (b || c)) ≡ true → cond a (Some x) (cond b (Some y) (cond c (Some z) None)) ≡ None
@@ -62,4 +62,4 @@ others-new number (p ∷ ps) =
 
 pub copied : (number : ℕ) (pairs : Pairs) → AreDistinct pairs → set_all (own_pairs number) (filter is_other pairs) ≡ copied_pairs number pairs
 unfolding copied_pairs
-copied number pairs distinct = all-behind (own_pairs number) pairs distinct (others-new number pairs)
+copied number pairs distinct = all-after (own_pairs number) pairs distinct (others-new number pairs)

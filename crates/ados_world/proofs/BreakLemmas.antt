@@ -7,7 +7,7 @@ use Rattle.ados_find.specs.declared.outcomes.Breaks.{Breaks}
 use Rattle.ados_machine.specs.Breaks.{broken_at, shells_after_break, broken_number, broken_place}
 use Rattle.ados_machine.specs.Shells.{ShellState}
 use Rattle.ados_machine.specs.World.{flatten}
-use Rattle.ados_machine.proofs.Places.{broken-behind, broken-lost}
+use Rattle.ados_machine.proofs.Places.{broken-after, broken-lost}
 use Rattle.ados_machine.proofs.Shells.{found, place_before}
 use Rattle.ados_world.specs.Breaks.{shells_with_broken}
 
@@ -18,7 +18,7 @@ others-broken zero (Some breaking) shells shell now e = cc
 others-broken (suc i) (Some breaking) shells shell now e =
     elim (cases_eq breaking.shell (suc i)) [
       | inl same ↦ rw (eq-eqb breaking.shell (suc i) same, same, place_before i) (sym (broken-lost breaking.breaks shells i now))
-      | inr differ ↦ rw (ne_eqb breaking.shell (suc i) differ, place_before i) (broken-behind breaking.breaks breaking.shell shells i now differ)
+      | inr differ ↦ rw (ne_eqb breaking.shell (suc i) differ, place_before i) (broken-after breaking.breaks breaking.shell shells i now differ)
     ]
 
 -- the shell at a place is broken, and no other

@@ -37,11 +37,11 @@ place-suc (directory ∷ directories) (shell ∷ old) (suc i) d s a b =
 -- the first of what is left of a list
 first-left : {X : Type 0} (left all : List X) (i : ℕ) (d : X) → drop i left ≡ drop i all → get_or left i d ≡ get_or all i d
 first-left left all i d h =
-    ap (λ n. get_or left n d) (sym (zero-behind i)) ∙ sym (get_or-drop i left 0 d) ∙ ap (λ l. get_or l 0 d) h
-    ∙ get_or-drop i all 0 d ∙ ap (λ n. get_or all n d) (zero-behind i)
+    ap (λ n. get_or left n d) (sym (zero-after i)) ∙ sym (get_or-drop i left 0 d) ∙ ap (λ l. get_or l 0 d) h
+    ∙ get_or-drop i all 0 d ∙ ap (λ n. get_or all n d) (zero-after i)
   where
-    zero-behind : (n : ℕ) → n + 0 ≡ n
-    zero-behind n = omega arith
+    zero-after : (n : ℕ) → n + 0 ≡ n
+    zero-after n = omega arith
 
 pub place-more : (directories left : List (Option Place)) (old new : List (Option ShellState)) (i : ℕ) (x d : Option Place) (s : Option ShellState)
     → new ≡ placed_shells (take i directories) old → drop i left ≡ drop i directories → i < length directories → i < length old

@@ -37,20 +37,20 @@ step-gives w event out sane answer = request-given w event out (step_of w event)
 -- a resident entry stays in use
 entry-stays : (w : WorldState) (event : Event) (out : Out) (r : Response) → step_of w event ≡ r → IsAnswer event (Ok out) r →
     (k : ℕ) → asks w k ≡ true → asks (resulting_world w (Ok out) r) k ≡ true → entry_of (resulting_world w (Ok out) r) k ≡ entry_of w k
-entry-stays w event out (Refused why) is answer k before behind = absurd answer
-entry-stays w event out (Accepted world given items) is answer k before behind = entries-stay w event world given items is k before behind
+entry-stays w event out (Refused why) is answer k before after = absurd answer
+entry-stays w event out (Accepted world given items) is answer k before after = entries-stay w event world given items is k before after
 
 pub step-keeps-entries : (w : WorldState) (event : Event) (out : Out) → IsAnswer event (Ok out) (step_of w event) →
     (k : ℕ) → asks w k ≡ true → asks (resulting_world w (Ok out) (step_of w event)) k ≡ true → entry_of (resulting_world w (Ok out) (step_of w event)) k ≡ entry_of w k
-step-keeps-entries w event out answer k before behind = entry-stays w event out (step_of w event) refl answer k before behind
+step-keeps-entries w event out answer k before after = entry-stays w event out (step_of w event) refl answer k before after
 
 -- the outputs of a shell stay open while its program runs
 output-stays : (w : WorldState) (event : Event) (out : Out) (r : Response) → step_of w event ≡ r → IsAnswer event (Ok out) r →
     (k : ℕ) → runs_program w k ≡ true → runs_program (resulting_world w (Ok out) r) k ≡ true → outputs_held (resulting_world w (Ok out) r) k ≡ outputs_held w k
-output-stays w event out (Refused why) is answer k before behind = absurd answer
-output-stays w event out (Accepted world given items) is answer k before behind = outputs-stay w event world given items is k before behind
+output-stays w event out (Refused why) is answer k before after = absurd answer
+output-stays w event out (Accepted world given items) is answer k before after = outputs-stay w event world given items is k before after
 
 pub step-keeps-outputs : (w : WorldState) (event : Event) (out : Out) → IsAnswer event (Ok out) (step_of w event) →
     (k : ℕ) → runs_program w k ≡ true → runs_program (resulting_world w (Ok out) (step_of w event)) k ≡ true →
     outputs_held (resulting_world w (Ok out) (step_of w event)) k ≡ outputs_held w k
-step-keeps-outputs w event out answer k before behind = output-stays w event out (step_of w event) refl answer k before behind
+step-keeps-outputs w event out answer k before after = output-stays w event out (step_of w event) refl answer k before after

@@ -19,7 +19,7 @@ use Rattle.ados_machine.specs.Stacks.{stack_of}
 use Rattle.ados_machine.specs.Step.{turning_response, begun_items, codes_of_ended, is_done, shell_after_turn, moved_at_turn, of_shell, queue_after_event, start, turn_response, course_without_flag}
 use Rattle.ados_machine.specs.Turning as turning
 use Rattle.ados_machine.specs.World.{WorldState, has_frame, input_of, numbered_shell}
-use Rattle.ados_machine.proofs.Shells.{shells_behind, found, found-left}
+use Rattle.ados_machine.proofs.Shells.{shells_after, found, found-left}
 use Rattle.ados_machine.proofs.Turnings.{TurningGoes, flagged-goes}
 use Rattle.ados_machine.proofs.Turns.{Goes}
 use Rattle.ados_shell.specs.Turnings.{MayWantMemory}
@@ -57,7 +57,7 @@ left-is k moved t e = rw e refl
 
 -- its shell is still at its place
 shell-stays : (w : WorldState) (k : ℕ) (shell : ShellState) (t : TurnResult) → IsSane w → numbered_shell w k ≡ Some shell → Goes shell.parts shell.frames t → t.log ≡ []
-    → is_some (found (shells_behind w.shells k (moved_at_turn w t) t) k) ≡ true
+    → is_some (found (shells_after w.shells k (moved_at_turn w t) t) k) ≡ true
 shell-stays w k shell t sane here goes none =
     ap is_some (found-left w.shells k shell (moved_at_turn w t) t here) ∙ left-is k (moved_at_turn w t) t (runs-on w k shell t sane here goes none)
 
@@ -72,9 +72,9 @@ log-wants k world all [] more e runs = may-want k world more (runs e)
 log-wants k world all (item ∷ log) more e runs = tt
 
 -- the world after a turn
-abbrev behind : WorldState → ℕ → List (List ℕ) → TurnResult → WorldState
-behind w k rest t = record w {
-  shells = shells_behind w.shells k (moved_at_turn w t) t;
+abbrev after : WorldState → ℕ → List (List ℕ) → TurnResult → WorldState
+after w k rest t = record w {
+  shells = shells_after w.shells k (moved_at_turn w t) t;
   ended = codes_of_ended (is_done k t.frames) k t.course.parts.codes w.ended;
   queue = queue_after_event k w.queue rest;
   shared = shared_after_event t.course;
@@ -85,7 +85,7 @@ wants : (w : WorldState) (k : ℕ) (shell : ShellState) (turning : turning.Turni
 wants w k shell (turning.Refuses why) sane here goes m = absurd m
 wants w k shell turning.Ends sane here goes m = absurd m
 wants w k shell (turning.Takes rest t) sane here goes m =
-    log-wants k (behind w k rest t) t.log t.log (begun_items t.course.begun (free_number w.shells)) refl (shell-stays w k shell t sane here goes)
+    log-wants k (after w k rest t) t.log t.log (begun_items t.course.begun (free_number w.shells)) refl (shell-stays w k shell t sane here goes)
 
 -- a turn that was accepted may need memory
 pub turn-may : (w : WorldState) (k : ℕ) (shell : ShellState) → IsSane w → numbered_shell w k ≡ Some shell

@@ -59,11 +59,11 @@ other-place shells n (suc i) shell free e = λ same.
     cc)
 
 -- so the one that runs may be set before or after it
-pub begun-behind : (begun : Option ShellStart) (number : Option ℕ) (shells : List (Option ShellState)) (k : ℕ) (shell : ShellState) (now : Option ShellState)
+pub begun-after : (begun : Option ShellStart) (number : Option ℕ) (shells : List (Option ShellState)) (k : ℕ) (shell : ShellState) (now : Option ShellState)
     → IsFree shells number → found shells k ≡ Some shell → with_begun begun number (slice_set shells (k - 1) now) ≡ slice_set (with_begun begun number shells) (k - 1) now
-begun-behind None number shells k shell now free e = refl
-begun-behind (Some begun) None shells k shell now free e = refl
-begun-behind (Some begun) (Some number) shells k shell now free e =
+begun-after None number shells k shell now free e = refl
+begun-after (Some begun) None shells k shell now free e = refl
+begun-after (Some begun) (Some number) shells k shell now free e =
     set-swap shells (k - 1) (number - 1) now (Some (begun_shell number begun)) (λ same. other-place shells number k shell free e (sym same))
 
 -- the codes that a turn leaves at the end of its shell

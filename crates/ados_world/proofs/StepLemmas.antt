@@ -30,7 +30,7 @@ use Rattle.ados_shell.specs.Turnings.{IsTurning, MayWantMemory, scene_turning}
 use Rattle.ados_world.specs.Scenes.{Shows}
 use Rattle.ados_world.specs.Steps.{step_answer, draft_out, ended_world, world_after_turn}
 use Rattle.ados_world.proofs.MemoryLemmas.{turn-may}
-use Rattle.ados_world.proofs.TakenLemmas.{behind_turn, gives, taken-is}
+use Rattle.ados_world.proofs.TakenLemmas.{after_turn, gives, taken-is}
 
 queue-stays : (w : WorldState) (k : ℕ) → queue_after_event k w.queue (input_of w k).queue ≡ w.queue
 queue-stays w k = elim (cases_Bool (k == 1)) [ inl e ↦ rw e refl | inr e ↦ rw e refl ]
@@ -79,7 +79,7 @@ goes w k shell scene draft (turning.Takes rest turn_response) s t =
     let items = of_shell k turn_response.log ++ begun_items turn_response.course.begun (free_number w.shells) in
     let given = event_out turn_response.course.printed (request_of turn_response.course.parts.number turn_response.phase) (reports_of k turn_response.log) in (
       items,
-      ap (λ q. Accepted (record (behind_turn w k turn_response) { queue = q }) given items)
+      ap (λ q. Accepted (record (after_turn w k turn_response) { queue = q }) given items)
           (ap (queue_after_event k w.queue) t.0 ∙ queue-stays w k)
           ∙ ap (λ x. Accepted x given items) (sym (taken-is w k shell scene draft turn_response s t.1))
           ∙ ap (λ g. Accepted (world_after_turn k draft w) g items) (sym (gives w k shell scene draft turn_response s t.1)),
@@ -97,7 +97,7 @@ takes w k shell scene draft (turning.Takes rest turn_response) s t =
     let given = event_out turn_response.course.printed (request_of turn_response.course.parts.number turn_response.phase) (reports_of k turn_response.log) in
     let queue = queue_after_event k w.queue (drop 1 w.queue) in (
       items,
-      ap (λ q. Accepted (record (behind_turn w k turn_response) { queue = q }) given items)
+      ap (λ q. Accepted (record (after_turn w k turn_response) { queue = q }) given items)
           (ap (λ q. queue_after_event k w.queue (drop 1 q)) (sym t.1) ∙ queue-next w k)
           ∙ ap (λ x. Accepted (record x { queue = queue }) given items) (sym (taken-is w k shell scene draft turn_response s t.2))
           ∙ ap (λ g. Accepted (record (world_after_turn k draft w) { queue = queue }) g items) (sym (gives w k shell scene draft turn_response s t.2)),
@@ -143,8 +143,8 @@ pub takes-wants : (w : WorldState) (k : ℕ) (shell : ShellState) (scene : Scene
 takes-wants w k shell scene input draft sane s e t = turn-wants w k shell scene input sane s e (takes-may scene _ draft _ t)
 
 -- no script runs on after a failure in the world that an event leaves
-pub sane-behind : (w world : WorldState) (k : ℕ) (given : Out) → IsSane w → is_over w ≡ false → Accepts (turn_response w k (numbered_shell w k)) world given → IsSane world
-sane-behind w world k given sane over (items, e) =
+pub sane-later : (w world : WorldState) (k : ℕ) (given : Out) → IsSane w → is_over w ≡ false → Accepts (turn_response w k (numbered_shell w k)) world given → IsSane world
+sane-later w world k given sane over (items, e) =
     (let P : Response → Type 0 = λ r. IsSane (resulting_world w (Ok given) r) in
     subst P (ap (λ b. if b then Refused Over else turn_response w k (numbered_shell w k)) over ∙ e) (sane-after w (event.Turn k) (Ok given) sane))
 

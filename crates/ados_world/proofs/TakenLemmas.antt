@@ -13,7 +13,7 @@ use Rattle.ados_machine.specs.Course.{shared_after_event}
 use Rattle.ados_machine.specs.Numbers.{free_number}
 use Rattle.ados_machine.specs.Requests.{request_of}
 use Rattle.ados_machine.specs.Step.{codes_of_ended, event_out, is_done, moved_at_turn as moved_of, shell_of_turn, with_begun}
-use Rattle.ados_machine.proofs.Shells.{shells_behind, broken-there, broken_for, broken_one, carried-free, carried-runs, found, found-carried, found-placed_other, found-set_same, free-number}
+use Rattle.ados_machine.proofs.Shells.{shells_after, broken-there, broken_for, broken_one, carried-free, carried-runs, found, found-carried, found-placed_other, found-set_same, free-number}
 use Rattle.ados_shell.specs.declared.drafts.Draft.{Draft}
 use Rattle.ados_shell.specs.declared.drafts.ShellDraft.{ShellDraft}
 use Rattle.ados_shell.specs.declared.scenes.Scene.{Scene}
@@ -23,7 +23,7 @@ use Rattle.ados_world.specs.Endings.{final_codes, recorded_codes, remaining_shel
 use Rattle.ados_world.specs.NewShells.{joined_shells, new_shell}
 use Rattle.ados_world.specs.Shells.{shells_after_draft}
 use Rattle.ados_world.specs.Steps.{draft_out, shells_with_begun, shells_after_turn, world_after_turn}
-use Rattle.ados_world.proofs.NewShellLemmas.{begun-behind, codes-left, codes_of_end, ended-left, joined-is, shells-left}
+use Rattle.ados_world.proofs.NewShellLemmas.{begun-after, codes-left, codes_of_end, ended-left, joined-is, shells-left}
 use Rattle.ados_machine.specs.Breaks.{shells_after_break}
 use Rattle.ados_world.specs.Breaks.{shells_with_broken}
 use Rattle.ados_world.proofs.BreakLemmas.{others-broken}
@@ -65,7 +65,7 @@ stood-is w k shell scene draft t s d =
     (shells-placed w.shells k draft.shell shell t moved s.here (ap (drafted_shell draft.shell) (sym s.shell_is) ∙ d.shell_is))
     ∙ ap (λ b. joined_shells (new_shell b number) (slice_set (carried_shells moved w.shells) (k - 1) (Some (own w t)))) d.begun_is
     ∙ joined-is t.course.begun number (slice_set (carried_shells moved w.shells) (k - 1) (Some (own w t)))
-    ∙ begun-behind t.course.begun number (carried_shells moved w.shells) k (carried_or_same moved shell) (Some (own w t))
+    ∙ begun-after t.course.begun number (carried_shells moved w.shells) k (carried_or_same moved shell) (Some (own w t))
     (carried-free moved w.shells number (free-number w.shells)) (still-there w k shell moved s.here)
 
 -- its own shell is among these
@@ -97,9 +97,9 @@ abbrev without : WorldState → ℕ → List (Option ShellState) → SharedState
 without w k shells shared codes = record w { shells = remaining_shells codes k shells; ended = recorded_codes codes k w.ended; shared = shared }
 
 -- the world after what a draft holds
-abbrev pub behind_turn : WorldState → ℕ → TurnResult → WorldState
-behind_turn w k t = record w {
-  shells = shells_behind w.shells k (moved_of w t) t;
+abbrev pub after_turn : WorldState → ℕ → TurnResult → WorldState
+after_turn w k t = record w {
+  shells = shells_after w.shells k (moved_of w t) t;
   ended = codes_of_ended (is_done k t.frames) k t.course.parts.codes w.ended;
   shared = shared_after_event t.course;
 }
@@ -124,7 +124,7 @@ taken-by w k draft begun moved changed stood all rest ended queue input_ended sh
     ∙ ap (λ x. record { shells = rest; ended = ended; queue = queue; input_ended = input_ended; shared = x }) (sym s)
 
 pub taken-is : (w : WorldState) (k : ℕ) (shell : ShellState) (scene : Scene) (draft : Draft) (t : TurnResult)
-    → Shows w k shell scene → IsDrafted scene draft t → world_after_turn k draft w ≡ behind_turn w k t
+    → Shows w k shell scene → IsDrafted scene draft t → world_after_turn k draft w ≡ after_turn w k t
 taken-is w k shell scene draft t s d =
     let done = is_done k t.frames in
     let codes = t.course.parts.codes in
@@ -134,7 +134,7 @@ taken-is w k shell scene draft t s d =
     ∙ ap (λ o. without w k shells (shared_after_event t.course) (final_codes k o)) (own-found w k shell t s.here)
     ∙ ap (without w k shells (shared_after_event t.course)) (codes-left k (moved_of w t) t)
     ∙ ap (λ l. record w { shells = l; ended = recorded_codes (codes_of_end done codes) k w.ended; shared = shared_after_event t.course }) (shells-left done codes k (others w t) (own w t))
-    ∙ ap (λ l. record w { shells = shells_behind w.shells k (moved_of w t) t; ended = l; shared = shared_after_event t.course }) (ended-left done codes k w.ended)
+    ∙ ap (λ l. record w { shells = shells_after w.shells k (moved_of w t) t; ended = l; shared = shared_after_event t.course }) (ended-left done codes k w.ended)
 
 -- what is given by an event that a draft holds
 pub gives : (w : WorldState) (k : ℕ) (shell : ShellState) (scene : Scene) (draft : Draft) (t : TurnResult) → Shows w k shell scene → IsDrafted scene draft t

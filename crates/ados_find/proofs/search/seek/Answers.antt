@@ -1,5 +1,5 @@
 use Rattle.std.proofs.Common.{◌∙◌, sym}
-use Rattle.ados_find.proofs.SearchLemmas.{found-before, found-behind}
+use Rattle.ados_find.proofs.SearchLemmas.{found-before, found-after}
 use Rattle.ados_find.proofs.search.seek.Goals as goal
 
 pub returns-in-Some-clause-found : goal.returns-in-Some-clause-found
@@ -10,5 +10,5 @@ returns-in-Some-clause-found c =
 pub returns-in_ok-find_in_c-in-None-clause-found : goal.returns-in_ok-find_in_c-in-None-clause-found
 returns-in_ok-find_in_c-in-None-clause-found c =
     c.in_ok-find_in_c-in-None.ensures
-    ∙ sym (found-behind c.args.shared.now c.args.directory.now c.args.path.now c.args.word.now c.requires.plain
+    ∙ sym (found-after c.args.shared.now c.args.directory.now c.args.path.now c.args.word.now c.requires.plain
     (sym c.in_ok-found.ensures ∙ c.in-None.is))

@@ -28,8 +28,8 @@ returns-in-Ok-default-clause-agrees g c =
     (untaken-agrees c.args.world.now c.args.number (g.L.Launcher.is_full c.args.launcher.now) (g.L.Launcher.is_full c.ask.new.launcher) (g.L.Launcher.calls c.args.launcher.now) (g.L.Launcher.calls c.ask.new.launcher) c.in-Some.request.now c.ask.result (out_of c.give-2.new.draft)
     c.pending.ensures.sane c.requires.agrees (search rules) (search rules) c.in-Ok-default.ensures.answer)
 
-pub returns-in-Err-Answer-clause-agrees_behind : goal.returns-in-Err-Answer-clause-agrees_behind
-returns-in-Err-Answer-clause-agrees_behind g c =
+pub returns-in-Err-Answer-clause-agrees_after : goal.returns-in-Err-Answer-clause-agrees_after
+returns-in-Err-Answer-clause-agrees_after g c =
     let same : c.in-Err-Answer.answer ≡ c.ask.result = search rules in
     rw (c.in-Err-Answer.ensures.err, same) (λ out is.
     untaken-agrees c.args.world.now c.args.number (g.L.Launcher.is_full c.args.launcher.now) (g.L.Launcher.is_full c.ask.new.launcher) (g.L.Launcher.calls c.args.launcher.now) (g.L.Launcher.calls c.ask.new.launcher) c.in-Some.request.now c.ask.result out

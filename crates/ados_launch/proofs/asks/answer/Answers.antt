@@ -11,4 +11,4 @@ give-requires g c = fitting-accepted c.args.world.now c.args.number c.in-Some.re
 
 pub returns-clause-children : goal.returns-clause-children
 returns-clause-children g c =
-    rw c.from.ensures (table-asked c.args.world.now c.args.number _ _ _ c.in-Some.request.now c.ask-answer.result _ _ _ c.pending.ensures.sane c.requires.agrees c.requires.children (search rules) (search rules) c.ask-answer.ensures c.runs_behind.ensures)
+    rw c.from.ensures (table-asked c.args.world.now c.args.number _ _ _ c.in-Some.request.now c.ask-answer.result _ _ _ c.pending.ensures.sane c.requires.agrees c.requires.children (search rules) (search rules) c.ask-answer.ensures c.runs_after.ensures)

@@ -17,13 +17,13 @@ returns-in-Ok-None-clause-ok c =
     let n = length c.args.line.now - c.loop-step.step in
     let readings : Readings = record { given = c.read_next.new.given.items; plain = c.read_next.new.plain.items } in
     c.loop-step.invariant (suc n) (omega arith) ∙ c.in-Ok-None.ensures.on n
-    ∙ ap (next_readings (λ behind. read_from c.args.options.now c.args.line.now readings c.read_next.new.pending (words_from n c.args.line.now behind)) readings) c.in-Ok-None.field-0-is
+    ∙ ap (next_readings (λ after. read_from c.args.options.now c.args.line.now readings c.read_next.new.pending (words_from n c.args.line.now after)) readings) c.in-Ok-None.field-0-is
 
 pub loop-step-preserved : goal.loop-step-preserved
 loop-step-preserved c =
     λ n h. let readings : Readings = record { given = c.read_next.new.given.items; plain = c.read_next.new.plain.items } in
     c.loop-step.invariant (suc n) (omega arith) ∙ c.in-Ok-Some.ensures.on n
-    ∙ ap (next_readings (λ behind. read_from c.args.options.now c.args.line.now readings c.read_next.new.pending (words_from n c.args.line.now behind)) readings) c.in-Ok-Some.field-0-is
+    ∙ ap (next_readings (λ after. read_from c.args.options.now c.args.line.now readings c.read_next.new.pending (words_from n c.args.line.now after)) readings) c.in-Ok-Some.field-0-is
 
 pub returns-clause-ok : goal.returns-clause-ok
 returns-clause-ok c = on_ok_weaker c.read_end.result (λ e. c.loop-step.invariant 0 (omega arith) ∙ e (record { given = c.loop-step.given.items; plain = c.loop-step.plain.items })) c.read_end.ensures.ok

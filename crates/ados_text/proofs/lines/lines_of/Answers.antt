@@ -1,5 +1,5 @@
 use Rattle.std.proofs.Common.{rules}
-use Rattle.ados_text.proofs.LineLemmas.{past_newline, past_byte, last_counts, none_behind}
+use Rattle.ados_text.proofs.LineLemmas.{past_newline, past_byte, last_counts, none_after}
 use Rattle.ados_text.proofs.lines.lines_of.Goals as goal
 use Rattle.ados_text.proofs.lines.lines_of.Goals.{then-byte-eq10+in_ok-push, else-byte-eq10+in_ok-push-2, then-not-is_empty+in_ok-push-3, else-not-is_empty}
 
@@ -15,5 +15,5 @@ pub returns : goal.returns
 returns c = elim c.if-not-is_empty.branch [
   | then-not-is_empty+in_ok-push-3 w ↦ rw (w.lines-is, w.in_ok-push-3.ensures.ok)
       (last_counts c.args.bytes.now c.loop-byte.byte-index c.loop-byte.lines c.loop-byte.line (search rules) (search rules) c.loop-byte.invariant)
-  | else-not-is_empty w ↦ rw (w.lines-is) (none_behind c.args.bytes.now c.loop-byte.byte-index c.loop-byte.lines c.loop-byte.line (search rules) (search rules) c.loop-byte.invariant)
+  | else-not-is_empty w ↦ rw (w.lines-is) (none_after c.args.bytes.now c.loop-byte.byte-index c.loop-byte.lines c.loop-byte.line (search rules) (search rules) c.loop-byte.invariant)
 ]

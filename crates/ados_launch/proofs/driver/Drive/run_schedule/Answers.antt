@@ -32,12 +32,12 @@ loop-events-preserved g c =
     let i = c.loop-events.invariant in
     let may = c.in-Some.ensures.may_come in
     let here : scheduled_next c.loop-events.schedule c.loop-events.world ≡ Some (found_next c.in-Some.next) = sym c.in-Some.ensures.next in
-    let behind : c.pass.new.self ≡ following_schedule_state c.loop-events.schedule c.loop-events.world (found_next c.in-Some.next) = c.pass.ensures ∙ c.in-Some.ensures.passed in
+    let after : c.pass.new.self ≡ following_schedule_state c.loop-events.schedule c.loop-events.world (found_next c.in-Some.next) = c.pass.ensures ∙ c.in-Some.ensures.passed in
     record {
       reader = c.in_ok-take.ensures.honest ∙ i.reader;
       writer = c.in_ok-write_whole.ensures.honest.0 ∙ i.writer;
       stalls = c.in_ok-write_whole.ensures.honest.1 ∙ i.stalls;
-      in_round = rw behind (standing-in_round c.loop-events.schedule c.loop-events.world c.in-Some.next i.in_round (in-round c.loop-events.world c.in-Some.next may));
+      in_round = rw after (standing-in_round c.loop-events.schedule c.loop-events.world c.in-Some.next i.in_round (in-round c.loop-events.world c.in-Some.next may));
       count = rw c.pass.ensures (passed-taken c.next.new.self c.in-Some.next) ∙ ap (λ n. n + 1) (c.next.ensures.taken ∙ i.count);
       few = c.take.ensures.few i.few;
       fresh_reader = λ none. absurd (omega (arith, none));
@@ -45,7 +45,7 @@ loop-events-preserved g c =
       agrees = c.in_ok-take.ensures.agrees;
       children = c.take.ensures.children;
       driven = driven-more _ _ _ c.args.self.now.breaks.now c.loop-events.events c.loop-events.schedule c.pass.new.self (bytes_ahead c.loop-events.intake.held (g.S.Source.left c.loop-events.reader)) (bytes_ahead c.take.new.self.held (g.S.Source.left c.take.new.reader)) (found_next c.in-Some.next) c.take.new.self.draft.printed.items
-          i.driven here c.take.ensures.stays c.in_ok-take.ensures.took c.in_ok-take.ensures.agrees (rw c.as_slice.ensures.value at c.in_ok-write_whole.ensures.whole) behind;
+          i.driven here c.take.ensures.stays c.in_ok-take.ensures.took c.in_ok-take.ensures.agrees (rw c.as_slice.ensures.value at c.in_ok-write_whole.ensures.whole) after;
     }
 
 pub returns-in_err-take-clause-comes_to : goal.returns-in_err-take-clause-comes_to

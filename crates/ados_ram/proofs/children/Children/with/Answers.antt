@@ -5,7 +5,7 @@ use Rattle.ados_text.specs.Name.{name_cmp}
 use Rattle.ados_ram.specs.Tree.{Kids, replace_kid}
 use Rattle.ados_ram.specs.Blocks.{all_kids, AllFull, IsBlockOf}
 use Rattle.ados_ram.proofs.ChangeLemmas.{sorted-with}
-use Rattle.ados_ram.proofs.BlockLemmas.{all-append, full-front, full-back, middle-sorted, changed_in, changed_behind, full-append}
+use Rattle.ados_ram.proofs.BlockLemmas.{all-append, full-front, full-back, middle-sorted, changed_in, changed_after, full-append}
 use Rattle.ados_ram.proofs.children.Children.with.Goals as goal
 
 pub invariant_of-result : goal.invariant_of-result
@@ -16,7 +16,7 @@ invariant_of-result c =
     let at : IsBlockOf x bs i = subst (λ (t : List Kids). IsBlockOf x t i) c.deref.ensures.value c.block_of-at.ensures.parted in
     let shared : c.share_blocks.new.out.items ≡ c.split_at.result.0.now = c.in_ok-share_blocks.ensures ∙ ap (λ (t : List Kids). t ++ c.split_at.result.0.now) c.in_ok-blocks.ensures.items in
     let kids : all_kids c.push_block.new.out.items ≡ replace_kid x c.args.new (all_kids bs) =
-    changed_behind x c.args.new bs c.split_at.result.0.now c.split_at.result.1.now i c.in_ok-changed.field-0.items c.push_block.new.out.items at
+    changed_after x c.args.new bs c.split_at.result.0.now c.split_at.result.1.now i c.in_ok-changed.field-0.items c.push_block.new.out.items at
     (c.split_at.ensures.front ∙ ap (take i) c.deref-2.ensures.value) (c.split_at.ensures.back ∙ ap (drop i) c.deref-2.ensures.value) c.in_default.ensures.cases c.in_ok-changed.ensures
     (c.in_ok-push_block.ensures.kids ∙ ap (λ (t : List Kids). all_kids t ++ c.in_ok-changed.field-0.items) shared) in
     record {
@@ -31,7 +31,7 @@ returns-in_default c =
     let x = folded_text c.args.name.now in
     let at : IsBlockOf x bs i = subst (λ (t : List Kids). IsBlockOf x t i) c.deref.ensures.value c.block_of-at.ensures.parted in
     let shared : c.share_blocks.new.out.items ≡ c.split_at.result.0.now = c.in_ok-share_blocks.ensures ∙ ap (λ (t : List Kids). t ++ c.split_at.result.0.now) c.in_ok-blocks.ensures.items in
-    changed_behind x c.args.new bs c.split_at.result.0.now c.split_at.result.1.now i c.in_ok-changed.field-0.items c.push_block.new.out.items at
+    changed_after x c.args.new bs c.split_at.result.0.now c.split_at.result.1.now i c.in_ok-changed.field-0.items c.push_block.new.out.items at
     (c.split_at.ensures.front ∙ ap (take i) c.deref-2.ensures.value) (c.split_at.ensures.back ∙ ap (drop i) c.deref-2.ensures.value) c.in_default.ensures.cases c.in_ok-changed.ensures
     (c.in_ok-push_block.ensures.kids ∙ ap (λ (t : List Kids). all_kids t ++ c.in_ok-changed.field-0.items) shared)
     ∙ ap (replace_kid x c.args.new) c.self.view_is

@@ -5,8 +5,8 @@ use Rattle.ados_script.specs.Tables.{ends_of}
 use Rattle.ados_script.proofs.SkipLemmas.{block-within, leads, small}
 use Rattle.ados_script.proofs.scripts.Script.after_if.Goals as goal
 
-pub behind-requires : goal.behind-requires
-behind-requires c =
+pub jump_after-requires : goal.jump_after-requires
+jump_after-requires c =
     let lines = c.self.inside.lines.items in
     let row : c.row_at.result ≡ ends_of (map head_of lines) c.args.i = rw c.deref.ensures.value at c.row_at.ensures ∙ c.self.invariant.ends c.args.i in
     small lines c.row_at.result.branch c.self.invariant.few (block-within true lines c.args.i c.row_at.result.branch (ap (λ (row : Ends). row.branch) row))
@@ -15,4 +15,4 @@ pub returns-clause-within : goal.returns-clause-within
 returns-clause-within c =
     let lines = c.self.inside.lines.items in
     let row : c.row_at.result ≡ ends_of (map head_of lines) c.args.i = rw c.deref.ensures.value at c.row_at.ensures ∙ c.self.invariant.ends c.args.i in
-    rw (← c.self.view_is, c.behind.ensures) (leads lines c.row_at.result.branch (block-within true lines c.args.i c.row_at.result.branch (ap (λ (row : Ends). row.branch) row)))
+    rw (← c.self.view_is, c.jump_after.ensures) (leads lines c.row_at.result.branch (block-within true lines c.args.i c.row_at.result.branch (ap (λ (row : Ends). row.branch) row)))

@@ -42,12 +42,12 @@ returns t c =
     let mid : Draft = record before { shell = record before.shell { phase = None; frames = c.pop.new.self } } in
     let reported = c.report_break.new.self in
     let frame = c.in-Some.frame in
-    let ended : Draft = record reported { shell = record reported.shell { limit = c.limit_behind-self.result } } in
+    let ended : Draft = record reported { shell = record reported.shell { limit = c.limit_after-self.result } } in
     let Q : List ℕ → Codes → Type 0 = λ w k. IsRuled scene ended c.finish.new.self (finish w k false (frames_of scene ended) (said_of (course_of scene ended))) in
     on_ok_weaker c.finish.result
-    (λ g. break-ends scene before mid reported c.finish.new.self c.limit_behind-self.result frame (drafted_frames scene.shell.now c.pop.new.self)
+    (λ g. break-ends scene before mid reported c.finish.new.self c.limit_after-self.result frame (drafted_frames scene.shell.now c.pop.new.self)
     (subst P c.in-Some.is c.in_ok-frame.ensures) (record { held = refl; limit = refl; codes = refl; printed = refl; reports = refl }) refl
     c.in_ok-report_break.ensures (sym c.has_script.ensures ∙ c.if-has_script.false)
-    (c.limit_behind-self.ensures ∙ ap (limit_above_frames (frames_of scene reported)) c.limit.ensures)
+    (c.limit_after-self.ensures ∙ ap (limit_above_frames (frames_of scene reported)) c.limit.ensures)
     (subst (Q (maker frame.kind)) c.erred.ensures (subst (λ w. Q w c.erred.result) c.maker.ensures g)))
     c.finish.ensures

@@ -22,7 +22,7 @@ returns-in_ok-waiting-in-Some c =
       frames = refl;
       reports = refl;
       completion_is = c.in_ok-waiting-in-Some.ensures line.command (next_line_place scene before).frame_lines course
-          ∙ ap (λ w. waits w c.in_ok-behind-in-Some.field-0) c.in_ok-copy-in-Some.ensures
-          ∙ ap (waits line.command) (c.in_ok-behind-in-Some.ensures ∙ ap (λ x. x ∷ []) (front-is line.args c.in-Some.front.now c.in_ok-command-in-Some.command c.as_bytes.ensures.ascii front c.in_ok-command-in-Some.ensures))
+          ∙ ap (λ w. waits w c.in_ok-with_command-in-Some.field-0) c.in_ok-copy-in-Some.ensures
+          ∙ ap (waits line.command) (c.in_ok-with_command-in-Some.ensures ∙ ap (λ x. x ∷ []) (front-is line.args c.in-Some.front.now c.in_ok-command-in-Some.command c.as_bytes.ensures.ascii front c.in_ok-command-in-Some.ensures))
           ∙ ap (λ o. console_run line.command c.args.output line.args (next_line_place scene before).sink course o) (sym front);
     }

@@ -3,7 +3,7 @@ use Rattle.ados_machine.specs.World.{input_of}
 use Rattle.ados_machine.specs.declared.events.Event.TheVariants as event
 use Rattle.ados_shell.specs.declared.turnings.Turning.{Turning}
 use Rattle.ados_shell.specs.Turnings.{Gives, scene_turning}
-use Rattle.ados_world.proofs.StepLemmas.{answered, answers, goes-wants, sane-behind, sane-taken, takes-wants, turn-ends, turn-goes, turn-refused, turn-takes, turn-wants}
+use Rattle.ados_world.proofs.StepLemmas.{answered, answers, goes-wants, sane-later, sane-taken, takes-wants, turn-ends, turn-goes, turn-refused, turn-takes, turn-wants}
 use Rattle.ados_world.proofs.worlds.World.turn.Goals as goal
 
 pub end_shell-requires-clause-sane : goal.end_shell-requires-clause-sane
@@ -13,7 +13,7 @@ end_shell-requires-clause-sane c =
     let shell = c.in-Some.shell.now in
     let P : Turning → Type 0 = λ t. Gives c.scene.result c.input.result (scene_turning c.scene.result c.input.result) t c.turn.new.self in
     let given = subst P c.in-Ok-Ends.field-0-is c.in-Ok-Ends.ensures.turn in
-    sane-behind w _ k _ (rw c.self.view_is at c.self.invariant) c.requires
+    sane-later w _ k _ (rw c.self.view_is at c.self.invariant) c.requires
     (turn-ends w k shell c.scene.result c.input.result c.turn.new.self c.codes-codes.result c.scene.ensures c.input.ensures.is_ended c.codes-codes.ensures
     (given (input_of w k).queue c.input.ensures.line))
 
@@ -24,7 +24,7 @@ take-requires-clause-sane c =
     let shell = c.in-Some.shell.now in
     let P : Turning → Type 0 = λ t. Gives c.scene.result c.input.result (scene_turning c.scene.result c.input.result) t c.turn.new.self in
     let given = subst P c.in-Ok-Goes.field-0-is c.in-Ok-Goes.ensures.turn in
-    sane-behind w _ k _ (rw c.self.view_is at c.self.invariant) c.requires
+    sane-later w _ k _ (rw c.self.view_is at c.self.invariant) c.requires
     (turn-goes w k shell c.scene.result c.input.result c.turn.new.self c.scene.ensures c.input.ensures.is_ended (given (input_of w k).queue c.input.ensures.line))
 
 pub take_typed-requires-clause-sane : goal.take_typed-requires-clause-sane
@@ -34,7 +34,7 @@ take_typed-requires-clause-sane c =
     let shell = c.in-Some.shell.now in
     let P : Turning → Type 0 = λ t. Gives c.scene.result c.input.result (scene_turning c.scene.result c.input.result) t c.turn.new.self in
     let given = subst P c.in-Ok-Takes.field-0-is c.in-Ok-Takes.ensures.turn in
-    sane-taken _ _ (sane-behind w _ k _ (rw c.self.view_is at c.self.invariant) c.requires
+    sane-taken _ _ (sane-later w _ k _ (rw c.self.view_is at c.self.invariant) c.requires
     (turn-takes w k shell c.scene.result c.input.result c.turn.new.self c.scene.ensures c.input.ensures.is_ended (given (input_of w k).queue c.input.ensures.line)))
 
 pub returns-in-Err-clause-answer : goal.returns-in-Err-clause-answer

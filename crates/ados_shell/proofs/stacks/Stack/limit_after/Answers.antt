@@ -4,7 +4,7 @@ use Rattle.ados_flow.specs.Frames.{first_limit}
 use Rattle.ados_machine.specs.Breaks.{has_script}
 use Rattle.ados_shell.specs.Stacks.{drafted_frames}
 use Rattle.ados_shell.proofs.StackLemmas.{limit_is}
-use Rattle.ados_shell.proofs.stacks.Stack.limit_behind.Goals as goal
+use Rattle.ados_shell.proofs.stacks.Stack.limit_after.Goals as goal
 
 pub returns-then-has_script : goal.returns-then-has_script
 returns-then-has_script c =

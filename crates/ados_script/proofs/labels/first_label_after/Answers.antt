@@ -2,7 +2,7 @@ use Rattle.std.proofs.Common.{◌∙◌, leb, rules}
 use Rattle.std.proofs.lemmas.List.Sorted.{IsPartitionPoint-from_clause, IsPartitionedBy-leb}
 use Rattle.ados_script.specs.declared.labels.Label.{Label}
 use Rattle.ados_script.proofs.ListLemmas.{first_above, lent}
-use Rattle.ados_script.proofs.labels.first_behind.Goals as goal
+use Rattle.ados_script.proofs.labels.first_label_after.Goals as goal
 
 pub returns : goal.returns
 returns c =
