@@ -40,7 +40,7 @@ if_row shared script_line view args =
 abbrev pub else_row : SharedState → Option ScriptLine → Action
 else_row shared script_line = in_script shared script_line (λ here. jump_action (after_else here.lines here.line))
 
--- Skip jumps after the Lab with its LABEL, sought below it or with BACK from the first line on, or after an EndSkip that
+-- Skip jumps after the Lab with its LABEL, looked for below it or with BACK from the first line on, or after an EndSkip that
 -- comes before that
 abbrev pub skip_row : SharedState → Option ScriptLine → List Arg → Action
 skip_row shared script_line args =

@@ -24,7 +24,7 @@ use Rattle.ados_subst.specs.Faults.{result2_of}
 use Rattle.ados_subst.specs.Scripts.{script_of}
 use Rattle.ados_flow.specs.Actions.{Action, Calls, codes_action}
 
--- a script is sought in S: if its name is not a path and nothing has it
+-- a script is looked for in S: if its name is not a path and nothing has it
 abbrev pub script_place : SharedState → Place → Text → Place → Result Place Codes
 script_place shared directory word place =
     if not (is_path word) && is_none (finite.get shared.files (key_of place)) then place_of shared directory (codes "S:" ++ word) else Ok place

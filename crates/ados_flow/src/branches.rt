@@ -55,7 +55,7 @@ pub fn pass_block(alloc: Global, frame: Option<&Frame>) -> Action
     }
 }
 
-/// Skip jumps after the Lab with its LABEL, sought below it or with BACK from the first line on, or after an EndSkip that
+/// Skip jumps after the Lab with its LABEL, looked for below it or with BACK from the first line on, or after an EndSkip that
 /// comes before that.
 ///
 /// 212 if the newest frame is not a script.

@@ -17,7 +17,7 @@ use ados_script::Script;
 use ados_text::{NoMemory, Result2, Text};
 use std::alloc::Global;
 
-/// Execute calls the script FILE with ARGS. It is sought by its path, and if that is a mere name that nothing has,
+/// Execute calls the script FILE with ARGS. It is looked for by its path, and if that is a mere name that nothing has,
 /// in S:.
 ///
 /// What finding, reading and substituting refuse: 202 for an open output, 204, 205, 210, 212, 218, 224 with 10; 114 to

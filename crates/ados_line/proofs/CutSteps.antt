@@ -64,7 +64,7 @@ both-signed line from two =
     let first : begins line 60 from ≡ true = (and_parts (begins line 60 from) (slice_index line (from + 1) == 62) two).0 in
     rw first refl
 
--- where `=` is a byte as any other, it is not an item
+-- if `=` is a byte as any other, it is not an item
 no-equal : (place at : ℕ) (bytes : List ℕ) → item_by_first false place bytes ≡ Equal at → ⊥
 no-equal place at [] = λ e. cc
 no-equal place at (c ∷ cs) =

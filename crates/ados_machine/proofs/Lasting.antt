@@ -84,7 +84,7 @@ broken-seen s None o = refl
 broken-seen s (Some breaks) None = refl
 broken-seen s (Some breaks) (Some shell) = s.marked shell.frames breaks.marks shell.phase
 
--- a shell begins where there is none
+-- a shell begins at a number that has none
 begun-seen : {X : Type 0} (s : Watch X) (shells : List (Option ShellState)) (begun : Option ShellStart) (n : Option ℕ) (j : ℕ) → IsFree shells n →
     is_held s (found shells j) ≡ true → seen_by s (found (with_begun begun n shells) j) ≡ seen_by s (found shells j)
 begun-seen s shells None n j free held = refl

@@ -114,7 +114,7 @@ pub text_rises : (text : Text) (lines : List Text) (labels : List Label) → Are
 text_rises text lines labels are =
     rw (are.all text) (IsNonDecreasingBy-filter (λ (label : Label). label.line) (has_text text) (labels_below lines 0) (labels-rise lines (filter (is_lab_at lines) (numbers_below lines 0)) (numbers_rise (is_lab_at lines) lines)))
 
--- a line stops a Skip if it is a Lab that is sought, or an EndSkip; no line is both
+-- a line stops a Skip if it is a Lab that is looked for, or an EndSkip; no line is both
 record Stops (stops lab end : Bool) : Type 0 where
   pub either : stops ≡ (lab || end)
   pub apart : (lab && end) ≡ false

@@ -9,7 +9,7 @@ use Rattle.ados_script.specs.declared.jumps.Jump.TheVariants.{To, EndSkip as Aft
 use Rattle.ados_script.specs.Heads.{head_of, label_of}
 use Rattle.ados_script.specs.Lines.{line_of, is_some_and, numbers_below}
 
--- the label that is sought, or any one if none is named
+-- the label that is looked for, or any one if none is named
 abbrev pub is_sought : Option Text → Text → Bool
 is_sought None found = true
 is_sought (Some label) found = is_same found label

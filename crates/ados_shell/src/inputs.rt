@@ -12,7 +12,7 @@ use ados_ram::{Busy, Place};
 use ados_text::{Stop, Text, Texts, lines_of};
 use std::alloc::Global;
 
-/// The lines of an input, from a current directory, where these outputs are open; NIL: has none.
+/// The lines of an input, from a current directory, while these outputs are open; NIL: has none.
 ///
 /// 210 for a name that is not a path, what resolving refuses (204, 205, 212, 218), and what reading refuses (202, 205,
 /// 212, 224).

@@ -34,7 +34,7 @@ pub enum Opened {
 impl Opened {
     ghost use Rattle.ados_shell.specs.Outputs.{IsOpened};
 
-    /// Opens what a redirection names, from a current directory, where these outputs are open: `>` empties the file or
+    /// Opens what a redirection names, from a current directory, while these outputs are open: `>` empties the file or
     /// makes it, `>>` keeps it or makes it.
     ///
     /// 210 for a name that is not a path, what resolving refuses (204, 205, 212, 218), and what writing refuses (202,
@@ -189,7 +189,7 @@ impl Draft {
         }
     }
 
-    /// The files after bytes were put at a place, where an output is open.
+    /// The files after bytes were put at a place, while an output is open.
     ///
     /// 221 if they do not fit.
     fn files_with(&self, scene: &Scene, place: &Place, output: &[u8]) -> Result<Ram, Stop>
