@@ -109,19 +109,19 @@ abbrev pub is_early : Kind → Option Record → Bool
 is_early kind last = is_script kind && is_at_limit last
 
 -- the record of a command that began at the newest frame's line
-abbrev pub entry_of : List FrameState → Codes → Code → Record
-entry_of frames answered limit = record { line = current_line frames; codes = answered; limit = limit }
+abbrev pub new_record : List FrameState → Codes → Code → Record
+new_record frames answered limit = record { line = current_line frames; codes = answered; limit = limit }
 
 -- a frame with its last record
 abbrev pub answered_frame : FrameState → List FrameState → Codes → Code → FrameState
-answered_frame frame frames answered limit = record frame { last = Some (entry_of (frame ∷ frames) answered limit) }
+answered_frame frame frames answered limit = record frame { last = Some (new_record (frame ∷ frames) answered limit) }
 
 -- a frame ends if no line is left, and a script also if it quits or at the limit
 abbrev pub is_ended : Bool → Codes → Code → FrameState → Bool
 is_ended quits answered limit frame = is_over frame || (is_script frame.kind && (quits || is_reached limit answered.code))
 
 -- the word of the command that made a script; other frames are made by no command
-abbrev pub maker : Kind → Text
-maker (Script name command) = command
-maker Lines = []
-maker (Tick before after) = []
+abbrev pub caller_word : Kind → Text
+caller_word (Script name command) = command
+caller_word Lines = []
+caller_word (Tick before after) = []

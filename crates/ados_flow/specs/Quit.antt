@@ -12,10 +12,10 @@ abbrev pub quit_codes : Code → Codes
 quit_codes code = record { code = code; result2 = NONE }
 
 -- the code is RC, and 0 without one
-abbrev pub quits : Option ℤ → Action
-quits None = Quits (quit_codes OK)
-quits (Some number) = Quits (quit_codes (record { 0 = number }))
+abbrev pub quit_action : Option ℤ → Action
+quit_action None = Quits (quit_codes OK)
+quit_action (Some number) = Quits (quit_codes (record { 0 = number }))
 
 -- Quit ends its script with a code
 abbrev pub quit_row : List Arg → Action
-quit_row args = quits (option_number args 0)
+quit_row args = quit_action (option_number args 0)

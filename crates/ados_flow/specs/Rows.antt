@@ -28,17 +28,17 @@ template_of flow.Quit = codes "RC/N"
 template_of flow.Skip = codes "LABEL,BACK/S"
 
 -- a command that only marks its line
-abbrev pub marks : SharedState → Action
-marks shared = Does (codes_effect shared went_well)
+abbrev pub marker_action : SharedState → Action
+marker_action shared = Does (codes_effect shared went_well)
 
 -- what a command does, which is at a line of a script or in none
 abbrev pub row_of : FlowCommand → SharedState → Option ScriptLine → View → List Arg → Action
 row_of flow.Ask shared script_line view args = ask_row shared args
 row_of flow.Else shared script_line view args = else_row shared script_line
-row_of flow.EndIf shared script_line view args = marks shared
-row_of flow.EndSkip shared script_line view args = marks shared
+row_of flow.EndIf shared script_line view args = marker_action shared
+row_of flow.EndSkip shared script_line view args = marker_action shared
 row_of flow.Execute shared script_line view args = execute_row shared view args
 row_of flow.If shared script_line view args = if_row shared script_line view args
-row_of flow.Lab shared script_line view args = marks shared
+row_of flow.Lab shared script_line view args = marker_action shared
 row_of flow.Quit shared script_line view args = quit_row args
 row_of flow.Skip shared script_line view args = skip_row shared script_line args

@@ -8,7 +8,7 @@ use Rattle.std.proofs.lemmas.Grind.{common_steps}
 use Rattle.ados_machine.specs.declared.requests.Request.{Request}
 use Rattle.ados_machine.specs.World.{WorldState, is_ready, pending_of, wants_line}
 use Rattle.ados_launch.specs.declared.rounds.Round.{Round}
-use Rattle.ados_launch.specs.Rounds.{asks_read_or_wait, asks_start, has_event, is_due, due_place, in_this_round, in_next_round, none_answered, following_place, IsRunning, IsIdle}
+use Rattle.ados_launch.specs.Rounds.{asks_read_or_wait, asks_start, has_event, is_due, due_place, in_this_round, in_next_round, no_answers, following_place, IsRunning, IsIdle}
 
 passes_cons : (test : ℕ → Bool) (x : ℕ) (xs : List ℕ) (k : ℕ) (b : Bool) → test x ≡ b → cond b (Some x) (find test xs) ≡ Some k → (find test xs ≡ Some k → test k ≡ true) → test k ≡ true
 passes_cons test x xs k true t f later = let same : x ≡ k = cc in rw (← same) t
@@ -49,12 +49,12 @@ by_option None next k P e a b = b (sym e)
 pub due_comes : (round : Round) (k : ℕ) (w : WorldState) → Some k ≡ due_place round w → has_event w k ≡ true
 due_comes round k w e = by_option (in_this_round round w) (in_next_round w) k (has_event w k ≡ true) e
     (λ here. first_true (has_event w k) _ (find_passes (is_due w round.answered) (range_with_len round.place (61 - round.place)) k here))
-    (λ there. first_true (has_event w k) _ (find_passes (is_due w none_answered) (range_with_len 0 61) k there))
+    (λ there. first_true (has_event w k) _ (find_passes (is_due w no_answers) (range_with_len 0 61) k there))
 
 pub due_below : (round : Round) (k : ℕ) (w : WorldState) → round.place ≤ 61 → Some k ≡ due_place round w → k < 61
 due_below round k w h e = by_option (in_this_round round w) (in_next_round w) k (k < 61) e
     (λ here. range_below (is_due w round.answered) (61 - round.place) round.place 61 k (omega (arith, h)) here)
-    (λ there. range_below (is_due w none_answered) 61 0 61 k (omega arith) there)
+    (λ there. range_below (is_due w no_answers) 61 0 61 k (omega arith) there)
 
 pub after_in_round : (k : ℕ) → k < 61 → following_place k ≤ 61
 after_in_round zero h = omega arith
@@ -75,7 +75,7 @@ none_there zero i = refl
 none_there (suc n) zero = refl
 none_there (suc n) (suc i) = none_there n i
 
-not_due : (w : WorldState) (place : ℕ) → is_due w none_answered place ≡ false → has_event w place ≡ false
+not_due : (w : WorldState) (place : ℕ) → is_due w no_answers place ≡ false → has_event w place ≡ false
 not_due w place e =
     elim (cases_Bool (has_event w place)) [
       | inl on ↦ (let none = none_there 21 (place - 40) in grind (arith, common_steps))
@@ -84,7 +84,7 @@ not_due w place e =
 
 -- if nothing is due, nothing may come
 pub idle : (round : Round) (w : WorldState) → None ≡ due_place round w → IsIdle w
-idle round w e k h = not_due w k (none_range (is_due w none_answered) 61 0 k (none_of (in_this_round round w) (in_next_round w) e) (omega arith) (omega (arith, h)))
+idle round w e k h = not_due w k (none_range (is_due w no_answers) 61 0 k (none_of (in_this_round round w) (in_next_round w) e) (omega arith) (omega (arith, h)))
 
 comes-line : (w : WorldState) → has_event w 0 ≡ wants_line w
 comes-line w = refl

@@ -41,18 +41,18 @@ abbrev pub is_further_due : WorldState → List Bool → ℕ → Bool
 is_further_due w answered k = asks_read_or_wait (pending_of w k) && not (get_or answered k false)
 
 -- a round begins
-abbrev pub none_answered : List Bool
-none_answered = replicate 21 false
+abbrev pub no_answers : List Bool
+no_answers = replicate 21 false
 
 abbrev pub first_round : Round
-first_round = record { place = 0; answered = none_answered }
+first_round = record { place = 0; answered = no_answers }
 
 -- the place of the next event in this round, and in the next one
 abbrev pub in_this_round : Round → WorldState → Option ℕ
 in_this_round round w = find (is_due w round.answered) (range_with_len round.place (61 - round.place))
 
 abbrev pub in_next_round : WorldState → Option ℕ
-in_next_round w = find (is_due w none_answered) (range_with_len 0 61)
+in_next_round w = find (is_due w no_answers) (range_with_len 0 61)
 
 -- the place of the next event: between two events the world does not change
 abbrev pub due_place : Round → WorldState → Option ℕ
@@ -60,7 +60,7 @@ due_place round w = option_or (in_this_round round w) (in_next_round w)
 
 -- which shells had an answer in the round of the next event
 abbrev pub answered_or_none : Option ℕ → List Bool → List Bool
-answered_or_none None answered = none_answered
+answered_or_none None answered = no_answers
 answered_or_none (Some place) answered = answered
 
 abbrev pub answered_shells : Round → WorldState → List Bool
@@ -83,7 +83,7 @@ following_round round w place = record { place = following_place place; answered
 
 -- the round after what was found to be due, in this round or as the first of another
 abbrev pub passed_round : Round → Due → Round
-passed_round round found = record { place = following_place found.place; answered = marked_answers found.place (if found.begins then none_answered else round.answered) }
+passed_round round found = record { place = following_place found.place; answered = marked_answers found.place (if found.begins then no_answers else round.answered) }
 
 -- at some place something may come
 abbrev pub IsRunning : WorldState → Type 0

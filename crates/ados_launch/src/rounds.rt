@@ -12,7 +12,7 @@ ghost use Rattle.ados_launch.specs.Rounds.{
   answered_shells,
   first_round,
   marked_answers,
-  none_answered,
+  no_answers,
   passed_round,
   following_place,
 };
@@ -54,7 +54,7 @@ impl Round {
     pub fn next(&self, world: &World) -> Option<Due>
         requires { self.now.place ≤ 61 }
         ensures place { option_map (λ found. found.place) result ≡ due_place self.now world.now }
-        ensures answered { IfSome result (λ found. (if found.begins then none_answered else self.now.answered) ≡ answered_shells self.now world.now) }
+        ensures answered { IfSome result (λ found. (if found.begins then no_answers else self.now.answered) ≡ answered_shells self.now world.now) }
     {
         match self.next_here(world) {
             Some(place) => Some(Due {

@@ -5,10 +5,10 @@ use Rattle.std.proofs.lemmas.Bool.{cases_lt}
 use Rattle.std.proofs.lemmas.List.{get_or_past, get_or-map, get_or-replicate, length-replicate, map-set}
 use Rattle.ados_machine.specs.declared.answers.Answer.{Answer}
 use Rattle.ados_launcher.specs.declared.calls.Call.{Call}
-use Rattle.ados_launcher.specs.Open.{AreOpen, none_open, is_open_after_start, next_open_table}
+use Rattle.ados_launcher.specs.Open.{AreOpen, no_open_children, is_open_after_start, next_open_table}
 
 -- at first none is open
-pub opens-none : (table : List Bool) (calls : List Call) → table ≡ none_open → calls ≡ [] → AreOpen table calls
+pub opens-none : (table : List Bool) (calls : List Call) → table ≡ no_open_children → calls ≡ [] → AreOpen table calls
 opens-none table calls none empty k =
     rw (none, empty)
     (elim (cases_lt k 21) [

@@ -6,8 +6,8 @@ use Rattle.ados_launcher.specs.declared.calls.Call.{Call}
 use Rattle.ados_launcher.specs.Lives.{is_open, life_for_state, state_of}
 
 -- no child is open
-abbrev pub none_open : List Bool
-none_open = replicate 21 false
+abbrev pub no_open_children : List Bool
+no_open_children = replicate 21 false
 
 -- whether a child is open after a start with this answer
 abbrev pub is_open_after_start : Answer → Bool → Bool

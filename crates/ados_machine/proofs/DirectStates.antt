@@ -6,7 +6,7 @@ use Rattle.std.proofs.lemmas.Option.{slice_get_past, slice_get-get_or}
 use Rattle.ados_text.specs.Text.{Text}
 use Rattle.ados_flow.specs.declared.kinds.Kind.{Kind}
 use Rattle.ados_flow.specs.declared.kinds.Kind.TheVariants.{Script, Lines, Tick}
-use Rattle.ados_flow.specs.Frames.{FrameState, is_over, is_script, script_count, kind_script_line, limit_above_frames, last_line, last_codes, is_early, maker}
+use Rattle.ados_flow.specs.Frames.{FrameState, is_over, is_script, script_count, kind_script_line, limit_above_frames, last_line, last_codes, is_early, caller_word}
 use Rattle.ados_machine.specs.declared.answers.Answer.{Answer as Reply}
 use Rattle.ados_machine.specs.declared.phases.Parted.{Parted}
 use Rattle.ados_machine.specs.declared.phases.Phase.{Phase}
@@ -28,7 +28,7 @@ abbrev pub ended : ℕ → FrameState → List FrameState → Next
 ended k frame frames n answers last common =
     go_by k (exec k n answers) (record common { reports = with_end k frame.kind (last_line last) (last_codes last) (is_early frame.kind last) common.reports })
     (after_end frame.kind
-    (finish (maker frame.kind) (last_codes last) false frames (with_limit (limit_above_frames frames frame.limit) common.said)) frames common.said)
+    (finish (caller_word frame.kind) (last_codes last) false frames (with_limit (limit_above_frames frames frame.limit) common.said)) frames common.said)
 
 abbrev pub IsRunning : List Reply → Lone → Type 0
 IsRunning answers (Going answers' frames phase common) = answers' ≡ answers

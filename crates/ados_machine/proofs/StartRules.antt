@@ -6,7 +6,7 @@ use Rattle.ados_find.specs.declared.codes.Codes.{Codes}
 use Rattle.ados_find.specs.Codes.{fail_codes}
 use Rattle.ados_flow.specs.declared.kinds.Kind.{Kind}
 use Rattle.ados_flow.specs.declared.kinds.Kind.TheVariants.{Script, Lines, Tick}
-use Rattle.ados_flow.specs.Frames.{FrameState, is_ended, is_over, is_script, maker, limit_above_frames, entry_of}
+use Rattle.ados_flow.specs.Frames.{FrameState, is_ended, is_over, is_script, caller_word, limit_above_frames, new_record}
 use Rattle.ados_machine.specs.declared.answers.Answer.{Answer as Reply}
 use Rattle.ados_machine.specs.declared.answers.Answer.TheVariants.{Started, NotFound, Denied, Memory, Other, «Bytes» as Piece, End, PipeFault, Exit, Signal, WaitFault}
 use Rattle.ados_machine.specs.declared.phases.Phase.{Phase}
@@ -56,14 +56,14 @@ finish-rules flagged word answer quits [] said = record { parts = refl; answered
 finish-rules flagged word answer quits (frame ∷ frames) said =
     let done = with_answer word answer said in
     let below = with_limit (limit_above_frames frames frame.limit) done in
-    let further = finish (maker frame.kind) answer false frames below in
-    let more = finish-rules flagged (maker frame.kind) answer false frames below in
+    let further = finish (caller_word frame.kind) answer false frames below in
+    let more = finish-rules flagged (caller_word frame.kind) answer false frames below in
     let same : Rules flagged frames done further = record { parts = more.parts; answered = more.answered } in
     elim (cases_Bool (is_ended quits answer said.parts.limit frame)) [
       | inl e ↦ rw e
           (let end = end-rules flagged frame.kind further frames done same in
           record { parts = end.parts; answered = inr (ends-may (is_script frame.kind) (is_over frame) _ e, end.after_last_end) })
-      | inr e ↦ rw e (record { parts = refl; answered = inl (entry_of (frame ∷ frames) answer said.parts.limit, (refl, refl, refl)) })
+      | inr e ↦ rw e (record { parts = refl; answered = inl (new_record (frame ∷ frames) answer said.parts.limit, (refl, refl, refl)) })
     ]
 
 -- after a failure an event passes on what it began with, except for the codes

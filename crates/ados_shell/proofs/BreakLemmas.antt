@@ -6,7 +6,7 @@ use Rattle.std.specs.Result.{OnErr}
 use Rattle.ados_text.specs.declared.codes.Code.{Code}
 use Rattle.ados_flow.specs.declared.kinds.Kind.{Kind}
 use Rattle.ados_flow.specs.declared.kinds.Kind.TheVariants.{Script, Lines, Tick}
-use Rattle.ados_flow.specs.Frames.{FrameState, last_line, limit_above_frames, maker, script_count}
+use Rattle.ados_flow.specs.Frames.{FrameState, last_line, limit_above_frames, caller_word, script_count}
 use Rattle.ados_machine.specs.declared.phases.Phase.{Phase}
 use Rattle.ados_machine.specs.declared.phases.Phase.TheVariants.{Ready, GoingOn, Waiting}
 use Rattle.ados_machine.specs.declared.phases.Wait.TheVariants.{ForAnswer, ForLines, ForStart, ForPiece, ForEnd}
@@ -99,7 +99,7 @@ deeper-is zero kind limit further frames said e = absurd cc
 deeper-is (suc scripts) kind limit further frames said e = refl
 
 ends-is : (scripts : ℕ) (kind : Kind) (limit : Code) (further : RuleResult) (frames : List FrameState) (said : RuleState) → nat_lt 0 scripts ≡ false
-    → after_break scripts kind limit further frames said ≡ finish (maker kind) broken_codes false frames (with_limit (limit_above_frames frames limit) said)
+    → after_break scripts kind limit further frames said ≡ finish (caller_word kind) broken_codes false frames (with_limit (limit_above_frames frames limit) said)
 ends-is zero kind limit further frames said e = refl
 ends-is (suc scripts) kind limit further frames said e = absurd (never (sym (some-run scripts) ∙ e))
 
@@ -151,7 +151,7 @@ pub break-ends : (scene : Scene) (before popped reported after : Draft) (limit :
     → ReportsBreak scene popped reported frame → has_script (frames_of scene reported) ≡ false
     → limit ≡ limit_above_frames (frames_of scene reported) frame.limit
     → (let mid : Draft = record reported { shell = record reported.shell { limit = limit } } in
-    IsRuled scene mid after (finish (maker frame.kind) broken_codes false (frames_of scene mid) (said_in scene mid)))
+    IsRuled scene mid after (finish (caller_word frame.kind) broken_codes false (frames_of scene mid) (said_in scene mid)))
     → IsRuled scene before after (end_at_break (frames_of scene before) (said_in scene before))
 break-ends scene before popped reported after limit frame frames there s f r scripts l g =
     let course = course_of scene before in
@@ -167,8 +167,8 @@ break-ends scene before popped reported after limit frame frames there s f r scr
     step-ruled scene before mid after (reports_of scene.number items) items _ _
     (ap (λ fs. end_at_break fs said) there
     ∙ ap (with_items_first items) (ends-is (script_count frames) frame.kind frame.limit _ frames said (ap has_script (sym left) ∙ scripts)
-    ∙ ap (λ fs. finish (maker frame.kind) broken_codes false fs (with_limit (limit_above_frames fs frame.limit) said)) (sym left)
-    ∙ ap (λ x. finish (maker frame.kind) broken_codes false (frames_of scene reported) x) (sym back)))
+    ∙ ap (λ fs. finish (caller_word frame.kind) broken_codes false fs (with_limit (limit_above_frames fs frame.limit) said)) (sym left)
+    ∙ ap (λ x. finish (caller_word frame.kind) broken_codes false (frames_of scene reported) x) (sym back)))
     (λ log. first-report scene.number (suc (length frames)) (last_line frame.last) frame.kind log)
     held
     (r.reports (suc (length frames)) ∙ ap (λ x. x ++ reports_of scene.number items) s.reports)

@@ -7,7 +7,7 @@ use Rattle.ados_text.specs.declared.codes.Code.{Code}
 use Rattle.ados_find.specs.declared.codes.Codes.{Codes}
 use Rattle.ados_flow.specs.declared.kinds.Kind.{Kind}
 use Rattle.ados_flow.specs.declared.kinds.Kind.TheVariants.{Script, Lines, Tick}
-use Rattle.ados_flow.specs.Frames.{FrameState, is_over, is_ended, limit_above_frames, last_codes, last_line, is_early, maker, answered_frame}
+use Rattle.ados_flow.specs.Frames.{FrameState, is_over, is_ended, limit_above_frames, last_codes, last_line, is_early, caller_word, answered_frame}
 use Rattle.ados_machine.specs.declared.outs.EndReport.{EndReport}
 use Rattle.ados_machine.specs.declared.phases.Phase.TheVariants.{Ready, GoingOn}
 use Rattle.ados_machine.specs.CodeRule.{failed_line}
@@ -122,7 +122,7 @@ still-course scene before after s =
 -- what the end of a frame leads to, above these frames
 abbrev pub leads : FrameState → List FrameState → Codes → RuleState → RuleResult
 leads last frames codes said =
-    after_end last.kind (finish (maker last.kind) codes false frames (with_limit (limit_above_frames frames last.limit) said)) frames said
+    after_end last.kind (finish (caller_word last.kind) codes false frames (with_limit (limit_above_frames frames last.limit) said)) frames said
 
 -- the same with the frame's end in the trace
 abbrev pub led : FrameState → List FrameState → Codes → RuleState → RuleResult
@@ -165,12 +165,12 @@ pub script-leads : (scene : Scene) (mid ended after : Draft) (name command : Tex
 script-leads scene mid ended after name command codes last k e g =
     let frames = frames_of scene mid in
     let said = with_limit (limit_above_frames frames last.limit) (said_in scene mid) in
-    let answer = finish (maker last.kind) codes false frames said in
+    let answer = finish (caller_word last.kind) codes false frames said in
     let depth = suc (length frames) in
     step-ruled scene mid ended after (report_of scene.number name last ∷ []) (end_of depth last ∷ []) _ _
     (ap (with_items_first (end_of depth last ∷ []))
     (ap (λ x. after_end x answer frames (said_in scene mid)) k
-    ∙ ap (λ x. finish (maker x) codes false frames said) k
+    ∙ ap (λ x. finish (caller_word x) codes false frames said) k
     ∙ ap (λ x. finish command codes false (drafted_frames scene.shell.now x) said) (sym e.frames)
     ∙ ap (λ x. finish command codes false (frames_of scene ended) x) (sym (reported-said scene mid ended name last e))))
     (λ log. end-script scene.number depth _ last.kind (last_codes last.last) _ name command log k)
@@ -186,7 +186,7 @@ lines-lead scene mid codes last k p =
     let rested = with_items_first (Ended (suc (length frames)) Lines (last_line last.last) (last_codes last.last) (is_early last.kind last.last) ∷ []) (rule_at_rest frames Ready said) in
     let e : led last frames codes said ≡ rested =
     ap (λ x. with_items_first (Ended (suc (length frames)) x (last_line last.last) (last_codes last.last) (is_early last.kind last.last) ∷ [])
-    (after_end x (finish (maker last.kind) codes false frames (with_limit (limit_above_frames frames last.limit) said)) frames said)) k in
+    (after_end x (finish (caller_word last.kind) codes false frames (with_limit (limit_above_frames frames last.limit) said)) frames said)) k in
     goes-same scene mid mid mid (turn_by_rule (course_of scene mid) rested) _ refl (ap (turn_by_rule (course_of scene mid)) (sym e))
     (record { frames = refl; phase = p; course = refl; reports = sym (append-nil mid.reports.items) })
 
@@ -202,7 +202,7 @@ tick-leads scene mid after codes last front rear k t =
     (rule_at_rest frames phase (without_tick said)) in
     let e : led last frames codes said ≡ rested =
     ap (λ x. with_items_first (Ended (suc (length frames)) x (last_line last.last) (last_codes last.last) (is_early last.kind last.last) ∷ [])
-    (after_end x (finish (maker last.kind) codes false frames (with_limit (limit_above_frames frames last.limit) said)) frames said)) k in
+    (after_end x (finish (caller_word last.kind) codes false frames (with_limit (limit_above_frames frames last.limit) said)) frames said)) k in
     goes-same scene mid mid after (turn_by_rule (course_of scene mid) rested) _ refl (ap (turn_by_rule (course_of scene mid)) (sym e))
     (record { frames = ap (drafted_frames scene.shell.now) t.frames; phase = t.phase; course = t.course; reports = t.reports ∙ sym (append-nil mid.reports.items) })
 

@@ -1,6 +1,6 @@
 // Breaks: what a break is to a shell, and the turn that ends its scripts.
 ghost use Rattle.std.specs.Prelude.{◌≡◌, true, IfOk, OnErr, OnOk};
-ghost use Rattle.ados_flow.specs.Frames.{maker};
+ghost use Rattle.ados_flow.specs.Frames.{caller_word};
 ghost use Rattle.ados_machine.specs.Breaks.{broken_shell, flags_own, has_script};
 ghost use Rattle.ados_machine.specs.Settle.{said_of};
 ghost use Rattle.ados_machine.specs.Settled.{end_at_break};
@@ -84,7 +84,12 @@ impl Draft {
             self.break_frames(scene)
         } else {
             self.shell.limit = self.shell.frames.limit_after(scene.shell, frame.limit());
-            self.finish(scene, maker(&frame), Codes::erred(Result2::BREAK), false)
+            self.finish(
+                scene,
+                caller_word(&frame),
+                Codes::erred(Result2::BREAK),
+                false,
+            )
         }
     }
 
@@ -127,8 +132,8 @@ fn broken_report(shell: u8, name: &Text, frame: &Frame) -> Result<EndReport, NoM
 }
 
 /// The word of the command that made a frame; no word for one that no command made.
-fn maker(frame: &Frame) -> &[u8]
-    ensures { result.now ≡ maker frame.now.kind }
+fn caller_word(frame: &Frame) -> &[u8]
+    ensures { result.now ≡ caller_word frame.now.kind }
 {
     match frame.kind() {
         Kind::Script { command, .. } => command.as_bytes(),

@@ -2,7 +2,7 @@ use Rattle.std.proofs.Common.{◌∙◌, List, ℕ, None, refl, sym, ap, subst, 
 use Rattle.std.proofs.lemmas.Result.{on_ok_weaker}
 use Rattle.std.specs.Prelude.{Option}
 use Rattle.ados_find.specs.declared.codes.Codes.{Codes}
-use Rattle.ados_flow.specs.Frames.{FrameState, limit_above_frames, maker}
+use Rattle.ados_flow.specs.Frames.{FrameState, limit_above_frames, caller_word}
 use Rattle.ados_machine.specs.Breaks.{has_script}
 use Rattle.ados_machine.specs.Settled.{finish}
 use Rattle.ados_machine.specs.Settle.{said_of}
@@ -49,5 +49,5 @@ returns t c =
     (subst P c.in-Some.is c.in_ok-frame.ensures) (record { held = refl; limit = refl; codes = refl; printed = refl; reports = refl }) refl
     c.in_ok-report_break.ensures (sym c.has_script.ensures ∙ c.if-has_script.false)
     (c.limit_after-self.ensures ∙ ap (limit_above_frames (frames_of scene reported)) c.limit.ensures)
-    (subst (Q (maker frame.kind)) c.erred.ensures (subst (λ w. Q w c.erred.result) c.maker.ensures g)))
+    (subst (Q (caller_word frame.kind)) c.erred.ensures (subst (λ w. Q w c.erred.result) c.caller_word.ensures g)))
     c.finish.ensures
