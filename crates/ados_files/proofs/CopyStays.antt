@@ -20,7 +20,7 @@ use Rattle.ados_find.specs.Views.{View}
 use Rattle.ados_find.specs.Effects.{codes_effect, if_found, if_given}
 use Rattle.ados_find.specs.Paths.{place_of}
 use Rattle.ados_files.specs.declared.jobs.Job.{Job}
-use Rattle.ados_files.specs.Copy.{middle_directories, ensure_directory, make_missing, copy_fault, copy_written, copy_unless, copy_entry, copy_one, one_entry, target_directory, copy_into, is_onto, copy_found, copy_to_place, copy_into_target, copy_by_texts, copy_row}
+use Rattle.ados_files.specs.Copy.{middle_directories, ensure_directory, make_missing, copy_fault, copy_written, copy_unless, copy_entry, copy_one, one_entry, target_directory, copy_to_directory, is_onto, copy_found, copy_to_place, copy_into_target, copy_by_texts, copy_row}
 use Rattle.ados_files.specs.Jobs.{all_jobs, target_jobs, sources_of}
 use Rattle.ados_files.specs.MakeDir.{make_one}
 use Rattle.ados_files.specs.Names.{FoundPlaces}
@@ -90,7 +90,7 @@ directory-stays true to done there = at-stays to done to there (itself to)
 directory-stays false to done None = λ key out. refl
 directory-stays false to done (Some e) = at-stays to done to (Some e) (itself to)
 
-into-stays : (view : View) (all quiet : Bool) (found : FoundPlaces) (done : Done) (to : Place) → Stay (is_at_or_below (key_of to)) done.shared (copy_into view all quiet found done to).shared
+into-stays : (view : View) (all quiet : Bool) (found : FoundPlaces) (done : Done) (to : Place) → Stay (is_at_or_below (key_of to)) done.shared (copy_to_directory view all quiet found done to).shared
 into-stays view all quiet found done to =
     let ready = target_directory (is_some_directory (one_entry done.shared.files found)) to done (map.get done.shared.files (key_of to)) in
     let jobs = all_jobs all done.shared.files found.places in
@@ -100,7 +100,7 @@ into-stays view all quiet found done to =
 
 found-stays : (view : View) (all quiet : Bool) (found : FoundPlaces) (done : Done) (to : Place) → Stay (is_at_or_below (key_of to)) done.shared (copy_found view all quiet found done to).shared
 found-stays view all quiet found done to =
-    elim (is_onto done.shared.files found to) as (λ b. Stay (is_at_or_below (key_of to)) done.shared (if b then act_on_each (copy_one view quiet to) done (target_jobs found.places) else copy_into view all quiet found done to).shared) [
+    elim (is_onto done.shared.files found to) as (λ b. Stay (is_at_or_below (key_of to)) done.shared (if b then act_on_each (copy_one view quiet to) done (target_jobs found.places) else copy_to_directory view all quiet found done to).shared) [
       | true ↦ jobs-stay view quiet to done (target_jobs found.places)
       | false ↦ into-stays view all quiet found done to
     ]

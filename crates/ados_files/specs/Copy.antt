@@ -91,8 +91,8 @@ target_directory false to done None = refused_or (Some DIRECTORY_NOT_FOUND) done
 target_directory false to done (Some e) = ensure_directory done to (Some e)
 
 -- files are copied into a directory; the list of them is made before the first write
-abbrev pub copy_into : View → Bool → Bool → FoundPlaces → Done → Place → Done
-copy_into view all quiet found done to = (let files = done.shared.files in
+abbrev pub copy_to_directory : View → Bool → Bool → FoundPlaces → Done → Place → Done
+copy_to_directory view all quiet found done to = (let files = done.shared.files in
     act_on_each (copy_one view quiet to) (target_directory (is_some_directory (one_entry files found)) to done (map.get files (key_of to))) (all_jobs all files found.places))
 
 -- just one file, and a TO that is not a directory: TO itself is written
@@ -102,7 +102,7 @@ is_onto files found to = is_some_file (one_entry files found) && not (is_some_di
 abbrev pub copy_found : View → Bool → Bool → FoundPlaces → Done → Place → Done
 copy_found view all quiet found done to =
     if is_onto done.shared.files found to then act_on_each (copy_one view quiet to) done (target_jobs found.places)
-    else copy_into view all quiet found done to
+    else copy_to_directory view all quiet found done to
 
 abbrev pub copy_to_place : SharedState → View → Bool → Bool → FoundPlaces → Place → Effect
 copy_to_place shared view all quiet found to = end_effect (copy_found view all quiet found (fresh_work shared) to)

@@ -6,7 +6,7 @@ ghost use Rattle.ados_ram.specs.Files.{is_some_file};
 ghost use Rattle.ados_find.specs.Done.{done_of};
 ghost use Rattle.ados_find.specs.Shared.{version};
 ghost use Rattle.ados_find.specs.Effects.{effect_of};
-ghost use Rattle.ados_files.specs.Copy.{target_directory, copy_into, is_onto, one_entry, copy_found, copy_into_target, copy_row};
+ghost use Rattle.ados_files.specs.Copy.{target_directory, copy_to_directory, is_onto, one_entry, copy_found, copy_into_target, copy_row};
 
 use crate::acts::done_with;
 use crate::copy_one::{Copying, make_missing};
@@ -86,7 +86,7 @@ fn copy_found(copy: &Copy, shared: &Shared, work: &mut Work, to: &Place) -> Resu
 {
     let alloc = *work.output.allocator();
     if !is_onto(&current(shared, &work.shared).ram, &copy.found, to) {
-        return copy_into(copy, shared, work, to);
+        return copy_to_directory(copy, shared, work, to);
     }
     let jobs = jobs_onto(alloc, copy.found.places())?;
     let act = Copying {
@@ -128,9 +128,14 @@ fn one_entry<'a>(ram: &'a Ram, found: &Found) -> Option<&'a Entry>
 }
 
 // Copies into a directory.
-fn copy_into(copy: &Copy, shared: &Shared, work: &mut Work, to: &Place) -> Result<(), NoMemory>
+fn copy_to_directory(
+    copy: &Copy,
+    shared: &Shared,
+    work: &mut Work,
+    to: &Place,
+) -> Result<(), NoMemory>
     ensures { OnOk result (done_of shared.now work.new ≡
-        copy_into copy.now.view.now copy.now.all copy.now.quiet copy.now.found (done_of shared.now work.old) to.now) }
+        copy_to_directory copy.now.view.now copy.now.all copy.now.quiet copy.now.found (done_of shared.now work.old) to.now) }
 {
     let alloc = *work.output.allocator();
     let ram = &current(shared, &work.shared).ram;

@@ -11,7 +11,7 @@ ghost use Rattle.ados_flow.specs.Tests.{exists, code_reaches, is_given, place_ex
 use crate::code_rule::is_reached;
 use ados_find::{Codes, Refusal, Shared, ShellView, place_of};
 use ados_readargs::Args;
-use ados_text::{Code, NoMemory, Result2, Text, fold, number_in};
+use ados_text::{Code, NoMemory, Result2, Text, bounded_number, fold};
 use std::alloc::Global;
 use std::cmp::Ordering;
 
@@ -152,7 +152,7 @@ fn order_of(by_value: bool, left: &[u8], right: &[u8]) -> Result<Ordering, Refus
     ensures { Gives result (order_of by_value left.now right.now) }
 {
     if by_value {
-        match (number_in(left), number_in(right)) {
+        match (bounded_number(left), bounded_number(right)) {
             (Some(left), Some(right)) => Ok(left.cmp(&right)),
             _ => refused(Result2::BAD_NUMBER),
         }

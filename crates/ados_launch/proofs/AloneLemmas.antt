@@ -8,7 +8,7 @@ use Rattle.ados_machine.specs.declared.events.Event.TheVariants.{Typed, EndOfInp
 use Rattle.ados_machine.specs.declared.events.Kind.{Kind}
 use Rattle.ados_machine.specs.declared.outs.Out.{Out}
 use Rattle.ados_machine.specs.declared.requests.Request.{Request}
-use Rattle.ados_machine.specs.Alone.{AreOf, exec_alone, bytes_in}
+use Rattle.ados_machine.specs.Alone.{AreOf, exec_alone, bytes_of_outs}
 use Rattle.ados_machine.specs.Children.{child_of_shell, child_in}
 use Rattle.ados_machine.specs.Numbers.{free_number}
 use Rattle.ados_machine.specs.Requests.{request_of}
@@ -112,7 +112,7 @@ pub record Going (k : ℕ) (w : WorldState) (line : Text) (turns n : ℕ) (is_fu
   pub asked : AreAsked is_full (world_with_opened w k (line ∷ [])) taken listed
   pub calls_are : calls_now ≡ calls ++ listed
   pub count : length (taken_events taken) ≡ n
-  pub printed : now ≡ before ++ bytes_in (taken_outs taken)
+  pub printed : now ≡ before ++ bytes_of_outs (taken_outs taken)
   pub steps : (left : ℕ) → left + n ≡ turns → (rest : List Reply) →
       exec_alone k turns (answers ++ rest) (world_with_opened w k (line ∷ [])) before ≡ exec_alone k left rest world now
 
@@ -199,10 +199,10 @@ events-more [] event out = refl
 events-more (Given first given ∷ taken) event out = let more = events-more taken event out in omega (arith, more)
 events-more (LongLine ∷ taken) event out = events-more taken event out
 
-pub bytes-more : (taken : List TakenItem) (event : Event) (out : Out) → bytes_in (taken_outs (taken ++ Given event out ∷ [])) ≡ bytes_in (taken_outs taken) ++ out.bytes
+pub bytes-more : (taken : List TakenItem) (event : Event) (out : Out) → bytes_of_outs (taken_outs (taken ++ Given event out ∷ [])) ≡ bytes_of_outs (taken_outs taken) ++ out.bytes
 bytes-more [] event out = append-nil out.bytes
 bytes-more (Given first given ∷ taken) event out =
-    ap (λ bytes. given.bytes ++ bytes) (bytes-more taken event out) ∙ sym (append_assoc given.bytes (bytes_in (taken_outs taken)) out.bytes)
+    ap (λ bytes. given.bytes ++ bytes) (bytes-more taken event out) ∙ sym (append_assoc given.bytes (bytes_of_outs (taken_outs taken)) out.bytes)
 bytes-more (LongLine ∷ taken) event out = bytes-more taken event out
 
 pub printed-more : (before mid last bytes more now : Bytes) → mid ≡ before ++ bytes → last ≡ mid ++ more → now ≡ bytes ++ more → last ≡ before ++ now

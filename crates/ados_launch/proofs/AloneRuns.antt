@@ -4,7 +4,7 @@ use Rattle.ados_text.specs.Text.{Bytes, Text}
 use Rattle.ados_find.specs.declared.codes.Codes.{Codes}
 use Rattle.ados_machine.specs.declared.outs.Out.{Out}
 use Rattle.ados_machine.specs.declared.refusals.Refusal.TheVariants.{NoMemory}
-use Rattle.ados_machine.specs.Alone.{exec_alone, bytes_in}
+use Rattle.ados_machine.specs.Alone.{exec_alone, bytes_of_outs}
 use Rattle.ados_machine.specs.Numbers.{free_number}
 use Rattle.ados_machine.specs.Shells.{ShellState}
 use Rattle.ados_machine.specs.LoneShell.{world_with_opened}
@@ -33,7 +33,7 @@ going-more k w line turns n was_full is_full world next before mid last calls mi
       (asked-full was_full is_full (world_with_opened w k (line ∷ [])) g.taken g.listed stays g.asked) g.run t.asked t.when_full;
   calls_are = calls-more calls mid_calls calls_now g.listed t.listed g.calls_are t.calls_are;
   count = events-more g.taken t.event out ∙ ap (λ m. m + 1) g.count;
-  printed = printed-more before mid last (bytes_in (taken_outs g.taken)) out.bytes _ g.printed grown (bytes-more g.taken t.event out);
+  printed = printed-more before mid last (bytes_of_outs (taken_outs g.taken)) out.bytes _ g.printed grown (bytes-more g.taken t.event out);
   steps = λ left all rest.
       ap (λ answers. exec_alone k turns answers (world_with_opened w k (line ∷ [])) before) (append_assoc g.answers (replies_in t.event) rest)
       ∙ (g.steps (suc left) (omega (arith, all)) (replies_in t.event ++ rest)

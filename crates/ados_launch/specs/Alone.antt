@@ -9,7 +9,7 @@ use Rattle.ados_machine.specs.declared.outs.Out.{Out}
 use Rattle.ados_machine.specs.declared.refusals.Refusal.{Refusal}
 use Rattle.ados_machine.specs.declared.refusals.Refusal.TheVariants.{NoMemory}
 use Rattle.ados_machine.specs.declared.requests.Request.{Request}
-use Rattle.ados_machine.specs.Alone.{AreOf, IsEnd, IsLate, bytes_in}
+use Rattle.ados_machine.specs.Alone.{AreOf, IsEnd, IsLate, bytes_of_outs}
 use Rattle.ados_machine.specs.Numbers.{free_number}
 use Rattle.ados_machine.specs.Runs.{IsAnswer, Runs, resulting_world}
 use Rattle.ados_machine.specs.Step.{step_of}
@@ -88,7 +88,7 @@ pub record RunsOn (w : WorldState) (line : Text) (turns : ℕ) (is_full : Bool) 
   pub runs : RunsLine k w line is_full taken answers last calls calls_now []
   pub count : length (taken_events taken) ≡ turns
   pub meaning : IsLate (whole turns k w (line ∷ []) answers)
-  pub written : now ≡ before ++ bytes_in (taken_outs taken)
+  pub written : now ≡ before ++ bytes_of_outs (taken_outs taken)
 
 -- these are the bytes of the last event that was taken
 abbrev pub AreOfLast : Bytes → List TakenItem → Type 0
@@ -114,7 +114,7 @@ pub record LineProgress (w : WorldState) (line : Text) (turns : ℕ) (is_full : 
   pub count : length (taken_events taken) ≡ fault.events
   pub refusal_is : fault.refusal ≡ NoMemory
   pub stops : StopsAtEvent is_full turns fault last k others ⊎ StopsAtBytes turns fault taken others
-  pub written : now ++ fault.unwritten ≡ before ++ bytes_in (taken_outs taken)
+  pub written : now ++ fault.unwritten ≡ before ++ bytes_of_outs (taken_outs taken)
 
 -- what holds of an end with codes, and of a shell that runs on
 abbrev pub IfEnded : {E : Type 0} → Result SystemEnd E → (Codes → Type 0) → Type 0

@@ -8,7 +8,7 @@ use Rattle.std.specs.FinMap.{is_sorted, find}
 use Rattle.std.specs.FinMap.Entries.{below_all}
 use Rattle.ados_text.specs.Name.{name_cmp, name_cmp_total}
 use Rattle.ados_ram.specs.declared.entries.Entry.{Entry}
-use Rattle.ados_ram.specs.Place.{Key, place_cmp, is_root, is_below, path_below, has_names}
+use Rattle.ados_ram.specs.Place.{Key, place_cmp, is_root, is_below, key_suffix, has_names}
 use Rattle.ados_ram.specs.Files.{Rows}
 use Rattle.ados_ram.specs.Contents.{put_after_contents, contents}
 use Rattle.ados_ram.specs.Tree.{Kid, Kids, IsSubtree, AllSubtrees, AreKids, rows_under_name, flatten, rows_of, subtree_rows, with_way, places_of_ways}
@@ -23,9 +23,9 @@ less Equal p = absurd p
 less Greater p = absurd p
 
 -- two paths from one place
-after-same : (key w q : Key) → path_below (key ++ w) (key ++ q) ≡ path_below w q
+after-same : (key w q : Key) → key_suffix (key ++ w) (key ++ q) ≡ key_suffix w q
 after-same [] w q = refl
-after-same (n ∷ ns) w q = ap (λ o. cond (is_eq o) (path_below (ns ++ w) (ns ++ q)) None) (tied_itself name_cmp_total n) ∙ after-same ns w q
+after-same (n ∷ ns) w q = ap (λ o. cond (is_eq o) (key_suffix (ns ++ w) (ns ++ q)) None) (tied_itself name_cmp_total n) ∙ after-same ns w q
 
 below-same : (key w q : Key) → is_below (key ++ w) (key ++ q) ≡ is_below w q
 below-same key w q = ap has_names (after-same key w q)
@@ -48,7 +48,7 @@ pub contents-from : (key : Key) (es : Rows) → contents key es ≡ places_of_wa
 contents-from key [] = refl
 contents-from key (e ∷ es) =
     let next = contents-from key es in
-    elim (path_below key e.0) as (λ o. path_below key e.0 ≡ o → cond (has_names o) (put_after_contents e.0 (contents key es)) (contents key es) ≡ places_of_ways key (contents [] (with_way o e.1 (subtree_rows key es)))) [
+    elim (key_suffix key e.0) as (λ o. key_suffix key e.0 ≡ o → cond (has_names o) (put_after_contents e.0 (contents key es)) (contents key es) ≡ places_of_ways key (contents [] (with_way o e.1 (subtree_rows key es)))) [
       | None ↦ λ p. next
       | Some w ↦ λ p.
           elim (has_names (Some w)) as (λ b. cond b (put_after_contents e.0 (contents key es)) (contents key es) ≡ places_of_ways key (cond b (put_after_contents w (contents [] (subtree_rows key es))) (contents [] (subtree_rows key es)))) [
@@ -95,7 +95,7 @@ put-last n ((m ∷ ms) ∷ qs) rest h t =
 
 -- what is in an object of another name is not below this one
 apart : (n m : List ℕ) (p q : Key) → name_cmp n m ≡ Less → is_below (n ∷ p) (m ∷ q) ≡ false
-apart n m p q h = ap (λ o. has_names (cond (is_eq o) (path_below p q) None)) h
+apart n m p q h = ap (λ o. has_names (cond (is_eq o) (key_suffix p q) None)) h
 
 record HasEntry (rows : Rows) : Type 0 where
   entry : Entry

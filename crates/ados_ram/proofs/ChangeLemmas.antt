@@ -9,9 +9,9 @@ use Rattle.std.specs.FinMap.{is_sorted, find, put}
 use Rattle.std.specs.FinMap.Entries.{below_all, by_order, is_sorted-put, find-put, is_sorted-where_key, find-where_key, where_key}
 use Rattle.ados_text.specs.Name.{name_cmp, name_cmp_total, name_cmp_exact}
 use Rattle.ados_ram.specs.declared.entries.Entry.{Entry}
-use Rattle.ados_ram.specs.Place.{Key, key_of, place_cmp, path_below, is_root, is_same_key, last_name}
+use Rattle.ados_ram.specs.Place.{Key, key_of, place_cmp, key_suffix, is_root, is_same_key, last_name}
 use Rattle.ados_ram.specs.Files.{Rows}
-use Rattle.ados_ram.specs.Tree.{Kid, Kids, IsSubtree, AllSubtrees, AreKids, rows_under_name, flatten, rows_of, with_flat, branch_rows, rows_found, entry_by_way, IsReplaced, IsEntryAt, IsNamed, key_above, replace_kid, remove_kid}
+use Rattle.ados_ram.specs.Tree.{Kid, Kids, IsSubtree, AllSubtrees, AreKids, rows_under_name, flatten, rows_of, with_flat, branch_rows, rows_found, entry_by_way, IsReplaced, IsEntryAt, IsNamed, parent_key, replace_kid, remove_kid}
 use Rattle.ados_ram.proofs.RowsLemmas.{first, second}
 use Rattle.ados_ram.proofs.TreeLemmas.{holds, from-flatten, find-from, from-root}
 
@@ -45,20 +45,20 @@ find-root (k ∷ ks) = nil_under k.0 k.1 (flatten ks) ∙ find-root ks
 -- what is found after a change of one object
 pub found : (entry : Entry) (x : List ℕ) (xs : Key) (sub : Rows) (ks new : Kids) (o : Option Rows) → T (is_sorted name_cmp ks) → T (is_sorted name_cmp new)
     → ((y : List ℕ) → find name_cmp y new ≡ cond (is_eq (name_cmp y x)) o (find name_cmp y ks))
-    → ((ys : Key) → find place_cmp ys (rows_found o) ≡ entry_by_way (path_below xs ys) sub (find place_cmp ys (rows_found (find name_cmp x ks))))
-    → (q : Key) → find place_cmp q (rows_of entry new) ≡ entry_by_way (path_below (x ∷ xs) q) sub (find place_cmp q (rows_of entry ks))
+    → ((ys : Key) → find place_cmp ys (rows_found o) ≡ entry_by_way (key_suffix xs ys) sub (find place_cmp ys (rows_found (find name_cmp x ks))))
+    → (q : Key) → find place_cmp q (rows_of entry new) ≡ entry_by_way (key_suffix (x ∷ xs) q) sub (find place_cmp q (rows_of entry ks))
 found entry x xs sub ks new o s t kids below [] = refl
 found entry x xs sub ks new o s t kids below (y ∷ ys) =
     find-flatten y ys new t
     ∙ ap (λ k. find place_cmp ys (rows_found k)) (kids y)
-    ∙ elim (name_cmp x y) as (λ r. name_cmp x y ≡ r → find place_cmp ys (rows_found (cond (is_eq (name_cmp y x)) o (find name_cmp y ks))) ≡ entry_by_way (cond (is_eq r) (path_below xs ys) None) sub (find place_cmp ys (rows_found (find name_cmp y ks)))) [
+    ∙ elim (name_cmp x y) as (λ r. name_cmp x y ≡ r → find place_cmp ys (rows_found (cond (is_eq (name_cmp y x)) o (find name_cmp y ks))) ≡ entry_by_way (cond (is_eq r) (key_suffix xs ys) None) sub (find place_cmp ys (rows_found (find name_cmp y ks)))) [
       | Less ↦ λ p. ap (λ r. find place_cmp ys (rows_found (cond (is_eq r) o (find name_cmp y ks)))) (name_cmp_total.antisymm y x ∙ ap ordering_reverse p)
       | Greater ↦ λ p. ap (λ r. find place_cmp ys (rows_found (cond (is_eq r) o (find name_cmp y ks)))) (name_cmp_total.antisymm y x ∙ ap ordering_reverse p)
       | Equal ↦ λ p.
           ap (λ r. find place_cmp ys (rows_found (cond (is_eq r) o (find name_cmp y ks)))) (name_cmp_total.antisymm y x ∙ ap ordering_reverse p)
-          ∙ below ys ∙ ap (λ n. entry_by_way (path_below xs ys) sub (find place_cmp ys (rows_found (find name_cmp n ks)))) (name_cmp_exact x y p)
+          ∙ below ys ∙ ap (λ n. entry_by_way (key_suffix xs ys) sub (find place_cmp ys (rows_found (find name_cmp n ks)))) (name_cmp_exact x y p)
     ] refl
-    ∙ ap (entry_by_way (path_below (x ∷ xs) (y ∷ ys)) sub) (sym (find-flatten y ys ks s))
+    ∙ ap (entry_by_way (key_suffix (x ∷ xs) (y ∷ ys)) sub) (sym (find-flatten y ys ks s))
 
 as_filter : (x : List ℕ) (ks : Kids) → remove_kid x ks ≡ where_key name_cmp (λ n. not (eq_by_cmp name_cmp x n)) ks
 as_filter x [] = refl
@@ -170,7 +170,7 @@ subtree entry ks a = record { sorted = is_true _ (both _ _ (root_below ks) (sort
 
 -- an object with other objects in it
 pub replaced : (entry : Entry) (x : List ℕ) (xs key : Key) (sub rows : Rows) (new : Option Kid) (ks out : Kids) (b : Rows) → rows_of entry ks ≡ rows → AreKids ks → IsInOrder new → out ≡ replace_kid x new ks → key ≡ x ∷ xs
-    → ((ys : Key) → find place_cmp ys (rows_found (rows_in new)) ≡ entry_by_way (path_below xs ys) sub (find place_cmp ys (rows_found (find name_cmp x ks))))
+    → ((ys : Key) → find place_cmp ys (rows_found (rows_in new)) ≡ entry_by_way (key_suffix xs ys) sub (find place_cmp ys (rows_found (find name_cmp x ks))))
     → b ≡ with_flat rows out → IsReplaced key sub rows b
 replaced entry x xs key sub rows new ks out b view a h e is below made =
     let are : AreKids out = kids-are x new ks out a h e in
@@ -180,12 +180,12 @@ replaced entry x xs key sub rows new ks out b view a h e is below made =
       found = λ q.
           ap (find place_cmp q) all
           ∙ found entry x xs sub ks out (rows_in new) (holds _ a.sorted) (holds _ are.sorted) (λ y. ap (find name_cmp y) e ∙ find-with x new ks y) below q
-          ∙ ap (λ (k : Key). entry_by_way (path_below k q) sub (find place_cmp q (rows_of entry ks))) (sym is)
-          ∙ ap (λ (r : Rows). entry_by_way (path_below key q) sub (find place_cmp q r)) view;
+          ∙ ap (λ (k : Key). entry_by_way (key_suffix k q) sub (find place_cmp q (rows_of entry ks))) (sym is)
+          ∙ ap (λ (r : Rows). entry_by_way (key_suffix key q) sub (find place_cmp q r)) view;
     }
 
 -- the last name of a path: nothing is left to look up
-pub leaf : (new : Option Kid) (ys : Key) (old : Option Entry) → find place_cmp ys (rows_found (rows_in new)) ≡ entry_by_way (path_below [] ys) (branch_rows new) old
+pub leaf : (new : Option Kid) (ys : Key) (old : Option Entry) → find place_cmp ys (rows_found (rows_in new)) ≡ entry_by_way (key_suffix [] ys) (branch_rows new) old
 leaf None ys old = refl
 leaf (Some k) ys old = refl
 
@@ -207,12 +207,12 @@ deeper x (y ∷ ys) None r h = tt
 deeper x (y ∷ ys) (Some k) r h = (h.0 ∙ last-deeper x y ys, h.1)
 
 -- the directory above is in the object of the first name
-pub stands : (entry : Entry) (ks : Kids) (rows : Rows) (x : List ℕ) (xs key : Key) → rows_of entry ks ≡ rows → IsTrue (is_sorted name_cmp ks) → key ≡ x ∷ xs → is_root xs ≡ false → IsSome (find place_cmp (key_above key) rows)
-    → IsSome (find place_cmp (key_above xs) (rows_found (find name_cmp x ks)))
+pub stands : (entry : Entry) (ks : Kids) (rows : Rows) (x : List ℕ) (xs key : Key) → rows_of entry ks ≡ rows → IsTrue (is_sorted name_cmp ks) → key ≡ x ∷ xs → is_root xs ≡ false → IsSome (find place_cmp (parent_key key) rows)
+    → IsSome (find place_cmp (parent_key xs) (rows_found (find name_cmp x ks)))
 stands entry ks rows x [] key view s is r h = no_root r
 stands entry ks rows x (y ∷ ys) key view s is r h =
-    subst (λ (o : Option Entry). IsSome o) (find-flatten x (key_above (y ∷ ys)) ks (holds _ s))
-    (subst (λ (r : Rows). IsSome (find place_cmp (x ∷ key_above (y ∷ ys)) r)) (sym view) (subst (λ (k : Key). IsSome (find place_cmp (key_above k) rows)) is h))
+    subst (λ (o : Option Entry). IsSome o) (find-flatten x (parent_key (y ∷ ys)) ks (holds _ s))
+    (subst (λ (r : Rows). IsSome (find place_cmp (x ∷ parent_key (y ∷ ys)) r)) (sym view) (subst (λ (k : Key). IsSome (find place_cmp (parent_key k) rows)) is h))
 
 pub is_nil : (names : Key) → true ≡ (length names == 0) → key_of names ≡ []
 is_nil [] h = refl

@@ -11,7 +11,7 @@ use Rattle.std.specs.FinMap.Entries.{below_all}
 use Rattle.std.specs.Cmp.{eq_by_cmp_equiv}
 use Rattle.ados_text.specs.Name.{name_cmp, name_cmp_exact, name_cmp_total}
 use Rattle.ados_ram.specs.declared.entries.Entry.{Entry}
-use Rattle.ados_ram.specs.Place.{Key, place_cmp, place_cmp_total, is_same_key, path_below, has_names, is_below}
+use Rattle.ados_ram.specs.Place.{Key, place_cmp, place_cmp_total, is_same_key, key_suffix, has_names, is_below}
 use Rattle.ados_ram.specs.Files.{Rows}
 use Rattle.ados_ram.specs.Contents.{put_after_contents, contents, contents_cmp}
 use Rattle.ados_ram.proofs.FilesLemmas.{equal, same, clash}
@@ -25,7 +25,7 @@ below-first [] [] h = clash h
 below-first [] (n ∷ ns) h = refl
 below-first (n ∷ ns) [] h = clash h
 below-first (n ∷ ns) (x ∷ xs) h =
-    elim (is_eq (name_cmp n x)) as (λ b. is_eq (name_cmp n x) ≡ b → has_names (cond b (path_below ns xs) None) ≡ true → contents_cmp (x ∷ xs) (n ∷ ns) ≡ Less) [
+    elim (is_eq (name_cmp n x)) as (λ b. is_eq (name_cmp n x) ≡ b → has_names (cond b (key_suffix ns xs) None) ≡ true → contents_cmp (x ∷ xs) (n ∷ ns) ≡ Less) [
       | true ↦ λ t g. ap (λ o. ordering_then o (contents_cmp xs ns)) (back n x (equal (name_cmp n x) t)) ∙ below-first ns xs g
       | false ↦ λ t g. clash g
     ] refl h
@@ -35,7 +35,7 @@ aside-first [] [] e h = cc
 aside-first [] (y ∷ ys) e h = clash (sym h)
 aside-first (x ∷ xs) [] e h = cc
 aside-first (x ∷ xs) (y ∷ ys) e h =
-    elim (name_cmp x y) as (λ o. ordering_then o (place_cmp xs ys) ≡ Less → has_names (cond (is_eq o) (path_below xs ys) None) ≡ false → ordering_then o (contents_cmp xs ys) ≡ Less) [
+    elim (name_cmp x y) as (λ o. ordering_then o (place_cmp xs ys) ≡ Less → has_names (cond (is_eq o) (key_suffix xs ys) None) ≡ false → ordering_then o (contents_cmp xs ys) ≡ Less) [
       | Less ↦ λ f g. refl
       | Equal ↦ λ f g. aside-first xs ys f g
       | Greater ↦ λ f g. cc

@@ -13,10 +13,10 @@ use Rattle.ados_text.specs.declared.codes.Result2.{Result2}
 use Rattle.ados_text.specs.declared.codes.TheConstants.Result2.{OBJECT_IN_USE, WRONG_TYPE, DIRECTORY_NOT_EMPTY, DISK_FULL, DELETE_PROTECTED}
 use Rattle.ados_text.specs.Name.{name_cmp_total}
 use Rattle.ados_ram.specs.declared.entries.Entry.{Entry}
-use Rattle.ados_ram.specs.Place.{place_cmp, place_cmp_total, place_cmp_exact, is_same_key, is_root, path_below, has_names, is_below}
+use Rattle.ados_ram.specs.Place.{place_cmp, place_cmp_total, place_cmp_exact, is_same_key, is_root, key_suffix, has_names, is_below}
 use Rattle.ados_ram.specs.Entry.{is_directory, is_directory_body, bytes_of_body, fresh_bits, size_of, file_entry, file_entry_with_bits, new_directory}
 use Rattle.ados_ram.specs.Files.{Files, Rows, IsTree, is_some_directory, is_some_file, entry_bytes, total_of, file_limit, bytes_limit, objects_limit}
-use Rattle.ados_ram.specs.FileOperations.{fault_above, way_fault, write_target_fault, full_fault, limit_fault, write_of, write_fault, write_as_of, append_of, is_put, put_open_of, put_open_fault, free_fault, make_dir_of, make_dir_fault, has_descendants, delete_target_fault, delete_fault}
+use Rattle.ados_ram.specs.FileOperations.{parent_fault, way_fault, write_target_fault, full_fault, limit_fault, write_of, write_fault, write_as_of, append_of, is_put, put_open_of, put_open_fault, free_fault, make_dir_of, make_dir_fault, has_descendants, delete_target_fault, delete_fault}
 use Rattle.ados_ram.specs.InUse.{InUse, is_in_use}
 use Rattle.ados_ram.specs.declared.entries.Bits.{Bits}
 use Rattle.ados_ram.specs.Rows.{other_rows}
@@ -35,7 +35,7 @@ clear_dir : (b : Bool) (rest : Option Result2) → cond b rest (Some WRONG_TYPE)
 clear_dir true rest h = refl
 clear_dir false rest h = cc
 
-clear_step : (o : Option Entry) (rest : Option Result2) → fault_above o rest ≡ None → IsTrue (is_some_directory o)
+clear_step : (o : Option Entry) (rest : Option Result2) → parent_fault o rest ≡ None → IsTrue (is_some_directory o)
 clear_step None rest h = cc
 clear_step (Some e) rest h = clear_dir (is_directory e) rest h
 
@@ -43,7 +43,7 @@ dir_rest : (b : Bool) (rest : Option Result2) → cond b rest (Some WRONG_TYPE) 
 dir_rest true rest h = h
 dir_rest false rest h = cc
 
-clear_rest : (o : Option Entry) (rest : Option Result2) → fault_above o rest ≡ None → rest ≡ None
+clear_rest : (o : Option Entry) (rest : Option Result2) → parent_fault o rest ≡ None → rest ≡ None
 clear_rest None rest h = cc
 clear_rest (Some e) rest h = dir_rest (is_directory e) rest h
 
@@ -128,10 +128,10 @@ abbrev pub nothing : Option Entry
 nothing = None
 
 -- the path from a place to that place followed by more
-pub after-append : (place way : List (List ℕ)) → path_below place (place ++ way) ≡ Some way
+pub after-append : (place way : List (List ℕ)) → key_suffix place (place ++ way) ≡ Some way
 after-append [] way = refl
 after-append (n ∷ ns) way =
-    ap (λ b. cond b (path_below ns (ns ++ way)) None) ((eq_by_cmp_equiv name_cmp_total).refl n) ∙ after-append ns way
+    ap (λ b. cond b (key_suffix ns (ns ++ way)) None) ((eq_by_cmp_equiv name_cmp_total).refl n) ∙ after-append ns way
 
 -- the bits of a new file do not affect the sizes
 same_total : (m : Files) (key : List (List ℕ)) (name bytes : List ℕ) (bits : Bits) → total_of (map.entries (write_of m key name bytes)) ≡ total_of (map.entries (write_as_of m key name bytes bits))

@@ -4,25 +4,25 @@ use Rattle.std.specs.Cmp.{eq_by_cmp_equiv}
 use Rattle.std.specs.FinMap as map
 use Rattle.std.specs.FinMap.{get-insert}
 use Rattle.ados_ram.specs.declared.entries.Entry.{Entry}
-use Rattle.ados_ram.specs.Place.{Key, place_cmp_total, is_same_key, is_root, path_below, has_names, is_below, is_at_or_below}
+use Rattle.ados_ram.specs.Place.{Key, place_cmp_total, is_same_key, is_root, key_suffix, has_names, is_below, is_at_or_below}
 use Rattle.ados_ram.specs.InUse.{InUse}
 use Rattle.ados_ram.specs.Files.{Files, IsTree, is_some_directory}
 use Rattle.ados_ram.specs.FileOperations.{way_fault, write_target_fault, write_fault, free_fault, make_dir_fault, has_descendants, delete_target_fault, delete_fault, rename_target_fault, rename_fault}
-use Rattle.ados_ram.specs.Tree.{key_above, MayMove}
+use Rattle.ados_ram.specs.Tree.{parent_key, MayMove}
 use Rattle.ados_ram.proofs.FilesLemmas.{same, clash, or_first, or_second, way_clear, after-append, no_directory, CanDelete, can_delete}
 use Rattle.ados_ram.proofs.RenameLemmas.{CanMove, false_of, after-exact}
 use Rattle.ados_ram.proofs.RenamedFiles.{IsAbove, can_move, within_from, some_of, no_root_after}
 
-above_of : (key : Key) → is_root key ≡ false → IsAbove (key_above key) key
+above_of : (key : Key) → is_root key ≡ false → IsAbove (parent_key key) key
 above_of [] h = clash (sym h)
 above_of (x ∷ []) h = record { name = x; rest = []; is = refl }
 above_of (x ∷ y ∷ ys) h = let a = above_of (y ∷ ys) refl in record { name = a.name; rest = a.rest; is = ap (λ (k : Key). x ∷ k) a.is }
 
 -- an object is in a directory that exists
-pub above_there : (m : Files) (key : Key) → IsTree m → is_root key ≡ false → IsSome (map.get m key) → IsSome (map.get m (key_above key))
+pub above_there : (m : Files) (key : Key) → IsTree m → is_root key ≡ false → IsSome (map.get m key) → IsSome (map.get m (parent_key key))
 above_there m key files root there =
     let a = above_of key root in
-    some_of (map.get m (key_above key)) (files.above (key_above key) a.name a.rest (subst (λ (k : Key). IsSome (map.get m k)) a.is there))
+    some_of (map.get m (parent_key key)) (files.above (parent_key key) a.name a.rest (subst (λ (k : Key). IsSome (map.get m k)) a.is there))
 
 longer : (place : Key) (n : List ℕ) (rest : Key) → place ≡ place ++ n ∷ rest → ⊥
 longer place n rest e =
@@ -30,13 +30,13 @@ longer place n rest e =
     omega (arith, lengths, length-append place (n ∷ rest))
 
 -- if an object may be put at a place, the directory above exists
-pub inside : (m : Files) (key : Key) (new : Entry) → is_root key ≡ false → IsTree (map.insert m key new) → IsSome (map.get m (key_above key))
+pub inside : (m : Files) (key : Key) (new : Entry) → is_root key ≡ false → IsTree (map.insert m key new) → IsSome (map.get m (parent_key key))
 inside m key new root files =
     let a = above_of key root in
     let self : is_same_key key key ≡ true = (eq_by_cmp_equiv place_cmp_total).refl key in
     let put : IsSome (map.get (map.insert m key new) key) = subst (λ (o : Option Entry). IsSome o) (sym (get-insert place_cmp_total m key new key ∙ ap (λ b. cond b (Some new) (map.get m key)) self)) refl in
-    let apart : is_same_key (key_above key) key ≡ false = false_of _ (λ h. longer (key_above key) a.name a.rest (same (key_above key) key h ∙ a.is)) in
-    subst (λ (o : Option Entry). IsSome o) (get-insert place_cmp_total m key new (key_above key) ∙ ap (λ b. cond b (Some new) (map.get m (key_above key))) apart)
+    let apart : is_same_key (parent_key key) key ≡ false = false_of _ (λ h. longer (parent_key key) a.name a.rest (same (parent_key key) key h ∙ a.is)) in
+    subst (λ (o : Option Entry). IsSome o) (get-insert place_cmp_total m key new (parent_key key) ∙ ap (λ b. cond b (Some new) (map.get m (parent_key key))) apart)
     (above_there (map.insert m key new) key files root put)
 
 by_root : (key : Key) → (key ≡ [] → ⊥) → is_root key ≡ false
@@ -61,7 +61,7 @@ made-inside m key name files e =
 -- a delete that is not refused
 pub record MayGo (m : Files) (key : Key) : Type 0 where
   pub root : is_root key ≡ false
-  pub inside : IsSome (map.get m (key_above key))
+  pub inside : IsSome (map.get m (parent_key key))
   pub empty : has_descendants key (map.entries m) ≡ false
 
 pub may_go : (busy : InUse) (m : Files) (key : Key) → IsTree m → delete_fault busy m key ≡ None → MayGo m key
@@ -87,7 +87,7 @@ may_move busy m from to files e =
       to_named = root;
       there = there;
       above_from = above_there m from files can.not_root there;
-      above_to = some_of (map.get m (key_above to)) (way_clear m [] (key_above to) a.name a.rest (subst (λ (k : Key). way_fault m [] k ≡ None) a.is clear));
+      above_to = some_of (map.get m (parent_key to)) (way_clear m [] (parent_key to) a.name a.rest (subst (λ (k : Key). way_fault m [] k ≡ None) a.is clear));
       apart = false_of _ (λ h. not_in a h can.not_below);
       within = within_from m from to files can.free;
     }
@@ -101,11 +101,11 @@ may_move busy m from to files e =
     found None h = cc
     found (Some e) h = refl
 
-    not_in : IsAbove (key_above to) to → is_at_or_below from (key_above to) ≡ true → is_below from to ≡ false → ⊥
+    not_in : IsAbove (parent_key to) to → is_at_or_below from (parent_key to) ≡ true → is_below from to ≡ false → ⊥
     not_in a h out =
-        elim (path_below from (key_above to)) as (λ o. path_below from (key_above to) ≡ o → ⊥) [
+        elim (key_suffix from (parent_key to)) as (λ o. key_suffix from (parent_key to) ≡ o → ⊥) [
           | None ↦ λ p. clash (sym (ap is_some p) ∙ h)
           | Some w ↦ λ p.
-              let is : to ≡ from ++ (w ++ a.name ∷ a.rest) = a.is ∙ ap (λ (q : Key). q ++ a.name ∷ a.rest) (after-exact from (key_above to) w p) ∙ append_assoc from w (a.name ∷ a.rest) in
-              clash (sym out ∙ ap has_names (ap (path_below from) is ∙ after-append from (w ++ a.name ∷ a.rest)) ∙ no_root_after w a.name a.rest)
+              let is : to ≡ from ++ (w ++ a.name ∷ a.rest) = a.is ∙ ap (λ (q : Key). q ++ a.name ∷ a.rest) (after-exact from (parent_key to) w p) ∙ append_assoc from w (a.name ∷ a.rest) in
+              clash (sym out ∙ ap has_names (ap (key_suffix from) is ∙ after-append from (w ++ a.name ∷ a.rest)) ∙ no_root_after w a.name a.rest)
         ] refl

@@ -5,7 +5,7 @@ use Rattle.std.specs.Option.{option_map}
 use Rattle.std.specs.FinMap as map
 use Rattle.ados_text.specs.Name.{Name}
 use Rattle.ados_ram.specs.declared.entries.Entry.{Entry}
-use Rattle.ados_ram.specs.Place.{Key, path_below, is_at_or_below}
+use Rattle.ados_ram.specs.Place.{Key, key_suffix, is_at_or_below}
 use Rattle.ados_ram.specs.Entry.{renamed_entry}
 use Rattle.ados_ram.specs.Files.{Files}
 use Rattle.ados_ram.specs.FileOperations.{way_fault, rename_of}
@@ -26,7 +26,7 @@ below name first way (Some e) = refl
 gone : (files : Files) (from to : Key) (name : Name) (place : Key) → is_at_or_below from place ≡ true → is_at_or_below to place ≡ false →
     map.get (rename_of files from to name) place ≡ nothing
 gone files from to name place was out =
-    get-moved_out files from to name place (none_of (path_below to place) out) ∙ ap (λ b. cond b nothing (map.get files place)) was
+    get-moved_out files from to name place (none_of (key_suffix to place) out) ∙ ap (λ b. cond b nothing (map.get files place)) was
 
 pub renames-move : RenamesMove
 renames-move busy files from to name are clear =

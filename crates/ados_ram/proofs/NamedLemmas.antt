@@ -10,7 +10,7 @@ use Rattle.ados_text.specs.Text.{Bytes, Text, folded_text}
 use Rattle.ados_text.specs.Name.{Name}
 use Rattle.ados_ram.specs.declared.entries.Bits.{Bits}
 use Rattle.ados_ram.specs.declared.entries.Entry.{Entry}
-use Rattle.ados_ram.specs.Place.{Key, Place, path_below, is_at_or_below, is_same_key, key_of, last_name, place_cmp, place_cmp_total}
+use Rattle.ados_ram.specs.Place.{Key, Place, key_suffix, is_at_or_below, is_same_key, key_of, last_name, place_cmp, place_cmp_total}
 use Rattle.ados_ram.specs.Entry.{new_directory, file_entry_with_bits, with_bits, with_comment}
 use Rattle.ados_ram.specs.Files.{AreNamed, Files, IsNamedBy, IsTree, Rows, entry_bytes, directory_row, first_files}
 use Rattle.ados_ram.specs.FileOperations.{append_of, with_entry_changed, comment_of, is_put, make_dir_of, protect_of, put_open_of, rename_fault, rename_of, write_as_of, write_of}
@@ -111,7 +111,7 @@ moved-below from to first way e it =
     let all : key_of from ++ key_of deep ≡ key_of from ++ deep =
     ap (λ k. k ++ key_of deep) (sym (key-twice from)) ∙ sym (map-append folded_text (key_of from) deep) ∙ it.folded_key in
     let ways : key_of deep ≡ deep =
-    same-way (key_of deep) deep (sym (after-append (key_of from) (key_of deep)) ∙ ap (path_below (key_of from)) all ∙ after-append (key_of from) deep) in
+    same-way (key_of deep) deep (sym (after-append (key_of from) (key_of deep)) ∙ ap (key_suffix (key_of from)) all ∙ after-append (key_of from) deep) in
     record {
       folded_key = map-append folded_text (key_of to) deep ∙ ap (λ k. k ++ key_of deep) (key-twice to) ∙ ap (λ w. key_of to ++ w) ways;
       own = it.own ∙ last-after (key_of from) first way ∙ sym (last-after (key_of to) first way);
@@ -136,7 +136,7 @@ pub rename-named : (busy : InUse) (files : Files) (from to : Place) → IsTree f
 rename-named busy files from to tree clear are key e h =
     let new = rename_of files (key_of from) (key_of to) (last_name to) in
     let moves = renames-move busy files (key_of from) (key_of to) (last_name to) tree clear in
-    elim (path_below (key_of to) key) as (λ o. path_below (key_of to) key ≡ o → IsNamedBy key e) [
+    elim (key_suffix (key_of to) key) as (λ o. key_suffix (key_of to) key ≡ o → IsNamedBy key e) [
       | Some way ↦ λ p.
           let is : key ≡ key_of to ++ way = after-exact (key_of to) key way p in
           subst (λ k. IsNamedBy k e) (sym is) (moved-to files from to new are moves way e (ap (map.get new) (sym is) ∙ h))

@@ -7,7 +7,7 @@ use Rattle.std.specs.FinMap as map
 use Rattle.std.specs.FinMap.{find, get-entries, get-from_entries}
 use Rattle.ados_text.specs.Name.{name_cmp, name_cmp_exact}
 use Rattle.ados_ram.specs.declared.entries.Entry.{Entry}
-use Rattle.ados_ram.specs.Place.{place_cmp, place_cmp_total, is_same_key, is_root, path_below, is_below, is_at_or_below}
+use Rattle.ados_ram.specs.Place.{place_cmp, place_cmp_total, is_same_key, is_root, key_suffix, is_below, is_at_or_below}
 use Rattle.ados_ram.specs.Entry.{size_of, renamed_entry}
 use Rattle.ados_ram.specs.Files.{Files, Rows, is_some_directory, entry_bytes, total_of}
 use Rattle.ados_ram.specs.FileOperations.{moved_row, moved_rows, rename_of}
@@ -27,11 +27,11 @@ pub cons : {A : Type 0} (x y : A) (xs ys : List A) → x ≡ y → xs ≡ ys →
 cons x y xs ys e f = ap (λ z. z ∷ xs) e ∙ ap (λ zs. y ∷ zs) f
 
 -- a place is the directory followed by the path from it
-pub after-exact : (place q way : List (List ℕ)) → path_below place q ≡ Some way → q ≡ place ++ way
+pub after-exact : (place q way : List (List ℕ)) → key_suffix place q ≡ Some way → q ≡ place ++ way
 after-exact [] q way e = same_way q way e
 after-exact (n ∷ ns) [] way e = cc
 after-exact (n ∷ ns) (x ∷ xs) way e =
-    elim (is_eq (name_cmp n x)) as (λ b. is_eq (name_cmp n x) ≡ b → cond b (path_below ns xs) None ≡ Some way → x ∷ xs ≡ n ∷ (ns ++ way)) [
+    elim (is_eq (name_cmp n x)) as (λ b. is_eq (name_cmp n x) ≡ b → cond b (key_suffix ns xs) None ≡ Some way → x ∷ xs ≡ n ∷ (ns ++ way)) [
       | true ↦ λ t g. cons x n xs (ns ++ way) (sym (name_cmp_exact n x (equal (name_cmp n x) t))) (after-exact ns xs way g)
       | false ↦ λ t g. cc
     ] refl e
@@ -42,7 +42,7 @@ same_after place a b =
     elim (is_same_key a b) as (λ t. is_same_key a b ≡ t → is_same_key (place ++ a) (place ++ b) ≡ t) [
       | true ↦ λ t. subst (λ (w : List (List ℕ)). is_same_key (place ++ a) (place ++ w) ≡ true) (same a b t) (self (place ++ a))
       | false ↦ λ t. false_of _ (λ h.
-          let e : a ≡ b = same_way a b (sym (after-append place a) ∙ ap (path_below place) (same (place ++ a) (place ++ b) h) ∙ after-append place b) in
+          let e : a ≡ b = same_way a b (sym (after-append place a) ∙ ap (key_suffix place) (same (place ++ a) (place ++ b) h) ∙ after-append place b) in
           clash (sym t ∙ subst (λ (w : List (List ℕ)). is_same_key a w ≡ true) e (self a)))
     ] refl
 
@@ -57,7 +57,7 @@ pub here : (e : List (List ℕ) × Entry) (es : Rows) → IsSome (find place_cmp
 here e es = subst (λ (b : Bool). IsSome (cond b (Some e.1) (find place_cmp e.0 es))) (sym (self e.0)) refl
 
 pub at_or_below : (place way k : List (List ℕ)) → k ≡ place ++ way → is_at_or_below place k ≡ true
-at_or_below place way k e = ap is_some (ap (path_below place) e ∙ after-append place way)
+at_or_below place way k e = ap is_some (ap (key_suffix place) e ∙ after-append place way)
 
 -- what is found at the places that things moved to
 pub find-moved_in : (from to : List (List ℕ)) (name : List ℕ) (es : Rows) (way : List (List ℕ)) → Within to from es
@@ -65,7 +65,7 @@ pub find-moved_in : (from to : List (List ℕ)) (name : List ℕ) (es : Rows) (w
 find-moved_in from to name [] way within = refl
 find-moved_in from to name (e ∷ es) way within =
     let rest = find-moved_in from to name es way (λ k h. within k (later k e es h)) in
-    elim (path_below from e.0) as (λ o. path_below from e.0 ≡ o → find place_cmp (to ++ way) (moved_row to name e.0 e.1 o ∷ moved_rows from to name es) ≡ option_map (renamed_entry name way) (cond (is_same_key (from ++ way) e.0) (Some e.1) (find place_cmp (from ++ way) es))) [
+    elim (key_suffix from e.0) as (λ o. key_suffix from e.0 ≡ o → find place_cmp (to ++ way) (moved_row to name e.0 e.1 o ∷ moved_rows from to name es) ≡ option_map (renamed_entry name way) (cond (is_same_key (from ++ way) e.0) (Some e.1) (find place_cmp (from ++ way) es))) [
       | None ↦ λ p.
           let no_to : is_same_key (to ++ way) e.0 ≡ false = false_of _ (λ h. clash (sym (ap is_some p) ∙ within e.0 (here e es) (at_or_below to way e.0 (sym (same (to ++ way) e.0 h))))) in
           let no_from : is_same_key (from ++ way) e.0 ≡ false = false_of _ (λ h. clash (sym (ap is_some p) ∙ at_or_below from way e.0 (sym (same (from ++ way) e.0 h)))) in
@@ -82,15 +82,15 @@ find-moved_in from to name (e ∷ es) way within =
     ] refl
 
 -- what is found elsewhere
-pub find-moved_out : (from to : List (List ℕ)) (name : List ℕ) (es : Rows) (q : List (List ℕ)) → path_below to q ≡ None
+pub find-moved_out : (from to : List (List ℕ)) (name : List ℕ) (es : Rows) (q : List (List ℕ)) → key_suffix to q ≡ None
     → find place_cmp q (moved_rows from to name es) ≡ cond (is_at_or_below from q) nothing (find place_cmp q es)
 find-moved_out from to name [] q out = elim (is_at_or_below from q) as (λ b. nothing ≡ cond b nothing nothing) [ true ↦ refl | false ↦ refl ]
 find-moved_out from to name (e ∷ es) q out =
     let rest = find-moved_out from to name es q out in
-    elim (path_below from e.0) as (λ o. path_below from e.0 ≡ o → find place_cmp q (moved_row to name e.0 e.1 o ∷ moved_rows from to name es) ≡ cond (is_at_or_below from q) nothing (cond (is_same_key q e.0) (Some e.1) (find place_cmp q es))) [
+    elim (key_suffix from e.0) as (λ o. key_suffix from e.0 ≡ o → find place_cmp q (moved_row to name e.0 e.1 o ∷ moved_rows from to name es) ≡ cond (is_at_or_below from q) nothing (cond (is_same_key q e.0) (Some e.1) (find place_cmp q es))) [
       | None ↦ λ p.
           elim (is_same_key q e.0) as (λ b. is_same_key q e.0 ≡ b → cond b (Some e.1) (find place_cmp q (moved_rows from to name es)) ≡ cond (is_at_or_below from q) nothing (cond b (Some e.1) (find place_cmp q es))) [
-            | true ↦ λ t. sym (ap (λ b. cond b nothing (Some e.1)) (ap is_some (ap (path_below from) (same q e.0 t) ∙ p)))
+            | true ↦ λ t. sym (ap (λ b. cond b nothing (Some e.1)) (ap is_some (ap (key_suffix from) (same q e.0 t) ∙ p)))
             | false ↦ λ t. rest
           ] refl
       | Some w ↦ λ p.
@@ -98,7 +98,7 @@ find-moved_out from to name (e ∷ es) q out =
           ap (λ b. cond b (Some (renamed_entry name w e.1)) (find place_cmp q (moved_rows from to name es))) no_to ∙ rest
           ∙ elim (is_same_key q e.0) as (λ b. is_same_key q e.0 ≡ b → cond (is_at_or_below from q) nothing (find place_cmp q es) ≡ cond (is_at_or_below from q) nothing (cond b (Some e.1) (find place_cmp q es))) [
             | true ↦ λ t.
-                let moved : is_at_or_below from q ≡ true = ap is_some (ap (path_below from) (same q e.0 t) ∙ p) in
+                let moved : is_at_or_below from q ≡ true = ap is_some (ap (key_suffix from) (same q e.0 t) ∙ p) in
                 ap (λ b. cond b nothing (find place_cmp q es)) moved ∙ sym (ap (λ b. cond b nothing (Some e.1)) moved)
             | false ↦ λ t. refl
           ] refl
@@ -108,7 +108,7 @@ pub get-moved_in : (m : Files) (from to : List (List ℕ)) (name : List ℕ) (wa
 get-moved_in m from to name way within =
     get-from_entries place_cmp_total _ (to ++ way) ∙ find-moved_in from to name (map.entries m) way within ∙ ap (option_map (renamed_entry name way)) (sym (get-entries m (from ++ way)))
 
-pub get-moved_out : (m : Files) (from to : List (List ℕ)) (name : List ℕ) (q : List (List ℕ)) → path_below to q ≡ None → map.get (rename_of m from to name) q ≡ cond (is_at_or_below from q) nothing (map.get m q)
+pub get-moved_out : (m : Files) (from to : List (List ℕ)) (name : List ℕ) (q : List (List ℕ)) → key_suffix to q ≡ None → map.get (rename_of m from to name) q ≡ cond (is_at_or_below from q) nothing (map.get m q)
 get-moved_out m from to name q out =
     get-from_entries place_cmp_total _ q ∙ find-moved_out from to name (map.entries m) q out ∙ ap (cond (is_at_or_below from q) nothing) (sym (get-entries m q))
 
@@ -133,7 +133,7 @@ there-renamed name way (Some e) h = refl
 pub total-moved_rows : (from to : List (List ℕ)) (name : List ℕ) (es : Rows) → total_of (moved_rows from to name es) ≡ total_of es
 total-moved_rows from to name [] = refl
 total-moved_rows from to name (e ∷ es) =
-    elim (path_below from e.0) as (λ o. size_of (moved_row to name e.0 e.1 o).1 + total_of (moved_rows from to name es) ≡ size_of e.1 + total_of es) [
+    elim (key_suffix from e.0) as (λ o. size_of (moved_row to name e.0 e.1 o).1 + total_of (moved_rows from to name es) ≡ size_of e.1 + total_of es) [
       | None ↦ omega (arith, total-moved_rows from to name es)
       | Some w ↦ omega (arith, total-moved_rows from to name es, size-renamed name w e.1)
     ]

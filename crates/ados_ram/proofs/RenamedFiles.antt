@@ -8,7 +8,7 @@ use Rattle.std.specs.FinMap.{get-entries, len-entries}
 use Rattle.ados_text.specs.declared.codes.TheConstants.Result2.{OBJECT_IN_USE, OBJECT_EXISTS}
 use Rattle.ados_text.specs.Name.{name_cmp, name_cmp_total}
 use Rattle.ados_ram.specs.declared.entries.Entry.{Entry}
-use Rattle.ados_ram.specs.Place.{is_same_key, is_root, path_below, has_names, is_below, is_at_or_below}
+use Rattle.ados_ram.specs.Place.{is_same_key, is_root, key_suffix, has_names, is_below, is_at_or_below}
 use Rattle.ados_ram.specs.InUse.{InUse, holds_output}
 use Rattle.ados_ram.specs.Files.{Files, Rows, IsTree, is_some_directory, entry_bytes, total_of, file_limit, bytes_limit, objects_limit}
 use Rattle.ados_ram.specs.FileOperations.{way_fault, moved_rows, rename_of, rename_target_fault, rename_fault}
@@ -39,7 +39,7 @@ pub within_from : (m : Files) (from to : List (List ℕ)) → IsTree m → (is_s
 within_from m from to files free k there at =
     elim (is_same_key from to) as (λ b. is_same_key from to ≡ b → is_at_or_below from k ≡ true) [
       | true ↦ λ t. subst (λ (d : List (List ℕ)). is_at_or_below d k ≡ true) (sym (same from to t)) at
-      | false ↦ λ t. elim (path_below to k) as (λ o. path_below to k ≡ o → is_at_or_below from k ≡ true) [
+      | false ↦ λ t. elim (key_suffix to k) as (λ o. key_suffix to k ≡ o → is_at_or_below from k ≡ true) [
         | None ↦ λ p. clash (sym (ap is_some p) ∙ at)
         | Some way ↦ λ p. clash (sym t ∙ free (taken way (subst (λ (q : List (List ℕ)). IsSome (map.get m q)) (after-exact to k way p) (subst (λ (o : Option Entry). IsSome o) (sym (get-entries m k)) there))))
       ] refl
@@ -61,14 +61,14 @@ heads x y xs ys e = ap (λ (l : List (List ℕ)). elim l as (λ _. List ℕ) [ [
 tails : (x y : List ℕ) (xs ys : List (List ℕ)) → x ∷ xs ≡ y ∷ ys → xs ≡ ys
 tails x y xs ys e = ap (λ (l : List (List ℕ)). elim l as (λ _. List (List ℕ)) [ [] ↦ xs | z ∷ zs ↦ zs ]) e
 
-is_above : (place to way tail : List (List ℕ)) → place ++ tail ≡ to ++ way → path_below to place ≡ None → IsAbove place to
+is_above : (place to way tail : List (List ℕ)) → place ++ tail ≡ to ++ way → key_suffix to place ≡ None → IsAbove place to
 is_above [] [] way tail e out = cc
 is_above [] (x ∷ xs) way tail e out = record { name = x; rest = xs; is = refl }
 is_above (p ∷ ps) [] way tail e out = cc
 is_above (p ∷ ps) (t ∷ ts) way tail e out =
     let h : p ≡ t = heads p t (ps ++ tail) (ts ++ way) e in
     let equal_names : is_eq (name_cmp t p) ≡ true = subst (λ (n : List ℕ). is_eq (name_cmp n p) ≡ true) h ((eq_by_cmp_equiv name_cmp_total).refl p) in
-    let above = is_above ps ts way tail (tails p t (ps ++ tail) (ts ++ way) e) (sym (ap (λ b. cond b (path_below ts ps) None) equal_names) ∙ out) in
+    let above = is_above ps ts way tail (tails p t (ps ++ tail) (ts ++ way) e) (sym (ap (λ b. cond b (key_suffix ts ps) None) equal_names) ∙ out) in
     record { name = above.name; rest = above.rest; is = cons t p ts (ps ++ above.name ∷ above.rest) (sym h) above.is }
 
 pub no_root_after : (w : List (List ℕ)) (n : List ℕ) (rest : List (List ℕ)) → not (is_root (w ++ n ∷ rest)) ≡ true
@@ -76,7 +76,7 @@ no_root_after [] n rest = refl
 no_root_after (x ∷ xs) n rest = refl
 
 -- a directory stays one if it is not moved
-dir_out : (m : Files) (from to : List (List ℕ)) (name : List ℕ) (place : List (List ℕ)) → path_below to place ≡ None → is_at_or_below from place ≡ false → IsTrue (is_some_directory (map.get m place)) → IsTrue (is_some_directory (map.get (rename_of m from to name) place))
+dir_out : (m : Files) (from to : List (List ℕ)) (name : List ℕ) (place : List (List ℕ)) → key_suffix to place ≡ None → is_at_or_below from place ≡ false → IsTrue (is_some_directory (map.get m place)) → IsTrue (is_some_directory (map.get (rename_of m from to name) place))
 dir_out m from to name place out stays d =
     subst (λ (o : Option Entry). IsTrue (is_some_directory o)) (sym (get-moved_out m from to name place out ∙ ap (λ b. cond b nothing (map.get m place)) stays)) d
 
@@ -84,11 +84,11 @@ dir_out m from to name place out stays d =
 above_in : (m : Files) (from to : List (List ℕ)) (name : List ℕ) (place : List (List ℕ)) (n : List ℕ) (rest way : List (List ℕ)) → IsTree m → Within to from (map.entries m) → way_fault m [] to ≡ None → is_below from to ≡ false
     → place ++ n ∷ rest ≡ to ++ way → IsSome (map.get m (from ++ way)) → IsTrue (is_some_directory (map.get (rename_of m from to name) place))
 above_in m from to name place n rest way files within clear not_below e there =
-    elim (path_below to place) as (λ o. path_below to place ≡ o → IsTrue (is_some_directory (map.get (rename_of m from to name) place))) [
+    elim (key_suffix to place) as (λ o. key_suffix to place ≡ o → IsTrue (is_some_directory (map.get (rename_of m from to name) place))) [
       | Some w ↦ λ p.
           let is : place ≡ to ++ w = after-exact to place w p in
           let all : to ++ (w ++ n ∷ rest) ≡ to ++ way = sym (append_assoc to w (n ∷ rest)) ∙ ap (λ q. q ++ n ∷ rest) (sym is) ∙ e in
-          let ways : way ≡ w ++ n ∷ rest = same_way way (w ++ n ∷ rest) (sym (after-append to way) ∙ ap (path_below to) (sym all) ∙ after-append to (w ++ n ∷ rest)) in
+          let ways : way ≡ w ++ n ∷ rest = same_way way (w ++ n ∷ rest) (sym (after-append to way) ∙ ap (key_suffix to) (sym all) ∙ after-append to (w ++ n ∷ rest)) in
           let old : IsSome (map.get m ((from ++ w) ++ n ∷ rest)) = subst (λ (q : List (List ℕ)). IsSome (map.get m q)) (ap (λ v. from ++ v) ways ∙ sym (append_assoc from w (n ∷ rest))) there in
           let dir : IsTrue (is_some_directory (map.get m (from ++ w))) = files.above (from ++ w) n rest old in
           subst (λ (q : List (List ℕ)). IsTrue (is_some_directory (map.get (rename_of m from to name) q))) (sym is)
@@ -101,18 +101,18 @@ above_in m from to name place n rest way files within clear not_below e there =
   where
     not_at : (place : List (List ℕ)) → IsAbove place to → is_at_or_below from place ≡ true → ⊥
     not_at place above h =
-        elim (path_below from place) as (λ o. path_below from place ≡ o → ⊥) [
+        elim (key_suffix from place) as (λ o. key_suffix from place ≡ o → ⊥) [
           | None ↦ λ p. clash (sym (ap is_some p) ∙ h)
           | Some w ↦ λ p.
               let is : to ≡ from ++ (w ++ above.name ∷ above.rest) = above.is ∙ ap (λ q. q ++ above.name ∷ above.rest) (after-exact from place w p) ∙ append_assoc from w (above.name ∷ above.rest) in
-              let below : is_below from to ≡ true = ap has_names (ap (path_below from) is ∙ after-append from (w ++ above.name ∷ above.rest)) ∙ no_root_after w above.name above.rest in
+              let below : is_below from to ≡ true = ap has_names (ap (key_suffix from) is ∙ after-append from (w ++ above.name ∷ above.rest)) ∙ no_root_after w above.name above.rest in
               clash (sym not_below ∙ below)
         ] refl
 
 -- a place that is not at or below a directory is in none that is
 none_above : (directory place : List (List ℕ)) (n : List ℕ) (rest : List (List ℕ)) → is_at_or_below directory (place ++ n ∷ rest) ≡ false → is_at_or_below directory place ≡ false
 none_above directory place n rest h = false_of _ (λ t.
-    elim (path_below directory place) as (λ o. path_below directory place ≡ o → ⊥) [
+    elim (key_suffix directory place) as (λ o. key_suffix directory place ≡ o → ⊥) [
       | None ↦ λ p. clash (sym (ap is_some p) ∙ t)
       | Some w ↦ λ p. clash (sym h ∙ at_or_below directory (w ++ n ∷ rest) (place ++ n ∷ rest) (ap (λ q. q ++ n ∷ rest) (after-exact directory place w p) ∙ append_assoc directory w (n ∷ rest)))
     ] refl)
@@ -122,13 +122,13 @@ none_of None h = refl
 none_of (Some w) h = clash (sym h)
 
 -- a directory above what did not move
-above_out : (m : Files) (from to : List (List ℕ)) (name : List ℕ) (place : List (List ℕ)) (n : List ℕ) (rest : List (List ℕ)) → IsTree m → path_below to (place ++ n ∷ rest) ≡ None
+above_out : (m : Files) (from to : List (List ℕ)) (name : List ℕ) (place : List (List ℕ)) (n : List ℕ) (rest : List (List ℕ)) → IsTree m → key_suffix to (place ++ n ∷ rest) ≡ None
     → IsSome (cond (is_at_or_below from (place ++ n ∷ rest)) nothing (map.get m (place ++ n ∷ rest))) → IsTrue (is_some_directory (map.get (rename_of m from to name) place))
 above_out m from to name place n rest files out =
     elim (is_at_or_below from (place ++ n ∷ rest)) as (λ b. is_at_or_below from (place ++ n ∷ rest) ≡ b → IsSome (cond b nothing (map.get m (place ++ n ∷ rest))) → IsTrue (is_some_directory (map.get (rename_of m from to name) place))) [
       | true ↦ λ t h. clash h
       | false ↦ λ t h.
-          let no_to : path_below to place ≡ None = none_of (path_below to place) (none_above to place n rest (ap is_some out)) in
+          let no_to : key_suffix to place ≡ None = none_of (key_suffix to place) (none_above to place n rest (ap is_some out)) in
           dir_out m from to name place no_to (none_above from place n rest t) (files.above place n rest h)
     ] refl
 
@@ -139,7 +139,7 @@ root_stays m (x ∷ xs) (n ∷ ns) name files can = dir_out m (x ∷ xs) (n ∷ 
 
 sizes_stay : (m : Files) (from to : List (List ℕ)) (name : List ℕ) (place : List (List ℕ)) → IsTree m → Within to from (map.entries m) → length (entry_bytes (map.get (rename_of m from to name) place)) ≤ file_limit
 sizes_stay m from to name place files within =
-    elim (path_below to place) as (λ o. path_below to place ≡ o → length (entry_bytes (map.get (rename_of m from to name) place)) ≤ file_limit) [
+    elim (key_suffix to place) as (λ o. key_suffix to place ≡ o → length (entry_bytes (map.get (rename_of m from to name) place)) ≤ file_limit) [
       | Some w ↦ λ p.
           let e : length (entry_bytes (map.get (rename_of m from to name) place)) ≡ length (entry_bytes (map.get m (from ++ w))) =
           ap (λ q. length (entry_bytes (map.get (rename_of m from to name) q))) (after-exact to place w p)
@@ -162,7 +162,7 @@ renamed_files {m} busy from to name files e =
     record {
       root = root_stays m from to name files can;
       above = λ place n rest h.
-          elim (path_below to (place ++ n ∷ rest)) as (λ o. path_below to (place ++ n ∷ rest) ≡ o → IsTrue (is_some_directory (map.get (rename_of m from to name) place))) [
+          elim (key_suffix to (place ++ n ∷ rest)) as (λ o. key_suffix to (place ++ n ∷ rest) ≡ o → IsTrue (is_some_directory (map.get (rename_of m from to name) place))) [
             | Some way ↦ λ p.
                 let is : place ++ n ∷ rest ≡ to ++ way = after-exact to (place ++ n ∷ rest) way p in
                 above_in m from to name place n rest way files within clear can.not_below is

@@ -9,7 +9,7 @@ use Rattle.std.specs.FinMap as map
 use Rattle.std.specs.FinMap.{get-insert, get-remove}
 use Rattle.ados_ram.specs.declared.entries.Bits.{Bits}
 use Rattle.ados_ram.specs.declared.entries.Entry.{Entry}
-use Rattle.ados_ram.specs.Place.{Place, Key, key_of, place_cmp_total, is_same_key, place_cmp, path_below, has_names, is_below, is_at_or_below}
+use Rattle.ados_ram.specs.Place.{Place, Key, key_of, place_cmp_total, is_same_key, place_cmp, key_suffix, has_names, is_below, is_at_or_below}
 use Rattle.ados_ram.specs.Files.{Files, OthersStay}
 use Rattle.ados_ram.specs.FileOperations.{append_of, is_put, put_open_of, rename_of, with_entry_changed, protect_of, comment_of}
 use Rattle.ados_ram.specs.Entry.{with_bits, with_comment}
@@ -53,12 +53,12 @@ neither false b h = (refl, h)
 pub rename-stays : (files : Files) (from to : Key) (name : List ℕ) → OthersStay (λ place. is_at_or_below from place || is_at_or_below to place) files (rename_of files from to name)
 rename-stays files from to name place h =
     let out = neither (is_at_or_below from place) (is_at_or_below to place) h in
-    get-moved_out files from to name place (none_of (path_below to place) out.1) ∙ ap (λ b. cond b nothing (map.get files place)) out.0
+    get-moved_out files from to name place (none_of (key_suffix to place) out.1) ∙ ap (λ b. cond b nothing (map.get files place)) out.0
 
 -- what is not at or below a place is not at or below one in it, nor is it that one
 pub none-below : (to names : Place) (key : Key) → is_at_or_below (key_of to) key ≡ false → is_at_or_below (key_of (to ++ names)) key ≡ false
 none-below to names key out = false_of _ (λ h.
-    elim (path_below (key_of (to ++ names)) key) as (λ o. path_below (key_of (to ++ names)) key ≡ o → ⊥) [
+    elim (key_suffix (key_of (to ++ names)) key) as (λ o. key_suffix (key_of (to ++ names)) key ≡ o → ⊥) [
       | None ↦ λ p. clash (sym (ap is_some p) ∙ h)
       | Some way ↦ λ p. clash (sym out ∙ at_or_below (key_of to) (key_of names ++ way) key (after-exact (key_of (to ++ names)) key way p ∙ ap (λ q. q ++ way) (map-append folded_text to names) ∙ append_assoc (key_of to) (key_of names) way))
     ] refl)
@@ -69,7 +69,7 @@ place-outside to names key out = false_of _ (λ h. clash (sym out ∙ at_or_belo
 -- nor is it one that is listed below the place
 pub contents-outside : (place q : Place) (key : Key) → is_below (key_of place) q ≡ true → is_at_or_below (key_of place) key ≡ false → is_same_key (key_of q) key ≡ false
 contents-outside place q key below out = false_of _ (λ h.
-    elim (path_below (key_of place) q) as (λ o. path_below (key_of place) q ≡ o → ⊥) [
+    elim (key_suffix (key_of place) q) as (λ o. key_suffix (key_of place) q ≡ o → ⊥) [
       | None ↦ λ p. clash (sym (ap has_names p) ∙ below)
       | Some way ↦ λ p. clash (sym out ∙ at_or_below (key_of place) (key_of way) key (sym (same (key_of q) key h) ∙ ap key_of (after-exact (key_of place) q way p) ∙ map-append folded_text (key_of place) way ∙ ap (λ d. d ++ key_of way) (key-twice place)))
     ] refl)

@@ -5,7 +5,7 @@ use Rattle.std.specs.Option.{option_map}
 use Rattle.std.specs.FinMap as map
 use Rattle.std.specs.FinMap.{find, is_sorted, get-from_entries, entries_sorted}
 use Rattle.std.specs.FinMap.Entries.{below_all}
-use Rattle.ados_ram.specs.Place.{Key, place_cmp, place_cmp_total, is_same_key, path_below}
+use Rattle.ados_ram.specs.Place.{Key, place_cmp, place_cmp_total, is_same_key, key_suffix}
 use Rattle.ados_ram.specs.Entry.{size_of, renamed_entry}
 use Rattle.ados_ram.specs.Files.{Files, Rows, total_of}
 use Rattle.ados_ram.specs.FileOperations.{moved_row, moved_rows, rename_of}
@@ -49,9 +49,9 @@ distinct-moved from to name [] s within = tt
 distinct-moved from to name (e ∷ es) s within =
     let on : Within to from es = λ k h. within k (later k e es h) in
     let alone : find place_cmp e.0 es ≡ nothing = own e.0 es (first _ _ s) in (
-      elim (path_below from e.0) as (λ o. path_below from e.0 ≡ o → find place_cmp (moved_row to name e.0 e.1 o).0 (moved_rows from to name es) ≡ nothing) [
+      elim (key_suffix from e.0) as (λ o. key_suffix from e.0 ≡ o → find place_cmp (moved_row to name e.0 e.1 o).0 (moved_rows from to name es) ≡ nothing) [
         | None ↦ λ p.
-            let out : path_below to e.0 ≡ None = none_of (path_below to e.0) (false_of _ (λ h. clash (sym (ap is_some p) ∙ within e.0 (here e es) h))) in
+            let out : key_suffix to e.0 ≡ None = none_of (key_suffix to e.0) (false_of _ (λ h. clash (sym (ap is_some p) ∙ within e.0 (here e es) h))) in
             find-moved_out from to name es e.0 out ∙ ap (λ b. cond b nothing (find place_cmp e.0 es)) (ap is_some p) ∙ alone
         | Some w ↦ λ p.
             find-moved_in from to name es w on ∙ ap (λ (k : Key). option_map (renamed_entry name w) (find place_cmp k es)) (sym (after-exact from e.0 w p)) ∙ ap (option_map (renamed_entry name w)) alone

@@ -7,7 +7,7 @@ use Rattle.std.specs.FinMap.{is_sorted, find}
 use Rattle.std.specs.FinMap.Entries.{below_all}
 use Rattle.ados_text.specs.Name.{name_cmp, name_cmp_total}
 use Rattle.ados_ram.specs.declared.entries.Entry.{Entry}
-use Rattle.ados_ram.specs.Place.{Key, key_of, place_cmp, path_below}
+use Rattle.ados_ram.specs.Place.{Key, key_of, place_cmp, key_suffix}
 use Rattle.ados_ram.specs.Files.{Rows}
 use Rattle.ados_ram.specs.Tree.{Kids, rows_under_name, flatten, rows_of, with_way, subtree_rows, rows_found}
 use Rattle.ados_ram.proofs.RowsLemmas.{first, second}
@@ -35,8 +35,8 @@ from_under x n xs [] rest = elim (is_eq (name_cmp x n)) as (λ b. subtree_rows (
 from_under x n xs (e ∷ r) rest =
     let next = from_under x n xs r rest in
     let old = subtree_rows (x ∷ xs) rest in
-    elim (is_eq (name_cmp x n)) as (λ b. subtree_rows (x ∷ xs) (rows_under_name n r ++ rest) ≡ cond b (subtree_rows xs r ++ old) old → with_way (cond b (path_below xs e.0) None) e.1 (subtree_rows (x ∷ xs) (rows_under_name n r ++ rest)) ≡ cond b (with_way (path_below xs e.0) e.1 (subtree_rows xs r) ++ old) old) [
-      | true ↦ λ h. ap (λ (rows : Rows). with_way (path_below xs e.0) e.1 rows) h ∙ sym (with_append (path_below xs e.0) e.1 (subtree_rows xs r) old)
+    elim (is_eq (name_cmp x n)) as (λ b. subtree_rows (x ∷ xs) (rows_under_name n r ++ rest) ≡ cond b (subtree_rows xs r ++ old) old → with_way (cond b (key_suffix xs e.0) None) e.1 (subtree_rows (x ∷ xs) (rows_under_name n r ++ rest)) ≡ cond b (with_way (key_suffix xs e.0) e.1 (subtree_rows xs r) ++ old) old) [
+      | true ↦ λ h. ap (λ (rows : Rows). with_way (key_suffix xs e.0) e.1 rows) h ∙ sym (with_append (key_suffix xs e.0) e.1 (subtree_rows xs r) old)
       | false ↦ λ h. h
     ] next
 
@@ -77,11 +77,11 @@ find-from key q (e ∷ es) =
     let next = find-from key q es in
     past key q e.0 e.1 (subtree_rows key es) (find place_cmp (key ++ q) es) next
   where
-    past : (key q p : Key) (e : Entry) (rows : Rows) (old : Option Entry) → find place_cmp q rows ≡ old → find place_cmp q (with_way (path_below key p) e rows) ≡ cond (is_eq (place_cmp (key ++ q) p)) (Some e) old
+    past : (key q p : Key) (e : Entry) (rows : Rows) (old : Option Entry) → find place_cmp q rows ≡ old → find place_cmp q (with_way (key_suffix key p) e rows) ≡ cond (is_eq (place_cmp (key ++ q) p)) (Some e) old
     past [] q p e rows old h = ap (λ o. cond (is_eq (place_cmp q p)) (Some e) o) h
     past (n ∷ ns) q [] e rows old h = h
     past (n ∷ ns) q (x ∷ xs) e rows old h =
-        elim (name_cmp n x) as (λ o. find place_cmp q (with_way (cond (is_eq o) (path_below ns xs) None) e rows) ≡ cond (is_eq (ordering_then o (place_cmp (ns ++ q) xs))) (Some e) old) [
+        elim (name_cmp n x) as (λ o. find place_cmp q (with_way (cond (is_eq o) (key_suffix ns xs) None) e rows) ≡ cond (is_eq (ordering_then o (place_cmp (ns ++ q) xs))) (Some e) old) [
           | Less ↦ h
           | Equal ↦ past ns q xs e rows old h
           | Greater ↦ h
@@ -109,11 +109,11 @@ find-here key es r e = ap (find place_cmp []) e ∙ find-from key [] es ∙ ap (
     keys-nil (n ∷ ns) = ap (λ (t : Key). n ∷ t) (keys-nil ns)
 
 -- deeper from a place
-further : (key more p : Key) (e : Entry) (rows : Rows) → subtree_rows more (with_way (path_below key p) e rows) ≡ with_way (path_below (key ++ more) p) e (subtree_rows more rows)
+further : (key more p : Key) (e : Entry) (rows : Rows) → subtree_rows more (with_way (key_suffix key p) e rows) ≡ with_way (key_suffix (key ++ more) p) e (subtree_rows more rows)
 further [] more p e rows = refl
 further (n ∷ ns) more [] e rows = refl
 further (n ∷ ns) more (x ∷ xs) e rows =
-    elim (name_cmp n x) as (λ o. subtree_rows more (with_way (cond (is_eq o) (path_below ns xs) None) e rows) ≡ with_way (cond (is_eq o) (path_below (ns ++ more) xs) None) e (subtree_rows more rows)) [
+    elim (name_cmp n x) as (λ o. subtree_rows more (with_way (cond (is_eq o) (key_suffix ns xs) None) e rows) ≡ with_way (cond (is_eq o) (key_suffix (ns ++ more) xs) None) e (subtree_rows more rows)) [
       | Less ↦ refl
       | Equal ↦ further ns more xs e rows
       | Greater ↦ refl
@@ -121,4 +121,4 @@ further (n ∷ ns) more (x ∷ xs) e rows =
 
 pub from-further : (key more : Key) (es : Rows) → subtree_rows more (subtree_rows key es) ≡ subtree_rows (key ++ more) es
 from-further key more [] = refl
-from-further key more (e ∷ es) = further key more e.0 e.1 (subtree_rows key es) ∙ ap (with_way (path_below (key ++ more) e.0) e.1) (from-further key more es)
+from-further key more (e ∷ es) = further key more e.0 e.1 (subtree_rows key es) ∙ ap (with_way (key_suffix (key ++ more) e.0) e.1) (from-further key more es)

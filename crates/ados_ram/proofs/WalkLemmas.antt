@@ -4,9 +4,9 @@ use Rattle.std.proofs.lemmas.Bool.Decides.{nat_tests}
 use Rattle.std.specs.FinMap.{is_sorted, find}
 use Rattle.std.specs.FinMap.Entries.{below_all}
 use Rattle.ados_ram.specs.declared.entries.Entry.{Entry}
-use Rattle.ados_ram.specs.Place.{Key, place_cmp, is_child, path_below, is_one_name, has_names}
+use Rattle.ados_ram.specs.Place.{Key, place_cmp, is_child, key_suffix, is_one_name, has_names}
 use Rattle.ados_ram.specs.Files.{Rows}
-use Rattle.ados_ram.specs.FileOperations.{has_descendants, names_in}
+use Rattle.ados_ram.specs.FileOperations.{has_descendants, child_names}
 use Rattle.ados_ram.specs.Entry.{is_directory}
 use Rattle.ados_ram.specs.Contents.{is_within, children, directory_files}
 use Rattle.ados_ram.specs.Rows.{inner_rows}
@@ -20,7 +20,7 @@ abbrev way_within : Bool → Option Key → Bool
 way_within true way = has_names way
 way_within false way = is_one_name way
 
-within-way : (all : Bool) (directory place : Key) → is_within all directory place ≡ way_within all (path_below directory place)
+within-way : (all : Bool) (directory place : Key) → is_within all directory place ≡ way_within all (key_suffix directory place)
 within-way true directory place = refl
 within-way false directory place = refl
 
@@ -34,7 +34,7 @@ rows-below all key [] = refl
 rows-below all key (e ∷ es) =
     let next = rows-below all key es in
     ap (λ b. cond b (e ∷ inner_rows all key es) (inner_rows all key es)) (within-way all key e.0)
-    ∙ elim (path_below key e.0) as (λ o. path_below key e.0 ≡ o → cond (way_within all o) (e ∷ inner_rows all key es) (inner_rows all key es) ≡ rows_by_root key (inner_rows all [] (with_way o e.1 (subtree_rows key es)))) [
+    ∙ elim (key_suffix key e.0) as (λ o. key_suffix key e.0 ≡ o → cond (way_within all o) (e ∷ inner_rows all key es) (inner_rows all key es) ≡ rows_by_root key (inner_rows all [] (with_way o e.1 (subtree_rows key es)))) [
       | None ↦ λ p. ap (λ b. cond b (e ∷ inner_rows all key es) (inner_rows all key es)) (none-within all) ∙ next
       | Some w ↦ λ p.
           elim (way_within all (Some w)) as (λ b. cond b (e ∷ inner_rows all key es) (inner_rows all key es) ≡ rows_by_root key (cond b ((w, e.1) ∷ inner_rows all [] (subtree_rows key es)) (inner_rows all [] (subtree_rows key es)))) [
@@ -48,7 +48,7 @@ pub any-below : (key : Key) (es : Rows) → has_descendants key es ≡ has_desce
 any-below key [] = refl
 any-below key (e ∷ es) =
     let next = any-below key es in
-    elim (path_below key e.0) as (λ o. has_names o || has_descendants key es ≡ has_descendants [] (with_way o e.1 (subtree_rows key es))) [
+    elim (key_suffix key e.0) as (λ o. has_names o || has_descendants key es ≡ has_descendants [] (with_way o e.1 (subtree_rows key es))) [
       | None ↦ next
       | Some w ↦ ap (λ b. has_names (Some w) || b) next
     ]
@@ -133,11 +133,11 @@ subtree-at (k ∷ ks) zero d a h = a.0
 subtree-at (k ∷ ks) (suc i) d a h = subtree-at ks i d a.1 (omega arith)
 
 -- a directory's list is the same by the rows within it
-pub names-within : (key : Key) (es : Rows) → names_in key (inner_rows false key es) ≡ names_in key es
+pub names-within : (key : Key) (es : Rows) → child_names key (inner_rows false key es) ≡ child_names key es
 names-within key [] = refl
 names-within key (e ∷ es) =
-    elim (is_child key e.0) as (λ b. is_child key e.0 ≡ b → names_in key (cond b (e ∷ inner_rows false key es) (inner_rows false key es)) ≡ cond b (e.1.name ∷ names_in key es) (names_in key es)) [
-      | true ↦ λ t. ap (λ b. cond b (e.1.name ∷ names_in key (inner_rows false key es)) (names_in key (inner_rows false key es))) t ∙ ap (λ (r : Key). e.1.name ∷ r) (names-within key es)
+    elim (is_child key e.0) as (λ b. is_child key e.0 ≡ b → child_names key (cond b (e ∷ inner_rows false key es) (inner_rows false key es)) ≡ cond b (e.1.name ∷ child_names key es) (child_names key es)) [
+      | true ↦ λ t. ap (λ b. cond b (e.1.name ∷ child_names key (inner_rows false key es)) (child_names key (inner_rows false key es))) t ∙ ap (λ (r : Key). e.1.name ∷ r) (names-within key es)
       | false ↦ λ t. names-within key es
     ] refl
 

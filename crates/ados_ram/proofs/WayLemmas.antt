@@ -8,7 +8,7 @@ use Rattle.ados_ram.specs.declared.entries.Entry.{Entry}
 use Rattle.ados_ram.specs.Place.{Key, key_of, place_cmp}
 use Rattle.ados_ram.specs.Entry.{is_directory}
 use Rattle.ados_ram.specs.Files.{Rows}
-use Rattle.ados_ram.specs.FileOperations.{fault_above}
+use Rattle.ados_ram.specs.FileOperations.{parent_fault}
 use Rattle.ados_ram.specs.Tree.{Kids, rows_of, rows_found, rows_way}
 use Rattle.ados_ram.proofs.TreeLemmas.{holds}
 use Rattle.ados_ram.proofs.ChangeLemmas.{find-flatten}
@@ -16,15 +16,15 @@ use Rattle.ados_ram.proofs.ChangeLemmas.{find-flatten}
 way_in : (entry : Entry) (x : List ℕ) (ks : Kids) (place rest : Key) → T (is_sorted name_cmp ks) → rows_way (rows_of entry ks) (x ∷ place) rest ≡ rows_way (rows_found (find name_cmp x ks)) place rest
 way_in entry x ks place [] s = refl
 way_in entry x ks place (n ∷ rest) s =
-    ap (λ (o : Option Entry). fault_above o (rows_way (rows_of entry ks) (x ∷ (place ++ n ∷ [])) rest)) (find-flatten x place ks s)
-    ∙ ap (fault_above (find place_cmp place (rows_found (find name_cmp x ks)))) (way_in entry x ks (place ++ n ∷ []) rest s)
+    ap (λ (o : Option Entry). parent_fault o (rows_way (rows_of entry ks) (x ∷ (place ++ n ∷ [])) rest)) (find-flatten x place ks s)
+    ∙ ap (parent_fault (find place_cmp place (rows_found (find name_cmp x ks)))) (way_in entry x ks (place ++ n ∷ []) rest s)
 
 -- the path from an object: the object is a directory, and the rest of the path is looked up below it
 pub way_here : (entry : Entry) (x : List ℕ) (ks : Kids) (rows r : Rows) (key rest : Key) → rows_of entry ks ≡ rows → IsTrue (is_sorted name_cmp ks) → key ≡ x ∷ rest → r ≡ rows_found (find name_cmp x ks)
-    → rows_way rows [] key ≡ fault_above (Some entry) (rows_way r [] rest)
+    → rows_way rows [] key ≡ parent_fault (Some entry) (rows_way r [] rest)
 way_here entry x ks rows r key rest view s is e =
     ap (λ (k : Key). rows_way rows [] k) is ∙ ap (λ (t : Rows). rows_way t [] (x ∷ rest)) (sym view)
-    ∙ ap (fault_above (Some entry)) (way_in entry x ks [] rest (holds _ s) ∙ ap (λ (t : Rows). rows_way t [] rest) (sym e))
+    ∙ ap (parent_fault (Some entry)) (way_in entry x ks [] rest (holds _ s) ∙ ap (λ (t : Rows). rows_way t [] rest) (sym e))
 
 turn : (r d : Bool) → r ≡ d → r ≡ true → d ≡ true
 turn r d e h = sym e ∙ h

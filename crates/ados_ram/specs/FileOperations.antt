@@ -7,7 +7,7 @@ use Rattle.ados_text.specs.declared.codes.Result2.{Result2}
 use Rattle.ados_text.specs.declared.codes.TheConstants.Result2.{OBJECT_IN_USE, OBJECT_EXISTS, DIRECTORY_NOT_FOUND, OBJECT_NOT_FOUND, WRONG_TYPE, DIRECTORY_NOT_EMPTY, COMMENT_TOO_LONG, DISK_FULL, DELETE_PROTECTED, WRITE_PROTECTED, READ_PROTECTED}
 use Rattle.ados_text.specs.Text.{Text, Bytes}
 use Rattle.ados_text.specs.Name.{Name}
-use Rattle.ados_ram.specs.Place.{Place, Key, key_of, any_same, is_root, is_same_key, path_below, is_below, is_child}
+use Rattle.ados_ram.specs.Place.{Place, Key, key_of, any_same, is_root, is_same_key, key_suffix, is_below, is_child}
 use Rattle.ados_ram.specs.Entry.{is_directory, new_directory, file_entry, file_entry_with_bits, with_bits, with_comment, renamed_entry}
 use Rattle.ados_ram.specs.Files.{Files, Rows, is_some_file, entry_bytes, total_of, file_limit, bytes_limit, objects_limit}
 use Rattle.ados_ram.specs.InUse.{InUse, is_in_use, holds_output}
@@ -15,14 +15,14 @@ use Rattle.ados_ram.specs.declared.entries.Bits.{Bits}
 use Rattle.ados_ram.specs.declared.entries.Entry.{Entry}
 
 -- the fault of a directory above: it does not exist, or is a file; otherwise what follows
-abbrev pub fault_above : Option Entry → Option Result2 → Option Result2
-fault_above None further = Some DIRECTORY_NOT_FOUND
-fault_above (Some e) further = cond (is_directory e) further (Some WRONG_TYPE)
+abbrev pub parent_fault : Option Entry → Option Result2 → Option Result2
+parent_fault None further = Some DIRECTORY_NOT_FOUND
+parent_fault (Some e) further = cond (is_directory e) further (Some WRONG_TYPE)
 
 -- the fault of the directories above a place, from the root down
 abbrev pub way_fault : Files → Key → Key → Option Result2
 way_fault m above [] = None
-way_fault m above (name ∷ rest) = fault_above (map.get m above) (way_fault m (above ++ name ∷ []) rest)
+way_fault m above (name ∷ rest) = parent_fault (map.get m above) (way_fault m (above ++ name ∷ []) rest)
 
 -- the fault of the limits, for the size of one file, of all files, and the number of objects
 abbrev pub limit_fault : ℕ → ℕ → ℕ → Option Result2
@@ -53,9 +53,9 @@ list_fault None = Some OBJECT_NOT_FOUND
 list_fault (Some e) = cond (is_directory e) None (Some WRONG_TYPE)
 
 -- the names, as they are written, of the objects directly in a directory, in the order of their places
-abbrev pub names_in : Key → Rows → List Name
-names_in directory [] = []
-names_in directory (e ∷ es) = cond (is_child directory e.0) (e.1.name ∷ names_in directory es) (names_in directory es)
+abbrev pub child_names : Key → Rows → List Name
+child_names directory [] = []
+child_names directory (e ∷ es) = cond (is_child directory e.0) (e.1.name ∷ child_names directory es) (child_names directory es)
 
 -- Write
 abbrev pub write_of : Files → Key → Name → Bytes → Files
@@ -128,7 +128,7 @@ moved_row to name key e (Some way) = (to ++ way, renamed_entry name way e)
 
 abbrev pub moved_rows : Key → Key → Name → Rows → Rows
 moved_rows from to name [] = []
-moved_rows from to name (e ∷ es) = moved_row to name e.0 e.1 (path_below from e.0) ∷ moved_rows from to name es
+moved_rows from to name (e ∷ es) = moved_row to name e.0 e.1 (key_suffix from e.0) ∷ moved_rows from to name es
 
 abbrev pub rename_of : Files → Key → Key → Name → Files
 rename_of m from to name = map.from_entries (moved_rows from to name (map.entries m))

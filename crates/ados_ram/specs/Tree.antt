@@ -5,13 +5,13 @@ use Rattle.std.specs.Coded.{Coded, coded×, coded_list, coded_ℕ}
 use Rattle.std.specs.FinMap as map
 use Rattle.std.specs.Ordering.{is_eq}
 use Rattle.ados_text.specs.Name.{Name, name_cmp}
-use Rattle.ados_ram.specs.Place.{Key, Place, place_cmp, path_below, is_root, is_same_key, is_at_or_below, last_name}
+use Rattle.ados_ram.specs.Place.{Key, Place, place_cmp, key_suffix, is_root, is_same_key, is_at_or_below, last_name}
 use Rattle.std.specs.Option.{option_map}
 use Rattle.ados_text.specs.Text.{folded_text}
 use Rattle.ados_ram.specs.Entry.{coded_entry, renamed_entry, new_directory}
 use Rattle.ados_ram.specs.Files.{Files, Rows}
 use Rattle.ados_text.specs.declared.codes.Result2.{Result2}
-use Rattle.ados_ram.specs.FileOperations.{fault_above}
+use Rattle.ados_ram.specs.FileOperations.{parent_fault}
 use Rattle.ados_ram.specs.Written.{spelled_name}
 use Rattle.ados_ram.specs.declared.entries.Entry.{Entry}
 
@@ -46,7 +46,7 @@ with_way (Some way) e rows = (way, e) ∷ rows
 -- the rows at a place and below it, by their paths from there
 abbrev pub subtree_rows : Key → Rows → Rows
 subtree_rows key [] = []
-subtree_rows key (e ∷ es) = with_way (path_below key e.0) e.1 (subtree_rows key es)
+subtree_rows key (e ∷ es) = with_way (key_suffix key e.0) e.1 (subtree_rows key es)
 
 -- the rows of a branch, if there is one
 abbrev pub branch_rows : Option Kid → Rows
@@ -76,13 +76,13 @@ pub record AreKids (ks : Kids) : Type 0 where
 -- the rows with other rows at a place and below it
 pub record IsReplaced (key : Key) (sub old new : Rows) : Type 0 where
   pub whole : IsSubtree new
-  pub found : (q : Key) → map.find place_cmp q new ≡ entry_by_way (path_below key q) sub (map.find place_cmp q old)
+  pub found : (q : Key) → map.find place_cmp q new ≡ entry_by_way (key_suffix key q) sub (map.find place_cmp q old)
 
 -- the directory above a place
-abbrev pub key_above : Key → Key
-key_above [] = []
-key_above (x ∷ []) = []
-key_above (x ∷ y ∷ ys) = x ∷ key_above (y ∷ ys)
+abbrev pub parent_key : Key → Key
+parent_key [] = []
+parent_key (x ∷ []) = []
+parent_key (x ∷ y ∷ ys) = x ∷ parent_key (y ∷ ys)
 
 -- a branch may be put at a place: the directory above it exists, and the branch has the last name
 abbrev pub IsNamed : Key → Option Kid → Type 0
@@ -91,7 +91,7 @@ IsNamed key (Some k) = (k.0 ≡ last_name key) × IsSubtree k.1
 
 pub record MayStand (key : Key) (new : Option Kid) (rows : Rows) : Type 0 where
   pub named : IsNamed key new
-  pub inside : IsSome (map.find place_cmp (key_above key) rows)
+  pub inside : IsSome (map.find place_cmp (parent_key key) rows)
 
 -- the objects with one taken out
 abbrev pub remove_kid : Name → Kids → Kids
@@ -164,17 +164,17 @@ pub record MayMove (from to : Key) (m : Files) : Type 0 where
   pub from_named : is_root from ≡ false
   pub to_named : is_root to ≡ false
   pub there : IsSome (map.get m from)
-  pub above_from : IsSome (map.get m (key_above from))
-  pub above_to : IsSome (map.get m (key_above to))
-  pub apart : is_at_or_below from (key_above to) ≡ false
+  pub above_from : IsSome (map.get m (parent_key from))
+  pub above_to : IsSome (map.get m (parent_key to))
+  pub apart : is_at_or_below from (parent_key to) ≡ false
   pub within : (k : Key) → IsSome (map.find place_cmp k (map.entries m)) → is_at_or_below to k ≡ true → is_at_or_below from k ≡ true
 
 -- names that lead down from a place, as they are written in the rows
 abbrev pub rows_written : Rows → Key → Place → Place
-rows_written es key_above [] = []
-rows_written es key_above (name ∷ rest) = spelled_name (map.find place_cmp (key_above ++ folded_text name ∷ []) es) name ∷ rows_written es (key_above ++ folded_text name ∷ []) rest
+rows_written es parent_key [] = []
+rows_written es parent_key (name ∷ rest) = spelled_name (map.find place_cmp (parent_key ++ folded_text name ∷ []) es) name ∷ rows_written es (parent_key ++ folded_text name ∷ []) rest
 
 -- the fault of the directories above a place, by the rows
 abbrev pub rows_way : Rows → Key → Key → Option Result2
 rows_way es place [] = None
-rows_way es place (n ∷ rest) = fault_above (map.find place_cmp place es) (rows_way es (place ++ n ∷ []) rest)
+rows_way es place (n ∷ rest) = parent_fault (map.find place_cmp place es) (rows_way es (place ++ n ∷ []) rest)

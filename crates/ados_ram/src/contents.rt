@@ -1,7 +1,7 @@
 // What a directory's list holds, by the rows.
 ghost use Rattle.std.specs.Prelude.{◌≡◌, IfOk};
 ghost use Rattle.ados_ram.specs.Place.{key_of};
-ghost use Rattle.ados_ram.specs.FileOperations.{names_in};
+ghost use Rattle.ados_ram.specs.FileOperations.{child_names};
 ghost use Rattle.ados_ram.specs.Contents.{children, is_within, directory_files};
 
 use crate::places::Place;
@@ -10,8 +10,8 @@ use ados_text::{Name, NoMemory};
 use std::alloc::Global;
 
 /// The names directly in a directory, in the order of the rows.
-pub fn names_in(alloc: Global, rows: &[Row], directory: &[Name]) -> Result<Vec<Name>, NoMemory>
-    ensures { IfOk result (λ names. names.items ≡ names_in (key_of directory.now) rows.now) }
+pub fn child_names(alloc: Global, rows: &[Row], directory: &[Name]) -> Result<Vec<Name>, NoMemory>
+    ensures { IfOk result (λ names. names.items ≡ child_names (key_of directory.now) rows.now) }
 {
     let mut names = Vec::new(alloc);
     for row in rows {

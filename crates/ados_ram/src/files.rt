@@ -5,14 +5,14 @@ ghost use Rattle.std.specs.FinMap as map;
 ghost use Rattle.ados_ram.specs.Place.{key_of, last_name};
 ghost use Rattle.ados_ram.specs.Files.{AreFiles, entry_bytes, first_files};
 ghost use Rattle.ados_ram.specs.InUse.{is_output};
-ghost use Rattle.ados_ram.specs.FileOperations.{read_fault, list_fault, names_in, write_of, write_fault, write_as_of, append_of, append_fault, put_open_of, put_open_fault};
+ghost use Rattle.ados_ram.specs.FileOperations.{read_fault, list_fault, child_names, write_of, write_fault, write_as_of, append_of, append_fault, put_open_of, put_open_fault};
 ghost use Rattle.ados_text.specs.Stop.{Answers};
 ghost use Rattle.ados_ram.specs.FileOperations.{make_dir_of, make_dir_fault, delete_fault, rename_of, rename_fault, protect_of, protect_fault, comment_of, comment_fault};
 ghost use Rattle.ados_ram.specs.Contents.{children, contents, directory_files};
 ghost use Rattle.ados_ram.specs.Tree.{subtree_rows};
 ghost use Rattle.ados_ram.specs.Written.{written_place, full_path};
 
-use crate::contents::{children, directory_files, names_in};
+use crate::contents::{child_names, children, directory_files};
 use crate::cursors::Cursor;
 use crate::entries::{Bits, COMMENT_LIMIT, Entry};
 use crate::in_use::Busy;
@@ -92,14 +92,14 @@ impl Ram {
     ///
     /// 205 (object not found) if there is nothing, 212 (wrong type of object) for a file.
     pub fn list(&self, place: &Place) -> Result<Vec<Name>, Stop>
-        ensures ok { IfOk result (λ names. names.items ≡ names_in (key_of place.now) (map.entries self.now)) }
+        ensures ok { IfOk result (λ names. names.items ≡ child_names (key_of place.now) (map.entries self.now)) }
         ensures fault { Answers result (list_fault (map.get self.now (key_of place.now))) }
     {
         match list_refusal(self.table.find(place.names())) {
             Some(fault) => Err(Stop::Refused(fault)),
             None => {
                 let rows = self.table.rows_below(place, false)?;
-                Ok(names_in(self.alloc, &rows, place.names())?)
+                Ok(child_names(self.alloc, &rows, place.names())?)
             }
         }
     }

@@ -3,7 +3,7 @@ ghost use Rattle.std.specs.Option.{option_copied, option_map};
 ghost use Rattle.std.specs.Cmp.{partial_equiv_from_equiv};
 ghost use Rattle.std.proofs.lemmas.Cmp.{on_equiv, eq_by_cmp_equiv};
 ghost use Rattle.ados_text.specs.Text.{folded_text};
-ghost use Rattle.ados_ram.specs.Place.{key_of, place_cmp_total, is_same_key, is_same_place, last_name, parent_of, path_below, is_below, moved_place, any_same, any_at_or_below};
+ghost use Rattle.ados_ram.specs.Place.{key_of, place_cmp_total, is_same_key, is_same_place, last_name, parent_of, key_suffix, is_below, moved_place, any_same, any_at_or_below};
 
 use ados_text::{Name, NoMemory, Text, fold};
 use std::alloc::Global;
@@ -145,7 +145,7 @@ pub fn is_same(a: &[Name], b: &[Name]) -> bool
 /// The names that lead from a directory down to a place, if the place is at it or below it.
 #[tactic(auto, using(ados_text::proofs::NameLemmas::alike))]
 pub fn strip_directory<'a>(directory: &[Name], place: &'a [Name]) -> Option<&'a [Name]>
-    ensures { option_map key_of (option_copied result) ≡ path_below (key_of directory.now) (key_of place.now) }
+    ensures { option_map key_of (option_copied result) ≡ key_suffix (key_of directory.now) (key_of place.now) }
 {
     let Some((x, xs)) = directory.split_first() else {
         return Some(place);

@@ -11,7 +11,7 @@ ghost use Rattle.ados_ram.specs.FileOperations.{has_descendants, rename_of, way_
 ghost use Rattle.ados_ram.specs.Contents.{contents};
 ghost use Rattle.ados_ram.specs.Rows.{inner_rows};
 ghost use Rattle.ados_ram.specs.Written.{written_place};
-ghost use Rattle.ados_ram.specs.Tree.{key_above, first_kid, first_kids, branch_rows, subtree_rows, IsEntryAt, IsRenamed, MayMove};
+ghost use Rattle.ados_ram.specs.Tree.{parent_key, first_kid, first_kids, branch_rows, subtree_rows, IsEntryAt, IsRenamed, MayMove};
 
 use crate::branches::Branch;
 use crate::children::Children;
@@ -164,7 +164,7 @@ impl Table {
     /// The table without the object at a place, which is not the root, and has nothing below it.
     pub fn without(&self, names: &[Name]) -> Result<Table, NoMemory>
         requires root { is_root (key_of names.now) ≡ false }
-        requires inside { IsSome (map.get self.now (key_above (key_of names.now))) }
+        requires inside { IsSome (map.get self.now (parent_key (key_of names.now))) }
         requires empty { has_descendants (key_of names.now) (map.entries self.now) ≡ false }
         ensures { IfOk result (λ new. new ≡ map.remove self.now (key_of names.now)) }
     {

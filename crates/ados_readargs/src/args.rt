@@ -13,7 +13,7 @@ use crate::option_list::OptionList;
 use crate::pass::read;
 use crate::readings::Readings;
 use crate::slots::Slots;
-use ados_text::{NoMemory, Text, Texts, number_in};
+use ados_text::{NoMemory, Text, Texts, bounded_number};
 use std::alloc::Global;
 use std::marker::Model;
 
@@ -111,7 +111,7 @@ impl Args {
     pub fn number(&self, place: usize) -> Option<i32>
         ensures { result ≡ option_number self.now place }
     {
-        number_in(self.text(place)?)
+        bounded_number(self.text(place)?)
     }
 
     /// The text of the option without `/M` at a place, owned, for a value that outlives the line; `None`

@@ -6,7 +6,7 @@ ghost use Rattle.ados_readargs.specs.Checks.{is_lacking, lacks, is_bad_text, is_
 use crate::option_list::OptionList;
 use crate::options::TemplateOption;
 use crate::slots::Slots;
-use ados_text::number_in;
+use ados_text::bounded_number;
 
 /// Whether an option with `/A` has no argument.
 #[tactic(auto, using(crate::proofs::OptionLemmas::none_lacks))]
@@ -38,7 +38,7 @@ fn one_lacks(options: &[TemplateOption], args: &Slots) -> bool
 fn is_bad_text(text: &[u8]) -> bool
     ensures { result ≡ is_bad_text text.now }
 {
-    number_in(text).is_none()
+    bounded_number(text).is_none()
 }
 
 // Whether a text of the option at a place is not a number.

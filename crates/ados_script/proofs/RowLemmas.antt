@@ -9,25 +9,25 @@ use Rattle.ados_script.specs.declared.blocks.Ends.{Ends}
 use Rattle.ados_script.specs.declared.heads.Head.{Head}
 use Rattle.ados_script.specs.declared.heads.Head.TheVariants.{If, Else, EndIf, EndSkip, Lab, Other}
 use Rattle.ados_script.specs.Blocks.{ends_block}
-use Rattle.ados_script.specs.Tables.{row_at_end, ends_above, ends_of, is_nowhere, no_ends, row_at, row_or, with_row}
+use Rattle.ados_script.specs.Tables.{row_at_end, ends_above, ends_of, is_nowhere, no_ends, block_ends, row_or, with_row}
 use Rattle.ados_script.proofs.BlockLemmas.{below_if, ended, ended-is, next, past}
 use Rattle.ados_script.proofs.LineLemmas.{find-past, found_within}
 
 -- these are the rows of the lines from one on
 abbrev pub AreRows : List Head → ℕ → List Ends → Type 0
-AreRows heads i rows = (down : ℕ) → row_at rows down ≡ ends_of heads (i + down)
+AreRows heads i rows = (down : ℕ) → block_ends rows down ≡ ends_of heads (i + down)
 
 nowhere-is : (end branch : Option ℕ) → (is_none end && is_none branch) ≡ true → record { end_if = end; branch = branch } ≡ no_ends
 nowhere-is None None h = refl
 nowhere-is None (Some b) h = absurd (both_ways false refl h)
 nowhere-is (Some a) b h = absurd (both_ways false refl h)
 
-row-top : (rows : List Ends) (row : Ends) → row_at (with_row rows row) 0 ≡ row
-row-top [] row = cond_both (is_nowhere row) [] (row ∷ []) (λ (rows : List Ends). row_at rows 0 ≡ row) (λ h. sym (nowhere-is row.end_if row.branch h)) (λ _. refl)
+row-top : (rows : List Ends) (row : Ends) → block_ends (with_row rows row) 0 ≡ row
+row-top [] row = cond_both (is_nowhere row) [] (row ∷ []) (λ (rows : List Ends). block_ends rows 0 ≡ row) (λ h. sym (nowhere-is row.end_if row.branch h)) (λ _. refl)
 row-top (last ∷ rows) row = ap (λ (l : List Ends). row_or (slice_get l 0)) (reverse-append (last ∷ rows) (row ∷ []))
 
-row-below : (rows : List Ends) (row : Ends) (down : ℕ) → row_at (with_row rows row) (suc down) ≡ row_at rows down
-row-below [] row down = cond_both (is_nowhere row) [] (row ∷ []) (λ (rows : List Ends). row_at rows (suc down) ≡ row_at [] down) (λ _. refl) (λ _. refl)
+row-below : (rows : List Ends) (row : Ends) (down : ℕ) → block_ends (with_row rows row) (suc down) ≡ block_ends rows down
+row-below [] row down = cond_both (is_nowhere row) [] (row ∷ []) (λ (rows : List Ends). block_ends rows (suc down) ≡ block_ends [] down) (λ _. refl) (λ _. refl)
 row-below (last ∷ rows) row down = ap (λ (l : List Ends). row_or (slice_get l (suc down))) (reverse-append (last ∷ rows) (row ∷ []))
 
 -- where the block of a line ends, by depth
@@ -37,13 +37,13 @@ by_depth heads i = record { end_if = ended false 0 i (drop i heads); branch = en
 by_depth-is : (heads : List Head) (i : ℕ) → by_depth heads i ≡ ends_of heads i
 by_depth-is heads i = rw (ended-is false heads i, ended-is true heads i) refl
 
-row-is : (heads : List Head) (i down j : ℕ) (rows : List Ends) → AreRows heads i rows → i + down ≡ j → row_at rows down ≡ by_depth heads j
+row-is : (heads : List Head) (i down j : ℕ) (rows : List Ends) → AreRows heads i rows → i + down ≡ j → block_ends rows down ≡ by_depth heads j
 row-is heads i down j rows are e = are down ∙ ap (ends_of heads) e ∙ sym (by_depth-is heads j)
 
 -- an end of a block is below
-pub end_below : (heads : List Head) (i : ℕ) (rows : List Ends) → AreRows heads i rows → IfSome (row_at rows 0).end_if (λ m. i ≤ m)
+pub end_below : (heads : List Head) (i : ℕ) (rows : List Ends) → AreRows heads i rows → IfSome (block_ends rows 0).end_if (λ m. i ≤ m)
 end_below heads i rows are =
-    let e : (row_at rows 0).end_if ≡ (ends_of heads i).end_if = ap (λ (row : Ends). row.end_if) (are 0 ∙ ap (ends_of heads) (omega arith)) in
+    let e : (block_ends rows 0).end_if ≡ (ends_of heads i).end_if = ap (λ (row : Ends). row.end_if) (are 0 ∙ ap (ends_of heads) (omega arith)) in
     rw e (IfSome_then (ends_of heads i).end_if (found_within (ends_block false heads i) heads i) (λ m h. omega arith))
 
 after_the_if : (heads : List Head) (i : ℕ) (rows : List Ends) → AreRows heads (i + 1) rows → (end : Option ℕ) → IfSome end (λ m. i + 1 ≤ m)

@@ -11,7 +11,7 @@ use Rattle.ados_script.specs.declared.labels.Label.{Label}
 use Rattle.ados_script.specs.Heads.{head_of, label_of}
 use Rattle.ados_script.specs.Lines.{numbers_below, is_some_and, line_of}
 use Rattle.ados_script.specs.Skips.{is_end_skip, is_end_skip_at}
-use Rattle.ados_script.specs.Tables.{ends_above, is_lab, is_lab_at, label_at, labels_below, row_at, with_row}
+use Rattle.ados_script.specs.Tables.{ends_above, is_lab, is_lab_at, label_at, labels_below, block_ends, with_row}
 use Rattle.ados_script.proofs.LineLemmas.{below-more, below-past, line_of-place}
 use Rattle.ados_script.proofs.RowLemmas.{AreRows, end_below, no_rows, with_more}
 
@@ -69,7 +69,7 @@ rows_more : (lines : List Text) (i : ℕ) (text : Text) (head : Head) (table : L
 rows_more lines i text head table is are = with_more (map head_of lines) i head (drop (i + 1) (map head_of lines)) table are (rest_of lines i text head is)
 
 -- the first row gives an end below
-pub ends_below : {lines : List Text} {i : ℕ} {table : List Ends} {skips numbers : List ℕ} {found : List Label} → AreRead lines i table skips numbers found → IfSome (row_at table 0).end_if (λ m. i ≤ m)
+pub ends_below : {lines : List Text} {i : ℕ} {table : List Ends} {skips numbers : List ℕ} {found : List Label} → AreRead lines i table skips numbers found → IfSome (block_ends table 0).end_if (λ m. i ≤ m)
 ends_below {lines} {i} {table} are = end_below (map head_of lines) i table are.rows
 
 pub read_end_skip : {lines : List Text} {i : ℕ} {text : Text} {head : Head} {table : List Ends} {skips numbers : List ℕ} {found : List Label}

@@ -32,20 +32,20 @@ row_or None = no_ends
 row_or (Some row) = row
 
 -- the row of the line `down` lines below the topmost, whose row comes last; if no row is kept, no block ends
-abbrev pub row_at : List Ends → ℕ → Ends
-row_at rows down = row_or (slice_get (reverse rows) down)
+abbrev pub block_ends : List Ends → ℕ → Ends
+block_ends rows down = row_or (slice_get (reverse rows) down)
 
 -- the row of the line where a block ends, by the rows from a line on
 abbrev pub row_at_end : List Ends → ℕ → Option ℕ → Ends
 row_at_end rows line None = no_ends
-row_at_end rows line (Some end) = row_at rows (end - line)
+row_at_end rows line (Some end) = block_ends rows (end - line)
 
 -- the row of the line above one, by the rows from that one on: below an If a block ends where it does below the If's own EndIf
 abbrev pub ends_above : List Ends → ℕ → Head → Ends
 ends_above rows line EndIf = record { end_if = Some line; branch = Some line }
-ends_above rows line Else = record { end_if = (row_at rows 0).end_if; branch = Some line }
-ends_above rows line If = row_at_end rows line (row_at rows 0).end_if
-ends_above rows line _ = row_at rows 0
+ends_above rows line Else = record { end_if = (block_ends rows 0).end_if; branch = Some line }
+ends_above rows line If = row_at_end rows line (block_ends rows 0).end_if
+ends_above rows line _ = block_ends rows 0
 
 -- rows with one more on top; the first that is kept says that a block ends
 abbrev pub with_row : List Ends → Ends → List Ends
@@ -87,7 +87,7 @@ pub record AreByText (lines : List Text) (labels : List Label) : Type 0 where
 -- the tables are those of these lines, which are few enough that the one after the last has a number too
 pub record AreTables (lines : List Text) (tables : Tables) : Type 0 where
   pub few : length lines < 2 ^ 63
-  pub ends : (i : ℕ) → row_at tables.ends.items i ≡ ends_of (map head_of lines) i
+  pub ends : (i : ℕ) → block_ends tables.ends.items i ≡ ends_of (map head_of lines) i
   pub end_skips : tables.end_skips.items ≡ filter (is_end_skip_at lines) (numbers_below lines 0)
   pub labs : tables.labs.items ≡ filter (is_lab_at lines) (numbers_below lines 0)
   pub labels : AreByText lines tables.labels.items

@@ -1,7 +1,7 @@
 // Where blocks end: a table of one row for each line, made from the last line up.
 ghost use Rattle.std.specs.Prelude.{◌≡◌, ◌≤◌, true, IfSome, OnOk};
 ghost use Rattle.ados_script.specs.Blocks.{ends};
-ghost use Rattle.ados_script.specs.Tables.{ends_above, row_at, with_row};
+ghost use Rattle.ados_script.specs.Tables.{ends_above, block_ends, with_row};
 
 use crate::heads::Head;
 use ados_text::NoMemory;
@@ -25,8 +25,8 @@ impl Ends {
 
 /// The row of the line that is `down` lines below the topmost one that was read. If there is no such row, no block
 /// ends there.
-pub fn row_at(rows: &[Ends], down: usize) -> Ends
-    ensures { result ≡ row_at rows.now down }
+pub fn block_ends(rows: &[Ends], down: usize) -> Ends
+    ensures { result ≡ block_ends rows.now down }
 {
     match rows.len().checked_sub(down) {
         None | Some(0) => Ends::NOWHERE,
@@ -36,7 +36,7 @@ pub fn row_at(rows: &[Ends], down: usize) -> Ends
 
 /// Pushes the row of the line above this one.
 pub fn push_row(rows: &mut Vec<Ends>, line: usize, head: Head) -> Result<(), NoMemory>
-    requires { IfSome (row_at rows.old.items 0).end_if (λ end. line ≤ end) }
+    requires { IfSome (block_ends rows.old.items 0).end_if (λ end. line ≤ end) }
     ensures { OnOk result (rows.new.items ≡ with_row rows.old.items (ends_above rows.old.items line head)) }
 {
     // Below the last line that ends a block no line has an end, so no row is kept for it.
@@ -56,10 +56,10 @@ fn is_end(head: Head) -> bool
 
 // Where the block of the line above this one ends. If this is an If, it ends where the block of that If's EndIf does.
 fn ends_above(rows: &[Ends], line: usize, head: Head) -> Ends
-    requires { IfSome (row_at rows.now 0).end_if (λ end. line ≤ end) }
+    requires { IfSome (block_ends rows.now 0).end_if (λ end. line ≤ end) }
     ensures { result ≡ ends_above rows.now line head }
 {
-    let below = row_at(rows, 0);
+    let below = block_ends(rows, 0);
     match head {
         Head::EndIf => Ends {
             end_if: Some(line),
@@ -71,7 +71,7 @@ fn ends_above(rows: &[Ends], line: usize, head: Head) -> Ends
         },
         Head::If => match below.end_if {
             None => Ends::NOWHERE,
-            Some(end) => row_at(rows, end - line),
+            Some(end) => block_ends(rows, end - line),
         },
         _ => below,
     }

@@ -5,7 +5,7 @@ ghost use Rattle.ados_script.specs.Jumps.{LeadsWithin};
 ghost use Rattle.ados_script.specs.Lines.{line_of};
 ghost use Rattle.ados_script.specs.Skips.{skip};
 
-use crate::blocks::row_at;
+use crate::blocks::block_ends;
 use crate::jumps::{Jump, jump_after};
 use crate::labels::first_of;
 use crate::skips::{first_below, jump_after_first};
@@ -68,7 +68,7 @@ impl Script {
         ensures jump { result ≡ after_if self.now i }
         ensures within { LeadsWithin self.now result }
     {
-        jump_after(row_at(&self.tables.ends, i).branch)
+        jump_after(block_ends(&self.tables.ends, i).branch)
     }
 
     /// Where the script continues after an Else in line `i`: after the first EndIf below it at depth 0. `None` if there
@@ -77,7 +77,7 @@ impl Script {
         ensures jump { result ≡ after_else self.now i }
         ensures within { LeadsWithin self.now result }
     {
-        jump_after(row_at(&self.tables.ends, i).end_if)
+        jump_after(block_ends(&self.tables.ends, i).end_if)
     }
 
     /// Where the script continues after a Skip in line `i`: after the first Lab below it that has the label, ignoring

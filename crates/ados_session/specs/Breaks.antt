@@ -14,8 +14,8 @@ abbrev pub number_up_to : ℕ → Option ℤ → Option ℕ
 number_up_to most (Some (pos n)) = if nat_le 1 n && nat_le n most then Some n else None
 number_up_to most number = None
 
-abbrev pub number_in : ℕ → Text → Option ℕ
-number_in most digits = if is_negative digits then None else number_up_to most (number_of digits)
+abbrev pub bounded_number : ℕ → Text → Option ℕ
+bounded_number most digits = if is_negative digits then None else number_up_to most (number_of digits)
 
 -- the kind of a break
 abbrev pub kind_of : Text → Option Kind
@@ -27,7 +27,7 @@ break_of_parts event shell kind = None
 
 -- the break of a text, by its three words: the number of an event, that of a shell, and the kind
 abbrev pub break_after_number : Text → Text → Option BreakAt
-break_after_number event rest = option_map_or (λ p. break_of_parts (number_in 1_000_000_000 event) (number_in 20 p.0) (kind_of p.1)) (split_at_space rest) None
+break_after_number event rest = option_map_or (λ p. break_of_parts (bounded_number 1_000_000_000 event) (bounded_number 20 p.0) (kind_of p.1)) (split_at_space rest) None
 
 abbrev pub break_of : Text → Option BreakAt
 break_of text = option_map_or (λ p. break_after_number p.0 p.1) (split_at_space text) None

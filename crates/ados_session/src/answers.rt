@@ -5,7 +5,7 @@ ghost use Rattle.hex.specs.Hex.{decode_of};
 ghost use Rattle.ados_session.specs.Answers.{answer_of, bytes_answer, piece, plain_answer, status_of, valued_answer};
 
 use crate::parts::parted;
-use ados_text::{NoMemory, Octets, PIECE_BYTES, number_in};
+use ados_text::{NoMemory, Octets, PIECE_BYTES, bounded_number};
 use ados_world::Answer;
 use hex::FromHexError;
 use std::alloc::Global;
@@ -68,7 +68,7 @@ fn status_of(digits: &[u8]) -> Option<u8>
     if matches!(digits, [b'-', ..]) {
         return None;
     }
-    number_in(digits).and_then(|number| u8::try_from(number).ok())
+    bounded_number(digits).and_then(|number| u8::try_from(number).ok())
 }
 
 // The answer of bytes in hexadecimal digits, of 1 to 4,096.

@@ -1,11 +1,11 @@
 // The breaks that a recording writes.
 ghost use Rattle.std.specs.Prelude.{◌≡◌, ◌++◌, ◌∷◌, [], true, IfOk};
 ghost use Rattle.ados_text.specs.Text.{IsText};
-ghost use Rattle.ados_session.specs.Breaks.{are_rising, break_of, kind_of, last_event, number_in};
+ghost use Rattle.ados_session.specs.Breaks.{are_rising, break_of, kind_of, last_event, bounded_number};
 
 use crate::parts::parted;
 use ados_machine::BreakAt;
-use ados_text::{NoMemory, number_in};
+use ados_text::{NoMemory, bounded_number};
 use ados_world::Kind;
 
 // The highest number of an event that a break may name.
@@ -51,24 +51,24 @@ fn last_event(breaks: &[BreakAt]) -> u64
 
 // The number of an event.
 fn event_in(digits: &[u8]) -> Option<u64>
-    ensures { result ≡ number_in 1_000_000_000 digits.now }
+    ensures { result ≡ bounded_number 1_000_000_000 digits.now }
 {
     if matches!(digits, [b'-', ..]) {
         return None;
     }
-    number_in(digits)
+    bounded_number(digits)
         .and_then(|number| u64::try_from(number).ok())
         .filter(|number| (1..=EVENTS).contains(number))
 }
 
 // The number of a shell.
 fn shell_in(digits: &[u8]) -> Option<u8>
-    ensures { result ≡ number_in 20 digits.now }
+    ensures { result ≡ bounded_number 20 digits.now }
 {
     if matches!(digits, [b'-', ..]) {
         return None;
     }
-    number_in(digits)
+    bounded_number(digits)
         .and_then(|number| u8::try_from(number).ok())
         .filter(|number| (1..=SHELLS).contains(number))
 }

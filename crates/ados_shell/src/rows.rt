@@ -3,7 +3,7 @@ ghost use Rattle.std.specs.Prelude.{◌≡◌, None, IfOk, OnOk};
 ghost use Rattle.std.specs.Option.{option_copied, option_map};
 ghost use Rattle.ados_find.specs.Effects.{effect_of};
 ghost use Rattle.ados_flow.specs.Actions.{action_effect};
-ghost use Rattle.ados_machine.specs.Lines.{action_completion, action_in, busy_files, command_completion, names_in, view_of, with_arguments};
+ghost use Rattle.ados_machine.specs.Lines.{action_completion, action_in, busy_files, command_completion, shell_names, view_of, with_arguments};
 
 use crate::completions::Completion;
 use crate::drafts::{Draft, ShellDraft};
@@ -144,7 +144,7 @@ impl Draft {
         builtin: Builtin,
         word: &Text,
     ) -> Result<ShellNames, NoMemory>
-        ensures { IfOk result (λ names. ServesNames builtin names (names_in word.now (course_of scene.now self.now))) }
+        ensures { IfOk result (λ names. ServesNames builtin names (shell_names word.now (course_of scene.now self.now))) }
     {
         if reads_shells(builtin) {
             names_while(scene.alloc, scene.shells, scene.shell.number(), word)

@@ -3,7 +3,7 @@ use Rattle.std.specs.FinMap as map
 use Rattle.ados_ram.specs.Place.{key_of, is_root}
 use Rattle.ados_ram.specs.Files.{AreFiles}
 use Rattle.ados_ram.specs.FileOperations.{has_descendants, delete_fault}
-use Rattle.ados_ram.specs.Tree.{key_above}
+use Rattle.ados_ram.specs.Tree.{parent_key}
 use Rattle.ados_ram.proofs.FilesLemmas.{deleted_files}
 use Rattle.ados_ram.proofs.InsideLemmas.{may_go}
 use Rattle.ados_ram.proofs.NamedLemmas.{delete-named}
@@ -24,7 +24,7 @@ pub without-requires-clause-inside : goal.without-requires-clause-inside
 without-requires-clause-inside c =
     let m = c.self.inside.table in
     let free : delete_fault c.args.busy.now m (key_of c.args.place.now) ≡ None = ap (λ (k : List (List ℕ)). delete_fault c.args.busy.now m (key_of k)) (sym c.names.ensures) ∙ sym c.delete_refusal.ensures ∙ c.in-None.is in
-    subst (λ (k : List (List ℕ)). IsSome (map.get m (key_above (key_of k)))) (sym c.names-in-None.ensures) (may_go c.args.busy.now m (key_of c.args.place.now) c.self.invariant.tree free).inside
+    subst (λ (k : List (List ℕ)). IsSome (map.get m (parent_key (key_of k)))) (sym c.names-in-None.ensures) (may_go c.args.busy.now m (key_of c.args.place.now) c.self.invariant.tree free).inside
 
 pub without-requires-clause-root : goal.without-requires-clause-root
 without-requires-clause-root c =

@@ -7,7 +7,7 @@ use Rattle.ados_ram.specs.Place.{Key, key_of, place_cmp, last_name}
 use Rattle.ados_ram.specs.Entry.{renamed_entry}
 use Rattle.ados_ram.specs.Files.{Rows, total_of}
 use Rattle.ados_ram.specs.FileOperations.{rename_of}
-use Rattle.ados_ram.specs.Tree.{MayStand, IsReplaced, key_above, branch_rows}
+use Rattle.ados_ram.specs.Tree.{MayStand, IsReplaced, parent_key, branch_rows}
 use Rattle.ados_ram.proofs.RowsLemmas.{get_rows, entries_rows}
 use Rattle.ados_ram.proofs.TotalLemmas.{total-renamed, length-renamed}
 use Rattle.ados_ram.proofs.TableLemmas.{moved, stays, absent}
@@ -19,15 +19,15 @@ unreachable-requires c = absent (key_of c.args.from.now) c.self.inside.root.1 c.
 pub with-requires-clause-stands : goal.with-requires-clause-stands
 with-requires-clause-stands c = record {
   named = tt;
-  inside = subst (λ (o : Option Entry). IsSome o) (get_rows c.self.inside.root.1 (key_above (key_of c.args.from.now)) c.self.view_is c.self.invariant.sorted) c.requires.above_from;
+  inside = subst (λ (o : Option Entry). IsSome o) (get_rows c.self.inside.root.1 (parent_key (key_of c.args.from.now)) c.self.view_is c.self.invariant.sorted) c.requires.above_from;
 }
 
 pub with-requires-2-clause-stands : goal.with-requires-2-clause-stands
 with-requires-2-clause-stands c =
     subst (λ (k : Key). MayStand k (Some c.in_ok-new.new) c.in_ok-left.left.1) (sym (ap key_of c.names.ensures)) (record {
       named = (c.in_ok-new.ensures.name, c.in_ok-new.ensures.rows.whole);
-      inside = stays (key_of c.args.from.now) (key_above (key_of c.args.to.now)) c.self.inside.root.1 c.in_ok-left.left.1 c.in_ok-left.ensures.rows c.requires.apart
-          (subst (λ (o : Option Entry). IsSome o) (get_rows c.self.inside.root.1 (key_above (key_of c.args.to.now)) c.self.view_is c.self.invariant.sorted) c.requires.above_to);
+      inside = stays (key_of c.args.from.now) (parent_key (key_of c.args.to.now)) c.self.inside.root.1 c.in_ok-left.left.1 c.in_ok-left.ensures.rows c.requires.apart
+          (subst (λ (o : Option Entry). IsSome o) (get_rows c.self.inside.root.1 (parent_key (key_of c.args.to.now)) c.self.view_is c.self.invariant.sorted) c.requires.above_to);
     })
 
 pub returns : goal.returns

@@ -5,7 +5,7 @@ use Rattle.ados_ram.specs.declared.entries.Entry.{Entry}
 use Rattle.ados_ram.specs.Place.{Key, key_of, is_same_key}
 use Rattle.ados_ram.specs.Entry.{size_of}
 use Rattle.ados_ram.specs.Files.{Rows, total_of}
-use Rattle.ados_ram.specs.Tree.{MayStand, IsReplaced, IsEntryAt, key_above, subtree_rows}
+use Rattle.ados_ram.specs.Tree.{MayStand, IsReplaced, IsEntryAt, parent_key, subtree_rows}
 use Rattle.ados_ram.proofs.RowsLemmas.{get_rows, entries_rows}
 use Rattle.ados_ram.proofs.TreeLemmas.{find-from}
 use Rattle.ados_ram.proofs.TableLemmas.{inserted}
@@ -16,7 +16,7 @@ pub with-requires-clause-stands : goal.with-requires-clause-stands
 with-requires-clause-stands c =
     subst (λ (k : Key). MayStand k (Some c.in_ok-new.new) c.self.inside.root.1) (sym (ap key_of c.names-4.ensures)) (record {
       named = (c.in_ok-new.ensures.name, c.in_ok-new.ensures.rows.whole);
-      inside = subst (λ (o : Option Entry). IsSome o) (get_rows c.self.inside.root.1 (key_above (key_of c.args.place.now)) c.self.view_is c.self.invariant.sorted)
+      inside = subst (λ (o : Option Entry). IsSome o) (get_rows c.self.inside.root.1 (parent_key (key_of c.args.place.now)) c.self.view_is c.self.invariant.sorted)
           (inside c.args.self.now (key_of c.args.place.now) c.args.entry c.requires.root c.requires.files);
     })
 

@@ -6,7 +6,7 @@ use Rattle.ados_ram.specs.declared.entries.Entry.{Entry}
 use Rattle.ados_ram.specs.Place.{key_of}
 use Rattle.ados_ram.specs.Files.{Rows, total_of}
 use Rattle.ados_ram.specs.FileOperations.{has_descendants}
-use Rattle.ados_ram.specs.Tree.{key_above}
+use Rattle.ados_ram.specs.Tree.{parent_key}
 use Rattle.ados_ram.proofs.RowsLemmas.{get_rows, own_rows, entries_rows, deleted_rows, total-insert, len-insert, length-without}
 use Rattle.ados_ram.proofs.TableLemmas.{removed}
 use Rattle.ados_ram.proofs.table.Table.without.Goals as goal
@@ -14,7 +14,7 @@ use Rattle.ados_ram.proofs.table.Table.without.Goals as goal
 pub with-requires-clause-stands : goal.with-requires-clause-stands
 with-requires-clause-stands c = record {
   named = tt;
-  inside = subst (λ (o : Option Entry). IsSome o) (get_rows c.self.inside.root.1 (key_above (key_of c.args.names.now)) c.self.view_is c.self.invariant.sorted) c.requires.inside;
+  inside = subst (λ (o : Option Entry). IsSome o) (get_rows c.self.inside.root.1 (parent_key (key_of c.args.names.now)) c.self.view_is c.self.invariant.sorted) c.requires.inside;
 }
 
 pub overflow_sub-result : goal.overflow_sub-result
